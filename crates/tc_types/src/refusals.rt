@@ -1,6 +1,9 @@
 //! What an operator is told when the desk does not do what was asked.
-ghost use Rattle.std.specs.Prelude.{◌≡◌, ◌≤◌};
-ghost use Rattle.tc_types.specs.Lines.{refusal_number, refusal_name};
+ghost use Rattle.std.specs.Prelude.{◌≡◌, ◌≤◌, IfOk};
+ghost use Rattle.std.specs.String.{string_bytes};
+ghost use Rattle.tc_types.specs.Lines.{refusal_number, refusal_name, refusal_line};
+
+use std::alloc::{AllocError, Allocator};
 
 /// The desk's refusals, by number and name. A refusal changes nothing, but for `Store`, after which the desk is
 /// stopped, and `WriteFault`, which speaks of an answer alone.
@@ -121,5 +124,14 @@ impl Refusal {
             Refusal::ReadFault => "ReadFault",
             Refusal::WriteFault => "WriteFault",
         }
+    }
+
+    /// Its line: `refused NUMBER NAME`. Fails where memory is refused.
+    pub fn text<A: Allocator + Copy>(self, alloc: A) -> Result<String<A>, AllocError>
+        ensures { IfOk result (λ t. string_bytes t ≡ refusal_line self) }
+    {
+        let number = self.number();
+        let name = self.name();
+        format!(in alloc; "refused {number} {name}")
     }
 }
