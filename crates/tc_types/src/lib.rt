@@ -7,11 +7,14 @@
 
 pub mod acts;
 pub mod causes;
+pub mod entry_reader;
 pub mod moves;
 pub mod names;
 pub mod numbers;
 pub mod places;
+pub mod readers;
 pub mod refusals;
 pub mod requests;
 pub mod rows;
 pub mod texts;
+pub mod words;
