@@ -5,9 +5,11 @@
 //! number alone; a contract sees a `Name` as its bytes.
 #![tactic(auto)]
 
+pub mod act_reader;
 pub mod acts;
 pub mod causes;
 pub mod entry_reader;
+pub mod line_reader;
 pub mod moves;
 pub mod names;
 pub mod numbers;
