@@ -67,11 +67,11 @@ masked word h =
     (omega arith)
 
 -- the fields of a word that is read, joined again
-pub read_back : (word : ℕ) → word < 2 ^ 32 → field 31 1 word ≡ 0 → field 29 2 word ≡ 0 → field 24 2 word ≡ 1
-    → 1 * 2 ^ 24 + field 18 6 word * 2 ^ 18 + field 13 1 word * 2 ^ 13 + field 12 1 word * 2 ^ 12 + field 11 1 word * 2 ^ 11
-    + field 9 2 word * 2 ^ 9 + field 0 8 word
-    ≡ bit_and word 0xe3fc_3eff
-read_back word h a b c = rw (masked word h) (omega arith)
+pub read_back : (word v l w r b n : ℕ) → word < 2 ^ 32
+    → field 31 1 word ≡ 0 → field 29 2 word ≡ 0 → field 24 2 word ≡ 1 → v ≡ field 18 6 word
+    → l ≡ field 13 1 word → w ≡ field 12 1 word → r ≡ field 11 1 word → b ≡ field 9 2 word → n ≡ field 0 8 word
+    → 1 * 2 ^ 24 + v * 2 ^ 18 + l * 2 ^ 13 + w * 2 ^ 12 + r * 2 ^ 11 + b * 2 ^ 9 + n ≡ bit_and word 0xe3fc_3eff
+read_back word v l w r b n h ht hv hc ev el ew er eb en = rw (masked word h) (omega arith)
 
 -- the fields of a word that was joined
 pub record IsSplit (word v l w r b n : ℕ) : Type 0 where
