@@ -33,7 +33,6 @@ joined v l w r b n hv hl hw hr hb hn =
     let ww : w * 4096 % 4294967296 ≡ w * 4096 = omega arith in
     let wr : r * 2048 % 4294967296 ≡ r * 2048 = omega arith in
     let wb : b * 512 % 4294967296 ≡ b * 512 = omega arith in
-    let top = 64 + v in
     rw (
       wv,
       wl,

@@ -1,4 +1,6 @@
 //! FARM-1.
+ghost use Rattle.std.specs.Prelude.{◌≡◌, ◌+◌, ◌%◌, ◌<◌};
+
 use crate::clcws::Clcw;
 use std::marker::Model;
 use tc_types::frames::Frame;
@@ -162,31 +164,32 @@ impl Farm {
         ensures in_order { result ≡ true → ns ≡ self.old.vr }
         ensures kept { IsKept self.new }
     {
-        let half = self.variables.window / 2;
-        let ahead = ns.wrapping_sub(self.variables.vr);
-        let behind = self.variables.vr.wrapping_sub(ns);
-        if self.variables.state == FarmState::Lockout {
+        let farm = &mut self.variables;
+        let half = farm.window / 2;
+        let ahead = ns.wrapping_sub(farm.vr);
+        let behind = farm.vr.wrapping_sub(ns);
+        if farm.state == FarmState::Lockout {
             return false;
         }
         if ahead >= half && behind > half {
-            self.variables.lockout = true;
-            self.variables.state = FarmState::Lockout;
+            farm.lockout = true;
+            farm.state = FarmState::Lockout;
             return false;
         }
-        if self.variables.state == FarmState::Wait {
+        if farm.state != FarmState::Open {
             return false;
         }
         if ahead == 0 && room {
-            self.variables.vr = ns.wrapping_add(1);
-            self.variables.retransmit = false;
+            farm.vr = ns.wrapping_add(1);
+            farm.retransmit = false;
             return true;
         }
         if ahead < half {
-            self.variables.retransmit = true;
+            farm.retransmit = true;
         }
         if ahead == 0 {
-            self.variables.wait = true;
-            self.variables.state = FarmState::Wait;
+            farm.wait = true;
+            farm.state = FarmState::Wait;
         }
         false
     }
@@ -197,7 +200,7 @@ impl Farm {
         ensures kept { IsKept self.new }
     {
         let farm = &mut self.variables;
-        farm.farm_b = (farm.farm_b + 1) % 4;
+        farm.farm_b = one_more(farm.farm_b);
         farm.lockout = false;
         farm.wait = false;
         farm.retransmit = false;
@@ -210,12 +213,23 @@ impl Farm {
         ensures kept { IsKept self.new }
     {
         let farm = &mut self.variables;
-        farm.farm_b = (farm.farm_b + 1) % 4;
+        farm.farm_b = one_more(farm.farm_b);
         if farm.state != FarmState::Lockout {
             farm.vr = vr;
             farm.wait = false;
             farm.retransmit = false;
             farm.state = FarmState::Open;
         }
+    }
+}
+
+/// One control command more, modulo 4.
+fn one_more(farm_b: u8) -> u8
+    requires { farm_b < 4 }
+    ensures { result ≡ (farm_b + 1) % 4 }
+{
+    match farm_b {
+        3 => 0,
+        count => count + 1,
     }
 }
