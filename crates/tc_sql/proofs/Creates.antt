@@ -1,19 +1,16 @@
 -- A chain of CREATE TABLE and CREATE INDEX, run one text after another, makes the schema that the chain leads to, with no row in any table.
-use Rattle.std.proofs.Common.{◌≡◌, ◌⊎◌, inl, inr, ℕ, List, [], ◌∷◌, ◌++◌, slice_get, Bool, true, false, Some, None, Ok, Err, Result, OnOk, refl, sym, ap, subst, ◌∙◌}
+use Rattle.std.proofs.Common.{◌≡◌, inl, inr, ℕ, List, [], ◌∷◌, ◌++◌, false, None, Ok, Err, Result, OnOk, refl, sym, ap, subst, ◌∙◌}
 use Rattle.std.specs.List.{AllByRecursion}
 use Rattle.sqlite.specs.Table.{Table}
 use Rattle.sqlite.specs.Schema.{Schema}
-use Rattle.sqlite_schema.specs.declared.schema.Index.{Index}
 use Rattle.sqlite.specs.Command.TheVariants.{CreateTable, CreateIndex}
 use Rattle.sqlite.specs.Change.{created, indexed, next_tree, KeepsRows}
-use Rattle.sqlite_catalog.specs.Calls.{CreatesTable, CreatesIndex}
-use Rattle.sqlite.specs.Does.{Tally, Does, AtPlace, Defines, MakesIndex, lacks_sequence}
+use Rattle.sqlite.specs.Does.{Tally, AtPlace, Defines, MakesIndex, lacks_sequence}
 use Rattle.sqlite.specs.Tree.{Trees}
 use Rattle.sqlite.specs.declared.error.Error.{Error}
-use Rattle.sqlite.specs.Listing.{understood}
 use Rattle.sqlite.specs.Effect.{Database}
 use Rattle.sqlite.specs.State.{State, mode_of, Writes, Executes}
-use Rattle.sqlite.proofs.Callers.{statement_of, runs_as}
+use Rattle.sqlite.proofs.Callers.{runs_as}
 use Rattle.tc_sql.specs.Builds.{DefinesTable, DefinesIndex, Builds, AreEmpty, BuildsTo}
 use Rattle.tc_sql.proofs.Parts.{went, same_value}
 
@@ -47,7 +44,7 @@ creates_index : (after : Schema) (text : List ℕ) (old new : State) (count : �
 creates_index after text old new count empty it h =
     let w = subst (λ t. Writes old new None (CreateIndex it.at) t [] count) it.whole (runs_as text [] old new old.now.schema refl (CreateIndex it.at) it.command it.plain count h) in
     let on : Defines (mode_of old) (MakesIndex text old.now it.table) (Ok (w.tally, new.now)) =
-        subst (λ o. AtPlace (λ table. Defines (mode_of old) (MakesIndex text old.now table)) o (Ok (w.tally, new.now))) it.listed w.changed in
+    subst (λ o. AtPlace (λ table. Defines (mode_of old) (MakesIndex text old.now table)) o (Ok (w.tally, new.now))) it.listed w.changed in
     let all = went on in
     let made = all.1 in
     let both : Ok made.index ≡ Ok it.index = sym made.defined ∙ it.defined in
@@ -55,7 +52,7 @@ creates_index after text old new count empty it h =
     let schema : all.0.schema ≡ after = made.is ∙ ap (indexed old.now.schema it.table) same ∙ sym it.is in
     let now : new.now ≡ all.0 = ap (λ (p : Tally × Database). p.1) (same_value all.2) in
     let there : AreEmpty all.0 =
-        subst (λ (s : Schema). AllByRecursion (λ t. all.0.trees t.tree ≡ []) s.tables) (sym made.is) (still_empty old.now.trees all.0.trees old.now.schema.tables made.rows empty) in
+    subst (λ (s : Schema). AllByRecursion (λ t. all.0.trees t.tree ≡ []) s.tables) (sym made.is) (still_empty old.now.trees all.0.trees old.now.schema.tables made.rows empty) in
     (ap (λ (d : Database). d.schema) now ∙ schema, subst AreEmpty (sym now) there)
 
 -- one text of the chain is run
