@@ -1,0 +1,5 @@
+pub mod Rows
+pub mod SchemaLemmas
+pub mod MetaLemmas
+pub mod RequestLemmas
+pub mod MoveLemmas

@@ -1,0 +1,5 @@
+pub mod Meta
+pub mod Requests
+pub mod Moves
+pub mod Schema
+pub mod Steps
