@@ -3,3 +3,4 @@ pub mod SchemaLemmas
 pub mod MetaLemmas
 pub mod RequestLemmas
 pub mod MoveLemmas
+pub mod StepLemmas

@@ -1,11 +1,14 @@
 -- What the text of `request` means: one request more in the image.
-use Rattle.std.proofs.Common.{◌≡◌, ℕ, pos, cond, List, [], ◌∷◌, Result, Ok, Err, OnOk, refl}
+use Rattle.std.proofs.Common.{◌≡◌, ℕ, pos, cond, List, [], ◌∷◌, Result, Ok, Err, OnOk, IfOk, refl}
 use Rattle.sqlite_value.specs.declared.value.Value.TheVariants.{Int, Text}
 use Rattle.sqlite_value.specs.Order.{Row}
 use Rattle.sqlite_tied.specs.Compute.{everything}
 use Rattle.sqlite.specs.Listing.{understood}
 use Rattle.sqlite.specs.declared.error.Error.{Error}
+use Rattle.sqlite_trees.specs.declared.store.Store.{Ghosts}
 use Rattle.sqlite.specs.State.{State, Executes}
+use Rattle.sqlite.specs.Held.{Held, state}
+use Rattle.tc_store.specs.Steps.{Ran, Step}
 use Rattle.tc_types.specs.declared.requests.Request.{Request}
 use Rattle.tc_types.specs.declared.rows.Row.TheVariants.{Entered}
 use Rattle.tc_types.specs.Grammar.{outcome_word}
@@ -32,3 +35,7 @@ request_holds r image old new (Err e) h held = tt
 request_holds r image old new (Ok count) h held =
     holds_put (λ (x : Request). x.number) request_row (λ _. refl) r image.requests request_tree image (with_row image (Entered r)) old.now new.now
     (puts request_puts (λ (x : Request). x.number) request_row (λ _. refl) r (request_params r) old new (Ok count) held.schema refl refl h) refl refl refl held
+
+pub entered : {S : Type 0} (g : Ghosts S) (m : Request) (old new : Held S) (r : Result ℕ Error) → IfOk r (λ count. Ran g request_put (request_params m) count old new) → OnOk r (Step g (λ image. with_row image (Entered m)) old new)
+entered g m old new (Err e) h = tt
+entered g m old new (Ok count) h = record { holds = λ image held. request_holds m image (state g old) (state g new) (Ok count) h.executes held; goes = h.goes }

@@ -1,3 +1,4 @@
+pub mod Faults
 pub mod Meta
 pub mod Requests
 pub mod Moves
