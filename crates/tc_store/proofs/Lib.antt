@@ -4,3 +4,4 @@ pub mod MetaLemmas
 pub mod RequestLemmas
 pub mod MoveLemmas
 pub mod StepLemmas
+pub mod CreateLemmas

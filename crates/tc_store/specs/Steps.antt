@@ -35,10 +35,19 @@ pub record Defined {S : Type 0} (g : Ghosts S) (texts : List (List ℕ)) (old ne
   pub builds : (after : Schema) → BuildsTo after texts (state g old).now → BuildsTo after [] (state g new).now
   pub goes : Goes g old new
 
+-- where those of the desk stand with no row, they name their version now
+pub record Versioned {S : Type 0} (g : Ghosts S) (old new : Held S) : Type 0 where
+  pub holds : BuildsTo schema_1 [] (state g old).now → Holds (state g new).now empty_image
+  pub goes : Goes g old new
+
 -- where there was no table, those of the desk stand, with no row but the version
 pub record Filled {S : Type 0} (g : Ghosts S) (old new : Held S) : Type 0 where
   pub holds : old.schema ≡ no_schema → Holds (state g new).now empty_image
   pub goes : Goes g old new
+
+-- the trees of an empty desk
+abbrev pub IsNewDesk : Trees → Type 0
+IsNewDesk trees = Matches trees (contents empty_image) × IsSound schema_1 trees
 
 -- the trees that a batch leaves where it was written whole
 abbrev pub HasBatch : Database → List Row → Trees → Type 0

@@ -5,6 +5,7 @@
 #![tactic(auto)]
 
 pub mod faults;
+mod creates;
 mod moves;
 mod requests;
 mod steps;
