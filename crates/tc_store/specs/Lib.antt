@@ -4,3 +4,4 @@ pub mod Requests
 pub mod Moves
 pub mod Schema
 pub mod Steps
+pub mod Standing

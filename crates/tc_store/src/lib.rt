@@ -4,9 +4,13 @@
 //! crash the database has what it had before the call, or what the call commits.
 #![tactic(auto)]
 
-pub mod faults;
+mod cells;
+mod counts;
 mod creates;
+pub mod faults;
+mod history;
 mod moves;
 mod requests;
 mod steps;
+pub mod tables;
 mod writes;
