@@ -1,5 +1,5 @@
 -- What a SELECT over one table in the order of its rowid lists.
-use Rattle.std.proofs.Common.{◌≡◌, ℕ, nat_le, nat_lt, ◌^◌, ◌==◌, pos, List, [], ◌∷◌, ◌++◌, unwrap_or, map, filter, flat_map, Bool, true, false, cond, Some, None, refl, ap, subst, ◌∙◌, arith, is_eq, is_gt, IsPermutation}
+use Rattle.std.proofs.Common.{◌≡◌, ℕ, nat_le, nat_lt, ◌^◌, ◌==◌, pos, List, [], ◌∷◌, ◌++◌, unwrap_or, map, filter, flat_map, Bool, true, false, cond, Some, None, refl, sym, ap, subst, ◌∙◌, arith, is_eq, is_gt, IsPermutation}
 use Rattle.std.proofs.lemmas.Bool.Decides.{nat_tests}
 use Rattle.std.specs.declared.cmp.Ordering.TheVariants.{Less}
 use Rattle.std.specs.Ordering.{nat_cmp}
@@ -19,8 +19,10 @@ use Rattle.sqlite_keyed.proofs.ListLemmas.{map-map, filter-map, filter_same, map
 use Rattle.sqlite_keyed.proofs.SortLemmas.{sorted_unique}
 use Rattle.sqlite.specs.Schema.{Schema}
 use Rattle.sqlite.specs.Command.TheVariants.{Select}
-use Rattle.sqlite.specs.State.{State, Shown}
-use Rattle.sqlite.proofs.Callers.{reads_as}
+use Rattle.sqlite.specs.State.{State, Shown, Survives, CommitsShowing}
+use Rattle.sqlite.specs.Listing.{understood}
+use Rattle.sqlite.proofs.StateLemmas.{survives_weaker}
+use Rattle.sqlite.proofs.Callers.{IsPlain, reads_as, never_commits}
 use Rattle.tc_sql.specs.Lists.{listing, passes, ListsFrom}
 use Rattle.tc_sql.proofs.Keys.{int_cmp-pos}
 
@@ -101,3 +103,16 @@ module _ (tree : ℕ) (tests columns : List Term) (most : Term) (params : Row) w
   listed_as row shown pass xs db held same showed =
       ap (λ rows. map shown_row (filter (passes tests params) rows)) held ∙ ap (map shown_row) (filter-map (passes tests params) row xs) ∙ map-map shown_row row (filter (λ x. passes tests params (row x)) xs)
       ∙ ap (map (λ x. shown_row (row x))) (filter_same (λ x. passes tests params (row x)) pass same xs) ∙ map_same (λ x. shown_row (row x)) shown showed (filter pass xs)
+
+-- ---- a SELECT changes nothing and commits nothing
+
+module _ (text : List ℕ) (params : Row) (old new : State) (schema : Schema) (has : old.now.schema ≡ schema) (plain : IsPlain (understood schema text)) where
+  pub unchanged : (rows : List Row) → Shown text params old new rows → new.now ≡ old.now
+  unfolding Shown
+  unchanged rows h =
+      let known = sym h.1.is ∙ ap (λ s. understood s text) has in
+      let bare = subst IsPlain (sym known) plain in
+      (rw (bare.0) at h.2).3.0.now_is
+
+  pub commits_nothing : Survives old new (CommitsShowing text params old) → Survives old new (λ _. ⊥)
+  commits_nothing = survives_weaker old new (CommitsShowing text params old) (λ _. ⊥) (λ _ db. never_commits text params old db (subst (λ s. IsPlain (understood s text)) (sym has) plain))

@@ -3,5 +3,7 @@ pub mod SchemaLemmas
 pub mod MetaLemmas
 pub mod RequestLemmas
 pub mod MoveLemmas
+pub mod HistoryLemmas
+pub mod StandingLemmas
 pub mod StepLemmas
 pub mod CreateLemmas
