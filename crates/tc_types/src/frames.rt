@@ -7,7 +7,11 @@ use crate::requests::Body;
 #[derive(Clone, Copy, Debug, PartialEq, Eq)]
 pub enum Frame {
     /// A type-AD frame with its frame sequence number N(S) (CCSDS 232.0-B, 4.1.2.8).
-    Ad { ns: u8, request: RequestNumber, body: Body },
+    Ad {
+        ns: u8,
+        request: RequestNumber,
+        body: Body,
+    },
     /// The control command Unlock (CCSDS 232.0-B, 4.1.3.3.2).
     Unlock,
     /// The control command Set V(R) (CCSDS 232.0-B, 4.1.3.3.3).
