@@ -8,8 +8,8 @@ use Rattle.tc_farm.specs.declared.farms.FarmState.{FarmState}
 use Rattle.tc_farm.specs.declared.farms.FarmState.TheVariants.{Open, Wait, Lockout}
 use Rattle.tc_farm.specs.declared.farms.FarmView.{FarmView}
 use Rattle.tc_farm.specs.declared.farms.Verdict.{Verdict}
-use Rattle.tc_farm.specs.Farm.{IsFarm}
 use Rattle.tc_farm.specs.declared.farms.Verdict.TheVariants.{Accepted, Discarded, Control}
+use Rattle.tc_farm.specs.Farm.{IsFarm}
 
 abbrev pub is_open : FarmState → Bool
 is_open Open = true
