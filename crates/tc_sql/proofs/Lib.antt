@@ -5,3 +5,4 @@ pub mod Inserts
 pub mod Changes
 pub mod Creates
 pub mod Selects
+pub mod Replaces

@@ -1,12 +1,15 @@
 -- What an INSERT of one row leaves.
-use Rattle.std.specs.Prelude.{◌≡◌, ◌≢◌, ◌/◌, ℕ, List, [], ◌∷◌, length, slice_get, Some, pos, nat_lt, ◌==◌, if◌then◌else◌}
+use Rattle.std.specs.Prelude.{◌≡◌, ◌≢◌, ◌/◌, ℕ, List, [], ◌∷◌, length, slice_get, Some, None, false, pos, nat_lt, ◌==◌, if◌then◌else◌}
 use Rattle.sqlite_value.specs.declared.value.Value.TheVariants.{Int}
 use Rattle.sqlite_value.specs.Order.{Row}
 use Rattle.sqlite_trees.specs.Tree.{rowid, put_row}
 use Rattle.sqlite_sql.specs.Term.{Term}
 use Rattle.sqlite_schema.specs.declared.schema.Keys.TheVariants.{Enforced}
 use Rattle.sqlite_schema.specs.declared.schema.Schema.{Schema}
-use Rattle.sqlite_schema.specs.declared.command.Command.TheVariants.{Insert}
+use Rattle.sqlite_schema.specs.declared.command.Command.TheVariants.{Insert, InsertOr}
+use Rattle.sqlite_schema.specs.declared.command.Conflict.TheVariants.{Replace}
+use Rattle.sqlite_rules.specs.Keys.{shares}
+use Rattle.std.specs.List.{list_any}
 use Rattle.sqlite_schema.specs.declared.command.Source.TheVariants.{Values}
 use Rattle.sqlite_rules.specs.Action.{works}
 use Rattle.sqlite_rules.specs.Edit.{IsNoIndex}
@@ -40,3 +43,13 @@ IsKeyed {X} key row = (x : X) → rowid (row x) ≡ Int (pos (key x))
 abbrev pub put_by : {X : Type 0} → (X → ℕ) → X → List X → List X
 put_by key new [] = new ∷ []
 put_by key new (x ∷ xs) = if nat_lt (key new) (key x) then new ∷ x ∷ xs else (if key new == key x then new ∷ xs else x ∷ put_by key new xs)
+
+-- the same of an INSERT OR REPLACE, into a table whose one key is its number
+pub record ReplacesIn (schema : Schema) (form : Form) (tree : ℕ) (text : List ℕ) (terms : List Term) : Type 0 where
+  pub at : ℕ
+  pub listed : slice_get schema.tables at ≡ Some (table_of form tree)
+  pub command : command_of (understood schema text) ≡ InsertOr at Replace (Values terms (length terms)) []
+  pub plain : IsPlain (understood schema text)
+  pub single : length terms / length terms ≡ 1
+  pub quiet : (olds news : List Row) → works schema Enforced 0 tree olds news ≡ []
+  pub alone : (new row : Row) → list_any (shares None (table_of form tree) new row) schema.indexes ≡ false

@@ -19,11 +19,23 @@ use Rattle.tc_store.proofs.Rows.{same_put}
 
 pub built : Builds no_schema create_texts schema_1
 unfolding understood everything
-built = (with_meta, inl (record { table = table_of meta_form 0; command = refl; plain = (refl, refl); whole = refl; defined = refl; uncounted = refl; is = refl }),
-    (with_request, inl (record { table = table_of request_form 0; command = refl; plain = (refl, refl); whole = refl; defined = refl; uncounted = refl; is = refl }),
-    (with_move, inl (record { table = table_of move_form 0; command = refl; plain = (refl, refl); whole = refl; defined = refl; uncounted = refl; is = refl }),
-    (schema_1, inr (record { at = 2; table = table_of move_form move_tree; index = move_index; listed = refl; command = refl; plain = (refl, refl); whole = refl; defined = refl; is = refl }),
-    refl))))
+built = (
+  with_meta,
+  inl (record { table = table_of meta_form 0; command = refl; plain = (refl, refl); whole = refl; defined = refl; uncounted = refl; is = refl }),
+  (
+    with_request,
+    inl (record { table = table_of request_form 0; command = refl; plain = (refl, refl); whole = refl; defined = refl; uncounted = refl; is = refl }),
+    (
+      with_move,
+      inl (record { table = table_of move_form 0; command = refl; plain = (refl, refl); whole = refl; defined = refl; uncounted = refl; is = refl }),
+      (
+        schema_1,
+        inr (record { at = 2; table = table_of move_form move_tree; index = move_index; listed = refl; command = refl; plain = (refl, refl); whole = refl; defined = refl; is = refl }),
+        refl,
+      ),
+    ),
+  ),
+)
 
 -- each tree of the contents is a table's
 pub clear : (image : Image) → are_tables schema_1 (contents image) ≡ true
@@ -35,5 +47,5 @@ pub holds_put : {X : Type 0} (key : X → ℕ) (row : X → Row) → IsKeyed key
 holds_put key row keyed x xs tree image after old new put named is becomes held =
     let there : are_tables old.schema (contents image) ≡ true = ap (λ s. are_tables s (contents image)) held.schema ∙ clear image in
     let rows : Matches new.trees (with_rows tree (map row (tables.put_by key x xs)) (contents image)) =
-        subst (λ ys. Matches new.trees (with_rows tree (map row ys) (contents image))) (same_put key x xs) (matches_keyed key row keyed x xs tree old new (contents image) put there named is held.rows) in
+    subst (λ ys. Matches new.trees (with_rows tree (map row ys) (contents image))) (same_put key x xs) (matches_keyed key row keyed x xs tree old new (contents image) put there named is held.rows) in
     record { schema = put.schema ∙ held.schema; rows = subst (Matches new.trees) becomes rows; sound = put.sound }

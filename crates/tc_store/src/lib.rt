@@ -13,4 +13,6 @@ mod moves;
 mod requests;
 mod steps;
 pub mod tables;
+#[cfg(test)]
+mod tests;
 mod writes;

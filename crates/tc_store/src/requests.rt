@@ -103,6 +103,18 @@ pub(crate) fn put_request<S: Alter>(
     run(
         tx,
         "INSERT INTO request (num, apid, cnt, ack, critical, service, subtype, target, at_time, outcome, author, stack, line, prior) VALUES (?1, ?2, ?3, ?4, ?5, ?6, ?7, ?8, ?9, ?10, ?11, '', 0, 0)",
-        params![number, apid, count, ack, critical, columns.service, columns.subtype, columns.target, &columns.time, outcome.as_str(), author.as_str()],
+        params![
+            number,
+            apid,
+            count,
+            ack,
+            critical,
+            columns.service,
+            columns.subtype,
+            columns.target,
+            &columns.time,
+            outcome.as_str(),
+            author.as_str()
+        ],
     )
 }
