@@ -5,3 +5,5 @@ pub mod Calls
 pub mod Standing
 pub mod Queued
 pub mod Views
+pub mod Requests
+pub mod Laws

@@ -4,6 +4,7 @@
 mod directing;
 pub mod fops;
 mod hearing;
+pub mod laws;
 pub mod outputs;
 pub mod queues;
 pub mod rows;
