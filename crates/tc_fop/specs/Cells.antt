@@ -6,7 +6,8 @@ use Rattle.tc_fop.specs.declared.signals.FopState.TheVariants.{Active, Retransmi
 use Rattle.tc_fop.specs.declared.signals.AlertKind.{AlertKind}
 use Rattle.tc_fop.specs.declared.signals.AlertKind.TheVariants as alert
 use Rattle.tc_fop.specs.Machine.{Action, Remove, InitiateRetransmission, Resend, Transmit, Alert, StartTimer, CancelTimer, CountOne, SendControl, DropControl, Begin, To}
-use Rattle.tc_fop.specs.Rows.{Row, P1, P2, P3, P4, P5, P6, P7, P8, P9, P10, P11, P12, P13, P14, P15, P16}
+use Rattle.tc_fop.specs.declared.rows.Row.{Row}
+use Rattle.tc_fop.specs.declared.rows.Row.TheVariants.{P1, P2, P3, P4, P5, P6, P7, P8, P9, P10, P11, P12, P13, P14, P15, P16}
 
 -- send what is flagged, then transmit what waits
 abbrev pub look : List Action

@@ -1,27 +1,11 @@
--- The rows P1 to P16 of a control word, as a classification by the variables.
+-- The rows P1 to P16 of a control word, as a classification by the variables. A row that removes acknowledged requests
+-- carries how many, d.
 use Rattle.std.specs.Prelude.{◌≡◌, ℕ, ◌<◌, ◌≤◌, ◌==◌, nat_lt, Bool, true, false, not, if◌then◌else◌, Option, Some, None}
 use Rattle.tc_farm.specs.declared.clcws.Clcw.{Clcw}
 use Rattle.tc_farm.specs.Farm.{distance}
+use Rattle.tc_fop.specs.declared.rows.Row.{Row}
+use Rattle.tc_fop.specs.declared.rows.Row.TheVariants.{P1, P2, P3, P4, P5, P6, P7, P8, P9, P10, P11, P12, P13, P14, P15, P16}
 use Rattle.tc_fop.specs.Machine.{Machine}
-
--- the rows; those that remove acknowledged requests carry how many, d
-pub data Row : Type 0 where
-  P1 : Row
-  P2 : ℕ → Row
-  P3 : Row
-  P4 : Row
-  P5 : Row
-  P6 : ℕ → Row
-  P7 : Row
-  P8 : ℕ → Row
-  P9 : ℕ → Row
-  P10 : ℕ → Row
-  P11 : Row
-  P12 : Row
-  P13 : Row
-  P14 : Row
-  P15 : Row
-  P16 : Row
 
 -- What a row is about: d = (N(R) - NN(R)) mod 256, w = (V(S) - NN(R)) mod 256, the flags, the limit and the count.
 pub record Seen : Type 0 where
