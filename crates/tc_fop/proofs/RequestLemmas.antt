@@ -67,20 +67,20 @@ back_leave : (ws : List Waiting) → flat_map leaves (map (λ (w : Waiting). ind
 back_leave [] = refl
 back_leave (first ∷ others) = ap (λ l. first.request ∷ l) (back_leave others)
 
-confirmed_confirm : (sent : List Held) → flat_map confirms (map (λ (held : Held). indication.Confirmed held.request) sent) ≡ map (λ (held : Held). held.request) sent
+pub confirmed_confirm : (sent : List Held) → flat_map confirms (map (λ (held : Held). indication.Confirmed held.request) sent) ≡ map (λ (held : Held). held.request) sent
 confirmed_confirm [] = refl
 confirmed_confirm (first ∷ others) = ap (λ l. first.request ∷ l) (confirmed_confirm others)
 
-doubted_unconfirmed : (sent : List Held) → flat_map confirms (map (λ (held : Held). indication.InDoubt held.request) sent) ≡ []
+pub doubted_unconfirmed : (sent : List Held) → flat_map confirms (map (λ (held : Held). indication.InDoubt held.request) sent) ≡ []
 doubted_unconfirmed [] = refl
 doubted_unconfirmed (first ∷ others) = doubted_unconfirmed others
 
-back_unconfirmed : (ws : List Waiting) → flat_map confirms (map (λ (w : Waiting). indication.GivenBack w.request) ws) ≡ []
+pub back_unconfirmed : (ws : List Waiting) → flat_map confirms (map (λ (w : Waiting). indication.GivenBack w.request) ws) ≡ []
 back_unconfirmed [] = refl
 back_unconfirmed (first ∷ others) = back_unconfirmed others
 
 -- of an alert's indications: what the ones in doubt give, then what the one that is given back gives
-alerted : (f : Indication → List ℕ) (kind : AlertKind) (m : Machine) → f (indication.Alert kind) ≡ [] → flat_map f (given_back kind m) ≡ flat_map f (map (λ (held : Held). indication.InDoubt held.request) m.sent) ++ flat_map f (map (λ (w : Waiting). indication.GivenBack w.request) (option_list m.waiting))
+pub alerted : (f : Indication → List ℕ) (kind : AlertKind) (m : Machine) → f (indication.Alert kind) ≡ [] → flat_map f (given_back kind m) ≡ flat_map f (map (λ (held : Held). indication.InDoubt held.request) m.sent) ++ flat_map f (map (λ (w : Waiting). indication.GivenBack w.request) (option_list m.waiting))
 alerted f kind m e =
     let doubted = map (λ (held : Held). indication.InDoubt held.request) m.sent in
     let back = map (λ (w : Waiting). indication.GivenBack w.request) (option_list m.waiting) in

@@ -23,7 +23,7 @@ use Rattle.tc_fop.specs.Standing.{IsFop}
 use Rattle.tc_fop.specs.Requests.{sent_requests, waiting_requests, queued, ends, leaves, KeepsRequests, KeepsOrder}
 use Rattle.tc_fop.proofs.RequestLemmas.{is_inner, run_requests, run_order}
 
-by_state : (P : FopState → Type 0) → P Active → P RetransmitWithoutWait → P RetransmitWithWait → P InitialisingWithoutBc → P InitialisingWithBc → P Initial → (s : FopState) → P s
+pub by_state : (P : FopState → Type 0) → P Active → P RetransmitWithoutWait → P RetransmitWithWait → P InitialisingWithoutBc → P InitialisingWithBc → P Initial → (s : FopState) → P s
 by_state P a b c d e f Active = a
 by_state P a b c d e f RetransmitWithoutWait = b
 by_state P a b c d e f RetransmitWithWait = c
@@ -56,13 +56,13 @@ cell_inner P14 s = by_state (λ t. list_all is_inner (cell P14 t) ≡ true) refl
 cell_inner P15 s = by_state (λ t. list_all is_inner (cell P15 t) ≡ true) refl refl refl refl refl refl s
 cell_inner P16 s = by_state (λ t. list_all is_inner (cell P16 t) ≡ true) refl refl refl refl refl refl s
 
-timer_inner : (s : FopState) → list_all is_inner (timer_ended s) ≡ true
+pub timer_inner : (s : FopState) → list_all is_inner (timer_ended s) ≡ true
 timer_inner s = by_state (λ t. list_all is_inner (timer_ended t) ≡ true) refl refl refl refl refl refl s
 
-limit_inner : (s : FopState) → list_all is_inner (timer_ended_at_limit s) ≡ true
+pub limit_inner : (s : FopState) → list_all is_inner (timer_ended_at_limit s) ≡ true
 limit_inner s = by_state (λ t. list_all is_inner (timer_ended_at_limit t) ≡ true) refl refl refl refl refl refl s
 
-look_inner : (s : FopState) → list_all is_inner (look_in s) ≡ true
+pub look_inner : (s : FopState) → list_all is_inner (look_in s) ≡ true
 look_inner s = by_state (λ t. list_all is_inner (look_in t) ≡ true) refl refl refl refl refl refl s
 
 -- the actions of a tick are one of these lists

@@ -1,14 +1,16 @@
 -- What becomes of requests, above the table: in which queue they are, by what they leave it, and under which number
 -- they fly.
-use Rattle.std.specs.Prelude.{◌≡◌, ℕ, ◌≤◌, Bool, true, false, ◌⊎◌, Option, Some, None, List, [], ◌∷◌, ◌++◌, map, take, length}
+use Rattle.std.specs.Prelude.{◌≡◌, ℕ, ◌≤◌, Bool, true, false, ◌⊎◌, Option, Some, None, List, [], ◌∷◌, ◌++◌, map, take, drop, length}
 use Rattle.std.specs.List.{flat_map, list_any}
 use Rattle.tc_types.specs.declared.frames.Frame.{Frame}
 use Rattle.tc_types.specs.declared.frames.Frame.TheVariants.{Ad}
 use Rattle.tc_farm.specs.declared.clcws.Clcw.{Clcw}
 use Rattle.tc_farm.specs.Farm.{distance}
+use Rattle.tc_fop.specs.declared.signals.AlertKind.{AlertKind}
 use Rattle.tc_fop.specs.declared.signals.Indication.{Indication}
 use Rattle.tc_fop.specs.declared.signals.Indication.TheVariants as indication
-use Rattle.tc_fop.specs.Machine.{Machine, Held, Waiting, Out, frame_of, option_list}
+use Rattle.tc_fop.specs.Machine.{Machine, Held, Waiting, Out, frame_of, option_list, given_back}
+use Rattle.tc_fop.specs.Calls.{is_initial}
 
 -- the requests that were transmitted, from the front of the Sent_Queue
 abbrev pub sent_requests : Machine → List ℕ
@@ -83,6 +85,14 @@ ConfirmsFront most old out = (d : ℕ) × (d ≤ most) × (flat_map confirms out
 -- at a transmission at most K frames are out
 abbrev pub KeepsWindow : Machine → Out → Type 0
 KeepsWindow new out = is_transmitting out ≡ true → length new.sent ≤ new.k
+
+-- Where the service stops, the output confirms some d from the front of the Sent_Queue, tells the others to be in doubt,
+-- from the front, gives the waiting request back, and ends with the alert.
+abbrev pub GivesBack : Machine → Machine → Out → Type 0
+GivesBack old new out =
+    is_initial new.state ≡ true → is_initial old.state ≡ false
+    → (d : ℕ) × (kind : AlertKind)
+    × (out.indications ≡ map (λ (held : Held). indication.Confirmed held.request) (take d old.sent) ++ given_back kind (record old { sent = drop d old.sent }))
 
 -- The frames that a FOP may put out: the BC frame, those of the Sent_Queue under the numbers that they had, and that of
 -- the waiting request under V(S).

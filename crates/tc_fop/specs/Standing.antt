@@ -2,7 +2,7 @@
 use Rattle.std.specs.Prelude.{◌≡◌, ℕ, ◌+◌, ◌%◌, ◌<◌, ◌≤◌, Bool, true, false, is_some, Option, Some, None, List, [], ◌∷◌, length, slice_get}
 use Rattle.tc_fop.specs.declared.signals.FopState.{FopState}
 use Rattle.tc_fop.specs.declared.signals.FopState.TheVariants.{Active, RetransmitWithoutWait, RetransmitWithWait, InitialisingWithoutBc, InitialisingWithBc, Initial}
-use Rattle.tc_fop.specs.Machine.{Machine, Held, Out, flagged_of}
+use Rattle.tc_fop.specs.Machine.{Machine, Held, flagged_of}
 use Rattle.tc_fop.specs.Calls.{is_taking, is_initial}
 
 -- S4 and S5
@@ -55,15 +55,3 @@ pub record IsFop (m : Machine) : Type 0 where
   pub limit_most : m.limit ≤ 255
   pub count_least : 1 ≤ m.count
   pub count_most : m.count ≤ 255
-
--- one call's output: as many frames as are out at most and a new one, as many indications as requests in both queues
--- and an alert
-abbrev pub MOST_FRAMES : ℕ
-MOST_FRAMES = 256
-
-abbrev pub MOST_INDICATIONS : ℕ
-MOST_INDICATIONS = 257
-
-pub record IsBounded (out : Out) : Type 0 where
-  pub frames : length out.frames ≤ MOST_FRAMES
-  pub indications : length out.indications ≤ MOST_INDICATIONS

@@ -2,7 +2,7 @@
 ghost use Rattle.std.specs.Prelude.{◌≡◌, ◌≢◌, ◌↔◌, ◌⊎◌, ℕ, true, is_some, IfSome, IfNone, IfOk, IfErr, IsOk, OnOk, Some, Err};
 ghost use Rattle.tc_fop.specs.Machine.{Waiting, nothing};
 ghost use Rattle.tc_fop.specs.Calls.{new_machine, offered, directed, told, ticked, Answers};
-ghost use Rattle.tc_fop.specs.Standing.{IsFop, IsBounded};
+ghost use Rattle.tc_fop.specs.Standing.{IsFop};
 ghost use Rattle.tc_fop.specs.Views.{Link, view_of};
 
 use crate::outputs::Output;

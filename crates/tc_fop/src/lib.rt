@@ -9,5 +9,7 @@ pub mod outputs;
 pub mod queues;
 pub mod rows;
 pub mod signals;
+#[cfg(test)]
+mod tests;
 mod variables;
 pub mod views;
