@@ -3,5 +3,12 @@
 //! A contract sees a `Desk` as its book: the requests in order of number, and the history.
 #![tactic(auto)]
 
+pub mod desks;
 pub mod dones;
+mod drafts;
+mod marks;
+mod reading;
+mod records;
 pub mod stamps;
+#[cfg(test)]
+mod tests;

@@ -1,0 +1,4 @@
+pub mod QueueLemmas
+pub mod RequestLemmas
+pub mod Standing
+pub mod TableLemmas

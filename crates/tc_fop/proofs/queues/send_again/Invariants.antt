@@ -1,0 +1,8 @@
+use Rattle.std.proofs.Common.{◌≡◌, [], map, take}
+use Rattle.tc_types.specs.declared.frames.Frame.TheVariants.{Ad}
+use Rattle.tc_fop.specs.declared.queues.Outstanding.{Outstanding}
+use Rattle.tc_fop.specs.Machine.{joined}
+use Rattle.tc_fop.proofs.queues.send_again.Given as goal
+
+abbrev pub invariant-loop-held : goal.invariant-loop-held
+invariant-loop-held g l = l.out ≡ joined l.fn.out (record { frames = map (λ (held : Outstanding). Ad held.ns held.request held.body) (take l.held-index l.sent); indications = [] })

@@ -1,0 +1,9 @@
+pub mod Machine
+pub mod Rows
+pub mod Cells
+pub mod Calls
+pub mod Standing
+pub mod Queued
+pub mod Views
+pub mod Requests
+pub mod Laws

@@ -1,0 +1,51 @@
+-- What callers see of a FOP.
+use Rattle.std.specs.Prelude.{◌≡◌, ℕ, ◌<◌, ◌≤◌, Bool, IfOk, List, length}
+use Rattle.tc_types.specs.declared.refusals.Refusal.{Refusal}
+use Rattle.tc_fop.specs.declared.views.FopView.{FopView}
+use Rattle.tc_fop.specs.declared.rows.Row.{Row}
+use Rattle.tc_fop.specs.declared.rows.Row.TheVariants.{P1, P2, P3, P4, P5, P6, P7, P8, P9, P10, P11, P12, P13, P14, P15, P16}
+use Rattle.tc_fop.specs.Machine.{Machine, Out, Action, after, output, option_list}
+use Rattle.tc_fop.specs.Calls.{Given}
+
+-- a FOP: its machine, and whether the memory of the next call was taken
+pub record Link : Type 0 where
+  pub machine : Machine
+  pub ready : Bool
+
+-- what a status line prints
+abbrev pub view_of : Machine → FopView
+view_of m = record {
+  state = m.state;
+  vs = m.vs;
+  nn = m.nn;
+  sent = length m.sent;
+  waiting = length (option_list m.waiting);
+  count = m.count;
+  timer = m.timer;
+  k = m.k;
+  t1 = m.t1;
+  limit = m.limit;
+}
+
+-- what was given is carried out
+abbrev pub Carried : Given → Machine → Machine → Out → Type 0
+Carried given old new out = IfOk given (λ (actions : List Action). (new ≡ after actions old) × (out ≡ output actions old))
+
+-- What a row asks of the variables: so many are in the Sent_Queue, and once more may be counted.
+abbrev pub Fits : Row → Machine → Type 0
+Fits P1 m = Unit {0}
+Fits (P2 d) m = d ≤ length m.sent
+Fits P3 m = Unit {0}
+Fits P4 m = Unit {0}
+Fits P5 m = Unit {0}
+Fits (P6 d) m = d ≤ length m.sent
+Fits P7 m = Unit {0}
+Fits (P8 d) m = d ≤ length m.sent
+Fits (P9 d) m = d ≤ length m.sent
+Fits (P10 d) m = d ≤ length m.sent
+Fits P11 m = m.count < m.limit
+Fits P12 m = Unit {0}
+Fits P13 m = Unit {0}
+Fits P14 m = Unit {0}
+Fits P15 m = Unit {0}
+Fits P16 m = Unit {0}

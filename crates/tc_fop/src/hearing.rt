@@ -1,0 +1,225 @@
+//! What is done at a control word and at a tick (CCSDS 232.1-B, 5.3).
+ghost use Rattle.std.specs.Prelude.{◌≡◌, ◌+◌, ◌<◌, ◌≤◌, [], ◌∷◌, length, true, IsTrue, ◌↔◌};
+ghost use Rattle.tc_fop.specs.Machine.{nothing, after, output};
+ghost use Rattle.tc_fop.specs.Rows.{row_of};
+ghost use Rattle.tc_fop.specs.Cells.{cell, timer_ended, timer_ended_at_limit};
+ghost use Rattle.tc_fop.specs.Calls.{is_taking, told, ticked};
+ghost use Rattle.tc_fop.specs.Standing.{IsFop, is_starting};
+ghost use Rattle.tc_fop.specs.Views.{Fits, Carried};
+
+use crate::outputs::Output;
+use crate::rows::Row;
+use crate::signals::{AlertKind, FopState};
+use crate::variables::Variables;
+use std::alloc::Allocator;
+use tc_farm::clcws::Clcw;
+
+/// Whether the state is S1.
+fn is_active(state: FopState) -> bool
+    ensures { IsTrue result ↔ (state ≡ FopState.Active) }
+{
+    matches!(state, FopState::Active)
+}
+
+impl<A: Allocator + Copy + Drop> Variables<A> {
+    /// Removes what is acknowledged, and stops for the limit.
+    fn stop_at_limit(&mut self, acknowledged: u8, out: &mut Output<A>)
+        requires taking { is_taking self.old.state ≡ true }
+        requires there { acknowledged ≤ length self.old.sent }
+        requires start { out.old ≡ nothing }
+        ensures machine { self.new ≡ after (cell (Row.P8 acknowledged) self.old.state) self.old }
+        ensures fop { IsFop self.new }
+        ensures out { out.new ≡ output (cell (Row.P8 acknowledged) self.old.state) self.old }
+    {
+        let _state = self.state();
+        if acknowledged > 0 {
+            self.remove(acknowledged, out);
+        }
+        self.alert(AlertKind::Limit, out);
+    }
+
+    /// A control word in S1, S2 or S3.
+    fn sending(&mut self, row: Row, out: &mut Output<A>)
+        requires taking { is_taking self.old.state ≡ true }
+        requires fits { Fits row self.old }
+        requires start { out.old ≡ nothing }
+        ensures machine { self.new ≡ after (cell row self.old.state) self.old }
+        ensures fop { IsFop self.new }
+        ensures out { out.new ≡ output (cell row self.old.state) self.old }
+    {
+        let state = self.state();
+        match row {
+            Row::P1 | Row::P5 => {
+                if !is_active(state) {
+                    self.alert(AlertKind::Synch, out);
+                }
+            }
+            Row::P2(acknowledged) => {
+                self.remove(acknowledged, out);
+                self.cancel_timer();
+                self.enter(FopState::Active);
+                self.look(out);
+            }
+            Row::P6(acknowledged) => {
+                self.remove(acknowledged, out);
+                self.enter(FopState::Active);
+                self.look(out);
+            }
+            Row::P8(acknowledged) => self.stop_at_limit(acknowledged, out),
+            Row::P9(acknowledged) => {
+                self.remove(acknowledged, out);
+                self.retransmit(out);
+                self.enter(FopState::RetransmitWithoutWait);
+                self.transmit(out);
+            }
+            Row::P10(acknowledged) => {
+                self.remove(acknowledged, out);
+                self.enter(FopState::RetransmitWithWait);
+            }
+            Row::P11 => {
+                if !matches!(state, FopState::RetransmitWithoutWait) {
+                    self.retransmit(out);
+                    self.enter(FopState::RetransmitWithoutWait);
+                    self.transmit(out);
+                }
+            }
+            Row::P12 => self.enter(FopState::RetransmitWithWait),
+            Row::P13 => self.enter(FopState::RetransmitWithoutWait),
+            Row::P4 => self.alert(AlertKind::Synch, out),
+            Row::P14 => self.alert(AlertKind::NnR, out),
+            Row::P15 => self.alert(AlertKind::Lockout, out),
+            Row::P3 | Row::P7 | Row::P16 => self.alert(AlertKind::Clcw, out),
+        }
+    }
+
+    /// A control word in S4, where nothing is out and there is no BC frame.
+    fn checking(&mut self, row: Row, out: &mut Output<A>)
+        requires state { self.old.state ≡ FopState.InitialisingWithoutBc }
+        requires start { out.old ≡ nothing }
+        ensures machine { self.new ≡ after (cell row self.old.state) self.old }
+        ensures fop { IsFop self.new }
+        ensures out { out.new ≡ output (cell row self.old.state) self.old }
+    {
+        let _state = self.state();
+        match row {
+            Row::P1 => self.begin(out),
+            Row::P3 | Row::P16 => self.alert(AlertKind::Clcw, out),
+            Row::P4 => self.alert(AlertKind::Synch, out),
+            Row::P14 => self.alert(AlertKind::NnR, out),
+            Row::P15 => self.alert(AlertKind::Lockout, out),
+            Row::P2(_)
+            | Row::P5
+            | Row::P6(_)
+            | Row::P7
+            | Row::P8(_)
+            | Row::P9(_)
+            | Row::P10(_)
+            | Row::P11
+            | Row::P12
+            | Row::P13 => {}
+        }
+    }
+
+    /// A control word in S5, where the BC frame is not acknowledged yet.
+    fn commanding(&mut self, row: Row, out: &mut Output<A>)
+        requires state { self.old.state ≡ FopState.InitialisingWithBc }
+        requires start { out.old ≡ nothing }
+        ensures machine { self.new ≡ after (cell row self.old.state) self.old }
+        ensures fop { IsFop self.new }
+        ensures out { out.new ≡ output (cell row self.old.state) self.old }
+    {
+        let _state = self.state();
+        match row {
+            Row::P1 => self.begin(out),
+            Row::P16 => self.alert(AlertKind::Clcw, out),
+            Row::P2(_)
+            | Row::P3
+            | Row::P4
+            | Row::P5
+            | Row::P6(_)
+            | Row::P7
+            | Row::P8(_)
+            | Row::P9(_)
+            | Row::P10(_)
+            | Row::P11
+            | Row::P12
+            | Row::P13
+            | Row::P14
+            | Row::P15 => {}
+        }
+    }
+
+    /// A control word, or one that is not valid.
+    pub(crate) fn hear(&mut self, word: Option<Clcw>, out: &mut Output<A>)
+        requires start { out.old ≡ nothing }
+        ensures machine { Carried (told self.old word) self.old self.new out.new }
+        ensures fop { IsFop self.new }
+    {
+        let row = self.row(word);
+        match self.state() {
+            FopState::Active | FopState::RetransmitWithoutWait | FopState::RetransmitWithWait => {
+                self.sending(row, out)
+            }
+            FopState::InitialisingWithoutBc => self.checking(row, out),
+            FopState::InitialisingWithBc => self.commanding(row, out),
+            FopState::Initial => {}
+        }
+    }
+
+    /// The timer ended, and once more may be counted: P17.
+    fn timer_ended(&mut self, out: &mut Output<A>)
+        requires below { self.old.count < self.old.limit }
+        requires start { out.old ≡ nothing }
+        ensures machine { self.new ≡ after (timer_ended self.old.state) self.old }
+        ensures fop { IsFop self.new }
+        ensures out { out.new ≡ output (timer_ended self.old.state) self.old }
+    {
+        match self.state() {
+            FopState::Active | FopState::RetransmitWithoutWait => {
+                self.retransmit(out);
+                self.transmit(out);
+            }
+            FopState::InitialisingWithoutBc => self.alert(AlertKind::T1, out),
+            FopState::InitialisingWithBc => self.repeat_control(out),
+            FopState::RetransmitWithWait | FopState::Initial => {}
+        }
+    }
+
+    /// The timer ended, and nothing more may be counted: P18.
+    fn timer_ended_at_limit(&mut self, out: &mut Output<A>)
+        requires start { out.old ≡ nothing }
+        ensures machine { self.new ≡ after (timer_ended_at_limit self.old.state) self.old }
+        ensures fop { IsFop self.new }
+        ensures out { out.new ≡ output (timer_ended_at_limit self.old.state) self.old }
+    {
+        match self.state() {
+            FopState::Initial => {}
+            FopState::Active
+            | FopState::RetransmitWithoutWait
+            | FopState::RetransmitWithWait
+            | FopState::InitialisingWithoutBc
+            | FopState::InitialisingWithBc => self.alert(AlertKind::T1, out),
+        }
+    }
+
+    /// One tick.
+    pub(crate) fn tick(&mut self, out: &mut Output<A>)
+        requires start { out.old ≡ nothing }
+        ensures machine { Carried (ticked self.old) self.old self.new out.new }
+        ensures fop { IsFop self.new }
+    {
+        let left = self.timer();
+        if left == 0 {
+            return;
+        }
+        let may_repeat = self.is_below_limit();
+        self.lower_timer();
+        if left == 1 {
+            if may_repeat {
+                self.timer_ended(out);
+            } else {
+                self.timer_ended_at_limit(out);
+            }
+        }
+    }
+}

@@ -1,0 +1,75 @@
+//! The Sent_Queue: what is done with many requests at once.
+ghost use Rattle.std.specs.Prelude.{◌≡◌, ◌+◌, ◌<◌, ◌≤◌, [], ◌∷◌, length, map, take, drop};
+ghost use Rattle.std.specs.VecDeque.{deque_capacity};
+ghost use Rattle.tc_fop.specs.Machine.{joined};
+
+use crate::outputs::Output;
+use crate::signals::Indication;
+use std::alloc::Allocator;
+use std::collections::VecDeque;
+use tc_types::frames::Frame;
+use tc_types::numbers::RequestNumber;
+use tc_types::requests::Body;
+
+/// A request that waits for its first transmission.
+#[derive(Clone, Copy, Debug, PartialEq, Eq)]
+pub struct Offer {
+    /// Its number.
+    pub request: RequestNumber,
+    /// The part that flies.
+    pub body: Body,
+}
+
+/// A request that was transmitted and is not acknowledged.
+#[derive(Clone, Copy, Debug, PartialEq, Eq)]
+pub struct Outstanding {
+    /// The number of its frame, which stays when the frame is sent again.
+    pub ns: u8,
+    /// Its number.
+    pub request: RequestNumber,
+    /// The part that flies.
+    pub body: Body,
+}
+
+/// Takes this many requests from the front: they are confirmed.
+pub(crate) fn confirm_front<A: Allocator + Copy + Drop>(
+    sent: &mut VecDeque<Outstanding, A>,
+    count: u8,
+    out: &mut Output<A>,
+)
+    requires there { count ≤ length sent.old.items }
+    requires room { length out.old.indications + count ≤ 257 }
+    ensures sent { sent.new.items ≡ drop count sent.old.items }
+    ensures out { out.new ≡ joined out.old (record { frames = []; indications = map (λ held. Indication.Confirmed held.request) (take count sent.old.items) }) }
+    ensures capacity { deque_capacity sent.old ≤ deque_capacity sent.new }
+{
+    for _ in 0..count {
+        if let Some(first) = sent.pop_front() {
+            out.tell(Indication::Confirmed(first.request));
+        }
+    }
+}
+
+/// Sends the frame of each request again, from the front, under the number that it had.
+pub(crate) fn send_again<A: Allocator + Copy + Drop>(sent: &[Outstanding], out: &mut Output<A>)
+    requires room { length out.old.frames + length sent.now ≤ 256 }
+    ensures out { out.new ≡ joined out.old (record { frames = map (λ held. Frame.Ad held.ns held.request held.body) sent.now; indications = [] }) }
+{
+    for held in sent {
+        out.send(Frame::Ad {
+            ns: held.ns,
+            request: held.request,
+            body: held.body,
+        });
+    }
+}
+
+/// Tells of each request, from the front, that it is in doubt.
+pub(crate) fn doubt_all<A: Allocator + Copy + Drop>(sent: &[Outstanding], out: &mut Output<A>)
+    requires room { length out.old.indications + length sent.now ≤ 257 }
+    ensures out { out.new ≡ joined out.old (record { frames = []; indications = map (λ held. Indication.InDoubt held.request) sent.now }) }
+{
+    for held in sent {
+        out.tell(Indication::InDoubt(held.request));
+    }
+}

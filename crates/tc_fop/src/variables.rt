@@ -1,0 +1,475 @@
+//! The variables of FOP-1 (CCSDS 232.1-B, 5.1) and the actions on them.
+ghost use Rattle.std.specs.Prelude.{◌≡◌, ◌+◌, ◌<◌, ◌≤◌, ◌==◌, nat_lt, [], ◌∷◌, length, map, option_map, true, false, None, Some, IfOk, IfErr, is_some, IsTrue, ◌↔◌, if◌then◌else◌};
+ghost use Rattle.std.specs.VecDeque.{deque_capacity};
+ghost use Rattle.tc_fop.specs.Machine.{Machine, CancelTimer, InitiateRetransmission, Resend, Transmit, Remove, Alert, StartTimer, LowerTimer, CountOne, SendControl, DropControl, Begin, To, Wait, Initiate, SetVsAlone, SetVsAndNn, SetKTo, SetT1To, SetLimitTo, joined, change, said, after, transmitted, transmits};
+ghost use Rattle.tc_fop.specs.Rows.{row_of};
+ghost use Rattle.tc_fop.specs.Calls.{new_machine, is_taking, is_initial};
+ghost use Rattle.tc_fop.specs.Cells.{look};
+ghost use Rattle.tc_fop.specs.Standing.{IsFop, is_starting, has_control};
+ghost use Rattle.tc_fop.specs.Queued.{held_of, waiting_of};
+ghost use Rattle.tc_fop.specs.Views.{Fits, view_of};
+
+use crate::outputs::Output;
+use crate::queues::{Offer, Outstanding, confirm_front, doubt_all, send_again};
+use crate::rows::Row;
+use crate::signals::{AlertKind, FopState, Indication};
+use crate::views::FopView;
+use std::alloc::Allocator;
+use std::collections::VecDeque;
+use std::marker::Model;
+use tc_farm::clcws::Clcw;
+use tc_types::frames::Frame;
+use tc_types::refusals::Refusal;
+
+/// The most frames that are out: the greatest K.
+const MOST_SENT: usize = 255;
+
+/// The variables of FOP-1. A contract sees the machine that they are. The memory of the Sent_Queue is taken by `new`.
+#[derive(Drop)]
+pub(crate) struct Variables<A: Allocator + Copy + Drop> {
+    state: FopState,
+    vs: u8,
+    nn: u8,
+    sent: VecDeque<Outstanding, A>,
+    waiting: Option<Offer>,
+    control: Option<Frame>,
+    t1: u16,
+    timer: u16,
+    limit: u8,
+    count: u8,
+    k: u8,
+}
+
+impl<A: Allocator + Copy + Drop> Model for Variables<A> {
+    ghost Value = { Machine };
+
+    ghost view = { λ v. record {
+      state = v.state;
+      vs = v.vs;
+      nn = v.nn;
+      sent = map held_of v.sent.items;
+      waiting = option_map waiting_of v.waiting;
+      control = v.control;
+      t1 = v.t1;
+      timer = v.timer;
+      limit = v.limit;
+      count = v.count;
+      k = v.k;
+    } };
+
+    ghost invariant = { λ v. IsFop (record {
+      state = v.state;
+      vs = v.vs;
+      nn = v.nn;
+      sent = map held_of v.sent.items;
+      waiting = option_map waiting_of v.waiting;
+      control = v.control;
+      t1 = v.t1;
+      timer = v.timer;
+      limit = v.limit;
+      count = v.count;
+      k = v.k;
+    }) × (255 ≤ deque_capacity v.sent) };
+}
+
+impl<A: Allocator + Copy + Drop> Variables<A> {
+    /// S6 with these settings. `Memory` where the room of the Sent_Queue is refused.
+    pub(crate) fn new(alloc: A, k: u8, t1: u16, limit: u8) -> Result<Self, Refusal>
+        requires k { 0 < k }
+        requires t1 { 0 < t1 }
+        requires limit { 0 < limit }
+        ensures ok { IfOk result (λ v. v ≡ new_machine k t1 limit) }
+        ensures fop { IfOk result (λ v. IsFop v) }
+        ensures err { IfErr result (λ e. e ≡ Refusal.Memory) }
+    {
+        let Ok(sent) = VecDeque::with_capacity(alloc, MOST_SENT) else {
+            return Err(Refusal::Memory);
+        };
+        Ok(Variables {
+            state: FopState::Initial,
+            vs: 0,
+            nn: 0,
+            sent,
+            waiting: None,
+            control: None,
+            t1,
+            timer: 0,
+            limit,
+            count: 1,
+            k,
+        })
+    }
+
+    /// The state.
+    pub(crate) fn state(&self) -> FopState
+        ensures state { result ≡ self.now.state }
+        ensures fop { IsFop self.now }
+    {
+        self.state
+    }
+
+    /// Whether a request waits.
+    pub(crate) fn has_waiting(&self) -> bool
+        ensures { result ≡ is_some self.now.waiting }
+    {
+        self.waiting.is_some()
+    }
+
+    /// Whether one more transmission may be counted.
+    pub(crate) fn is_below_limit(&self) -> bool
+        ensures { IsTrue result ↔ (self.now.count < self.now.limit) }
+    {
+        self.limit > self.count
+    }
+
+    /// The ticks that are left; 0 is not running.
+    pub(crate) fn timer(&self) -> u16
+        ensures timer { result ≡ self.now.timer }
+        ensures fop { IsFop self.now }
+    {
+        self.timer
+    }
+
+    /// What a status line prints.
+    pub(crate) fn view(&self) -> FopView
+        ensures { result ≡ view_of self.now }
+    {
+        FopView {
+            state: self.state,
+            vs: self.vs,
+            nn: self.nn,
+            sent: self.sent.len() as u8,
+            waiting: if self.waiting.is_some() { 1 } else { 0 },
+            count: self.count,
+            timer: self.timer,
+            k: self.k,
+            t1: self.t1,
+            limit: self.limit,
+        }
+    }
+
+    /// The row of a control word.
+    pub(crate) fn row(&self, word: Option<Clcw>) -> Row
+        ensures row { result ≡ row_of self.now word }
+        ensures fits { is_taking self.now.state ≡ true → Fits result self.now }
+    {
+        let nn = self.nn;
+        let Some(word) = word else {
+            return Row::P16;
+        };
+        if word.lockout {
+            return Row::P15;
+        }
+        let acknowledged = word.report.wrapping_sub(nn);
+        let out = self.vs.wrapping_sub(nn);
+        if acknowledged > out {
+            Row::P14
+        } else if acknowledged == out {
+            match (word.retransmit, word.wait) {
+                (true, _) => Row::P4,
+                (false, true) => Row::P3,
+                (false, false) if acknowledged == 0 => Row::P1,
+                (false, false) => Row::P2(acknowledged),
+            }
+        } else if !word.retransmit {
+            if word.wait {
+                Row::P7
+            } else if acknowledged == 0 {
+                Row::P5
+            } else {
+                Row::P6(acknowledged)
+            }
+        } else {
+            self.row_of_missing(word.wait, acknowledged)
+        }
+    }
+
+    /// The row where a frame is missing.
+    fn row_of_missing(&self, wait: bool, acknowledged: u8) -> Row
+        ensures { result ≡ (if self.now.limit == 1 then Row.P8 acknowledged else if nat_lt 0 acknowledged then (if wait then Row.P10 acknowledged else Row.P9 acknowledged) else if wait then Row.P12 else if nat_lt self.now.count self.now.limit then Row.P11 else Row.P13) }
+    {
+        if self.limit == 1 {
+            Row::P8(acknowledged)
+        } else if acknowledged > 0 {
+            if wait {
+                Row::P10(acknowledged)
+            } else {
+                Row::P9(acknowledged)
+            }
+        } else if wait {
+            Row::P12
+        } else if self.count < self.limit {
+            Row::P11
+        } else {
+            Row::P13
+        }
+    }
+
+    /// To another of S1 to S3.
+    pub(crate) fn enter(&mut self, state: FopState)
+        requires from { is_taking self.old.state ≡ true }
+        requires to { is_taking state ≡ true }
+        ensures machine { self.new ≡ change (To state) self.old }
+        ensures fop { IsFop self.new }
+    {
+        self.state = state;
+    }
+
+    /// The timer stops.
+    pub(crate) fn cancel_timer(&mut self)
+        ensures machine { self.new ≡ change CancelTimer self.old }
+        ensures fop { IsFop self.new }
+    {
+        self.timer = 0;
+    }
+
+    /// One tick less.
+    pub(crate) fn lower_timer(&mut self)
+        requires { 0 < self.old.timer }
+        ensures machine { self.new ≡ change LowerTimer self.old }
+        ensures fop { IsFop self.new }
+    {
+        self.timer -= 1;
+    }
+
+    /// The acknowledged requests leave the front of the Sent_Queue.
+    #[tactic(auto, using(crate::proofs::QueueLemmas::queues))]
+    pub(crate) fn remove(&mut self, acknowledged: u8, out: &mut Output<A>)
+        requires taking { is_taking self.old.state ≡ true }
+        requires there { acknowledged ≤ length self.old.sent }
+        requires room { length out.old.indications + acknowledged ≤ 257 }
+        ensures machine { self.new ≡ change (Remove acknowledged) self.old }
+        ensures fop { IsFop self.new }
+        ensures out { out.new ≡ joined out.old (said (Remove acknowledged) self.old) }
+    {
+        confirm_front(&mut self.sent, acknowledged, out);
+        self.nn = self.nn.wrapping_add(acknowledged);
+        self.count = 1; // what is left counts anew
+    }
+
+    /// Sends all that is out again, counts it, and starts the timer.
+    #[tactic(auto, using(crate::proofs::QueueLemmas::queues))]
+    pub(crate) fn retransmit(&mut self, out: &mut Output<A>)
+        requires taking { is_taking self.old.state ≡ true }
+        requires counted { self.old.count < 255 }
+        requires room { length out.old.frames + length self.old.sent ≤ 256 }
+        ensures machine { self.new ≡ after (InitiateRetransmission ∷ Resend ∷ []) self.old }
+        ensures fop { IsFop self.new }
+        ensures out { out.new ≡ joined out.old (said Resend (change InitiateRetransmission self.old)) }
+        ensures frames { length out.new.frames ≡ length out.old.frames + length self.old.sent }
+    {
+        let (front, back) = self.sent.as_slices();
+        send_again(front, out);
+        send_again(back, out);
+        self.count += 1;
+        self.timer = self.t1;
+    }
+
+    /// The first transmission of a request, under the next number.
+    #[tactic(auto, using(crate::proofs::QueueLemmas::queues))]
+    fn send_first(&mut self, offer: &Offer, out: &mut Output<A>)
+        requires taking { is_taking self.old.state ≡ true }
+        requires few { length self.old.sent < 255 }
+        requires frame { length out.old.frames < 256 }
+        requires indication { length out.old.indications < 257 }
+        ensures machine { self.new ≡ transmitted (Some (waiting_of offer.now)) self.old }
+        ensures fop { IsFop self.new }
+        ensures out { out.new ≡ joined out.old (transmits (Some (waiting_of offer.now)) self.old.vs) }
+    {
+        let ns = self.vs;
+        if self.sent.is_empty() {
+            self.count = 1;
+        }
+        self.sent.push_back_reserved(Outstanding {
+            ns,
+            request: offer.request,
+            body: offer.body,
+        });
+        self.vs = ns.wrapping_add(1);
+        self.waiting = None;
+        self.timer = self.t1;
+        out.send(Frame::Ad {
+            ns,
+            request: offer.request,
+            body: offer.body,
+        });
+        out.tell(Indication::Sent(offer.request));
+    }
+
+    /// Transmits the waiting request, if there is one and the window is open.
+    pub(crate) fn transmit(&mut self, out: &mut Output<A>)
+        requires frame { length out.old.frames < 256 }
+        requires indication { length out.old.indications < 257 }
+        ensures machine { self.new ≡ change Transmit self.old }
+        ensures fop { IsFop self.new }
+        ensures out { out.new ≡ joined out.old (said Transmit self.old) }
+    {
+        let outstanding = self.vs.wrapping_sub(self.nn);
+        if outstanding < self.k {
+            if let Some(offer) = self.waiting {
+                self.send_first(&offer, out);
+            }
+        }
+    }
+
+    /// Transmits where nothing is to be sent again.
+    #[tactic(auto, using(crate::proofs::QueueLemmas::queues))]
+    pub(crate) fn look(&mut self, out: &mut Output<A>)
+        requires frame { length out.old.frames < 256 }
+        requires indication { length out.old.indications < 257 }
+        ensures machine { self.new ≡ after look self.old }
+        ensures fop { IsFop self.new }
+        ensures out { out.new ≡ joined out.old (said Transmit self.old) }
+    {
+        let _ns = self.vs;
+        self.transmit(out);
+    }
+
+    /// The service stops: both queues are given back, and the timer and a BC copy go.
+    #[tactic(auto, using(crate::proofs::QueueLemmas::queues))]
+    pub(crate) fn alert(&mut self, kind: AlertKind, out: &mut Output<A>)
+        requires room { length out.old.indications + length self.old.sent ≤ 255 }
+        ensures machine { self.new ≡ change (Alert kind) self.old }
+        ensures fop { IsFop self.new }
+        ensures out { out.new ≡ joined out.old (said (Alert kind) self.old) }
+    {
+        let (front, back) = self.sent.as_slices();
+        doubt_all(front, out);
+        doubt_all(back, out);
+        if let Some(offer) = self.waiting.take() {
+            out.tell(Indication::GivenBack(offer.request));
+        }
+        out.tell(Indication::Alert(kind));
+        self.sent.clear();
+        self.control = None;
+        self.timer = 0;
+        self.state = FopState::Initial;
+    }
+
+    /// The service begins after the check or a BC frame.
+    pub(crate) fn begin(&mut self, out: &mut Output<A>)
+        requires starting { is_starting self.old.state ≡ true }
+        requires room { length out.old.indications < 257 }
+        ensures machine { self.new ≡ after (CancelTimer ∷ DropControl ∷ To FopState.Active ∷ Begin ∷ []) self.old }
+        ensures fop { IsFop self.new }
+        ensures out { out.new ≡ joined out.old (said Begin self.old) }
+    {
+        self.timer = 0;
+        self.control = None;
+        self.state = FopState::Active;
+        out.tell(Indication::Started);
+    }
+
+    /// Sends the BC frame again, counts it, and starts the timer.
+    pub(crate) fn repeat_control(&mut self, out: &mut Output<A>)
+        requires state { has_control self.old.state ≡ true }
+        requires counted { self.old.count < 255 }
+        requires room { length out.old.frames < 256 }
+        ensures machine { self.new ≡ after (SendControl ∷ CountOne ∷ StartTimer ∷ []) self.old }
+        ensures fop { IsFop self.new }
+        ensures out { out.new ≡ joined out.old (said SendControl self.old) }
+    {
+        if let Some(frame) = self.control {
+            out.send(frame);
+        }
+        self.count += 1;
+        self.timer = self.t1;
+    }
+
+    /// The request waits.
+    pub(crate) fn accept(&mut self, offer: Offer)
+        requires taking { is_taking self.old.state ≡ true }
+        ensures machine { self.new ≡ change (Wait (waiting_of offer)) self.old }
+        ensures fop { IsFop self.new }
+    {
+        self.waiting = Some(offer);
+    }
+
+    /// The service begins with no check.
+    pub(crate) fn begin_at_once(&mut self, out: &mut Output<A>)
+        requires initial { is_initial self.old.state ≡ true }
+        requires room { length out.old.indications < 257 }
+        ensures machine { self.new ≡ after (Initiate None ∷ To FopState.Active ∷ Begin ∷ []) self.old }
+        ensures fop { IsFop self.new }
+        ensures out { out.new ≡ joined out.old (said Begin self.old) }
+    {
+        self.count = 1;
+        self.nn = self.vs;
+        self.state = FopState::Active;
+        out.tell(Indication::Started);
+    }
+
+    /// Waits for a control word before the service begins.
+    pub(crate) fn await_check(&mut self)
+        requires initial { is_initial self.old.state ≡ true }
+        ensures machine { self.new ≡ after (Initiate None ∷ StartTimer ∷ To FopState.InitialisingWithoutBc ∷ []) self.old }
+        ensures fop { IsFop self.new }
+    {
+        self.count = 1;
+        self.nn = self.vs;
+        self.timer = self.t1;
+        self.state = FopState::InitialisingWithoutBc;
+    }
+
+    /// Sends a BC frame, and waits for its acknowledgement before the service begins.
+    pub(crate) fn command(&mut self, frame: &Frame, out: &mut Output<A>)
+        requires initial { is_initial self.old.state ≡ true }
+        requires room { length out.old.frames < 256 }
+        ensures machine { self.new ≡ after (Initiate (Some frame.now) ∷ SendControl ∷ StartTimer ∷ To FopState.InitialisingWithBc ∷ []) self.old }
+        ensures fop { IsFop self.new }
+        ensures out { out.new ≡ joined out.old (record { frames = frame.now ∷ []; indications = [] }) }
+    {
+        self.count = 1;
+        self.nn = self.vs;
+        self.control = Some(*frame);
+        self.timer = self.t1;
+        self.state = FopState::InitialisingWithBc;
+        out.send(*frame);
+    }
+
+    /// V(S) alone.
+    pub(crate) fn set_vs(&mut self, vs: u8)
+        requires initial { is_initial self.old.state ≡ true }
+        ensures machine { self.new ≡ change (SetVsAlone vs) self.old }
+        ensures fop { IsFop self.new }
+    {
+        self.vs = vs;
+    }
+
+    /// V(S) and NN(R).
+    pub(crate) fn set_both(&mut self, vs: u8)
+        requires initial { is_initial self.old.state ≡ true }
+        ensures machine { self.new ≡ change (SetVsAndNn vs) self.old }
+        ensures fop { IsFop self.new }
+    {
+        self.vs = vs;
+        self.nn = vs;
+    }
+
+    /// The FOP sliding window width.
+    pub(crate) fn set_k(&mut self, k: u8)
+        requires { 0 < k }
+        ensures machine { self.new ≡ change (SetKTo k) self.old }
+        ensures fop { IsFop self.new }
+    {
+        self.k = k;
+    }
+
+    /// T1_Initial; the timer that runs stays.
+    pub(crate) fn set_t1(&mut self, t1: u16)
+        requires { 0 < t1 }
+        ensures machine { self.new ≡ change (SetT1To t1) self.old }
+        ensures fop { IsFop self.new }
+    {
+        self.t1 = t1;
+    }
+
+    /// The Transmission_Limit.
+    pub(crate) fn set_limit(&mut self, limit: u8)
+        requires { 0 < limit }
+        ensures machine { self.new ≡ change (SetLimitTo limit) self.old }
+        ensures fop { IsFop self.new }
+    {
+        self.limit = limit;
+    }
+}
