@@ -1,43 +1,38 @@
 -- An INSERT OR REPLACE of one row into a table that is keyed by a number: the row is in its place, and in place of the one with its key.
-use Rattle.std.proofs.Common.{◌≡◌, ◌≢◌, ◌⊎◌, ◌/◌, inl, inr, ℕ, ℤ, pos, List, [], ◌∷◌, ◌++◌, append-nil, map, filter, take, drop, length, slice_get, Bool, true, false, not, ◌&&◌, ◌||◌, true≢false, cond, Option, Some, None, Ok, Err, Result, OnOk, refl, sym, ap, subst, ◌∙◌, eqb-true}
+use Rattle.std.proofs.Common.{◌≡◌, ◌≢◌, inl, inr, ℕ, ℤ, pos, List, [], ◌∷◌, ◌++◌, append-nil, map, take, length, Bool, true, false, not, ◌&&◌, ◌||◌, true≢false, cond, Option, Some, None, Ok, Err, Result, OnOk, refl, sym, ap, subst, ◌∙◌, eqb-true}
 use Rattle.std.specs.declared.cmp.Ordering.{Ordering}
 use Rattle.std.specs.declared.cmp.Ordering.TheVariants.{Less, Equal, Greater}
-use Rattle.std.specs.List.{AllByRecursion, list_any}
+use Rattle.std.specs.List.{AllByRecursion}
 use Rattle.std.specs.Ordering.{ordering_reverse, match_ordering, is_eq, is_lt}
-use Rattle.sqlite_value.specs.declared.value.Value.{Value}
 use Rattle.sqlite_value.specs.declared.value.Value.TheVariants.{Int}
-use Rattle.sqlite_value.specs.declared.keys.Collation.TheVariants.{Binary}
-use Rattle.sqlite_value.specs.Order.{Row, column, value_cmp}
-use Rattle.sqlite_value.specs.Keys.{plain, ascending, first_key}
+use Rattle.sqlite_value.specs.Order.{Row, value_cmp}
 use Rattle.sqlite_value.proofs.KeyLemmas.{first_key-plain}
 use Rattle.sqlite_value.proofs.OrderLemmas.{value_cmp_total}
 use Rattle.sqlite_trees.specs.Tree.{Trees, rowid, has_rowid, put_row, without_rowid, IsTable}
 use Rattle.sqlite_trees.proofs.TreeLemmas.{later_rowids}
 use Rattle.sqlite_keyed.proofs.ListLemmas.{filter_all, all_weaker, ascending-filter}
 use Rattle.sqlite.specs.Term.{Term, eval_all}
-use Rattle.sqlite.specs.Table.{Table}
 use Rattle.sqlite.specs.Schema.{Schema}
 use Rattle.sqlite.specs.Source.TheVariants.{Values}
 use Rattle.sqlite.specs.Command.TheVariants.{InsertOr}
 use Rattle.sqlite_schema.specs.declared.command.Conflict.TheVariants.{Replace}
 use Rattle.sqlite_schema.specs.declared.schema.Keys.TheVariants.{Enforced}
-use Rattle.sqlite_schema.specs.Rules.{equal, agree}
+use Rattle.sqlite_schema.specs.Rules.{equal}
 use Rattle.sqlite_sql.specs.Ops.{is_true, binary}
 use Rattle.sqlite_rules.specs.Lists.{Has}
-use Rattle.sqlite_rules.specs.Keys.{conflicts, shares, AreConflicts}
-use Rattle.sqlite_rules.specs.Action.{works}
+use Rattle.sqlite_rules.specs.Keys.{conflicts, AreConflicts}
 use Rattle.sqlite_rules.specs.Calls.{ids_of}
 use Rattle.sqlite_rules.specs.Cast.{cast_row}
-use Rattle.sqlite_rules.specs.Edit.{Edit, edit_of, edited, taken_by, id_in, with_rowid, without_all, IsNoIndex, Applies}
+use Rattle.sqlite_rules.specs.Edit.{edit_of, taken_by, id_in, with_rowid, without_all, IsNoIndex}
 use Rattle.sqlite_rules.specs.declared.error.Refusal.{Refusal}
 use Rattle.sqlite.specs.Rowids.TheVariants.{Chosen, Given}
 use Rattle.sqlite.specs.Does.{Tally, Does, AtPlace, OnRows}
-use Rattle.sqlite.specs.Rows.{Task, Written, nothing, joined, mended, higher, count_of, Puts, Clears, Upserts, Judged, Tries, TriesEach}
+use Rattle.sqlite.specs.Rows.{Task, Written, nothing, mended, count_of, Puts, Clears, Upserts, Judged, Tries, TriesEach}
 use Rattle.sqlite.specs.declared.error.Error.{Error}
 use Rattle.sqlite.specs.Listing.{understood}
 use Rattle.sqlite.specs.Effect.{Database, value_rows}
 use Rattle.sqlite.specs.State.{State, mode_of, Executes}
-use Rattle.sqlite.proofs.Callers.{IsPlain, command_of, statement_of, runs_as, one_step}
+use Rattle.sqlite.proofs.Callers.{statement_of, runs_as, one_step}
 use Rattle.tc_sql.specs.Forms.{Form, table_of, row_fits}
 use Rattle.tc_sql.specs.Puts.{ReplacesIn, HasPut, IsKeyed}
 use Rattle.tc_sql.proofs.Casts.{cast_row_fits}
@@ -58,11 +53,13 @@ put_without new id keyed (r ∷ rows) table = go (value_cmp (rowid r) (rowid new
   where
     tie : (o : Ordering) → value_cmp (rowid r) (rowid new) ≡ o → has_rowid id r ≡ is_eq o
     tie o e = ap is_eq (ap (value_cmp (rowid r)) (sym keyed) ∙ e)
+
     others : (o : Ordering) → value_cmp (rowid r) (rowid new) ≡ o → is_lt o ≡ false → without_rowid id rows ≡ rows
     others o e low =
         filter_all (λ y. not (has_rowid id y)) rows
         (all_weaker (λ y. is_eq (value_cmp (rowid y) (Int id)) ≡ false) (λ y. not (has_rowid id y) ≡ true) (λ y apart. ap not apart) rows
         (later_rowids (Int id) r rows (ap is_lt (ap (value_cmp (rowid r)) (sym keyed) ∙ e) ∙ low) table.0))
+
     go : (o : Ordering) → value_cmp (rowid r) (rowid new) ≡ o → put_row new (without_rowid id rows) ≡ put_row new rows
         → put_row new (cond (not (has_rowid id r)) (r ∷ without_rowid id rows) (without_rowid id rows)) ≡ put_row new (r ∷ rows)
     go Less e more =
@@ -119,8 +116,7 @@ module _ {schema : Schema} {form : Form} {tree : ℕ} {text : List ℕ} {terms :
       let edit = edit_of db (table_of form tree) [] Given 0 (v ∷ []) in
       let put = went h in
       let step = one_step schema Enforced db put.0 edit (it.quiet (taken_by db edit) edit.news) put.1 in
-      let trees : one.trees ≡ put.0 = ap (λ (w : Written). w.trees) (same_value put.2) in
-      (
+      let trees : one.trees ≡ put.0 = ap (λ (w : Written). w.trees) (same_value put.2) in (
         ap (λ (all : Trees). all tree) trees ∙ step.rows ∙ ap (λ w. put_row w (db tree)) (cast_row_fits form tree v fit),
         λ t apart none. ap (λ (all : Trees). all t) trees ∙ step.others t apart none,
       )
@@ -169,23 +165,23 @@ module _ {schema : Schema} {form : Form} {tree : ℕ} {text : List ℕ} {terms :
       let w = runs_as text params old new schema has command it.command it.plain count h in
       let placed = subst (λ s. Does old.step_limit (mode_of old) params (record old.now { schema = s }) (statement_of text (understood schema text)) None command (Ok (w.tally, new.now))) has w.changed in
       let done : OnRows (record { limit = old.step_limit; keys = Enforced; schema = schema; table = table_of form tree; params = params }) (mode_of old) None command db (Ok (w.tally, new.now)) =
-          subst (λ o. AtPlace (λ t. OnRows (record { limit = old.step_limit; keys = Enforced; schema = schema; table = t; params = params }) (mode_of old) None command db) o (Ok (w.tally, new.now))) it.listed placed in
+      subst (λ o. AtPlace (λ t. OnRows (record { limit = old.step_limit; keys = Enforced; schema = schema; table = t; params = params }) (mode_of old) None command db) o (Ok (w.tally, new.now))) it.listed placed in
       let whole = went done in
       let sourced = went whole.1 in
       let given : sourced.0 ≡ row x ∷ [] =
-          sourced.1.1 ∙ ap (λ n. value_rows (params ++ []) width n terms) it.single ∙ ap (λ q. eval_all (take width terms) (q ∷ []) ∷ []) (append-nil params) ∙ ap (λ v. v ∷ []) evaluated in
+      sourced.1.1 ∙ ap (λ n. value_rows (params ++ []) width n terms) it.single ∙ ap (λ q. eval_all (take width terms) (q ∷ []) ∷ []) (append-nil params) ∙ ap (λ v. v ∷ []) evaluated in
       let counter = went sourced.2 in
       let each = went counter.2 in
       let counted = went each.2 in
       let first = went (subst (λ rows. TriesEach (task it old.step_limit params) Replace [] rows (count_of counter.0) (nothing db) (Ok each.0)) given each.1) in
       let new_is : with_rowid Chosen (db tree) (cast_row (table_of form tree) (mended Replace (table_of form tree) (row x))) ≡ row x =
-          ap (λ v. with_rowid Chosen (db tree) (cast_row (table_of form tree) v)) whole_row ∙ ap (with_rowid Chosen (db tree)) (cast_row_fits form tree (row x) fit) ∙ keyed_rowid key row keyed (db tree) x in
+      ap (λ v. with_rowid Chosen (db tree) (cast_row (table_of form tree) v)) whole_row ∙ ap (with_rowid Chosen (db tree)) (cast_row_fits form tree (row x) fit) ∙ keyed_rowid key row keyed (db tree) x in
       let up = tried it old.step_limit params db (row x) first.0 (subst (λ v. Tries (task it old.step_limit params) Replace [] v db (Ok first.0)) new_is first.1) in
       let ids = same_ids x xs up.0 (subst (λ rows. AreConflicts None schema.indexes (table_of form tree) rows (row x) up.0) held up.1) in
       let put = cleared it old.step_limit params db (row x) (pos (key x)) up.0 first.0 fit (keyed x) (subst IsTable (sym held) table) ids up.2 in
       let now : new.now ≡ record { schema = schema; trees = whole.0.trees } = ap (λ (p : Tally × Database). p.1) (same_value (went (went whole.2).2).2) in
       let trees : whole.0.trees ≡ first.0.trees =
-          ap (λ (w : Written). w.trees) (same_value counted.2) ∙ same_value counted.1 ∙ ap (λ (p : Written × ℤ). p.0.trees) (same_value first.2) in
+      ap (λ (w : Written). w.trees) (same_value counted.2) ∙ same_value counted.1 ∙ ap (λ (p : Written × ℤ). p.0.trees) (same_value first.2) in
       let seen : new.now.trees ≡ first.0.trees = ap (λ (d : Database). d.trees) now ∙ trees in
       record {
         schema = ap (λ (d : Database). d.schema) now ∙ sym has;

@@ -1,5 +1,5 @@
 -- What a SELECT over one table in the order of its rowid lists.
-use Rattle.std.proofs.Common.{◌≡◌, ℕ, nat_le, nat_lt, ◌^◌, ◌==◌, pos, List, [], ◌∷◌, ◌++◌, unwrap_or, map, filter, flat_map, Bool, true, false, cond, Some, None, refl, sym, ap, subst, ◌∙◌, arith, is_eq, is_gt, IsPermutation}
+use Rattle.std.proofs.Common.{◌≡◌, inl, inr, IsTrue, ℕ, nat_le, nat_lt, ◌^◌, ◌==◌, pos, List, [], ◌∷◌, ◌++◌, unwrap_or, map, filter, flat_map, Bool, true, false, cond, Some, None, refl, sym, ap, subst, ◌∙◌, arith, is_eq, is_gt, IsPermutation}
 use Rattle.std.proofs.lemmas.Bool.Decides.{nat_tests}
 use Rattle.std.specs.declared.cmp.Ordering.TheVariants.{Less}
 use Rattle.std.specs.Ordering.{nat_cmp}
@@ -19,8 +19,9 @@ use Rattle.sqlite_keyed.proofs.ListLemmas.{map-map, filter-map, filter_same, map
 use Rattle.sqlite_keyed.proofs.SortLemmas.{sorted_unique}
 use Rattle.sqlite.specs.Schema.{Schema}
 use Rattle.sqlite.specs.Command.TheVariants.{Select}
-use Rattle.sqlite.specs.State.{State, Shown, Survives, CommitsShowing}
+use Rattle.sqlite.specs.State.{State, Shown, FailsToQuery, IsNotRun, Survives, CommitsShowing}
 use Rattle.sqlite.specs.Listing.{understood}
+use Rattle.sqlite.specs.declared.error.Error.{Error}
 use Rattle.sqlite.proofs.StateLemmas.{survives_weaker}
 use Rattle.sqlite.proofs.Callers.{IsPlain, reads_as, never_commits}
 use Rattle.tc_sql.specs.Lists.{listing, passes, ListsFrom}
@@ -110,6 +111,16 @@ module _ (text : List ℕ) (params : Row) (old new : State) (schema : Schema) (h
   pub unchanged : (rows : List Row) → Shown text params old new rows → new.now ≡ old.now
   unfolding Shown
   unchanged rows h =
+      let known = sym h.1.is ∙ ap (λ s. understood s text) has in
+      let bare = subst IsPlain (sym known) plain in
+      (rw (bare.0) at h.2).3.0.now_is
+
+  -- one that fails leaves what is committed, where the connection is open
+  pub fails_unchanged : (e : Error) → (IsTrue old.is_open → old.now ≡ old.committed) → FailsToQuery text params old new e → IsTrue new.is_open → new.now ≡ old.now
+  unfolding FailsToQuery IsNotRun
+  fails_unchanged e settled (inl (inl none)) stays = none.1.0.now_is
+  fails_unchanged e settled (inl (inr fails)) stays = (fails.3.undone stays).0 ∙ sym (settled (fails.3.was_open stays))
+  fails_unchanged e settled (inr h) stays =
       let known = sym h.1.is ∙ ap (λ s. understood s text) has in
       let bare = subst IsPlain (sym known) plain in
       (rw (bare.0) at h.2).3.0.now_is

@@ -1,5 +1,5 @@
 -- The texts of a chain of CREATE are run one after another.
-use Rattle.std.proofs.Common.{◌≡◌, ℕ, ◌+◌, ◌<◌, ◌≤◌, arith, List, [], ◌∷◌, map, length, drop, get_or, Ok, subst, sym, refl, ◌∙◌}
+use Rattle.std.proofs.Common.{ℕ, ◌+◌, ◌<◌, ◌≤◌, arith, List, [], map, length, drop, get_or, Ok, subst, sym}
 use Rattle.std.proofs.lemmas.List.{drop_more, drop_all, get_or-map, length-map}
 use Rattle.std.specs.Borrow.{Bor}
 use Rattle.sqlite_trees.specs.declared.store.Store.{Ghosts}

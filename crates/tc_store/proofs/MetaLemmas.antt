@@ -1,8 +1,8 @@
 -- What the text of `meta` means: the row that names the version.
-use Rattle.std.proofs.Common.{◌≡◌, ℕ, pos, true, codes, map, List, [], ◌∷◌, Result, Ok, Err, OnOk, IfOk, refl, sym, ap, subst, ◌∙◌}
+use Rattle.std.proofs.Common.{◌≡◌, ℕ, pos, true, codes, [], ◌∷◌, Result, Ok, Err, OnOk, IfOk, refl, sym, ap, subst, ◌∙◌}
 use Rattle.sqlite_value.specs.Order.{Row}
 use Rattle.sqlite_value.specs.declared.value.Value.TheVariants.{Null, Int, Text}
-use Rattle.sqlite_trees.specs.Tree.{Trees, put_row}
+use Rattle.sqlite_trees.specs.Tree.{put_row}
 use Rattle.sqlite_trees.specs.declared.store.Store.{Ghosts}
 use Rattle.sqlite_schema.specs.declared.schema.Schema.{Schema}
 use Rattle.sqlite_rules.specs.declared.error.Rowids.TheVariants.{Chosen}
@@ -11,21 +11,19 @@ use Rattle.sqlite_tied.specs.Compute.{everything}
 use Rattle.sqlite.specs.Effect.{Database}
 use Rattle.sqlite.specs.Listing.{understood}
 use Rattle.sqlite.specs.declared.error.Error.{Error}
-use Rattle.sqlite.specs.State.{State, Executes}
 use Rattle.sqlite.specs.Held.{Held, state}
 use Rattle.std.specs.List.{AllByRecursion}
 use Rattle.tc_types.specs.Tables.{empty_image}
 use Rattle.tc_sql.specs.Builds.{no_schema, Builds, BuildsTo}
-use Rattle.tc_sql.specs.Contents.{Contents, Matches, with_rows, are_tables}
+use Rattle.tc_sql.specs.Contents.{Contents, Matches, are_tables}
 use Rattle.tc_sql.specs.Puts.{PutsInto, HasPut}
 use Rattle.tc_sql.proofs.Inserts.{inserts}
 use Rattle.tc_sql.proofs.Changes.{matches_put}
-use Rattle.tc_sql.proofs.Creates.{makes}
 use Rattle.tc_store.specs.Meta.{meta_tree, meta_form, meta_put, meta_terms, version_row}
 use Rattle.tc_store.specs.Requests.{request_tree}
 use Rattle.tc_store.specs.Moves.{move_tree}
-use Rattle.tc_store.specs.Schema.{schema_1, create_texts, contents, Holds}
-use Rattle.tc_store.specs.Steps.{Goes, Ran, Defined, Versioned, Filled}
+use Rattle.tc_store.specs.Schema.{schema_1, create_texts, Holds}
+use Rattle.tc_store.specs.Steps.{Ran, Defined, Versioned, Filled}
 use Rattle.tc_store.proofs.SchemaLemmas.{built}
 use Rattle.tc_store.proofs.StepLemmas.{goes_same, goes_then}
 

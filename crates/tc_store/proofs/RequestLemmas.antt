@@ -1,5 +1,5 @@
 -- What the text of `request` means: one request more in the image.
-use Rattle.std.proofs.Common.{◌≡◌, ℕ, pos, cond, List, [], ◌∷◌, Result, Ok, Err, OnOk, IfOk, refl}
+use Rattle.std.proofs.Common.{ℕ, pos, cond, [], ◌∷◌, Result, Ok, Err, OnOk, IfOk, refl}
 use Rattle.sqlite_value.specs.declared.value.Value.TheVariants.{Int, Text}
 use Rattle.sqlite_value.specs.Order.{Row}
 use Rattle.sqlite_tied.specs.Compute.{everything}

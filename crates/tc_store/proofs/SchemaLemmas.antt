@@ -1,5 +1,5 @@
 -- The texts of CREATE lead to the schema, and an INSERT of a row leads from one image to the next.
-use Rattle.std.proofs.Common.{◌≡◌, ℕ, List, [], ◌∷◌, map, inl, inr, true, Ok, refl, sym, ap, subst, ◌∙◌}
+use Rattle.std.proofs.Common.{◌≡◌, ℕ, List, map, inl, inr, true, refl, ap, subst, ◌∙◌}
 use Rattle.sqlite_value.specs.Order.{Row}
 use Rattle.sqlite.specs.Effect.{Database}
 use Rattle.sqlite_tied.specs.Compute.{everything}
@@ -8,7 +8,7 @@ use Rattle.tc_types.specs.Tables as tables
 use Rattle.tc_types.specs.Tables.{Image}
 use Rattle.tc_sql.specs.Forms.{table_of}
 use Rattle.tc_sql.specs.Builds.{no_schema, Builds}
-use Rattle.tc_sql.specs.Contents.{Contents, Matches, has_tree, rows_in, with_rows, are_tables}
+use Rattle.tc_sql.specs.Contents.{Matches, has_tree, rows_in, with_rows, are_tables}
 use Rattle.tc_sql.specs.Puts.{HasPut, IsKeyed}
 use Rattle.tc_sql.proofs.Changes.{matches_keyed}
 use Rattle.tc_store.specs.Meta.{meta_form}

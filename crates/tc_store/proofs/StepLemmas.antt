@@ -1,5 +1,5 @@
 -- How the steps of a transaction follow one another.
-use Rattle.std.proofs.Common.{◌≡◌, ◌⊎◌, inl, inr, ℕ, ◌+◌, ◌<◌, ◌≤◌, arith, length, take, get_or, List, [], ◌∷◌, IsTrue, refl, ap, subst, sym, ◌∙◌, take_all}
+use Rattle.std.proofs.Common.{inl, ℕ, ◌+◌, ◌<◌, ◌≤◌, arith, length, take, get_or, List, refl, subst, sym, ◌∙◌, take_all}
 use Rattle.std.proofs.lemmas.List.Sums.{fold_more}
 use Rattle.sqlite_trees.specs.Tree.{Trees}
 use Rattle.sqlite_trees.specs.declared.store.Store.{Ghosts}

@@ -12,6 +12,8 @@ mod history;
 mod moves;
 mod requests;
 mod steps;
+#[cfg(test)]
+mod stops;
 pub mod tables;
 #[cfg(test)]
 mod tests;
