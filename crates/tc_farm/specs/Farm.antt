@@ -1,6 +1,6 @@
 -- FARM-1, the frame acceptance and reporting mechanism (CCSDS 232.1-B, section 6), as a table: a frame's case by its
 -- distance from V(R), and for each case and state what is done. PW = NW = W / 2.
-use Rattle.std.specs.Prelude.{◌≡◌, ℕ, ◌+◌, ◌-◌, ◌*◌, ◌/◌, ◌%◌, ◌<◌, ◌≤◌, ◌==◌, nat_lt, nat_le, Bool, true, false, if◌then◌else◌}
+use Rattle.std.specs.Prelude.{◌≡◌, ℕ, ◌+◌, ◌-◌, ◌/◌, ◌%◌, ◌<◌, ◌≤◌, ◌==◌, nat_lt, nat_le, Bool, true, false, if◌then◌else◌}
 use Rattle.tc_types.specs.declared.frames.Frame.{Frame}
 use Rattle.tc_types.specs.declared.frames.Frame.TheVariants.{Ad, Unlock, SetVr}
 use Rattle.tc_farm.specs.declared.farms.FarmState.{FarmState}
@@ -112,7 +112,11 @@ abbrev pub new_farm : ℕ → FarmView
 new_farm w =
     record { state = Open; vr = 0; farm_b = 0; lockout = false; wait = false; retransmit = false; window = w }
 
--- a FARM that a start and the calls can reach
+abbrev pub is_open : FarmState → Bool
+is_open Open = true
+is_open Wait = false
+is_open Lockout = false
+
 abbrev pub is_waiting : FarmState → Bool
 is_waiting Open = false
 is_waiting Wait = true
@@ -123,12 +127,15 @@ is_locked_out Open = false
 is_locked_out Wait = false
 is_locked_out Lockout = true
 
+-- A FARM that a start and the calls can reach.
 pub record IsFarm (farm : FarmView) : Type 0 where
   pub window : IsWindowWidth farm.window
   pub vr : farm.vr < 256
   pub farm_b : farm.farm_b < 4
   -- the Lockout flag is the state Lockout
   pub locked_out : farm.lockout ≡ is_locked_out farm.state
+  -- Open has no Wait flag, so that an acceptance, which ends Retransmit, leaves no Wait without it
+  pub open_does_not_wait : is_open farm.state ≡ true → farm.wait ≡ false
   -- the state Wait has the Wait flag, and Wait implies Retransmit
   pub waiting : is_waiting farm.state ≡ true → farm.wait ≡ true
   pub wait_implies_retransmit : farm.wait ≡ true → farm.retransmit ≡ true

@@ -1,26 +1,13 @@
 -- What holds of the FARM-1 table, in the words of its users.
-use Rattle.std.specs.Prelude.{◌≡◌, ℕ, ◌+◌, ◌%◌, Bool, true, false}
+use Rattle.std.specs.Prelude.{◌≡◌, ℕ, ◌+◌, ◌%◌, Bool, true}
 use Rattle.tc_types.specs.declared.requests.Body.{Body}
 use Rattle.tc_types.specs.declared.frames.Frame.{Frame}
 use Rattle.tc_types.specs.declared.frames.Frame.TheVariants.{Ad, Unlock, SetVr}
 use Rattle.tc_farm.specs.declared.clcws.Clcw.{Clcw}
-use Rattle.tc_farm.specs.declared.farms.FarmState.{FarmState}
-use Rattle.tc_farm.specs.declared.farms.FarmState.TheVariants.{Open, Wait, Lockout}
+use Rattle.tc_farm.specs.declared.farms.FarmState.TheVariants.{Open}
 use Rattle.tc_farm.specs.declared.farms.FarmView.{FarmView}
 use Rattle.tc_farm.specs.declared.farms.Verdict.{Verdict}
 use Rattle.tc_farm.specs.declared.farms.Verdict.TheVariants.{Accepted, Discarded, Control}
-use Rattle.tc_farm.specs.Farm.{IsFarm}
-
-abbrev pub is_open : FarmState → Bool
-is_open Open = true
-is_open Wait = false
-is_open Lockout = false
-
--- What every call keeps: the FARM is sound, and in Open the Wait flag is 0, so that an acceptance, which ends Retransmit,
--- leaves no Wait without it.
-pub record IsKept (farm : FarmView) : Type 0 where
-  pub sound : IsFarm farm
-  pub no_wait_in_open : is_open farm.state ≡ true → farm.wait ≡ false
 
 -- A frame that is accepted: it has the number that is expected, the FARM is open and a buffer is free; the answer has
 -- its own request and body, and the next number is expected.

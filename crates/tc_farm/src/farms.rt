@@ -56,19 +56,19 @@ pub struct Farm {
 
 impl Model for Farm {
     ghost use Rattle.tc_farm.specs.declared.farms.FarmView.{FarmView};
-    ghost use Rattle.tc_farm.specs.FarmLaws.{IsKept};
+    ghost use Rattle.tc_farm.specs.Farm.{IsFarm};
 
     ghost Value = { FarmView };
 
     ghost view = { λ farm. farm.variables };
 
-    ghost invariant = { λ farm. IsKept farm.variables };
+    ghost invariant = { λ farm. IsFarm farm.variables };
 }
 
 impl Farm {
     ghost use Rattle.std.specs.Prelude.{◌≡◌, ◌≢◌, ◌↔◌, IsSome, IfSome, true};
     ghost use Rattle.tc_farm.specs.Farm.{IsWindowWidth, IsFarm, new_farm, farm_after, verdict_of, released, changed, cell_of, is_accept, unlocked, with_vr};
-    ghost use Rattle.tc_farm.specs.FarmLaws.{IsKept, Says, Tells};
+    ghost use Rattle.tc_farm.specs.FarmLaws.{Says, Tells};
 
     /// A FARM with window width W = `w`, open, that expects the number 0; `None` unless W is even and 2 to 254.
     pub fn new(w: u16) -> Option<Farm>
@@ -162,7 +162,7 @@ impl Farm {
         ensures after { self.new ≡ changed (cell_of self.old ns room) self.old }
         ensures accepted { result ≡ is_accept (cell_of self.old ns room) }
         ensures in_order { result ≡ true → ns ≡ self.old.vr }
-        ensures kept { IsKept self.new }
+        ensures kept { IsFarm self.new }
     {
         let farm = &mut self.variables;
         let half = farm.window / 2;
@@ -197,7 +197,7 @@ impl Farm {
     /// An Unlock came.
     fn unlock(&mut self)
         ensures after { self.new ≡ unlocked self.old }
-        ensures kept { IsKept self.new }
+        ensures kept { IsFarm self.new }
     {
         let farm = &mut self.variables;
         farm.farm_b = one_more(farm.farm_b);
@@ -210,7 +210,7 @@ impl Farm {
     /// A Set V(R) came: this number is expected next, unless the FARM is in Lockout.
     fn expect(&mut self, vr: u8)
         ensures after { self.new ≡ with_vr vr self.old.state self.old }
-        ensures kept { IsKept self.new }
+        ensures kept { IsFarm self.new }
     {
         let farm = &mut self.variables;
         farm.farm_b = one_more(farm.farm_b);

@@ -1,5 +1,4 @@
 use Rattle.std.proofs.Common.{arith}
-use Rattle.std.specs.Int.{from_bool}
 use Rattle.tc_farm.proofs.WordLemmas.{joined, from_bool_le}
 use Rattle.tc_farm.proofs.clcws.Clcw.word.Goals as goal
 
