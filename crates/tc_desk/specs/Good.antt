@@ -1,0 +1,16 @@
+-- A book that the desk could have written.
+use Rattle.std.specs.Prelude.{◌≡◌, ◌+◌, List, [], length, map}
+use Rattle.tc_types.specs.declared.requests.Request.{Request}
+use Rattle.tc_types.specs.History.{IsGoodHistory, AllAfter, entered}
+use Rattle.tc_desk.specs.Book.{Book, next_identity}
+
+-- one request that may follow these: it has the next number, and the next identity of its application process
+pub record IsGoodRequest (before : List Request) (request : Request) : Type 0 where
+  pub number : request.number ≡ length before + 1
+  pub identity : request.body.identity ≡ next_identity before request.body.identity.apid
+
+-- the history is good, each request may follow those before it, and those that the history enters are the book's
+pub record IsGoodBook (book : Book) : Type 0 where
+  pub history : IsGoodHistory book.history
+  pub requests : AllAfter IsGoodRequest [] book.requests
+  pub entered : entered book.history ≡ map (λ (r : Request). r.number) book.requests

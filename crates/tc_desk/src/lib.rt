@@ -1,0 +1,7 @@
+//! The book of the desk and the acts on it.
+//!
+//! A contract sees a `Desk` as its book: the requests in order of number, and the history.
+#![tactic(auto)]
+
+pub mod dones;
+pub mod stamps;

@@ -1,0 +1,35 @@
+//! What a person can ask of the desk.
+use crate::names::Name;
+use crate::numbers::Moment;
+use crate::requests::Entry;
+
+/// A question, which changes nothing.
+#[derive(Clone, Copy, Debug, PartialEq, Eq)]
+pub enum Query {
+    /// How many requests stand at each place.
+    Places,
+    /// The history rows of request `request` with a greater `seq` than `after`.
+    History { request: u32, after: u32 },
+}
+
+/// An act of a person at the desk.
+#[derive(Clone, Copy, Debug, PartialEq, Eq)]
+pub enum Act {
+    /// A request is written down.
+    Enter(Entry),
+    /// A request is withdrawn before release.
+    Withdraw { request: u32 },
+    /// A question.
+    Ask(Query),
+}
+
+/// A script line: who asks what, and when.
+#[derive(Clone, Copy, Debug, PartialEq, Eq)]
+pub struct Line {
+    /// When, as the line says: no clock is read.
+    pub moment: Moment,
+    /// Who.
+    pub by: Name,
+    /// What.
+    pub act: Act,
+}

@@ -1,0 +1,16 @@
+//! The words of the desk: requests and their places, the moves between places, acts and queries as text, the lines
+//! that are printed, refusals, and the rows of the desk's tables.
+//!
+//! Every type here is `Copy` and takes no memory. A newtype keeps the range of its number, and a contract sees the
+//! number alone; a contract sees a `Name` as its bytes.
+#![tactic(auto)]
+
+pub mod acts;
+pub mod causes;
+pub mod moves;
+pub mod names;
+pub mod numbers;
+pub mod places;
+pub mod refusals;
+pub mod requests;
+pub mod rows;

@@ -1,0 +1,108 @@
+//! Telecommand requests.
+use crate::names::Name;
+use crate::numbers::{
+    Apid, FailureCode, Moment, Offset, RequestNumber, SequenceCount, Service, Steps, Subtype,
+};
+
+/// Which success reports a request asks for (ECSS-E-ST-70-41C, 5.4.11.2.1): failures are always reported.
+#[derive(Clone, Copy, Debug, PartialEq, Eq)]
+pub struct Ack {
+    /// Acceptance, TM[1,1].
+    pub acceptance: bool,
+    /// Start of execution, TM[1,3].
+    pub start: bool,
+    /// Progress of execution, TM[1,5].
+    pub progress: bool,
+    /// Completion of execution, TM[1,7].
+    pub completion: bool,
+}
+
+/// How the rehearsal spacecraft will behave (this desk's own).
+#[derive(Clone, Copy, Debug, PartialEq, Eq)]
+pub enum Outcome {
+    /// Accepted, started, completed.
+    Completes,
+    /// The same, with so many progress steps.
+    CompletesInSteps(Steps),
+    /// Not accepted: TM[1,2] with this code.
+    Refuses(FailureCode),
+    /// Accepted, not started: TM[1,4] with this code.
+    StartFails(FailureCode),
+    /// Halted at this step: TM[1,6] and TM[1,8] with this code.
+    Halts(Steps, FailureCode),
+    /// Started, not completed: TM[1,8] with this code.
+    Fails(FailureCode),
+}
+
+/// What a request commands. The on-board schedule's are those of ECSS-E-ST-70-41C, service 11.
+#[derive(Clone, Copy, Debug, PartialEq, Eq)]
+pub enum Command {
+    /// Any service but 11.
+    Plain { service: Service, subtype: Subtype },
+    /// TC[11,1] enable the schedule.
+    EnableSchedule,
+    /// TC[11,2] disable the schedule.
+    DisableSchedule,
+    /// TC[11,3] reset the schedule.
+    ResetSchedule,
+    /// TC[11,4] insert the request `target` as an activity at `time`.
+    InsertActivity { target: u32, time: Moment },
+    /// TC[11,5] delete the activity `target`.
+    DeleteActivity { target: u32 },
+    /// TC[11,7] shift the activity `target` in time.
+    ShiftActivity { target: u32, offset: Offset },
+    /// TC[11,15] shift all activities in time.
+    ShiftAll { offset: Offset },
+    /// TC[11,17] report a summary of all activities.
+    SummarizeAll,
+}
+
+/// By what a request is named on board: its application process and its count there.
+#[derive(Clone, Copy, Debug, PartialEq, Eq)]
+pub struct Identity {
+    /// The application process.
+    pub apid: Apid,
+    /// How many requests of it were entered before, modulo 16,384.
+    pub count: SequenceCount,
+}
+
+/// What a person says of a request when it is entered.
+#[derive(Clone, Copy, Debug, PartialEq, Eq)]
+pub struct Entry {
+    /// The application process.
+    pub apid: Apid,
+    /// The reports of success that it asks for.
+    pub ack: Ack,
+    /// Whether it wants two approvers.
+    pub critical: bool,
+    /// What it commands.
+    pub command: Command,
+    /// How the rehearsal spacecraft will behave.
+    pub outcome: Outcome,
+}
+
+/// The part of a request that flies.
+#[derive(Clone, Copy, Debug, PartialEq, Eq)]
+pub struct Body {
+    /// Its name on board.
+    pub identity: Identity,
+    /// The reports of success that it asks for.
+    pub ack: Ack,
+    /// What it commands.
+    pub command: Command,
+    /// How the rehearsal spacecraft will behave.
+    pub outcome: Outcome,
+}
+
+/// A request that was entered. It never changes; where it stands is read from the history.
+#[derive(Clone, Copy, Debug, PartialEq, Eq)]
+pub struct Request {
+    /// Its number, in order of entry.
+    pub number: RequestNumber,
+    /// The part that flies.
+    pub body: Body,
+    /// Whether it wants two approvers.
+    pub critical: bool,
+    /// Who entered it.
+    pub author: Name,
+}
