@@ -125,6 +125,10 @@ refusal_line refused = spaced (codes "refused" ∷ decimal (refusal_number refus
 abbrev pub identity_word : Identity → List ℕ
 identity_word identity = decimal identity.apid ++ 47 ∷ decimal identity.count
 
+-- ok request N APID/COUNT
+abbrev pub entered_line : ℕ → Identity → List ℕ
+entered_line n identity = spaced (codes "ok" ∷ codes "request" ∷ decimal n ∷ identity_word identity ∷ [])
+
 -- history N: K, or history N: K more
 abbrev pub history_line : ℕ → ℕ → Bool → List ℕ
 history_line n shown more = codes "history " ++ decimal n ++ codes ": " ++ decimal shown ++ (if more then codes " more" else [])

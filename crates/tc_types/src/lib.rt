@@ -14,3 +14,4 @@ pub mod places;
 pub mod refusals;
 pub mod requests;
 pub mod rows;
+pub mod texts;

@@ -1,6 +1,8 @@
 //! Names of persons, stacks and procedures. A contract sees a `Name` as its bytes.
-ghost use Rattle.std.specs.Prelude.{◌≡◌, ◌≤◌, ◌↔◌, ℕ, List, length, take, IsTrue, IsSome, IfSome};
-ghost use Rattle.tc_types.specs.Names.{is_name_byte, IsName, padded_name, desk_name};
+ghost use Rattle.std.specs.Prelude.{◌≡◌, ◌≢◌, ◌↔◌, ℕ, List, IsTrue, IsSome, IfSome};
+ghost use Rattle.std.specs.List.{list_all};
+ghost use Rattle.tc_types.specs.Names.{is_name_byte, IsName, IsPerson};
+ghost use Rattle.tc_types.specs.Grammar.{Reads};
 
 use std::marker::Model;
 use std::str;
@@ -18,6 +20,9 @@ pub struct Name {
 }
 
 impl Model for Name {
+    ghost use Rattle.std.specs.Prelude.{◌≡◌, ◌≤◌, ℕ, List, length, take};
+    ghost use Rattle.tc_types.specs.Names.{IsName, padded_name};
+
     ghost Value = { List ℕ };
 
     ghost view = { λ n. take n.len n.bytes };
@@ -29,3 +34,59 @@ impl Model for Name {
 
 /// The name by which the desk's own moves are made.
 pub const DESK: &[u8] = b"desk";
+
+/// Whether this byte may stand in a name.
+fn fits_name(byte: u8) -> bool
+    ensures { result ≡ is_name_byte byte }
+{
+    byte.is_ascii_lowercase() || byte.is_ascii_digit()
+}
+
+/// Whether all these bytes may stand in a name.
+fn fit_name(bytes: &[u8]) -> bool
+    ensures { result ≡ list_all is_name_byte bytes.now }
+{
+    bytes.iter().all(|byte| fits_name(*byte))
+}
+
+/// Whether these bytes are a name.
+pub fn is_name(bytes: &[u8]) -> bool
+    ensures { IsTrue result ↔ IsName bytes.now }
+{
+    !bytes.is_empty() && bytes.len() <= LONGEST_NAME && fit_name(bytes)
+}
+
+impl Name {
+    /// The name with these bytes; `None` where they are none.
+    pub fn read(bytes: &[u8]) -> Option<Name>
+        ensures found { IsSome result ↔ IsName bytes.now }
+        ensures value { IfSome result (λ n. n ≡ bytes.now) }
+    {
+        if !is_name(bytes) {
+            return None;
+        }
+        let mut padded = [0; LONGEST_NAME];
+        padded[..bytes.len()].copy_from_slice(bytes);
+        Some(Name {
+            bytes: padded,
+            len: bytes.len() as u8,
+        })
+    }
+
+    /// The name of a person with these bytes; `None` where they are no name, or the desk's own.
+    pub fn read_person(word: &[u8]) -> Option<Name>
+        ensures { Reads {X = List ℕ} (λ n. n) IsPerson word.now result }
+    {
+        if word == DESK {
+            return None;
+        }
+        Name::read(word)
+    }
+
+    /// The name as text.
+    pub fn as_str(&self) -> &str
+        ensures { result.now ≡ self.now }
+    {
+        str::from_utf8(&self.bytes[..usize::from(self.len)]).unwrap()
+    }
+}

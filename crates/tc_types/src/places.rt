@@ -1,6 +1,8 @@
 //! The fifteen places where a request can stand.
-ghost use Rattle.std.specs.Prelude.{◌≡◌, ◌<◌, ◌≤◌};
+ghost use Rattle.std.specs.Prelude.{◌≡◌, ◌<◌, ◌≤◌, Some, IfSome};
 ghost use Rattle.tc_types.specs.Lawful.{place_number, is_one_of};
+ghost use Rattle.tc_types.specs.declared.places.Place.{Place};
+ghost use Rattle.tc_types.specs.Lines.{place_name};
 
 /// How many places there are.
 pub const PLACES: usize = 15;
@@ -63,6 +65,54 @@ impl Place {
             Place::Withdrawn => 13,
             Place::Deleted => 14,
             Place::Closed => 15,
+        }
+    }
+
+    /// The place with this number; `None` for 0 and above 15.
+    pub fn from_number(number: u8) -> Option<Place>
+        ensures found { IfSome result (λ place. place_number place ≡ number) }
+        ensures only { (place : Place) → place_number place ≡ number → result ≡ Some place }
+    {
+        match number {
+            1 => Some(Place::Entered),
+            2 => Some(Place::Approved),
+            3 => Some(Place::Queued),
+            4 => Some(Place::Sent),
+            5 => Some(Place::Confirmed),
+            6 => Some(Place::Riding),
+            7 => Some(Place::Scheduled),
+            8 => Some(Place::Accepted),
+            9 => Some(Place::Started),
+            10 => Some(Place::Completed),
+            11 => Some(Place::Failed),
+            12 => Some(Place::Doubtful),
+            13 => Some(Place::Withdrawn),
+            14 => Some(Place::Deleted),
+            15 => Some(Place::Closed),
+            _ => None,
+        }
+    }
+
+    /// Its name, as it is printed.
+    pub fn name(self) -> &'static str
+        ensures { result.now ≡ place_name self }
+    {
+        match self {
+            Place::Entered => "Entered",
+            Place::Approved => "Approved",
+            Place::Queued => "Queued",
+            Place::Sent => "Sent",
+            Place::Confirmed => "Confirmed",
+            Place::Riding => "Riding",
+            Place::Scheduled => "Scheduled",
+            Place::Accepted => "Accepted",
+            Place::Started => "Started",
+            Place::Completed => "Completed",
+            Place::Failed => "Failed",
+            Place::Doubtful => "Doubtful",
+            Place::Withdrawn => "Withdrawn",
+            Place::Deleted => "Deleted",
+            Place::Closed => "Closed",
         }
     }
 

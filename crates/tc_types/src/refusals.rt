@@ -1,4 +1,9 @@
 //! What an operator is told when the desk does not do what was asked.
+ghost use Rattle.std.specs.Prelude.{◌≡◌, ◌≤◌, IfOk};
+ghost use Rattle.std.specs.String.{string_bytes};
+ghost use Rattle.tc_types.specs.Lines.{refusal_number, refusal_name, refusal_line};
+
+use std::alloc::{AllocError, Allocator};
 
 /// The desk's refusals, by number and name. A refusal changes nothing, but for `Store`, after which the desk is
 /// stopped, and `WriteFault`, which speaks of an answer alone.
@@ -52,4 +57,81 @@ pub enum Refusal {
     ReadFault,
     /// 34: the answer could not be written.
     WriteFault,
+}
+
+impl Refusal {
+    /// Its number, 1 to 34.
+    pub fn number(self) -> u8
+        ensures value { result ≡ refusal_number self }
+        ensures low { 1 ≤ result }
+        ensures high { result ≤ 34 }
+    {
+        match self {
+            Refusal::BadText => 1,
+            Refusal::UnknownRequest => 2,
+            Refusal::WrongPlace => 3,
+            Refusal::NotApproved => 4,
+            Refusal::SamePerson => 5,
+            Refusal::ApprovedAlready => 6,
+            Refusal::Interlock => 7,
+            Refusal::IdentityInUse => 8,
+            Refusal::NameUsed => 9,
+            Refusal::WaitQueueFull => 10,
+            Refusal::ServiceNotActive => 11,
+            Refusal::BadDirective => 12,
+            Refusal::UnknownStack => 13,
+            Refusal::StepOutOfOrder => 14,
+            Refusal::Countersign => 15,
+            Refusal::UnknownProcedure => 16,
+            Refusal::TooLong => 17,
+            Refusal::DeskFull => 18,
+            Refusal::BadActivity => 19,
+            Refusal::Memory => 30,
+            Refusal::Store => 31,
+            Refusal::Stopped => 32,
+            Refusal::ReadFault => 33,
+            Refusal::WriteFault => 34,
+        }
+    }
+
+    /// Its name, as it is printed.
+    pub fn name(self) -> &'static str
+        ensures { result.now ≡ refusal_name self }
+    {
+        match self {
+            Refusal::BadText => "BadText",
+            Refusal::UnknownRequest => "UnknownRequest",
+            Refusal::WrongPlace => "WrongPlace",
+            Refusal::NotApproved => "NotApproved",
+            Refusal::SamePerson => "SamePerson",
+            Refusal::ApprovedAlready => "ApprovedAlready",
+            Refusal::Interlock => "Interlock",
+            Refusal::IdentityInUse => "IdentityInUse",
+            Refusal::NameUsed => "NameUsed",
+            Refusal::WaitQueueFull => "WaitQueueFull",
+            Refusal::ServiceNotActive => "ServiceNotActive",
+            Refusal::BadDirective => "BadDirective",
+            Refusal::UnknownStack => "UnknownStack",
+            Refusal::StepOutOfOrder => "StepOutOfOrder",
+            Refusal::Countersign => "Countersign",
+            Refusal::UnknownProcedure => "UnknownProcedure",
+            Refusal::TooLong => "TooLong",
+            Refusal::DeskFull => "DeskFull",
+            Refusal::BadActivity => "BadActivity",
+            Refusal::Memory => "Memory",
+            Refusal::Store => "Store",
+            Refusal::Stopped => "Stopped",
+            Refusal::ReadFault => "ReadFault",
+            Refusal::WriteFault => "WriteFault",
+        }
+    }
+
+    /// Its line: `refused NUMBER NAME`. Fails where memory is refused.
+    pub fn text<A: Allocator + Copy>(self, alloc: A) -> Result<String<A>, AllocError>
+        ensures { IfOk result (λ t. string_bytes t ≡ refusal_line self) }
+    {
+        let number = self.number();
+        let name = self.name();
+        format!(in alloc; "refused {number} {name}")
+    }
 }

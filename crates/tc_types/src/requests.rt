@@ -1,8 +1,14 @@
 //! Telecommand requests.
+ghost use Rattle.std.specs.Prelude.{◌≡◌, IfOk};
+ghost use Rattle.std.specs.String.{string_bytes};
+ghost use Rattle.tc_types.specs.Lines.{identity_word, entered_line};
+ghost use Rattle.tc_types.specs.Grammar.{outcome_word};
+
 use crate::names::Name;
 use crate::numbers::{
     Apid, FailureCode, Moment, Offset, RequestNumber, SequenceCount, Service, Steps, Subtype,
 };
+use std::alloc::{AllocError, Allocator};
 
 /// Which success reports a request asks for (ECSS-E-ST-70-41C, 5.4.11.2.1): failures are always reported.
 #[derive(Clone, Copy, Debug, PartialEq, Eq)]
@@ -105,4 +111,47 @@ pub struct Request {
     pub critical: bool,
     /// Who entered it.
     pub author: Name,
+}
+
+impl Outcome {
+    /// Its word, as an entry spells it: `ok`, `ok/STEPS`, `refuse/CODE` and so on. Fails where memory is refused.
+    pub fn text<A: Allocator + Copy>(self, alloc: A) -> Result<String<A>, AllocError>
+        ensures { IfOk result (λ t. string_bytes t ≡ outcome_word self) }
+    {
+        match self {
+            Outcome::Completes => String::from_str(alloc, "ok"),
+            Outcome::CompletesInSteps(steps) => {
+                let steps = steps.get();
+                format!(in alloc; "ok/{steps}")
+            }
+            Outcome::Refuses(code) => {
+                let code = code.get();
+                format!(in alloc; "refuse/{code}")
+            }
+            Outcome::StartFails(code) => {
+                let code = code.get();
+                format!(in alloc; "nostart/{code}")
+            }
+            Outcome::Halts(steps, code) => {
+                let steps = steps.get();
+                let code = code.get();
+                format!(in alloc; "halt/{steps}/{code}")
+            }
+            Outcome::Fails(code) => {
+                let code = code.get();
+                format!(in alloc; "fail/{code}")
+            }
+        }
+    }
+}
+
+impl Identity {
+    /// Its word: `APID/COUNT`. Fails where memory is refused.
+    pub fn text<A: Allocator + Copy>(self, alloc: A) -> Result<String<A>, AllocError>
+        ensures { IfOk result (λ t. string_bytes t ≡ identity_word self) }
+    {
+        let apid = self.apid.get();
+        let count = self.count.get();
+        format!(in alloc; "{apid}/{count}")
+    }
 }
