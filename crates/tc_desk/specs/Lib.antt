@@ -1,5 +1,7 @@
 pub mod Book
 pub mod Good
+pub mod Records
 pub mod Acts
 pub mod Tables
 pub mod Machine
+pub mod Batch

@@ -4,4 +4,6 @@
 #![tactic(auto)]
 
 pub mod dones;
+pub mod reading;
+pub mod records;
 pub mod stamps;
