@@ -1,1 +1,4 @@
 pub mod CommandLine
+pub mod Replies
+pub mod Session
+pub mod Run
