@@ -1,5 +1,5 @@
 -- A book that the desk could have written.
-use Rattle.std.specs.Prelude.{◌≡◌, ◌+◌, List, [], length, map}
+use Rattle.std.specs.Prelude.{◌≡◌, ◌+◌, ◌≤◌, List, [], length, map}
 use Rattle.tc_types.specs.declared.requests.Request.{Request}
 use Rattle.tc_types.specs.History.{IsGoodHistory, AllAfter, entered}
 use Rattle.tc_desk.specs.Book.{Book, next_identity}
@@ -9,8 +9,10 @@ pub record IsGoodRequest (before : List Request) (request : Request) : Type 0 wh
   pub number : request.number ≡ length before + 1
   pub identity : request.body.identity ≡ next_identity before request.body.identity.apid
 
--- the history is good, each request may follow those before it, and those that the history enters are the book's
+-- the history is good, each request may follow those before it, there are no more than a desk takes, and those that
+-- the history enters are the book's
 pub record IsGoodBook (book : Book) : Type 0 where
   pub history : IsGoodHistory book.history
   pub requests : AllAfter IsGoodRequest [] book.requests
+  pub few : length book.requests ≤ 65535
   pub entered : entered book.history ≡ map (λ (r : Request). r.number) book.requests

@@ -48,8 +48,8 @@ pub fn next_identity(requests: &[Request], apid: Apid) -> Identity
 }
 
 /// Whether two identities are the same.
-pub fn is_same_identity(a: Identity, b: Identity) -> bool
-    ensures { result ≡ same_identity a b }
+pub fn is_same_identity(a: &Identity, b: &Identity) -> bool
+    ensures { result ≡ same_identity a.now b.now }
 {
     a.apid.get() == b.apid.get() && a.count.get() == b.count.get()
 }

@@ -7,6 +7,7 @@
 
 pub mod acts;
 pub mod causes;
+pub mod frames;
 pub mod moves;
 pub mod names;
 pub mod numbers;

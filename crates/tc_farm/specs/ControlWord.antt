@@ -1,0 +1,26 @@
+-- The communications link control word, 32 bits (CCSDS 232.0-B, 4.2). Bits are counted from the least significant.
+use Rattle.std.specs.Prelude.{◌≡◌, ℕ, ◌+◌, ◌*◌, ◌/◌, ◌%◌, ◌^◌, bit_and}
+use Rattle.std.specs.Int.{from_bool}
+use Rattle.tc_farm.specs.declared.clcws.Clcw.{Clcw}
+
+-- so many bits of a word, from this one on
+abbrev pub field : ℕ → ℕ → ℕ → ℕ
+field low width word = word / 2 ^ low % 2 ^ width
+
+-- A word that may be read on this channel: control word type 0, version 00, COP in effect 01, and the channel.
+pub record IsValid (word vc : ℕ) : Type 0 where
+  pub control_word_type : field 31 1 word ≡ 0
+  pub version : field 29 2 word ≡ 0
+  pub cop_in_effect : field 24 2 word ≡ 1
+  pub virtual_channel : field 18 6 word ≡ vc
+
+-- The word of a control word: COP in effect 1 at bit 24, virtual channel at 18, Lockout at 13, Wait at 12,
+-- Retransmit at 11, FARM-B counter at 9, report value at 0; status, spares, No RF Available and No Bit Lock are 0.
+abbrev pub word_of : Clcw → ℕ
+word_of c =
+    1 * 2 ^ 24 + c.vc * 2 ^ 18 + from_bool c.lockout * 2 ^ 13 + from_bool c.wait * 2 ^ 12 + from_bool c.retransmit * 2 ^ 11
+    + c.farm_b * 2 ^ 9 + c.report
+
+-- a word with its ignored bits 0: status (28 to 26), the spares (17, 16 and 8), No RF Available and No Bit Lock (15, 14)
+abbrev pub without_ignored : ℕ → ℕ
+without_ignored word = bit_and word 0xe3fc_3eff

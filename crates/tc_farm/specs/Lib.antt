@@ -1,0 +1,2 @@
+pub mod ControlWord
+pub mod Farm
