@@ -1,1 +1,4 @@
 pub mod NameLaws
+pub mod WordLaws
+pub mod NumberLaws
+pub mod Spellings

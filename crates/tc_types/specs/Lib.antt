@@ -4,4 +4,5 @@ pub mod Lawful
 pub mod History
 pub mod Lines
 pub mod Grammar
+pub mod Words
 pub mod Tables

@@ -5,14 +5,19 @@
 //! number alone; a contract sees a `Name` as its bytes.
 #![tactic(auto)]
 
+pub mod act_reader;
 pub mod acts;
 pub mod causes;
+pub mod entry_reader;
 pub mod frames;
+pub mod line_reader;
 pub mod moves;
 pub mod names;
 pub mod numbers;
 pub mod places;
+pub mod readers;
 pub mod refusals;
 pub mod requests;
 pub mod rows;
 pub mod texts;
+pub mod words;

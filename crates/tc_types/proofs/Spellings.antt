@@ -1,0 +1,149 @@
+-- No spelling has a word with the byte that parts it from the next.
+use Rattle.std.proofs.Common.{◌≡◌, ℕ, ℤ, pos, negsuc, suc, ◌+◌, ◌<◌, ◌≤◌, ◌^◌, Bool, true, false, not, ◌&&◌, eqb, Option, Some, None, List, [], ◌∷◌, ◌++◌, length, refl, ap, ◌∙◌, sym, arith, rules, option_map, Bor}
+use Rattle.std.specs.List.{list_all, join_with_byte}
+use Rattle.std.specs.Fmt.{decimal, signed_decimal}
+use Rattle.std.specs.Str.Parse.{AllDigits}
+use Rattle.std.proofs.lemmas.Str.Parse.{digit_from_value}
+use Rattle.std.proofs.lemmas.Fmt.{digits_decimal}
+use Rattle.std.proofs.lemmas.List.Folds.{list_all-append}
+use Rattle.std.proofs.lemmas.List.Splits.{join_with_byte-slice_split}
+use Rattle.std.proofs.lemmas.Bool.{and_parts, ne_eqb}
+use Rattle.std.proofs.lemmas.Int.{ints}
+use Rattle.std.proofs.lemmas.Grind.{common_steps}
+use Rattle.tc_types.specs.Names.{is_name_byte, IsName, IsPerson}
+use Rattle.tc_types.specs.Numbers.{IsOffset}
+use Rattle.tc_types.specs.declared.requests.Outcome.{Outcome}
+use Rattle.tc_types.specs.declared.requests.Outcome.TheVariants as outcome
+use Rattle.tc_types.specs.declared.requests.Ack.{Ack}
+use Rattle.tc_types.specs.declared.requests.Command.{Command}
+use Rattle.tc_types.specs.declared.requests.Command.TheVariants as command
+use Rattle.tc_types.specs.declared.requests.Entry.{Entry}
+use Rattle.tc_types.specs.declared.acts.Act.{Act}
+use Rattle.tc_types.specs.declared.acts.Act.TheVariants as act
+use Rattle.tc_types.specs.declared.acts.Query.{Query}
+use Rattle.tc_types.specs.declared.acts.Query.TheVariants as query
+use Rattle.tc_types.specs.declared.acts.Line.{Line}
+use Rattle.tc_types.specs.Lines.{spaced}
+use Rattle.tc_types.specs.Grammar.{Reads, flag, ack_word, yes_no, outcome_words, outcome_word, IsOutcome, command_words, IsCommand, entry_words, IsEntry, query_words, IsQuery, act_words, IsAct, act_text, line_text, SpellsLine, after_two, act_part, HasLongAct}
+use Rattle.tc_types.specs.Words.{words, words_left, line_words, IsLine}
+use Rattle.tc_types.proofs.WordLaws.{lacks, lacks_joined, reads_joined, words_joined, words_nonempty}
+use Rattle.tc_types.proofs.NumberLaws.{numeral, small_offset}
+
+digits_lack : (c : ℕ) → c < 48 → (digits : List ℕ) → AllDigits 10 digits → lacks c digits ≡ true
+digits_lack c low [] h = refl
+digits_lack c low (d ∷ digits) h =
+    let range = digit_from_value d h.0 in
+    let other : eqb d c ≡ false = ne_eqb d c (λ e. omega (arith, range)) in
+    rw (other, digits_lack c low digits h.1) refl
+
+pub decimal_lacks : (c n : ℕ) → c < 48 → n < 2 ^ 64 → lacks c (decimal n) ≡ true
+decimal_lacks c n low small = digits_lack c low (decimal n) (digits_decimal numeral n small)
+
+-- the words of an outcome have no slash
+pub outcome_parted : (o : Outcome) → IsOutcome o → (list_all (lacks 47) (outcome_words o) ≡ true) × (0 < length (outcome_words o))
+outcome_parted outcome.Completes h = (refl, omega arith)
+outcome_parted (outcome.CompletesInSteps steps) h = (rw (decimal_lacks 47 steps (omega arith) (omega arith)) refl, omega arith)
+outcome_parted (outcome.Refuses code) h = (rw (decimal_lacks 47 code (omega arith) (omega arith)) refl, omega arith)
+outcome_parted (outcome.StartFails code) h = (rw (decimal_lacks 47 code (omega arith) (omega arith)) refl, omega arith)
+outcome_parted (outcome.Halts steps code) h =
+    (rw (decimal_lacks 47 steps (omega arith) (omega arith), decimal_lacks 47 code (omega arith) (omega arith)) refl, omega arith)
+outcome_parted (outcome.Fails code) h = (rw (decimal_lacks 47 code (omega arith) (omega arith)) refl, omega arith)
+
+number_lacks : (n : ℕ) → n < 2 ^ 32 → lacks 32 (decimal n) ≡ true
+number_lacks n small = decimal_lacks 32 n (omega arith) (omega arith)
+
+offset_lacks : (z : ℤ) → IsOffset z → lacks 32 (signed_decimal z) ≡ true
+offset_lacks (pos n) h = number_lacks n (small_offset n h)
+offset_lacks (negsuc n) h = decimal_lacks 32 (suc n) (omega arith) (let small : suc n < 2 ^ 32 = omega (arith, ints, h.0) in omega arith)
+
+name_byte_lacks : (byte : ℕ) → is_name_byte byte ≡ true → eqb byte 32 ≡ false
+name_byte_lacks byte h = grind (arith, common_steps)
+
+name_lacks : (name : List ℕ) → list_all is_name_byte name ≡ true → lacks 32 name ≡ true
+name_lacks [] h = refl
+name_lacks (byte ∷ others) h =
+    let parts = and_parts (is_name_byte byte) (list_all is_name_byte others) h in
+    let other : eqb byte 32 ≡ false = name_byte_lacks byte parts.0 in
+    rw (other, name_lacks others parts.1) refl
+
+outcome_lacks : (o : Outcome) → IsOutcome o → list_all (lacks 32) (outcome_words o) ≡ true
+outcome_lacks outcome.Completes h = refl
+outcome_lacks (outcome.CompletesInSteps steps) h = rw (number_lacks steps (omega arith)) refl
+outcome_lacks (outcome.Refuses code) h = rw (number_lacks code (omega arith)) refl
+outcome_lacks (outcome.StartFails code) h = rw (number_lacks code (omega arith)) refl
+outcome_lacks (outcome.Halts steps code) h = rw (number_lacks steps (omega arith), number_lacks code (omega arith)) refl
+outcome_lacks (outcome.Fails code) h = rw (number_lacks code (omega arith)) refl
+
+eleven : lacks 32 (decimal 11) ≡ true
+eleven = number_lacks 11 (omega arith)
+
+command_lacks : (c : Command) → IsCommand c → list_all (lacks 32) (command_words c) ≡ true
+command_lacks (command.Plain service subtype) h = rw (number_lacks service (omega arith), number_lacks subtype (omega arith)) refl
+command_lacks command.EnableSchedule h = rw (eleven, number_lacks 1 (omega arith)) refl
+command_lacks command.DisableSchedule h = rw (eleven, number_lacks 2 (omega arith)) refl
+command_lacks command.ResetSchedule h = rw (eleven, number_lacks 3 (omega arith)) refl
+command_lacks (command.InsertActivity target time) h =
+    rw (eleven, number_lacks 4 (omega arith), number_lacks target h.0, number_lacks time (omega arith)) refl
+command_lacks (command.DeleteActivity target) h = rw (eleven, number_lacks 5 (omega arith), number_lacks target h) refl
+command_lacks (command.ShiftActivity target offset) h =
+    rw (eleven, number_lacks 7 (omega arith), number_lacks target h.0, offset_lacks offset h.1) refl
+command_lacks (command.ShiftAll offset) h = rw (eleven, number_lacks 15 (omega arith), offset_lacks offset h) refl
+command_lacks command.SummarizeAll h = rw (eleven, number_lacks 17 (omega arith)) refl
+
+flag_lacks : (there : Bool) (letter : ℕ) → eqb letter 32 ≡ false → eqb (flag there letter) 32 ≡ false
+flag_lacks true letter h = h
+flag_lacks false letter h = refl
+
+ack_lacks : (ack : Ack) → lacks 32 (ack_word ack) ≡ true
+ack_lacks ack =
+    rw (flag_lacks ack.acceptance 97 refl, flag_lacks ack.start 115 refl, flag_lacks ack.progress 112 refl, flag_lacks ack.completion 99 refl) refl
+
+yes_no_lacks : (b : Bool) → lacks 32 (yes_no b) ≡ true
+yes_no_lacks true = refl
+yes_no_lacks false = refl
+
+entry_lacks : (entry : Entry) → IsEntry entry → list_all (lacks 32) (entry_words entry) ≡ true
+entry_lacks entry h =
+    let outcome_word_lacks : lacks 32 (outcome_word entry.outcome) ≡ true = lacks_joined 47 32 (outcome_words entry.outcome) refl (outcome_lacks entry.outcome h.outcome) in
+    let apid : entry.apid < 2048 = h.apid in
+    rw (number_lacks entry.apid (omega arith), ack_lacks entry.ack, yes_no_lacks entry.critical, list_all-append (lacks 32) (command_words entry.command) (outcome_word entry.outcome ∷ []), command_lacks entry.command h.command, outcome_word_lacks) refl
+
+-- the words of an act have no space
+pub act_parted : (a : Act) → IsAct a → (list_all (lacks 32) (act_words a) ≡ true) × (0 < length (act_words a))
+act_parted (act.Enter entry) h = (rw (entry_lacks entry h) refl, omega arith)
+act_parted (act.Withdraw request) h = (rw (number_lacks request h) refl, omega arith)
+act_parted (act.Ask query.Places) h = (refl, omega arith)
+act_parted (act.Ask (query.History request after)) h = (rw (number_lacks request h.0, number_lacks after h.1) refl, omega arith)
+
+-- nor have those of a line
+pub line_parted : (line : Line) → IsLine line → (list_all (lacks 32) (line_words line) ≡ true) × (0 < length (line_words line))
+line_parted line h =
+    let moment : line.moment ≤ 4102444799 = h.0 in
+    (rw (number_lacks line.moment (omega arith), name_lacks line.by (search rules), (act_parted line.act h.2).0) refl, omega arith)
+
+after_two_some : (first second : List ℕ) (others : List (List ℕ)) → (others ≡ [] → ⊥) → after_two (first ∷ second ∷ others) ≡ Some (spaced others)
+after_two_some first second [] h = absurd (h refl)
+after_two_some first second (third ∷ others) h = refl
+
+-- what stands behind two words, as it was cut
+pub act_part_cut : (text first second rest : List ℕ) → words 32 text ≡ first ∷ second ∷ words 32 rest → act_part text ≡ Some rest
+act_part_cut text first second rest e =
+    ap after_two e ∙ after_two_some first second (words 32 rest) (words_nonempty 32 rest) ∙ ap (λ part. Some part) (join_with_byte-slice_split 32 rest)
+
+-- the same, or nothing where it has fewer words
+pub act_part_after : (text first second : List ℕ) (left : Option (Bor (List ℕ))) → words 32 text ≡ first ∷ second ∷ words_left 32 left → option_map (λ (part : Bor (List ℕ)). part.now) left ≡ act_part text
+act_part_after text first second None e = sym (ap after_two e)
+act_part_after text first second (Some rest) e = sym (act_part_cut text first second rest.now e)
+
+-- the act of a line that is spelled
+pub act_part_spelled : (text : List ℕ) (line : Line) → SpellsLine text line → act_part text ≡ Some (act_text line.act)
+act_part_spelled text line h =
+    let parted = line_parted line (h.1, h.2, h.3) in
+    let cut : words 32 text ≡ line_words line = ap (words 32) h.0 ∙ words_joined 32 (line_words line) parted.0 parted.1 in
+    ap after_two cut ∙ after_two_some (decimal line.moment) line.by (act_words line.act) (λ e. let some : 0 < length (act_words line.act) = (act_parted line.act h.3).1 in omega (arith, ap length e))
+
+pub short_act : (text : List ℕ) (line : Line) → SpellsLine text line → length (act_text line.act) ≤ 200 → HasLongAct text → ⊥
+short_act text line h short long =
+    let part : act_part text ≡ Some (act_text line.act) = act_part_spelled text line h in
+    let longer : 200 < length (act_text line.act) = rw part at long in
+    omega arith
