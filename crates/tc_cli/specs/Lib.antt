@@ -1,3 +1,4 @@
+pub mod Stub
 pub mod CommandLine
 pub mod Replies
 pub mod Session

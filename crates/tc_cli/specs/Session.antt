@@ -1,5 +1,5 @@
 -- The session: a desk whose book stands in tables too, until the tables fail.
-use Rattle.std.specs.Prelude.{◌≡◌, ◌⊎◌, Bool, true, false, MatchBool, List, [], ◌∷◌}
+use Rattle.std.specs.Prelude.{◌≡◌, ◌⊎◌, Bool, true, false, MatchBool, List, [], ◌∷◌, Result, Ok, Err}
 use Rattle.tc_types.specs.declared.refusals.Refusal.{Refusal}
 use Rattle.tc_types.specs.declared.refusals.Refusal.TheVariants.{Store, Stopped}
 use Rattle.tc_types.specs.declared.acts.Act.{Act}
@@ -33,3 +33,8 @@ abbrev pub SessionStep : Standing → Stamp → Act → Reply → Standing → T
 SessionStep old stamp given reply new = MatchBool old.stopped
     ((reply ≡ refusal_reply Stopped) × (new ≡ old))
     (StepsDesk old stamp given reply new ⊎ FailsStore reply new)
+
+-- the answer to a step, of which the lines of a reply are made
+abbrev pub AnswersStep : {X : Type 0} → (X → Reply) → Standing → Stamp → Act → Standing → Result X Refusal → Type 0
+AnswersStep lines old stamp given new (Ok answer) = SessionStep old stamp given (lines answer) new
+AnswersStep lines old stamp given new (Err refusal) = SessionStep old stamp given (refusal_reply refusal) new

@@ -9,6 +9,7 @@ mod replies;
 mod run;
 mod script;
 mod session;
+mod tables;
 mod words;
 
 use run::run_script;
