@@ -1,3 +1,5 @@
 pub mod HistoryLemmas
 pub mod GoodLemmas
 pub mod BatchLemmas
+pub mod ConservedLemmas
+pub mod WorkedCases

@@ -1,5 +1,6 @@
 pub mod Book
 pub mod Good
+pub mod Conserved
 pub mod Records
 pub mod Acts
 pub mod Tables

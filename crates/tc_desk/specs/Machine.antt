@@ -10,7 +10,7 @@ use Rattle.tc_types.specs.declared.acts.Query.{Query}
 use Rattle.tc_types.specs.declared.acts.Query.TheVariants as query
 use Rattle.tc_types.specs.declared.acts.Line.{Line}
 use Rattle.tc_types.specs.History.{entered, counts_of, rows_of}
-use Rattle.tc_types.specs.Lines.{spaced, identity_word, move_line, places_line, history_line, refusal_line}
+use Rattle.tc_types.specs.Lines.{entered_line, move_line, places_line, history_line, refusal_line}
 use Rattle.tc_desk.specs.declared.stamps.Stamp.{Stamp}
 use Rattle.tc_desk.specs.declared.dones.First.{First}
 use Rattle.tc_desk.specs.declared.dones.First.TheVariants as first
@@ -29,7 +29,7 @@ Answers first old stamp given new (Err refused) =
 -- ok, or ok request N APID/COUNT
 abbrev pub first_line : First → List ℕ
 first_line first.Plain = codes "ok"
-first_line (first.Entered n identity) = spaced (codes "ok" ∷ codes "request" ∷ decimal n ∷ identity_word identity ∷ [])
+first_line (first.Entered n identity) = entered_line n identity
 
 -- the reply to an act: its first line, then a line for each row that it made
 abbrev pub act_reply : First → List Move → List (List ℕ)

@@ -1,0 +1,72 @@
+-- The definitions carried out on a case that was worked by hand: two requests are entered, one is withdrawn, and the
+-- counts and a history are asked for.
+use Rattle.std.proofs.Common.{◌≡◌, ℕ, true, false, List, [], ◌∷◌, ◌++◌, map, refl}
+use Rattle.std.specs.Prelude.{codes}
+use Rattle.std.specs.Fmt.{digits}
+use Rattle.tc_types.specs.declared.requests.Entry.{Entry}
+use Rattle.tc_types.specs.declared.requests.Command.TheVariants.{Plain}
+use Rattle.tc_types.specs.declared.requests.Outcome.TheVariants.{Completes}
+use Rattle.tc_types.specs.declared.acts.Line.{Line}
+use Rattle.tc_types.specs.declared.acts.Act.{Act}
+use Rattle.tc_types.specs.declared.acts.Act.TheVariants as act
+use Rattle.tc_types.specs.declared.acts.Query.TheVariants as query
+use Rattle.tc_types.specs.Grammar.{line_text}
+use Rattle.tc_desk.specs.Book.{Book, empty_book}
+use Rattle.tc_desk.specs.Machine.{outcome_of, stamp_of}
+
+abbrev first_entry : Entry
+first_entry = record {
+  apid = 5;
+  ack = record { acceptance = true; start = false; progress = false; completion = true };
+  critical = false;
+  command = Plain 8 1;
+  outcome = Completes;
+}
+
+abbrev line : ℕ → List ℕ → Act → Line
+line moment by given = record { moment = moment; by = by; act = given }
+
+abbrev first_run : List Line
+first_run =
+    line 100 (codes "ann") (act.Enter first_entry)
+    ∷ line 110 (codes "bob") (act.Enter (record first_entry { command = Plain 8 2 }))
+    ∷ line 120 (codes "ann") (act.Withdraw 1)
+    ∷ line 130 (codes "ann") (act.Ask query.Places)
+    ∷ line 130 (codes "ann") (act.Ask (query.History 1 0))
+    ∷ []
+
+-- the lines of the replies, where memory is not refused
+abbrev replies_to : Book → List Line → List (List ℕ)
+replies_to book [] = []
+replies_to book (given ∷ others) =
+    (outcome_of book (stamp_of given) given.act).reply ++ replies_to (outcome_of book (stamp_of given) given.act).book others
+
+pub first_run-spelled : map line_text first_run ≡
+    codes "100 ann enter 5 a--c no 8 1 - - ok"
+    ∷ codes "110 bob enter 5 a--c no 8 2 - - ok"
+    ∷ codes "120 ann withdraw 1"
+    ∷ codes "130 ann places"
+    ∷ codes "130 ann history 1 0"
+    ∷ []
+unfolding digits
+first_run-spelled = refl
+
+pub first_run-replies : replies_to empty_book (first_run ++ line 0 (codes "ann") (act.Ask query.Places) ∷ []) ≡
+    codes "ok request 1 5/0"
+    ∷ codes "move 1 100 ann 1 - Entered enter"
+    ∷ codes "ok request 2 5/1"
+    ∷ codes "move 2 110 bob 2 - Entered enter"
+    ∷ codes "ok"
+    ∷ codes "move 3 120 ann 1 Entered Withdrawn withdraw"
+    ∷ codes "places 2: 1 0 0 0 0 0 0 0 0 0 0 0 1 0 0"
+    ∷ codes "history 1: 2"
+    ∷ codes "move 1 100 ann 1 - Entered enter"
+    ∷ codes "move 3 120 ann 1 Entered Withdrawn withdraw"
+    ∷ codes "places 2: 1 0 0 0 0 0 0 0 0 0 0 0 1 0 0"
+    ∷ []
+unfolding digits
+first_run-replies = refl
+
+pub empty-replies : replies_to empty_book (line 0 (codes "ann") (act.Ask query.Places) ∷ []) ≡ codes "places 0: 0 0 0 0 0 0 0 0 0 0 0 0 0 0 0" ∷ []
+unfolding digits
+empty-replies = refl

@@ -1,0 +1,30 @@
+#!/bin/sh
+# Acts per second and peak memory of `tcdesk run`: tools/bench.sh
+# For each script: how many acts, wall seconds, acts a second, peak resident memory.
+set -eu
+top=$(cd "$(dirname "$(readlink -f "$0")")/.." && pwd)
+program=$top/crates/tc_cli/out/tc_cli
+[ -x "$program" ] || "$top/tcdesk" run - </dev/null >/dev/null
+work=$(mktemp -d)
+trap 'rm -rf "$work"' EXIT
+
+# enters N, each of another APID in turn
+enters() {
+    awk -v n="$1" 'BEGIN { for (i = 0; i < n; i++) print i " ann enter " (i % 2048) " a--c no 8 1 - - ok" }'
+}
+withdraws() {
+    awk -v n="$1" 'BEGIN { for (i = 1; i <= n; i++) print i " bob withdraw " i }'
+}
+# measure NAME ACTS: runs the script work/NAME
+measure() {
+    /usr/bin/time -f '%e %M' -o "$work/time" "$program" run "$work/$1" >"$work/out"
+    read -r seconds kilobytes <"$work/time"
+    awk -v name="$1" -v acts="$2" -v s="$seconds" -v kb="$kilobytes" \
+        'BEGIN { printf "%-28s %7d acts %8.2f s %9.0f acts/s %7.1f MB\n", name, acts, s, acts / s, kb / 1024 }'
+}
+for n in 1000 10000 60000; do
+    enters "$n" >"$work/enter-$n"
+    measure "enter-$n" "$n"
+done
+{ enters 20000; withdraws 20000; } >"$work/enter-withdraw-20000"
+measure enter-withdraw-20000 40000
