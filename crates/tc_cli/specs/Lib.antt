@@ -1,5 +1,6 @@
-pub mod Stub
 pub mod CommandLine
+pub mod Joined
 pub mod Replies
-pub mod Session
 pub mod Run
+pub mod Session
+pub mod Stub
