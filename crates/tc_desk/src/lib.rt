@@ -5,8 +5,10 @@
 
 pub mod desks;
 pub mod dones;
-pub mod drafts;
-pub mod marks;
-pub mod reading;
-pub mod records;
+mod drafts;
+mod marks;
+mod reading;
+mod records;
 pub mod stamps;
+#[cfg(test)]
+mod tests;

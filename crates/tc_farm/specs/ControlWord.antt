@@ -24,3 +24,12 @@ word_of c =
 -- a word with its ignored bits 0: status (28 to 26), the spares (17, 16 and 8), No RF Available and No Bit Lock (15, 14)
 abbrev pub without_ignored : ℕ → ℕ
 without_ignored word = bit_and word 0xe3fc_3eff
+
+-- the same control word on another virtual channel
+pub record IsMoved (before after : Clcw) (vc : ℕ) : Type 0 where
+  pub channel : after.vc ≡ vc
+  pub lockout : after.lockout ≡ before.lockout
+  pub wait : after.wait ≡ before.wait
+  pub retransmit : after.retransmit ≡ before.retransmit
+  pub farm_b : after.farm_b ≡ before.farm_b
+  pub report : after.report ≡ before.report

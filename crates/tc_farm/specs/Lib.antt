@@ -1,2 +1,3 @@
 pub mod ControlWord
 pub mod Farm
+pub mod FarmLaws

@@ -1,4 +1,9 @@
 //! FARM-1.
+ghost use Rattle.std.specs.Prelude.{◌≡◌, ◌+◌, ◌%◌, ◌<◌};
+
+use crate::clcws::Clcw;
+use std::marker::Model;
+use tc_types::frames::Frame;
 use tc_types::numbers::RequestNumber;
 use tc_types::requests::Body;
 
@@ -41,4 +46,190 @@ pub enum Verdict {
     Discarded,
     /// It was a control command.
     Control,
+}
+
+/// FARM-1, the frame acceptance and reporting mechanism (CCSDS 232.1-B, 6). A contract sees it as its variables.
+#[derive(Debug, Drop)]
+pub struct Farm {
+    variables: FarmView,
+}
+
+impl Model for Farm {
+    ghost use Rattle.tc_farm.specs.declared.farms.FarmView.{FarmView};
+    ghost use Rattle.tc_farm.specs.FarmLaws.{IsKept};
+
+    ghost Value = { FarmView };
+
+    ghost view = { λ farm. farm.variables };
+
+    ghost invariant = { λ farm. IsKept farm.variables };
+}
+
+impl Farm {
+    ghost use Rattle.std.specs.Prelude.{◌≡◌, ◌≢◌, ◌↔◌, IsSome, IfSome, true};
+    ghost use Rattle.tc_farm.specs.Farm.{IsWindowWidth, IsFarm, new_farm, farm_after, verdict_of, released, changed, cell_of, is_accept, unlocked, with_vr};
+    ghost use Rattle.tc_farm.specs.FarmLaws.{IsKept, Says, Tells};
+
+    /// A FARM with window width W = `w`, open, that expects the number 0; `None` unless W is even and 2 to 254.
+    pub fn new(w: u16) -> Option<Farm>
+        ensures found { IsSome result ↔ IsWindowWidth w }
+        ensures started { IfSome result (λ farm. farm ≡ new_farm w) }
+    {
+        if w < 2 || w > 254 || w % 2 != 0 {
+            return None;
+        }
+        Some(Farm {
+            variables: FarmView {
+                state: FarmState::Open,
+                vr: 0,
+                farm_b: 0,
+                lockout: false,
+                wait: false,
+                retransmit: false,
+                window: w as u8,
+            },
+        })
+    }
+
+    /// A frame came; `room` says whether a buffer is free for it. What is answered to it.
+    pub fn frame(&mut self, frame: Frame, room: bool) -> Verdict
+        ensures after { self.new ≡ farm_after self.old frame room }
+        ensures answered { result ≡ verdict_of self.old frame room }
+        // accepted only in order, in Open and with room; V(R) moves only by an acceptance or a Set V(R)
+        ensures in_order { Says result self.old frame room self.new }
+        // Lockout is left only by an Unlock
+        ensures locked_out { self.old.state ≡ FarmState.Lockout → frame ≢ Frame.Unlock → self.new.state ≡ FarmState.Lockout }
+        ensures wait_implies_retransmit { self.new.wait ≡ true → self.new.retransmit ≡ true }
+    {
+        match frame {
+            Frame::Ad { ns, request, body } => {
+                if self.take(ns, room) {
+                    Verdict::Accepted { request, body }
+                } else {
+                    Verdict::Discarded
+                }
+            }
+            Frame::Unlock => {
+                self.unlock();
+                Verdict::Control
+            }
+            Frame::SetVr(vr) => {
+                self.expect(vr);
+                Verdict::Control
+            }
+        }
+    }
+
+    /// A buffer became free.
+    pub fn release(&mut self)
+        ensures after { self.new ≡ released self.old }
+        ensures locked_out { self.old.state ≡ FarmState.Lockout → self.new.state ≡ FarmState.Lockout }
+        ensures wait_implies_retransmit { self.new.wait ≡ true → self.new.retransmit ≡ true }
+    {
+        self.variables.wait = false;
+        if self.variables.state == FarmState::Wait {
+            self.variables.state = FarmState::Open;
+        }
+    }
+
+    /// The control word that tells the variables, on virtual channel 0.
+    pub fn clcw(&self) -> Clcw
+        ensures tells { Tells self.now result }
+        ensures wait_implies_retransmit { result.wait ≡ true → result.retransmit ≡ true }
+    {
+        let farm = self.variables;
+        Clcw {
+            vc: 0,
+            lockout: farm.lockout,
+            wait: farm.wait,
+            retransmit: farm.retransmit,
+            farm_b: farm.farm_b,
+            report: farm.vr,
+        }
+    }
+
+    /// The variables.
+    pub fn view(&self) -> FarmView
+        ensures same { result ≡ self.now }
+        ensures sound { IsFarm result }
+        ensures wait_implies_retransmit { result.wait ≡ true → result.retransmit ≡ true }
+    {
+        self.variables
+    }
+
+    /// A type-AD frame with this number came: whether it is accepted.
+    fn take(&mut self, ns: u8, room: bool) -> bool
+        ensures after { self.new ≡ changed (cell_of self.old ns room) self.old }
+        ensures accepted { result ≡ is_accept (cell_of self.old ns room) }
+        ensures in_order { result ≡ true → ns ≡ self.old.vr }
+        ensures kept { IsKept self.new }
+    {
+        let farm = &mut self.variables;
+        let half = farm.window / 2;
+        let ahead = ns.wrapping_sub(farm.vr);
+        let behind = farm.vr.wrapping_sub(ns);
+        if farm.state == FarmState::Lockout {
+            return false;
+        }
+        if ahead >= half && behind > half {
+            farm.lockout = true;
+            farm.state = FarmState::Lockout;
+            return false;
+        }
+        if farm.state != FarmState::Open {
+            return false;
+        }
+        if ahead == 0 && room {
+            farm.vr = ns.wrapping_add(1);
+            farm.retransmit = false;
+            return true;
+        }
+        if ahead < half {
+            farm.retransmit = true;
+        }
+        if ahead == 0 {
+            farm.wait = true;
+            farm.state = FarmState::Wait;
+        }
+        false
+    }
+
+    /// An Unlock came.
+    fn unlock(&mut self)
+        ensures after { self.new ≡ unlocked self.old }
+        ensures kept { IsKept self.new }
+    {
+        let farm = &mut self.variables;
+        farm.farm_b = one_more(farm.farm_b);
+        farm.lockout = false;
+        farm.wait = false;
+        farm.retransmit = false;
+        farm.state = FarmState::Open;
+    }
+
+    /// A Set V(R) came: this number is expected next, unless the FARM is in Lockout.
+    fn expect(&mut self, vr: u8)
+        ensures after { self.new ≡ with_vr vr self.old.state self.old }
+        ensures kept { IsKept self.new }
+    {
+        let farm = &mut self.variables;
+        farm.farm_b = one_more(farm.farm_b);
+        if farm.state != FarmState::Lockout {
+            farm.vr = vr;
+            farm.wait = false;
+            farm.retransmit = false;
+            farm.state = FarmState::Open;
+        }
+    }
+}
+
+/// One control command more, modulo 4.
+fn one_more(farm_b: u8) -> u8
+    requires { farm_b < 4 }
+    ensures { result ≡ (farm_b + 1) % 4 }
+{
+    match farm_b {
+        3 => 0,
+        count => count + 1,
+    }
 }

@@ -3,3 +3,5 @@
 
 pub mod clcws;
 pub mod farms;
+#[cfg(test)]
+mod tests;

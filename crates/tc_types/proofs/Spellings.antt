@@ -1,6 +1,6 @@
 -- No spelling has a word with the byte that parts it from the next.
-use Rattle.std.proofs.Common.{◌≡◌, ℕ, ℤ, pos, negsuc, suc, ◌+◌, ◌<◌, ◌≤◌, ◌^◌, Bool, true, false, not, ◌&&◌, eqb, Option, Some, None, List, [], ◌∷◌, ◌++◌, length, refl, ap, ◌∙◌, sym, arith, rules, option_map, Bor}
-use Rattle.std.specs.List.{list_all, join_with_byte}
+use Rattle.std.proofs.Common.{◌≡◌, ℕ, ℤ, pos, negsuc, suc, ◌<◌, ◌≤◌, ◌^◌, Bool, true, false, eqb, Option, Some, None, List, [], ◌∷◌, length, refl, ap, ◌∙◌, sym, arith, rules, option_map, Bor}
+use Rattle.std.specs.List.{list_all}
 use Rattle.std.specs.Fmt.{decimal, signed_decimal}
 use Rattle.std.specs.Str.Parse.{AllDigits}
 use Rattle.std.proofs.lemmas.Str.Parse.{digit_from_value}
@@ -10,7 +10,7 @@ use Rattle.std.proofs.lemmas.List.Splits.{join_with_byte-slice_split}
 use Rattle.std.proofs.lemmas.Bool.{and_parts, ne_eqb}
 use Rattle.std.proofs.lemmas.Int.{ints}
 use Rattle.std.proofs.lemmas.Grind.{common_steps}
-use Rattle.tc_types.specs.Names.{is_name_byte, IsName, IsPerson}
+use Rattle.tc_types.specs.Names.{is_name_byte}
 use Rattle.tc_types.specs.Numbers.{IsOffset}
 use Rattle.tc_types.specs.declared.requests.Outcome.{Outcome}
 use Rattle.tc_types.specs.declared.requests.Outcome.TheVariants as outcome
@@ -20,13 +20,12 @@ use Rattle.tc_types.specs.declared.requests.Command.TheVariants as command
 use Rattle.tc_types.specs.declared.requests.Entry.{Entry}
 use Rattle.tc_types.specs.declared.acts.Act.{Act}
 use Rattle.tc_types.specs.declared.acts.Act.TheVariants as act
-use Rattle.tc_types.specs.declared.acts.Query.{Query}
 use Rattle.tc_types.specs.declared.acts.Query.TheVariants as query
 use Rattle.tc_types.specs.declared.acts.Line.{Line}
 use Rattle.tc_types.specs.Lines.{spaced}
-use Rattle.tc_types.specs.Grammar.{Reads, flag, ack_word, yes_no, outcome_words, outcome_word, IsOutcome, command_words, IsCommand, entry_words, IsEntry, query_words, IsQuery, act_words, IsAct, act_text, line_text, SpellsLine, after_two, act_part, HasLongAct}
+use Rattle.tc_types.specs.Grammar.{flag, ack_word, yes_no, outcome_words, outcome_word, IsOutcome, command_words, IsCommand, entry_words, IsEntry, act_words, IsAct, act_text, SpellsLine, after_two, act_part, HasLongAct}
 use Rattle.tc_types.specs.Words.{words, words_left, line_words, IsLine}
-use Rattle.tc_types.proofs.WordLaws.{lacks, lacks_joined, reads_joined, words_joined, words_nonempty}
+use Rattle.tc_types.proofs.WordLaws.{lacks, lacks_joined, words_joined, words_nonempty}
 use Rattle.tc_types.proofs.NumberLaws.{numeral, small_offset}
 
 digits_lack : (c : ℕ) → c < 48 → (digits : List ℕ) → AllDigits 10 digits → lacks c digits ≡ true

@@ -1,13 +1,12 @@
 -- Words that lack the separator are the words of the text that joins them.
-use Rattle.std.proofs.Common.{◌≡◌, ℕ, ◌+◌, ◌-◌, ◌<◌, ◌≤◌, Bool, true, false, not, ◌&&◌, cond, eqb, ltb, Option, Some, None, IfSome, List, [], ◌∷◌, ◌++◌, length, take, drop, get_or, refl, ap, ◌∙◌, sym, inl, inr, ⊎_elim, arith, rules}
-use Rattle.std.specs.List.{list_all, slice_split, join_with_byte, position, position_or_len, All, AllPass}
+use Rattle.std.proofs.Common.{◌≡◌, ℕ, ◌+◌, ◌-◌, ◌<◌, ◌≤◌, Bool, true, false, not, eqb, ltb, Option, Some, None, List, [], ◌∷◌, length, take, drop, refl, ap, ◌∙◌, sym, ⊎_elim, arith, rules}
+use Rattle.std.specs.List.{list_all, join_with_byte, position, position_or_len, All}
 use Rattle.std.proofs.Math.Seq.{take-length}
 use Rattle.std.proofs.lemmas.List.{length-drop}
 use Rattle.std.proofs.lemmas.List.Sums.{AllPass-from_list_all, fails_before_first}
 use Rattle.std.proofs.lemmas.List.Folds.{list_all-append}
 use Rattle.std.proofs.lemmas.List.Splits.{slice_split_none, slice_split_at, slice_split_first, length-slice_split, join_with_byte-slice_split}
 use Rattle.std.proofs.lemmas.Bool.{cases_Bool, ltb-true, ltb-false, eq-eqb, not-true, and_parts}
-use Rattle.std.proofs.lemmas.Grind.{common_steps}
 use Rattle.tc_types.specs.Words.{words}
 use Rattle.tc_types.specs.Grammar.{Reads}
 

@@ -19,5 +19,7 @@ pub mod readers;
 pub mod refusals;
 pub mod requests;
 pub mod rows;
+#[cfg(test)]
+mod tests;
 pub mod texts;
 pub mod words;

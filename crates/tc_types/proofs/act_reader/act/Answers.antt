@@ -1,4 +1,3 @@
-use Rattle.std.proofs.Common.{◌≡◌}
 use Rattle.tc_types.specs.Grammar.{act_words, IsAct}
 use Rattle.tc_types.proofs.WordLaws.{reads_joined}
 use Rattle.tc_types.proofs.Spellings.{act_parted}

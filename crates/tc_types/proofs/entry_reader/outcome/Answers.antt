@@ -1,7 +1,6 @@
 use Rattle.tc_types.specs.Grammar.{outcome_words, IsOutcome}
 use Rattle.tc_types.proofs.WordLaws.{reads_joined}
 use Rattle.tc_types.proofs.Spellings.{outcome_parted}
-use Rattle.std.proofs.Common.{◌≡◌}
 use Rattle.tc_types.proofs.entry_reader.outcome.Goals as goal
 
 pub returns : goal.returns

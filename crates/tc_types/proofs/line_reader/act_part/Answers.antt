@@ -1,4 +1,4 @@
-use Rattle.std.proofs.Common.{◌≡◌, ◌∷◌, ap, ◌∙◌}
+use Rattle.std.proofs.Common.{◌∷◌, ap, ◌∙◌}
 use Rattle.tc_types.proofs.Spellings.{act_part_after}
 use Rattle.tc_types.proofs.line_reader.act_part.Goals as goal
 

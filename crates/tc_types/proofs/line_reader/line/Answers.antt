@@ -1,4 +1,3 @@
-use Rattle.std.proofs.Common.{◌≡◌}
 use Rattle.tc_types.specs.Words.{line_words, IsLine}
 use Rattle.tc_types.proofs.WordLaws.{reads_joined}
 use Rattle.tc_types.proofs.Spellings.{line_parted}

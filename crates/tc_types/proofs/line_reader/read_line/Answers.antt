@@ -1,4 +1,3 @@
-use Rattle.std.proofs.Common.{◌≡◌}
 use Rattle.tc_types.proofs.Spellings.{short_act}
 use Rattle.tc_types.proofs.line_reader.read_line.Goals as goal
 

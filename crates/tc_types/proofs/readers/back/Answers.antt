@@ -1,4 +1,4 @@
-use Rattle.std.proofs.Common.{◌≡◌, sym, ap, ◌∙◌, arith, rules}
+use Rattle.std.proofs.Common.{arith}
 use Rattle.std.proofs.lemmas.Int.{ints}
 use Rattle.tc_types.proofs.NumberLaws.{back_none, back_zero, back_some}
 use Rattle.tc_types.proofs.readers.back.Goals as goal

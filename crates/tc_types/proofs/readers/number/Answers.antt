@@ -1,4 +1,3 @@
-use Rattle.std.proofs.Common.{rules}
 use Rattle.tc_types.proofs.NumberLaws.{not_plain, not_text, parsed}
 use Rattle.tc_types.proofs.readers.number.Goals as goal
 

@@ -1,5 +1,5 @@
 use Rattle.tc_types.proofs.WordLaws.{first_word, only_word}
-use Rattle.std.proofs.Common.{sym, ◌∙◌}
+use Rattle.std.proofs.Common.{sym}
 use Rattle.tc_types.proofs.words.cut.Goals as goal
 
 pub returns-in-Some : goal.returns-in-Some

@@ -1,5 +1,4 @@
-use Rattle.std.proofs.Common.{◌≡◌, [], sym, ◌∙◌, rules}
-use Rattle.tc_types.specs.Words.{words}
+use Rattle.std.proofs.Common.{rules}
 use Rattle.tc_types.proofs.WordLaws.{words_nonempty}
 use Rattle.tc_types.proofs.words.Words.end.Goals as goal
 

@@ -1,0 +1,52 @@
+-- What holds of the FARM-1 table, in the words of its users.
+use Rattle.std.specs.Prelude.{◌≡◌, ℕ, ◌+◌, ◌%◌, Bool, true, false}
+use Rattle.tc_types.specs.declared.requests.Body.{Body}
+use Rattle.tc_types.specs.declared.frames.Frame.{Frame}
+use Rattle.tc_types.specs.declared.frames.Frame.TheVariants.{Ad, Unlock, SetVr}
+use Rattle.tc_farm.specs.declared.clcws.Clcw.{Clcw}
+use Rattle.tc_farm.specs.declared.farms.FarmState.{FarmState}
+use Rattle.tc_farm.specs.declared.farms.FarmState.TheVariants.{Open, Wait, Lockout}
+use Rattle.tc_farm.specs.declared.farms.FarmView.{FarmView}
+use Rattle.tc_farm.specs.declared.farms.Verdict.{Verdict}
+use Rattle.tc_farm.specs.Farm.{IsFarm}
+use Rattle.tc_farm.specs.declared.farms.Verdict.TheVariants.{Accepted, Discarded, Control}
+
+abbrev pub is_open : FarmState → Bool
+is_open Open = true
+is_open Wait = false
+is_open Lockout = false
+
+-- What every call keeps: the FARM is sound, and in Open the Wait flag is 0, so that an acceptance, which ends Retransmit,
+-- leaves no Wait without it.
+pub record IsKept (farm : FarmView) : Type 0 where
+  pub sound : IsFarm farm
+  pub no_wait_in_open : is_open farm.state ≡ true → farm.wait ≡ false
+
+-- A frame that is accepted: it has the number that is expected, the FARM is open and a buffer is free; the answer has
+-- its own request and body, and the next number is expected.
+pub record IsInOrder (before : FarmView) (frame : Frame) (room : Bool) (request : ℕ) (body : Body) (after : FarmView) : Type 0 where
+  pub expected : frame ≡ Ad before.vr request body
+  pub open_state : before.state ≡ Open
+  pub with_room : room ≡ true
+  pub next_expected : after.vr ≡ (before.vr + 1) % 256
+
+-- a control command other than Set V(R) leaves V(R)
+abbrev pub IsControl : FarmView → Frame → FarmView → Type 0
+IsControl before (Ad ns request body) after = ⊥
+IsControl before Unlock after = after.vr ≡ before.vr
+IsControl before (SetVr v) after = Unit {0}
+
+-- what each verdict says of the frame and of V(R): V(R) moves only by an acceptance or a Set V(R)
+abbrev pub Says : Verdict → FarmView → Frame → Bool → FarmView → Type 0
+Says (Accepted request body) before frame room after = IsInOrder before frame room request body after
+Says Discarded before frame room after = after.vr ≡ before.vr
+Says Control before frame room after = IsControl before frame after
+
+-- what a control word tells of the FARM; the channel is the caller's
+pub record Tells (farm : FarmView) (word : Clcw) : Type 0 where
+  pub channel : word.vc ≡ 0
+  pub lockout : word.lockout ≡ farm.lockout
+  pub wait : word.wait ≡ farm.wait
+  pub retransmit : word.retransmit ≡ farm.retransmit
+  pub farm_b : word.farm_b ≡ farm.farm_b
+  pub report : word.report ≡ farm.vr

@@ -1,0 +1,5 @@
+pub mod Forms
+pub mod Contents
+pub mod Puts
+pub mod Builds
+pub mod Lists

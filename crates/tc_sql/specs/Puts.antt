@@ -1,0 +1,42 @@
+-- What an INSERT of one row leaves.
+use Rattle.std.specs.Prelude.{◌≡◌, ◌≢◌, ◌/◌, ℕ, List, [], ◌∷◌, length, slice_get, Some, pos, nat_lt, ◌==◌, if◌then◌else◌}
+use Rattle.sqlite_value.specs.declared.value.Value.TheVariants.{Int}
+use Rattle.sqlite_value.specs.Order.{Row}
+use Rattle.sqlite_trees.specs.Tree.{rowid, put_row}
+use Rattle.sqlite_sql.specs.Term.{Term}
+use Rattle.sqlite_schema.specs.declared.schema.Keys.TheVariants.{Enforced}
+use Rattle.sqlite_schema.specs.declared.schema.Schema.{Schema}
+use Rattle.sqlite_schema.specs.declared.command.Command.TheVariants.{Insert}
+use Rattle.sqlite_schema.specs.declared.command.Source.TheVariants.{Values}
+use Rattle.sqlite_rules.specs.Action.{works}
+use Rattle.sqlite_rules.specs.Edit.{IsNoIndex}
+use Rattle.sqlite.specs.Effect.{Database, IsDatabase}
+use Rattle.sqlite.specs.Given.{IsPlain}
+use Rattle.sqlite.specs.Listing.{understood}
+use Rattle.sqlite.proofs.Callers.{command_of}
+use Rattle.tc_sql.specs.Forms.{Form, table_of}
+
+-- under the schema the text puts one row, of these terms, into the table. Each field is `refl` where all is written out.
+pub record PutsInto (schema : Schema) (form : Form) (tree : ℕ) (text : List ℕ) (terms : List Term) : Type 0 where
+  pub at : ℕ
+  pub listed : slice_get schema.tables at ≡ Some (table_of form tree)
+  pub command : command_of (understood schema text) ≡ Insert at (Values terms (length terms))
+  pub plain : IsPlain (understood schema text)
+  pub single : length terms / length terms ≡ 1
+  pub quiet : (olds news : List Row) → works schema Enforced 0 tree olds news ≡ []
+
+-- the row is in its place in the tree, each other tree that is no index is as it was, and the schema is obeyed
+pub record HasPut (tree : ℕ) (row : Row) (old new : Database) : Type 0 where
+  pub schema : new.schema ≡ old.schema
+  pub rows : new.trees tree ≡ put_row row (old.trees tree)
+  pub others : (t : ℕ) → t ≢ tree → IsNoIndex old.schema t → new.trees t ≡ old.trees t
+  pub sound : IsDatabase new
+
+-- a value's row begins with its key
+abbrev pub IsKeyed : {X : Type 0} → (X → ℕ) → (X → Row) → Type 0
+IsKeyed {X} key row = (x : X) → rowid (row x) ≡ Int (pos (key x))
+
+-- the values, in the order of their keys, with this one in its place, and in place of one that has its key
+abbrev pub put_by : {X : Type 0} → (X → ℕ) → X → List X → List X
+put_by key new [] = new ∷ []
+put_by key new (x ∷ xs) = if nat_lt (key new) (key x) then new ∷ x ∷ xs else (if key new == key x then new ∷ xs else x ∷ put_by key new xs)

@@ -1,0 +1,36 @@
+-- The texts of a chain of CREATE are run one after another.
+use Rattle.std.proofs.Common.{◌≡◌, ℕ, ◌+◌, ◌<◌, ◌≤◌, arith, List, [], ◌∷◌, map, length, drop, get_or, Ok, subst, sym, refl, ◌∙◌}
+use Rattle.std.proofs.lemmas.List.{drop_more, drop_all, get_or-map, length-map}
+use Rattle.std.specs.Borrow.{Bor}
+use Rattle.sqlite_trees.specs.declared.store.Store.{Ghosts}
+use Rattle.sqlite_schema.specs.declared.schema.Schema.{Schema}
+use Rattle.sqlite.specs.Held.{Held, state}
+use Rattle.tc_sql.specs.Builds.{BuildsTo}
+use Rattle.tc_sql.proofs.Creates.{makes}
+use Rattle.tc_store.specs.Steps.{Goes, Ran, Defined}
+use Rattle.tc_store.proofs.StepLemmas.{goes_same, goes_then}
+
+-- whatever the texts led to, those from this one on lead to it now
+pub record Leads {S : Type 0} (g : Ghosts S) (texts : List (List ℕ)) (k : ℕ) (old new : Held S) : Type 0 where
+  pub builds : (after : Schema) → BuildsTo after texts (state g old).now → BuildsTo after (drop k texts) (state g new).now
+  pub goes : Goes g old new
+
+module _ {S : Type 0} (g : Ghosts S) where
+  pub leads_none : (texts : List (List ℕ)) (a : Held S) → Leads g texts 0 a a
+  leads_none texts a = record { builds = λ after to. to; goes = goes_same g a }
+
+  pub leads_more : (texts : List (List ℕ)) (k count : ℕ) (d : List ℕ) (a b c : Held S) → k < length texts → Leads g texts k a b → Ran g (get_or texts k d) [] count b c → Leads g texts (k + 1) a c
+  leads_more texts k count d a b c within one ran = record {
+    builds = λ after to. makes after (get_or texts k d) (drop (k + 1) texts) (state g b) (state g c) (Ok count) (subst (λ left. BuildsTo after left (state g b).now) (drop_more texts k d within) (one.builds after to)) ran.executes;
+    goes = goes_then g a b c one.goes ran.goes;
+  }
+
+  pub leads_all : (texts : List (List ℕ)) (k : ℕ) (a b : Held S) → length texts ≤ k → Leads g texts k a b → Defined g texts a b
+  leads_all texts k a b all one = record { builds = λ after to. subst (λ left. BuildsTo after left (state g b).now) (drop_all k texts all) (one.builds after to); goes = one.goes }
+
+  -- the same of texts that are lent
+  pub leads_lent : (texts : List (Bor (List ℕ))) (k count : ℕ) (d : Bor (List ℕ)) (a b c : Held S) → k < length texts → Leads g (map (λ text. text.now) texts) k a b
+      → Ran g ((get_or texts k d).now) [] count b c → Leads g (map (λ text. text.now) texts) (k + 1) a c
+  leads_lent texts k count d a b c within one ran =
+      leads_more (map (λ text. text.now) texts) k count [] a b c (omega (arith, within, length-map texts (λ (text : Bor (List ℕ)). text.now))) one
+      (subst (λ t. Ran g t [] count b c) (sym (get_or-map (λ (text : Bor (List ℕ)). text.now) texts k d [] within)) ran)

@@ -1,0 +1,9 @@
+pub mod Rows
+pub mod SchemaLemmas
+pub mod MetaLemmas
+pub mod RequestLemmas
+pub mod MoveLemmas
+pub mod HistoryLemmas
+pub mod StandingLemmas
+pub mod StepLemmas
+pub mod CreateLemmas

@@ -1,0 +1,64 @@
+-- What the text of `meta` means: the row that names the version.
+use Rattle.std.proofs.Common.{◌≡◌, ℕ, pos, true, codes, map, List, [], ◌∷◌, Result, Ok, Err, OnOk, IfOk, refl, sym, ap, subst, ◌∙◌}
+use Rattle.sqlite_value.specs.Order.{Row}
+use Rattle.sqlite_value.specs.declared.value.Value.TheVariants.{Null, Int, Text}
+use Rattle.sqlite_trees.specs.Tree.{Trees, put_row}
+use Rattle.sqlite_trees.specs.declared.store.Store.{Ghosts}
+use Rattle.sqlite_schema.specs.declared.schema.Schema.{Schema}
+use Rattle.sqlite_rules.specs.declared.error.Rowids.TheVariants.{Chosen}
+use Rattle.sqlite_rules.specs.Edit.{with_rowid}
+use Rattle.sqlite_tied.specs.Compute.{everything}
+use Rattle.sqlite.specs.Effect.{Database}
+use Rattle.sqlite.specs.Listing.{understood}
+use Rattle.sqlite.specs.declared.error.Error.{Error}
+use Rattle.sqlite.specs.State.{State, Executes}
+use Rattle.sqlite.specs.Held.{Held, state}
+use Rattle.std.specs.List.{AllByRecursion}
+use Rattle.tc_types.specs.Tables.{empty_image}
+use Rattle.tc_sql.specs.Builds.{no_schema, Builds, BuildsTo}
+use Rattle.tc_sql.specs.Contents.{Contents, Matches, with_rows, are_tables}
+use Rattle.tc_sql.specs.Puts.{PutsInto, HasPut}
+use Rattle.tc_sql.proofs.Inserts.{inserts}
+use Rattle.tc_sql.proofs.Changes.{matches_put}
+use Rattle.tc_sql.proofs.Creates.{makes}
+use Rattle.tc_store.specs.Meta.{meta_tree, meta_form, meta_put, meta_terms, version_row}
+use Rattle.tc_store.specs.Requests.{request_tree}
+use Rattle.tc_store.specs.Moves.{move_tree}
+use Rattle.tc_store.specs.Schema.{schema_1, create_texts, contents, Holds}
+use Rattle.tc_store.specs.Steps.{Goes, Ran, Defined, Versioned, Filled}
+use Rattle.tc_store.proofs.SchemaLemmas.{built}
+use Rattle.tc_store.proofs.StepLemmas.{goes_same, goes_then}
+
+meta_puts : PutsInto schema_1 meta_form meta_tree meta_put meta_terms
+unfolding understood everything
+meta_puts = record { at = 0; listed = refl; command = refl; plain = (refl, refl); single = refl; quiet = λ _ _. refl }
+
+-- the trees before it
+abbrev no_rows : Contents
+no_rows = (meta_tree, []) ∷ (request_tree, []) ∷ (move_tree, []) ∷ []
+
+abbrev given : Row
+given = Null ∷ Text (codes "schema") ∷ Int (pos 1) ∷ []
+
+versioned_from : (old new : Database) → BuildsTo schema_1 [] old → HasPut meta_tree (with_rowid Chosen (old.trees meta_tree) given) old new → Holds new empty_image
+versioned_from old new to put =
+    let none : AllByRecursion (λ t. old.trees t.tree ≡ []) schema_1.tables = subst (λ (s : Schema). AllByRecursion (λ t. old.trees t.tree ≡ []) s.tables) to.builds to.empty in
+    let before : Matches old.trees no_rows = ((none.0, tt), ((none.1.0, tt), ((none.1.1.0, tt), tt))) in
+    let clear : are_tables old.schema no_rows ≡ true = ap (λ s. are_tables s no_rows) to.builds in
+    let row : version_row ∷ [] ≡ put_row (with_rowid Chosen (old.trees meta_tree) given) (old.trees meta_tree) = ap (λ rows. put_row (with_rowid Chosen rows given) rows) (sym none.0) in
+    record { schema = put.schema ∙ to.builds; rows = matches_put meta_tree (with_rowid Chosen (old.trees meta_tree) given) (version_row ∷ []) old new no_rows put clear row before; sound = put.sound }
+
+pub versioned : {S : Type 0} (g : Ghosts S) (old new : Held S) (r : Result ℕ Error) → IfOk r (λ count. Ran g meta_put [] count old new) → OnOk r (Versioned g old new)
+versioned g old new (Err e) h = tt
+versioned g old new (Ok count) h =
+    record { holds = λ to. versioned_from (state g old).now (state g new).now to (inserts meta_puts [] given (state g old) (state g new) (Ok count) to.builds refl refl h.executes); goes = h.goes }
+
+-- the texts that were run so far
+pub defined_none : {S : Type 0} (g : Ghosts S) (a : Held S) → Defined g [] a a
+defined_none g a = record { builds = λ after to. to; goes = goes_same g a }
+
+pub filled : {S : Type 0} (g : Ghosts S) (a b c : Held S) → Defined g create_texts a b → Versioned g b c → Filled g a c
+filled g a b c one two = record {
+  holds = λ (none : a.schema ≡ no_schema). two.holds (one.builds schema_1 (record { builds = subst (λ s. Builds s create_texts schema_1) (sym none) built; empty = subst (λ (s : Schema). AllByRecursion (λ t. (state g a).now.trees t.tree ≡ []) s.tables) (sym none) tt }));
+  goes = goes_then g a b c one.goes two.goes;
+}

@@ -1,0 +1,45 @@
+-- How the steps of a transaction follow one another.
+use Rattle.std.proofs.Common.{◌≡◌, ◌⊎◌, inl, inr, ℕ, ◌+◌, ◌<◌, ◌≤◌, arith, length, take, get_or, List, [], ◌∷◌, IsTrue, refl, ap, subst, sym, ◌∙◌, take_all}
+use Rattle.std.proofs.lemmas.List.Sums.{fold_more}
+use Rattle.sqlite_trees.specs.Tree.{Trees}
+use Rattle.sqlite_trees.specs.declared.store.Store.{Ghosts}
+use Rattle.sqlite.specs.State.{State, KeepsCommit, Survives}
+use Rattle.sqlite.specs.Held.{Held, state}
+use Rattle.sqlite.proofs.StateLemmas.{survives_then}
+use Rattle.tc_types.specs.declared.rows.Row.{Row}
+use Rattle.tc_types.specs.Tables.{Image, with_row, applied}
+use Rattle.tc_store.specs.Schema.{Holds}
+use Rattle.tc_store.specs.Steps.{Goes, Step}
+
+pub survives_same : (a : State) (P : Trees → Type 0) → Survives a a P
+survives_same a P = record { clean = omega arith; shield = λ h. h; counts = omega arith; limit = refl; closes = λ clean stays. inl stays; crash = λ clean db left. inl left }
+
+-- two calls, neither of which commits
+pub survives_both : (a b c : State) → Survives a b (λ _. ⊥) → Survives b c (λ _. ⊥) → Survives a c (λ _. ⊥)
+survives_both a b c one two = survives_then a b c (λ _. ⊥) (λ _. ⊥) (λ _. ⊥) (λ _ db none. none) (λ _ db none. none) one two
+
+pub keeps_same : (a : State) → KeepsCommit a a
+keeps_same a = record { was_open = λ h. h; committed = λ _. refl }
+
+pub keeps_then : (a b c : State) → KeepsCommit a b → KeepsCommit b c → KeepsCommit a c
+keeps_then a b c one two = record { was_open = λ h. one.was_open (two.was_open h); committed = λ h. two.committed h ∙ one.committed (two.was_open h) }
+
+module _ {S : Type 0} (g : Ghosts S) where
+  pub goes_same : (a : Held S) → Goes g a a
+  goes_same a = record { committed = refl; mode = refl; is_open = refl }
+
+  pub goes_then : (a b c : Held S) → Goes g a b → Goes g b c → Goes g a c
+  goes_then a b c one two = record { committed = two.committed ∙ one.committed; mode = two.mode ∙ one.mode; is_open = two.is_open ∙ one.is_open }
+
+  pub step_none : (a : Held S) (rows : List Row) → Step g (applied (take 0 rows)) a a
+  step_none a rows = record { holds = λ image held. held; goes = goes_same a }
+
+  pub step_more : (a b c : Held S) (rows : List Row) (k : ℕ) (d : Row) → k < length rows → Step g (applied (take k rows)) a b → Step g (λ image. with_row image (get_or rows k d)) b c
+      → Step g (applied (take (k + 1) rows)) a c
+  step_more a b c rows k d within one two = record {
+    holds = λ image held. subst (λ (it : Image). Holds (state g c).now it) (sym (fold_more with_row image rows k d within)) (two.holds (applied (take k rows) image) (one.holds image held));
+    goes = goes_then a b c one.goes two.goes;
+  }
+
+  pub step_all : (a b : Held S) (rows : List Row) (k : ℕ) → length rows ≤ k → Step g (applied (take k rows)) a b → Step g (applied rows) a b
+  step_all a b rows k all one = subst (λ (done : List Row). Step g (applied done) a b) (take_all k rows all) one

@@ -1,0 +1,7 @@
+pub mod Faults
+pub mod Meta
+pub mod Requests
+pub mod Moves
+pub mod Schema
+pub mod Steps
+pub mod Standing

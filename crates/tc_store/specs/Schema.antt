@@ -1,0 +1,39 @@
+-- The tables of the desk, version 1 of their schema, and when a database holds an image.
+use Rattle.std.specs.Prelude.{◌≡◌, ℕ, List, [], ◌∷◌, map}
+use Rattle.sqlite_schema.specs.declared.schema.Schema.{Schema}
+use Rattle.sqlite_catalog.specs.Change.{created, indexed}
+use Rattle.sqlite.specs.Effect.{Database, IsDatabase}
+use Rattle.tc_types.specs.Tables.{Image}
+use Rattle.tc_sql.specs.Forms.{table_of}
+use Rattle.tc_sql.specs.Contents.{Contents, Matches}
+use Rattle.tc_sql.specs.Builds.{no_schema}
+use Rattle.tc_store.specs.Meta.{meta_tree, meta_form, meta_text, version_row}
+use Rattle.tc_store.specs.Requests.{request_tree, request_form, request_text, request_row}
+use Rattle.tc_store.specs.Moves.{move_tree, move_form, move_index, move_text, move_index_text, move_row}
+
+-- the texts that make it, in order
+abbrev pub create_texts : List (List ℕ)
+create_texts = meta_text ∷ request_text ∷ move_text ∷ move_index_text ∷ []
+
+-- after each of them
+abbrev pub with_meta : Schema
+with_meta = created no_schema (table_of meta_form 0)
+
+abbrev pub with_request : Schema
+with_request = created with_meta (table_of request_form 0)
+
+abbrev pub with_move : Schema
+with_move = created with_request (table_of move_form 0)
+
+abbrev pub schema_1 : Schema
+schema_1 = indexed with_move (table_of move_form move_tree) move_index
+
+-- the rows of each table
+abbrev pub contents : Image → Contents
+contents image = (meta_tree, version_row ∷ []) ∷ (request_tree, map request_row image.requests) ∷ (move_tree, map move_row image.moves) ∷ []
+
+-- the database has the desk's schema, and its tables have the rows of the image and no other
+pub record Holds (db : Database) (image : Image) : Type 0 where
+  pub schema : db.schema ≡ schema_1
+  pub rows : Matches db.trees (contents image)
+  pub sound : IsDatabase db

@@ -1,0 +1,58 @@
+-- What a statement or a batch does to the tables inside a transaction, and what it leaves after a crash.
+use Rattle.std.specs.Prelude.{◌≡◌, ℕ, List, [], Ok}
+use Rattle.sqlite_value.specs.Order.{Row as Values}
+use Rattle.sqlite_schema.specs.declared.schema.Schema.{Schema}
+use Rattle.sqlite_trees.specs.Tree.{Trees}
+use Rattle.sqlite_trees.specs.declared.store.Store.{Ghosts}
+use Rattle.sqlite_catalog.specs.Listing.{IsSound}
+use Rattle.sqlite.specs.Effect.{Database}
+use Rattle.sqlite.specs.State.{State, Executes}
+use Rattle.sqlite.specs.Held.{Held, state}
+use Rattle.tc_types.specs.declared.rows.Row.{Row}
+use Rattle.tc_types.specs.Tables.{Image, empty_image, applied}
+use Rattle.tc_sql.specs.Builds.{BuildsTo, no_schema}
+use Rattle.tc_sql.specs.Contents.{Matches}
+use Rattle.tc_store.specs.Schema.{schema_1, contents, Holds}
+
+-- the transaction goes on, and nothing was committed
+pub record Goes {S : Type 0} (g : Ghosts S) (old new : Held S) : Type 0 where
+  pub committed : (state g new).committed ≡ (state g old).committed
+  pub mode : new.in_transaction ≡ old.in_transaction
+  pub is_open : (state g new).is_open ≡ (state g old).is_open
+
+-- one statement was run
+pub record Ran {S : Type 0} (g : Ghosts S) (text : List ℕ) (params : Values) (count : ℕ) (old new : Held S) : Type 0 where
+  pub executes : Executes text params (state g old) (state g new) (Ok count)
+  pub goes : Goes g old new
+
+-- each image that the tables held was changed in this way
+pub record Step {S : Type 0} (g : Ghosts S) (change : Image → Image) (old new : Held S) : Type 0 where
+  pub holds : (image : Image) → Holds (state g old).now image → Holds (state g new).now (change image)
+  pub goes : Goes g old new
+
+-- whatever these texts led to, the database has it now, with no row in any table
+pub record Defined {S : Type 0} (g : Ghosts S) (texts : List (List ℕ)) (old new : Held S) : Type 0 where
+  pub builds : (after : Schema) → BuildsTo after texts (state g old).now → BuildsTo after [] (state g new).now
+  pub goes : Goes g old new
+
+-- where those of the desk stand with no row, they name their version now
+pub record Versioned {S : Type 0} (g : Ghosts S) (old new : Held S) : Type 0 where
+  pub holds : BuildsTo schema_1 [] (state g old).now → Holds (state g new).now empty_image
+  pub goes : Goes g old new
+
+-- where there was no table, those of the desk stand, with no row but the version
+pub record Filled {S : Type 0} (g : Ghosts S) (old new : Held S) : Type 0 where
+  pub holds : old.schema ≡ no_schema → Holds (state g new).now empty_image
+  pub goes : Goes g old new
+
+-- the trees of an empty desk
+abbrev pub IsNewDesk : Trees → Type 0
+IsNewDesk trees = Matches trees (contents empty_image) × IsSound schema_1 trees
+
+-- the trees that a batch leaves where it was written whole
+abbrev pub HasBatch : Database → List Row → Trees → Type 0
+HasBatch old batch trees = (image : Image) → Holds old image → Matches trees (contents (applied batch image)) × IsSound schema_1 trees
+
+-- a crash leaves no other trees than these
+abbrev pub LeavesOnly : State → Trees → Type 0
+LeavesOnly s trees = (db : Trees) → s.may_leave db → db ≡ trees

@@ -1,0 +1,108 @@
+//! The values of a row that is read. Each function fails where the value is not one that the desk writes.
+ghost use Rattle.std.specs.Prelude.{◌≡◌, ℕ, pos, List, Option, IfOk};
+ghost use Rattle.sqlite_value.specs.declared.value.Value.TheVariants.{Int, Text};
+ghost use Rattle.sqlite_value.specs.Order.{column};
+ghost use Rattle.tc_types.specs.declared.places.Place.{Place as SomePlace};
+ghost use Rattle.tc_types.specs.declared.causes.Cause.{Cause as SomeCause};
+ghost use Rattle.tc_types.specs.Lawful.{place_number, cause_number};
+ghost use Rattle.tc_store.specs.Moves.{from_number};
+
+use crate::faults::StoreFault;
+use sqlite::Row;
+use tc_types::causes::Cause;
+use tc_types::names::Name;
+use tc_types::numbers::{Moment, RequestNumber};
+use tc_types::places::Place;
+
+/// A number.
+pub(crate) fn number_at(row: &Row, at: usize) -> Result<u32, StoreFault>
+    ensures { IfOk result (λ n. column row.now at ≡ Int (pos n)) }
+{
+    match row.get(at) {
+        Ok(number) => Ok(number),
+        Err(error) => Err(StoreFault::Read(error)),
+    }
+}
+
+/// A number of one byte.
+fn byte_at(row: &Row, at: usize) -> Result<u8, StoreFault>
+    ensures { IfOk result (λ n. column row.now at ≡ Int (pos n)) }
+{
+    let number = number_at(row, at)?;
+    match u8::try_from(number) {
+        Ok(byte) => Ok(byte),
+        Err(_) => Err(StoreFault::Damaged),
+    }
+}
+
+/// The number of a request.
+pub(crate) fn request_at(row: &Row, at: usize) -> Result<RequestNumber, StoreFault>
+    ensures { IfOk result (λ n. column row.now at ≡ Int (pos n)) }
+{
+    let number = number_at(row, at)?;
+    match RequestNumber::new(number) {
+        Some(request) => Ok(request),
+        None => Err(StoreFault::Damaged),
+    }
+}
+
+/// A moment.
+pub(crate) fn moment_at(row: &Row, at: usize) -> Result<Moment, StoreFault>
+    ensures { IfOk result (λ n. column row.now at ≡ Int (pos n)) }
+{
+    let seconds = number_at(row, at)?;
+    match Moment::new(seconds) {
+        Some(moment) => Ok(moment),
+        None => Err(StoreFault::Damaged),
+    }
+}
+
+/// A place by its number.
+pub(crate) fn place_at(row: &Row, at: usize) -> Result<Place, StoreFault>
+    ensures { IfOk result (λ place. (was : SomePlace) → column row.now at ≡ Int (pos (place_number was)) → place ≡ was) }
+{
+    let number = byte_at(row, at)?;
+    match Place::from_number(number) {
+        Some(place) => Ok(place),
+        None => Err(StoreFault::Damaged),
+    }
+}
+
+/// A place by its number, or nowhere by 0.
+pub(crate) fn from_at(row: &Row, at: usize) -> Result<Option<Place>, StoreFault>
+    ensures { IfOk result (λ place. (was : Option SomePlace) → column row.now at ≡ Int (pos (from_number was)) → place ≡ was) }
+{
+    let number = byte_at(row, at)?;
+    if number == 0 {
+        return Ok(None);
+    }
+    match Place::from_number(number) {
+        Some(place) => Ok(Some(place)),
+        None => Err(StoreFault::Damaged),
+    }
+}
+
+/// A cause by its number.
+pub(crate) fn cause_at(row: &Row, at: usize) -> Result<Cause, StoreFault>
+    ensures { IfOk result (λ cause. (was : SomeCause) → column row.now at ≡ Int (pos (cause_number was)) → cause ≡ was) }
+{
+    let number = byte_at(row, at)?;
+    match Cause::from_number(number) {
+        Some(cause) => Ok(cause),
+        None => Err(StoreFault::Damaged),
+    }
+}
+
+/// A name.
+pub(crate) fn name_at(row: &Row, at: usize) -> Result<Name, StoreFault>
+    ensures { IfOk result (λ name. column row.now at ≡ Text name) }
+{
+    let text: String = match row.get(at) {
+        Ok(text) => text,
+        Err(error) => return Err(StoreFault::Read(error)),
+    };
+    match Name::read(text.as_bytes()) {
+        Some(name) => Ok(name),
+        None => Err(StoreFault::Damaged),
+    }
+}

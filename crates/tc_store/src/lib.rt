@@ -1,0 +1,16 @@
+//! The desk's tables in a database: what they hold is an image, and a batch of rows is written whole or not at all.
+//!
+//! The clauses say what the tables hold by `Holds database image`. What a fault leaves is said by `Survives`: after a
+//! crash the database has what it had before the call, or what the call commits.
+#![tactic(auto)]
+
+mod cells;
+mod counts;
+mod creates;
+pub mod faults;
+mod history;
+mod moves;
+mod requests;
+mod steps;
+pub mod tables;
+mod writes;

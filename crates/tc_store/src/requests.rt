@@ -1,0 +1,108 @@
+//! The table `request`.
+ghost use Rattle.std.specs.Prelude.{◌≡◌, IsTrue, OnOk};
+ghost use Rattle.sqlite.specs.State.{HasCleanDisk, KeepsCommit, Survives};
+ghost use Rattle.sqlite.specs.Held.{state};
+ghost use Rattle.tc_types.specs.declared.rows.Row.TheVariants.{Entered};
+ghost use Rattle.tc_types.specs.Tables.{with_row};
+ghost use Rattle.tc_store.specs.Requests.{ack_number, service_of, subtype_of, target_of, time_of};
+ghost use Rattle.tc_store.specs.Steps.{Step};
+
+use crate::steps::run;
+use sqlite::{Alter, Error, Transaction, params};
+use std::alloc::Global;
+use tc_types::requests::{Ack, Body, Command, Request};
+
+/// The reports that are asked for: 8 for acceptance, 4 for start, 2 for progress, 1 for completion.
+fn ack_code(ack: Ack) -> u32
+    ensures { result ≡ ack_number ack }
+{
+    let acceptance = if ack.acceptance { 8 } else { 0 };
+    let start = if ack.start { 4 } else { 0 };
+    let progress = if ack.progress { 2 } else { 0 };
+    let completion = if ack.completion { 1 } else { 0 };
+    acceptance + start + progress + completion
+}
+
+/// A command as the columns that hold it.
+#[derive(Drop)]
+struct Columns {
+    service: u32,
+    subtype: u32,
+    /// The request that it names, 0 for none.
+    target: u32,
+    /// Its release time or its offset in seconds, 0 for none.
+    time: i64,
+}
+
+/// The columns of a command of service 11.
+fn schedule(subtype: u32, target: u32, time: i64) -> Columns
+    ensures { result ≡ record { service = 11; subtype = subtype; target = target; time = time } }
+{
+    Columns {
+        service: 11,
+        subtype,
+        target,
+        time,
+    }
+}
+
+/// The columns that hold a command.
+fn columns_of(command: &Command) -> Columns
+    ensures service { result.service ≡ service_of command.now }
+    ensures subtype { result.subtype ≡ subtype_of command.now }
+    ensures target { result.target ≡ target_of command.now }
+    ensures time { result.time ≡ time_of command.now }
+{
+    match command {
+        Command::Plain { service, subtype } => Columns {
+            service: u32::from(service.get()),
+            subtype: u32::from(subtype.get()),
+            target: 0,
+            time: 0,
+        },
+        Command::EnableSchedule => schedule(1, 0, 0),
+        Command::DisableSchedule => schedule(2, 0, 0),
+        Command::ResetSchedule => schedule(3, 0, 0),
+        Command::InsertActivity { target, time } => schedule(4, *target, i64::from(time.get())),
+        Command::DeleteActivity { target } => schedule(5, *target, 0),
+        Command::ShiftActivity { target, offset } => schedule(7, *target, offset.get()),
+        Command::ShiftAll { offset } => schedule(15, 0, offset.get()),
+        Command::SummarizeAll => schedule(17, 0, 0),
+    }
+}
+
+/// Writes one request.
+pub(crate) fn put_request<S: Alter>(
+    tx: &mut Transaction<'_, S>,
+    alloc: Global,
+    row: Request,
+) -> Result<usize, Error>
+    ensures same_reference { tx.new.conn.ghost_name ≡ tx.old.conn.ghost_name }
+    ensures put { HasCleanDisk (state S.Store tx.new.conn.now) → IsTrue tx.old.conn.now.in_transaction → OnOk result (Step S.Store (λ image. with_row image (Entered row)) tx.old.conn.now tx.new.conn.now) }
+    ensures kept { HasCleanDisk (state S.Store tx.new.conn.now) → IsTrue tx.old.conn.now.in_transaction → KeepsCommit (state S.Store tx.old.conn.now) (state S.Store tx.new.conn.now) }
+    ensures survives { Survives (state S.Store tx.old.conn.now) (state S.Store tx.new.conn.now) (λ _. ⊥) }
+{
+    let Request {
+        number,
+        body,
+        critical,
+        author,
+    } = row;
+    let Body {
+        identity,
+        ack,
+        command,
+        outcome,
+    } = body;
+    let outcome = outcome.text(alloc)?;
+    let number = number.get();
+    let apid = u32::from(identity.apid.get());
+    let count = u32::from(identity.count.get());
+    let ack = ack_code(ack);
+    let columns = columns_of(&command);
+    run(
+        tx,
+        "INSERT INTO request (num, apid, cnt, ack, critical, service, subtype, target, at_time, outcome, author, stack, line, prior) VALUES (?1, ?2, ?3, ?4, ?5, ?6, ?7, ?8, ?9, ?10, ?11, '', 0, 0)",
+        params![number, apid, count, ack, critical, columns.service, columns.subtype, columns.target, &columns.time, outcome.as_str(), author.as_str()],
+    )
+}
