@@ -1,2 +1,3 @@
+mod MemoryLemmas
 mod RunLemmas
 mod SessionLemmas

@@ -3,4 +3,3 @@ pub mod Joined
 pub mod Replies
 pub mod Run
 pub mod Session
-pub mod Stub

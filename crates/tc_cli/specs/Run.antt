@@ -1,5 +1,5 @@
 -- The run of a script: what is written for the lines that were read.
-use Rattle.std.specs.Prelude.{◌≡◌, ◌⊎◌, ℕ, ◌==◌, Bool, true, false, if◌then◌else◌, MatchBool, Option, List, [], ◌∷◌, ◌++◌, map}
+use Rattle.std.specs.Prelude.{◌≡◌, ◌≢◌, ◌≤◌, ◌↔◌, ◌⊎◌, ℕ, ◌==◌, Bool, true, false, if◌then◌else◌, MatchBool, Option, List, [], ◌∷◌, ◌++◌, length, map}
 use Rattle.std.specs.List.{list_any, flat_map}
 use Rattle.std.specs.Io.KnownBytes.{Appends}
 use Rattle.bstr.specs.Text.{lines_of, without_terminator}
@@ -8,7 +8,7 @@ use Rattle.tc_types.specs.declared.refusals.Refusal.TheVariants.{BadText, TooLon
 use Rattle.tc_types.specs.declared.acts.Act.TheVariants as act
 use Rattle.tc_types.specs.declared.acts.Query.TheVariants as query
 use Rattle.tc_types.specs.declared.acts.Line.{Line}
-use Rattle.tc_types.specs.Grammar.{HasLongAct, SpellsLine}
+use Rattle.tc_types.specs.Grammar.{HasLongAct, SpellsLine, act_text}
 use Rattle.tc_desk.specs.declared.stamps.Stamp.{Stamp}
 use Rattle.tc_desk.specs.Machine.{stamp_of}
 use Rattle.tc_cli.specs.Replies.{Reply, ended, is_refused, refusal_reply}
@@ -23,11 +23,12 @@ abbrev pub is_skipped : List ℕ → Bool
 is_skipped [] = true
 is_skipped (first ∷ others) = first == 35
 
--- a line that spells nothing, or too much
-abbrev pub IsUnread : List ℕ → Refusal → Type 0
-IsUnread line refusal =
-    (HasLongAct line × (refusal ≡ TooLong))
-    ⊎ (¬ HasLongAct line × ((read : Line) → ¬ SpellsLine line read) × (refusal ≡ BadText))
+-- A line that is refused as it is read: with TooLong exactly where its act is too long, and else with BadText, where no
+-- line with an act of 200 bytes or fewer is spelled so.
+pub record IsUnread (line : List ℕ) (refusal : Refusal) : Type 0 where
+  pub too_long : (refusal ≡ TooLong) ↔ HasLongAct line
+  pub others : refusal ≢ TooLong → refusal ≡ BadText
+  pub unspelled : (read : Line) → SpellsLine line read → ¬ (length (act_text read.act) ≤ 200)
 
 -- A line is answered: one that cannot be read is refused, also where the session has stopped; another makes a step.
 abbrev pub AnswersLine : Standing → List ℕ → Reply → Standing → Type 0

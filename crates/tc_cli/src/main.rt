@@ -5,11 +5,11 @@
 #![tactic(auto)]
 
 mod answers;
+mod memory;
 mod replies;
 mod run;
 mod script;
 mod session;
-mod tables;
 mod words;
 
 use run::run_script;
@@ -94,3 +94,6 @@ fn cannot_use(rt: &impl Eprint, name: &str) -> u8 {
     let _ = eprintln!(rt; "tcdesk: cannot use {name}");
     UNUSABLE
 }
+
+#[cfg(test)]
+mod tests;
