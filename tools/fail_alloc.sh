@@ -5,8 +5,8 @@
 #   - the right lines, then `refused 30 Memory` for one line, and the others as if that line were not there;
 #   - the right lines, then `refused 31 Store` for one line, and `refused 32 Stopped` for each one after it;
 #   - the right lines, `tcdesk: cannot use memory` on standard error, and status 2.
-# Each number is tried twice: that request alone fails, and that one and all later ones do. The number goes up until a
-# run asks for less memory than that. Status 1 where a run ended in another way.
+# The number of the refused request goes up until a run asks for less memory than that. Status 1 where a run ended in
+# another way.
 set -u
 
 top=$(cd "$(dirname "${BASH_SOURCE[0]}")/.." && pwd) || exit 1
@@ -58,26 +58,16 @@ for ((k = 0; k < count; k++)); do
     done
     allowed["1$stopped"]=store
 done
-# Where all later requests fail too, each later line may be refused for memory.
-for ((k = 0; k <= count; k++)); do
-    refused=${fronts[k]}
-    for ((j = k; j <= count; j++)); do
-        refused+="refused 30 Memory"$'\n'
-        allowed["2$refused"]=ended
-    done
-done
-
 # ---- the runs
 
 declare -A seen=([right]=0 [memory]=0 [store]=0 [ended]=0)
 runs=0
 bad=0
 
-# Runs the program with request $1 refused, and all later ones too where $2 is not empty. False where that request was
-# not made.
+# Runs the program with request $1 refused. False where that request was not made.
 try() {
     : >"$work/mark"
-    FAIL_AT=$1 ${2:+env FAIL_FROM=1} LD_PRELOAD="$work/fail_malloc.so" \
+    FAIL_AT=$1 LD_PRELOAD="$work/fail_malloc.so" \
         "$program" run "$script" >"$work/out" 2>"$work/err" 9>"$work/mark" </dev/null
     local status=$?
     [[ -s $work/mark ]] || return 1
@@ -93,7 +83,7 @@ try() {
     esac
     if [[ -z $how ]]; then
         bad=$((bad + 1))
-        printf 'fail_alloc: request %s%s: status %s, output\n%s\n%s\n' "$1" "${2:+ and all later ones}" "$status" "$out" "$error" >&2
+        printf 'fail_alloc: request %s: status %s, output\n%s%s\n' "$1" "$status" "$out" "$error" >&2
     else
         seen[$how]=$((seen[$how] + 1))
     fi
@@ -101,8 +91,7 @@ try() {
 }
 
 at=1
-while try "$at" ""; do
-    try "$at" all
+while try "$at"; do
     at=$((at + 1))
 done
 

@@ -1,6 +1,6 @@
 // Preloaded before a program, this makes one request for memory fail: the one whose number the
-// variable FAIL_AT gives (from 1), or with FAIL_FROM set that one and every later one. A failure
-// writes one byte to descriptor 9, so that the caller sees whether the program asked so often.
+// variable FAIL_AT gives, from 1. The failure writes one byte to descriptor 9, so that the caller
+// sees whether the program asked so often.
 #include <errno.h>
 #include <stddef.h>
 #include <stdlib.h>
@@ -12,18 +12,15 @@ void *__libc_realloc(void *block, size_t size);
 
 static unsigned long asked;
 static unsigned long fail_at;
-static int fails_on;
 
 __attribute__((constructor)) static void read_settings(void) {
     const char *at = getenv("FAIL_AT");
-    fails_on = getenv("FAIL_FROM") != NULL;
     fail_at = at == NULL ? 0 : strtoul(at, NULL, 10);
-    asked = 0;
 }
 
 static int fails(void) {
     asked += 1;
-    if (fail_at == 0 || (fails_on ? asked < fail_at : asked != fail_at)) {
+    if (asked != fail_at) {
         return 0;
     }
     (void)!write(9, "x", 1);

@@ -101,7 +101,10 @@ fn answers_the_worked_cases(rt: HostRuntime) -> Result<(), Fail> {
 
 #[test]
 fn counts_the_bytes_of_an_act(rt: HostRuntime) -> Result<(), Fail> {
-    for (count, line) in [(200usize, "refused 1 BadText\n"), (201, "refused 17 TooLong\n")] {
+    for (count, line) in [
+        (200usize, "refused 1 BadText\n"),
+        (201, "refused 17 TooLong\n"),
+    ] {
         let mut script = Vec::from_slice(rt.alloc(), b"nobody's moment ")?;
         let act = vec![in rt.alloc(); b'x'; count]?;
         script.extend_from_slice(&act)?;
@@ -167,7 +170,10 @@ fn runs_nothing_where_a_read_fails(rt: HostRuntime) -> Result<(), Fail> {
         left: FIRST_RUN.len() + 1,
     };
     let mut written = Vec::new(rt.alloc());
-    assert_eq!(rt; run_script(rt.alloc(), Config {}, &mut reader, &mut written), Ok(0));
+    assert_eq!(rt;
+        run_script(rt.alloc(), Config {}, &mut reader, &mut written),
+        Ok(0)
+    );
     assert_eq!(rt; written.as_slice(), FIRST_ANSWERS);
     Ok(())
 }
@@ -221,7 +227,17 @@ fn reads_the_words(rt: HostRuntime) {
         Err(_) => assert!(rt; false),
     }
     let lacks = ["tcdesk", "run"];
-    assert!(rt; matches!(read_words(rt.alloc(), lacks.as_slice()), Err(UsageFault::Words(_))));
+    assert!(rt;
+        matches!(
+            read_words(rt.alloc(), lacks.as_slice()),
+            Err(UsageFault::Words(_))
+        )
+    );
     let unknown = ["tcdesk", "run", "--fast", "a.tc"];
-    assert!(rt; matches!(read_words(rt.alloc(), unknown.as_slice()), Err(UsageFault::Words(_))));
+    assert!(rt;
+        matches!(
+            read_words(rt.alloc(), unknown.as_slice()),
+            Err(UsageFault::Words(_))
+        )
+    );
 }
