@@ -1,0 +1,3 @@
+mod MemoryLemmas
+mod RunLemmas
+mod SessionLemmas

@@ -1,0 +1,5 @@
+pub mod CommandLine
+pub mod Joined
+pub mod Replies
+pub mod Run
+pub mod Session

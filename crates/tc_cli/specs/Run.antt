@@ -1,0 +1,66 @@
+-- The run of a script: what is written for the lines that were read.
+use Rattle.std.specs.Prelude.{◌≡◌, ◌≢◌, ◌≤◌, ◌↔◌, ◌⊎◌, ℕ, ◌==◌, Bool, true, false, if◌then◌else◌, MatchBool, Option, List, [], ◌∷◌, ◌++◌, length, map}
+use Rattle.std.specs.List.{list_any, flat_map}
+use Rattle.std.specs.Io.KnownBytes.{Appends}
+use Rattle.bstr.specs.Text.{lines_of, without_terminator}
+use Rattle.tc_types.specs.declared.refusals.Refusal.{Refusal}
+use Rattle.tc_types.specs.declared.refusals.Refusal.TheVariants.{BadText, TooLong}
+use Rattle.tc_types.specs.declared.acts.Act.TheVariants as act
+use Rattle.tc_types.specs.declared.acts.Query.TheVariants as query
+use Rattle.tc_types.specs.declared.acts.Line.{Line}
+use Rattle.tc_types.specs.Grammar.{HasLongAct, SpellsLine, act_text}
+use Rattle.tc_desk.specs.declared.stamps.Stamp.{Stamp}
+use Rattle.tc_desk.specs.Machine.{stamp_of}
+use Rattle.tc_cli.specs.Replies.{Reply, ended, is_refused, refusal_reply}
+use Rattle.tc_cli.specs.Session.{Standing, SessionStep, just_opened}
+
+-- the lines of a script: LF ends a line, and one CR just before that LF is dropped; the last LF may be missing
+abbrev pub script_lines : List ℕ → List (List ℕ)
+script_lines text = map without_terminator (lines_of text)
+
+-- an empty line, or one that begins with #
+abbrev pub is_skipped : List ℕ → Bool
+is_skipped [] = true
+is_skipped (first ∷ others) = first == 35
+
+-- A line that is refused as it is read: with TooLong exactly where its act is too long, and else with BadText, where no
+-- line with an act of 200 bytes or fewer is spelled so.
+pub record IsUnread (line : List ℕ) (refusal : Refusal) : Type 0 where
+  pub too_long : (refusal ≡ TooLong) ↔ HasLongAct line
+  pub others : refusal ≢ TooLong → refusal ≡ BadText
+  pub unspelled : (read : Line) → SpellsLine line read → ¬ (length (act_text read.act) ≤ 200)
+
+-- A line is answered: one that cannot be read is refused, also where the session has stopped; another makes a step.
+abbrev pub AnswersLine : Standing → List ℕ → Reply → Standing → Type 0
+AnswersLine old line reply new =
+    ((refusal : Refusal) × IsUnread line refusal × (reply ≡ refusal_reply refusal) × (new ≡ old))
+    ⊎ ((read : Line) × SpellsLine line read × ¬ HasLongAct line × SessionStep old (stamp_of read) read.act reply new)
+
+-- a line that is skipped is not answered
+abbrev pub TakesLine : Standing → List ℕ → List Reply → Standing → Type 0
+TakesLine old line replies new = MatchBool (is_skipped line)
+    ((replies ≡ []) × (new ≡ old))
+    ((reply : Reply) × (replies ≡ reply ∷ []) × AnswersLine old line reply new)
+
+-- each line is taken in turn, from where the line before left the session
+abbrev pub TakesLines : Standing → List (List ℕ) → List Reply → Standing → Type 0
+TakesLines old [] replies new = (replies ≡ []) × (new ≡ old)
+TakesLines old (line ∷ lines) replies new =
+    (now : List Reply) × (mid : Standing) × (later : List Reply)
+    × TakesLine old line now mid × TakesLines mid lines later new × (replies ≡ now ++ later)
+
+-- the question `places`, whoever asks
+abbrev pub AsksPlaces : Standing → Reply → Standing → Type 0
+AsksPlaces old reply new = (stamp : Stamp) → SessionStep old stamp (act.Ask query.Places) reply new
+
+-- the exit status: 1 where some reply is a refusal
+abbrev pub status_of : List Reply → ℕ
+status_of replies = if list_any is_refused replies then 1 else 0
+
+-- These bytes were read, and the run wrote the replies to their lines, and then the reply to `places`.
+abbrev pub IsAnswered : List ℕ → ℕ → Option (List ℕ) → Option (List ℕ) → Type 0
+IsAnswered input status old new =
+    (replies : List Reply) × (end : Standing) × (last : Reply) × (after : Standing)
+    × TakesLines just_opened (script_lines input) replies end × AsksPlaces end last after
+    × Appends old new (flat_map ended (replies ++ last ∷ []))
+    × (status ≡ status_of (replies ++ last ∷ []))

@@ -1,0 +1,99 @@
+//! The program `tcdesk`: it runs the lines of a script on a telecommand desk.
+//!
+//! `tcdesk run SCRIPT` takes the lines of the file SCRIPT, or of the standard input where SCRIPT is `-`, and prints
+//! what the desk answers. Given no words at all it is `tcdesk run -`.
+#![tactic(auto)]
+
+mod answers;
+mod memory;
+mod replies;
+mod run;
+mod script;
+mod session;
+mod words;
+
+use run::run_script;
+use script::ScriptFault;
+use session::Config;
+use std::alloc::{AllocError, Global};
+use std::process::ExitCode;
+use std::rt::{Env, Files};
+use std::{env, fs, io};
+use words::{Line, UsageFault, read_words};
+
+/// The exit status of a fault: of usage, of a file or of memory.
+const UNUSABLE: u8 = 2;
+
+/// The words where none are given.
+const NO_WORDS: [&str; 3] = ["tcdesk", "run", "-"];
+
+fn main(rt: HostRuntime) -> ExitCode {
+    ExitCode::from(run_program(&rt))
+}
+
+fn run_program<R: Env + Files + Input + Print + Eprint + AllocGlobal>(rt: &R) -> u8 {
+    let alloc = rt.alloc();
+    match env::args(rt) {
+        Ok(args) => match args.collect::<Vec<String>>(alloc) {
+            Ok(args) => run_args(rt, &args),
+            Err(_) => cannot_use(rt, "memory"),
+        },
+        Err(error) if error.kind() == io::ErrorKind::OutOfMemory => cannot_use(rt, "memory"),
+        Err(_) => cannot_use(rt, "words that are not UTF-8"),
+    }
+}
+
+fn run_args<R: Files + Input + Print + Eprint + AllocGlobal>(rt: &R, args: &[String]) -> u8 {
+    if args.len() < 2 {
+        return run_words(rt, &NO_WORDS);
+    }
+    match borrowed(rt.alloc(), args) {
+        Ok(words) => run_words(rt, &words),
+        Err(_) => cannot_use(rt, "memory"),
+    }
+}
+
+fn borrowed<'a>(alloc: Global, args: &'a [String]) -> Result<Vec<&'a str>, AllocError> {
+    args.iter().map(|arg| arg.as_str()).collect(alloc)
+}
+
+fn run_words<R: Files + Input + Print + Eprint + AllocGlobal>(rt: &R, words: &[&str]) -> u8 {
+    match read_words(rt.alloc(), words) {
+        Ok(Line::Run { script }) => run_path(rt, script),
+        Err(UsageFault::Memory) => cannot_use(rt, "memory"),
+        Err(UsageFault::Words(error)) => {
+            let _ = error.print(rt);
+            error.exit_code() as u8
+        }
+    }
+}
+
+fn run_path<R: Files + Input + Print + Eprint + AllocGlobal>(rt: &R, path: &str) -> u8 {
+    match run_at(rt, path) {
+        Ok(status) => status,
+        Err(ScriptFault::Script) => cannot_use(rt, path),
+        Err(ScriptFault::Output) => cannot_use(rt, "output"),
+        Err(ScriptFault::Memory) => cannot_use(rt, "memory"),
+    }
+}
+
+fn run_at<R: Files + Input + Print + AllocGlobal>(rt: &R, path: &str) -> Result<u8, ScriptFault> {
+    let mut writer = io::writer(rt);
+    if path == "-" {
+        return run_script(rt.alloc(), Config {}, &mut rt.reader(), &mut writer);
+    }
+    match fs::open(rt, path) {
+        Ok(mut file) => run_script(rt.alloc(), Config {}, &mut file, &mut writer),
+        Err(error) if error.kind() == io::ErrorKind::OutOfMemory => Err(ScriptFault::Memory),
+        Err(_) => Err(ScriptFault::Script),
+    }
+}
+
+/// Says on the standard error what cannot be used. Where that cannot be written either, the status alone says it.
+fn cannot_use(rt: &impl Eprint, name: &str) -> u8 {
+    let _ = eprintln!(rt; "tcdesk: cannot use {name}");
+    UNUSABLE
+}
+
+#[cfg(test)]
+mod tests;

@@ -1,0 +1,99 @@
+#!/bin/bash
+# Refuses the built program its requests for memory, one after the other, on the first run's script, and checks how each
+# run ends. A run may end in these ways, and in no other:
+#   - all lines are right (the request was not needed);
+#   - the right lines, then `refused 30 Memory` for one line, and the others as if that line were not there;
+#   - the right lines, then `refused 31 Store` for one line, and `refused 32 Stopped` for each one after it;
+#   - the right lines, `tcdesk: cannot use memory` on standard error, and status 2.
+# The number of the refused request goes up until a run asks for less memory than that. Status 1 where a run ended in
+# another way.
+set -u
+
+top=$(cd "$(dirname "${BASH_SOURCE[0]}")/.." && pwd) || exit 1
+program=${1:-$top/crates/tc_cli/out/tc_cli}
+script=${2:-$top/examples/first-run.tc}
+[[ -x $program ]] || { echo "fail_alloc: $program is not built" >&2; exit 1; }
+
+work=$(mktemp -d) || exit 1
+trap 'rm -rf "$work"' EXIT
+"${CC:-cc}" -O2 -shared -fPIC -o "$work/fail_malloc.so" "$top/tools/fail_malloc.c" || exit 1
+
+# ---- what a run may print
+
+# The lines of the script that are answered, and the question at the end.
+mapfile -t lines < <(grep -v -e '^#' -e '^$' "$script")
+count=${#lines[@]}
+
+# Prints what the program answers to these lines.
+answer() {
+    printf '%s\n' "$@" | "$program" run -
+}
+
+# The replies to the first k lines, without the last answer: what k lines print, less the reply to `places`.
+declare -a fronts
+for ((k = 0; k <= count; k++)); do
+    fronts[k]=$(answer "${lines[@]:0:k}" "" | sed '$d'; echo .)
+    fronts[k]=${fronts[k]%.}
+done
+whole=$(answer "${lines[@]}"; echo .)
+whole=${whole%.}
+last=${whole#"${fronts[count]}"}
+
+# Each allowed output, with the status that belongs to it.
+declare -A allowed
+allowed["0$whole"]=right
+allowed["1${fronts[count]}refused 30 Memory"$'\n']=memory
+allowed["1${fronts[count]}refused 31 Store"$'\n']=store
+for ((k = 0; k <= count; k++)); do
+    allowed["2${fronts[k]}"]=ended
+done
+allowed["2$whole"]=ended
+for ((k = 0; k < count; k++)); do
+    without=$(answer "${lines[@]:0:k}" "${lines[@]:k+1}"; echo .)
+    without=${without%.}
+    allowed["1${fronts[k]}refused 30 Memory"$'\n'"${without#"${fronts[k]}"}"]=memory
+    stopped=${fronts[k]}"refused 31 Store"$'\n'
+    for ((j = k + 1; j <= count; j++)); do
+        stopped+="refused 32 Stopped"$'\n'
+    done
+    allowed["1$stopped"]=store
+done
+# ---- the runs
+
+declare -A seen=([right]=0 [memory]=0 [store]=0 [ended]=0)
+runs=0
+bad=0
+
+# Runs the program with request $1 refused. False where that request was not made.
+try() {
+    : >"$work/mark"
+    FAIL_AT=$1 LD_PRELOAD="$work/fail_malloc.so" \
+        "$program" run "$script" >"$work/out" 2>"$work/err" 9>"$work/mark" </dev/null
+    local status=$?
+    [[ -s $work/mark ]] || return 1
+    runs=$((runs + 1))
+    local out error how
+    out=$(<"$work/out")
+    [[ -z $out ]] || out+=$'\n'
+    error=$(<"$work/err")
+    how=${allowed["$status$out"]:-}
+    case $how in
+    ended) [[ $error == "tcdesk: cannot use memory" ]] || how= ;;
+    right | memory | store) [[ -z $error ]] || how= ;;
+    esac
+    if [[ -z $how ]]; then
+        bad=$((bad + 1))
+        printf 'fail_alloc: request %s: status %s, output\n%s%s\n' "$1" "$status" "$out" "$error" >&2
+    else
+        seen[$how]=$((seen[$how] + 1))
+    fi
+    return 0
+}
+
+at=1
+while try "$at"; do
+    at=$((at + 1))
+done
+
+echo "fail_alloc: $runs runs: ${seen[ended]} ended for memory, ${seen[memory]} refused 30, ${seen[store]} refused 31, ${seen[right]} unharmed, $bad bad"
+((bad == 0))
