@@ -8,22 +8,25 @@ use Rattle.std.proofs.lemmas.List.{append-nil, take-map}
 use Rattle.std.proofs.lemmas.List.Folds.{list_any-append}
 use Rattle.tc_farm.specs.declared.clcws.Clcw.{Clcw}
 use Rattle.tc_farm.specs.Farm.{distance}
+use Rattle.tc_types.specs.declared.frames.Frame.TheVariants as frame
 use Rattle.tc_fop.specs.declared.rows.Row.{Row}
 use Rattle.tc_fop.specs.declared.rows.Row.TheVariants.{P1, P2, P3, P4, P5, P6, P7, P8, P9, P10, P11, P12, P13, P14, P15, P16}
 use Rattle.tc_fop.specs.declared.signals.AlertKind.{AlertKind}
 use Rattle.tc_fop.specs.declared.signals.AlertKind.TheVariants as alert
+use Rattle.tc_fop.specs.declared.signals.Directive.{Directive}
+use Rattle.tc_fop.specs.declared.signals.Directive.TheVariants as directive
 use Rattle.tc_fop.specs.declared.signals.FopState.{FopState}
 use Rattle.tc_fop.specs.declared.signals.FopState.TheVariants.{Active, RetransmitWithoutWait, RetransmitWithWait, InitialisingWithoutBc, InitialisingWithBc, Initial}
 use Rattle.tc_fop.specs.declared.signals.Indication.{Indication}
 use Rattle.tc_fop.specs.declared.signals.Indication.TheVariants as indication
-use Rattle.tc_fop.specs.Machine.{Machine, Held, Waiting, Out, Action, Remove, InitiateRetransmission, Resend, Transmit, Alert, StartTimer, CancelTimer, LowerTimer, CountOne, SendControl, DropControl, Begin, To, Wait, Initiate, change, said, after, output, is_window_open, ready_from, transmitted, transmits, option_list, given_back}
+use Rattle.tc_fop.specs.Machine.{Machine, Held, Waiting, Out, Action, Remove, InitiateRetransmission, Resend, Transmit, Alert, StartTimer, CancelTimer, LowerTimer, CountOne, SendControl, DropControl, Begin, To, Wait, Initiate, SetVsAlone, SetVsAndNn, SetKTo, SetT1To, SetLimitTo, change, said, after, output, is_window_open, ready_from, transmitted, transmits, option_list, given_back}
 use Rattle.tc_fop.specs.Rows.{Seen, row_seen, seen_in, row_of}
 use Rattle.tc_fop.specs.Cells.{cell, look, alerts, timer_ended, timer_ended_at_limit}
-use Rattle.tc_fop.specs.Calls.{Given, Answers, is_taking, look_in, offered, told, ticked}
+use Rattle.tc_fop.specs.Calls.{Given, Answers, is_taking, is_initial, look_in, offered, directed, told, ticked}
 use Rattle.tc_fop.specs.Standing.{IsFop}
 use Rattle.tc_fop.specs.Requests.{sent_requests, confirms, is_first, is_transmitting, acknowledged, ConfirmsFront, KeepsWindow}
 use Rattle.tc_fop.proofs.RequestLemmas.{both, alerted, confirmed_confirm, doubted_unconfirmed, back_unconfirmed}
-use Rattle.tc_fop.proofs.TableLemmas.{by_state, of_tick, of_offer}
+use Rattle.tc_fop.proofs.TableLemmas.{by_state, of_tick, of_offer, of_initial, of_setting}
 
 -- it confirms nothing
 abbrev pub is_unremoving : Action → Bool
@@ -306,3 +309,59 @@ pub offers_window : (m : Machine) (w : Waiting) (new : Machine) (out : Out) → 
 offers_window m w new out h n =
     of_offer (λ given. Answers given m new (Ok out) → KeepsWindow new out) (is_taking m.state) m.waiting (Wait w ∷ look_in m.state) (λ e. absurd e) (λ e. absurd e)
     (λ none e. carried_window (Wait w ∷ look_in m.state) m new out n (ap (λ b. b || false) (look_window m.state)) e)
+
+terminate_unremoving : (initial : Bool) → list_all is_unremoving (if initial then [] else Alert alert.Term ∷ []) ≡ true
+terminate_unremoving true = refl
+terminate_unremoving false = refl
+
+terminate_window : (initial : Bool) → ends_well (if initial then [] else Alert alert.Term ∷ []) ≡ true
+terminate_window true = refl
+terminate_window false = refl
+
+pub directives_front : (m : Machine) (directive : Directive) (new : Machine) (out : Out) → IsFop m → IsFop new → Answers (directed m directive) m new (Ok out) → ConfirmsFront 0 m out
+directives_front m directive.InitiateNone new out h n =
+    of_initial (λ given. Answers given m new (Ok out) → ConfirmsFront 0 m out) (is_initial m.state) (Initiate None ∷ To Active ∷ Begin ∷ []) (λ e. absurd e)
+    (λ s e. none_confirmed (Initiate None ∷ To Active ∷ Begin ∷ []) 0 m new out refl e)
+directives_front m directive.InitiateCheck new out h n =
+    of_initial (λ given. Answers given m new (Ok out) → ConfirmsFront 0 m out) (is_initial m.state) (Initiate None ∷ StartTimer ∷ To InitialisingWithoutBc ∷ []) (λ e. absurd e)
+    (λ s e. none_confirmed (Initiate None ∷ StartTimer ∷ To InitialisingWithoutBc ∷ []) 0 m new out refl e)
+directives_front m directive.InitiateUnlock new out h n =
+    of_initial (λ given. Answers given m new (Ok out) → ConfirmsFront 0 m out) (is_initial m.state) (Initiate (Some frame.Unlock) ∷ SendControl ∷ StartTimer ∷ To InitialisingWithBc ∷ []) (λ e. absurd e)
+    (λ s e. none_confirmed (Initiate (Some frame.Unlock) ∷ SendControl ∷ StartTimer ∷ To InitialisingWithBc ∷ []) 0 m new out refl e)
+directives_front m (directive.InitiateSetVr v) new out h n =
+    of_initial (λ given. Answers given m new (Ok out) → ConfirmsFront 0 m out) (is_initial m.state) (SetVsAlone v ∷ Initiate (Some (frame.SetVr v)) ∷ SendControl ∷ StartTimer ∷ To InitialisingWithBc ∷ []) (λ e. absurd e)
+    (λ s e. none_confirmed (SetVsAlone v ∷ Initiate (Some (frame.SetVr v)) ∷ SendControl ∷ StartTimer ∷ To InitialisingWithBc ∷ []) 0 m new out refl e)
+directives_front m (directive.SetVs v) new out h n =
+    of_initial (λ given. Answers given m new (Ok out) → ConfirmsFront 0 m out) (is_initial m.state) (SetVsAndNn v ∷ []) (λ e. absurd e)
+    (λ s e. none_confirmed (SetVsAndNn v ∷ []) 0 m new out refl e)
+directives_front m directive.Terminate new out h n = λ e. none_confirmed (if is_initial m.state then [] else Alert alert.Term ∷ []) 0 m new out (terminate_unremoving (is_initial m.state)) e
+directives_front m (directive.SetK k) new out h n =
+    of_setting (λ given. Answers given m new (Ok out) → ConfirmsFront 0 m out) (k == 0) (SetKTo k ∷ []) (λ e. absurd e) (λ e. none_confirmed (SetKTo k ∷ []) 0 m new out refl e)
+directives_front m (directive.SetT1 t1) new out h n =
+    of_setting (λ given. Answers given m new (Ok out) → ConfirmsFront 0 m out) (t1 == 0) (SetT1To t1 ∷ []) (λ e. absurd e) (λ e. none_confirmed (SetT1To t1 ∷ []) 0 m new out refl e)
+directives_front m (directive.SetLimit limit) new out h n =
+    of_setting (λ given. Answers given m new (Ok out) → ConfirmsFront 0 m out) (limit == 0) (SetLimitTo limit ∷ []) (λ e. absurd e) (λ e. none_confirmed (SetLimitTo limit ∷ []) 0 m new out refl e)
+
+pub directives_window : (m : Machine) (directive : Directive) (new : Machine) (out : Out) → IsFop m → IsFop new → Answers (directed m directive) m new (Ok out) → KeepsWindow new out
+directives_window m directive.InitiateNone new out h n =
+    of_initial (λ given. Answers given m new (Ok out) → KeepsWindow new out) (is_initial m.state) (Initiate None ∷ To Active ∷ Begin ∷ []) (λ e. absurd e)
+    (λ s e. carried_window (Initiate None ∷ To Active ∷ Begin ∷ []) m new out n refl e)
+directives_window m directive.InitiateCheck new out h n =
+    of_initial (λ given. Answers given m new (Ok out) → KeepsWindow new out) (is_initial m.state) (Initiate None ∷ StartTimer ∷ To InitialisingWithoutBc ∷ []) (λ e. absurd e)
+    (λ s e. carried_window (Initiate None ∷ StartTimer ∷ To InitialisingWithoutBc ∷ []) m new out n refl e)
+directives_window m directive.InitiateUnlock new out h n =
+    of_initial (λ given. Answers given m new (Ok out) → KeepsWindow new out) (is_initial m.state) (Initiate (Some frame.Unlock) ∷ SendControl ∷ StartTimer ∷ To InitialisingWithBc ∷ []) (λ e. absurd e)
+    (λ s e. carried_window (Initiate (Some frame.Unlock) ∷ SendControl ∷ StartTimer ∷ To InitialisingWithBc ∷ []) m new out n refl e)
+directives_window m (directive.InitiateSetVr v) new out h n =
+    of_initial (λ given. Answers given m new (Ok out) → KeepsWindow new out) (is_initial m.state) (SetVsAlone v ∷ Initiate (Some (frame.SetVr v)) ∷ SendControl ∷ StartTimer ∷ To InitialisingWithBc ∷ []) (λ e. absurd e)
+    (λ s e. carried_window (SetVsAlone v ∷ Initiate (Some (frame.SetVr v)) ∷ SendControl ∷ StartTimer ∷ To InitialisingWithBc ∷ []) m new out n refl e)
+directives_window m (directive.SetVs v) new out h n =
+    of_initial (λ given. Answers given m new (Ok out) → KeepsWindow new out) (is_initial m.state) (SetVsAndNn v ∷ []) (λ e. absurd e)
+    (λ s e. carried_window (SetVsAndNn v ∷ []) m new out n refl e)
+directives_window m directive.Terminate new out h n = λ e. carried_window (if is_initial m.state then [] else Alert alert.Term ∷ []) m new out n (terminate_window (is_initial m.state)) e
+directives_window m (directive.SetK k) new out h n =
+    of_setting (λ given. Answers given m new (Ok out) → KeepsWindow new out) (k == 0) (SetKTo k ∷ []) (λ e. absurd e) (λ e. carried_window (SetKTo k ∷ []) m new out n refl e)
+directives_window m (directive.SetT1 t1) new out h n =
+    of_setting (λ given. Answers given m new (Ok out) → KeepsWindow new out) (t1 == 0) (SetT1To t1 ∷ []) (λ e. absurd e) (λ e. carried_window (SetT1To t1 ∷ []) m new out n refl e)
+directives_window m (directive.SetLimit limit) new out h n =
+    of_setting (λ given. Answers given m new (Ok out) → KeepsWindow new out) (limit == 0) (SetLimitTo limit ∷ []) (λ e. absurd e) (λ e. carried_window (SetLimitTo limit ∷ []) m new out n refl e)

@@ -19,8 +19,8 @@ taking_is_not_starting InitialisingWithoutBc t = sym t
 taking_is_not_starting InitialisingWithBc t = sym t
 taking_is_not_starting Initial t = refl
 
-pub removed_stands : (m : Machine) (q left : List Outstanding) (d : ℕ) → m.sent ≡ map held_of q → left ≡ drop d q → d ≤ length q → is_taking m.state ≡ true → IsFop m → IsFop (record m { nn = (m.nn + d) % 256; sent = map held_of left; count = 1 })
-removed_stands m q left d e rest there t h =
+pub removed_stands : (m : Machine) (q left : List Outstanding) (d count : ℕ) → m.sent ≡ map held_of q → left ≡ drop d q → d ≤ length q → is_taking m.state ≡ true → 1 ≤ count → count ≤ 255 → IsFop m → IsFop (record m { nn = (m.nn + d) % 256; sent = map held_of left; count = count })
+removed_stands m q left d count e rest there t least most h =
     let whole : length m.sent ≡ length q = ap length e ∙ length-map q held_of in
     let fewer : length (map held_of left) ≡ length q - d = length-map left held_of ∙ ap length rest ∙ length-drop d q in
     let few : length m.sent ≤ 255 = h.few in
@@ -45,6 +45,6 @@ removed_stands m q left d e rest there t h =
       timer_most = h.timer_most;
       limit_least = h.limit_least;
       limit_most = h.limit_most;
-      count_least = omega arith;
-      count_most = omega arith;
+      count_least = least;
+      count_most = most;
     }

@@ -36,6 +36,7 @@ pub fn keeps_window()
     ensures words { AtWords (λ offered old new out. KeepsWindow new out) }
     ensures ticks { AtTicks (λ offered old new out. KeepsWindow new out) }
     ensures offers { AtOffers (λ offered old new out. KeepsWindow new out) }
+    ensures directives { AtDirectives (λ offered old new out. KeepsWindow new out) }
 {}
 
 /// Requests are confirmed from the front of the Sent_Queue alone, and no more than the report value acknowledges.
@@ -43,6 +44,7 @@ pub fn confirms_front()
     ensures words { (m : Machine) (word : Option Clcw) (new : Machine) (out : Out) → IsFop m → IsFop new → Answers (told m word) m new (Ok out) → ConfirmsFront (acknowledged m word) m out }
     ensures ticks { AtTicks (λ offered old new out. ConfirmsFront 0 old out) }
     ensures offers { AtOffers (λ offered old new out. ConfirmsFront 0 old out) }
+    ensures directives { AtDirectives (λ offered old new out. ConfirmsFront 0 old out) }
 {}
 
 /// A frame that is put out is the BC frame, stands in the Sent_Queue under the number that it had, or is that of the

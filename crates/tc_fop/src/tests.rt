@@ -198,3 +198,35 @@ fn refuses(rt: HostRuntime) -> Result<(), Fail> {
     assert_eq!(rt; fop.offer_refusal(), None);
     Ok(())
 }
+
+#[test]
+fn goes_around(rt: HostRuntime) -> Result<(), Fail> {
+    let mut fop = Fop::new(rt.alloc(), 2, 10, 3)?;
+    for call in [
+        Call::Tell(Directive::SetVs(5)),
+        Call::Tell(Directive::InitiateNone),
+        Call::Offer(1),
+        Call::Offer(2),
+    ] {
+        done(&rt, &mut fop, call)?;
+    }
+    let mut report = 6u8;
+    for n in 3..257u32 {
+        let out = done(&rt, &mut fop, Call::Report(report))?;
+        let told = [Indication::Confirmed(number(&rt, n.wrapping_sub(2)))];
+        expect_output(&rt, &out, &[], &told, "a report");
+        done(&rt, &mut fop, Call::Offer(n))?;
+        report = report.wrapping_add(1);
+    }
+    let out = done(&rt, &mut fop, Call::Again(3))?;
+    let again = [ad(&rt, 3, 255), ad(&rt, 4, 256)];
+    expect_output(&rt, &out, &again, &[], "a retransmission");
+    let out = done(&rt, &mut fop, Call::Invalid)?;
+    let told = [
+        Indication::InDoubt(number(&rt, 255)),
+        Indication::InDoubt(number(&rt, 256)),
+        Indication::Alert(AlertKind::Clcw),
+    ];
+    expect_output(&rt, &out, &[], &told, "a word that is not valid");
+    Ok(())
+}
