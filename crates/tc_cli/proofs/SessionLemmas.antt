@@ -1,6 +1,6 @@
 -- The steps of a session.
-use Rattle.std.proofs.Common.{◌≡◌, ◌∙◌, ◌⊎◌, inl, inr, ℕ, Bool, true, false, Option, Some, None, Result, Ok, Err, List, [], ◌∷◌, ◌++◌, refl, sym, ap, subst, length, drop}
-use Rattle.std.specs.Prelude.{MatchBool, ◌≢◌, ◌≤◌, ◌↔◌, sum}
+use Rattle.std.proofs.Common.{◌≡◌, ◌∙◌, ◌⊎◌, inl, inr, ℕ, true, false, Option, Some, None, Result, Ok, Err, List, refl, sym, ap, subst, length, drop}
+use Rattle.std.specs.Prelude.{◌≢◌, ◌≤◌, ◌↔◌, sum}
 use Rattle.std.proofs.lemmas.List.{length-map}
 use Rattle.sqlite_trees.specs.declared.memory.MemStore.{MemStore}
 use Rattle.sqlite.specs.Held.{Held}
@@ -15,12 +15,11 @@ use Rattle.tc_types.specs.declared.acts.Query.{Query}
 use Rattle.tc_types.specs.declared.moves.Move.{Move}
 use Rattle.tc_desk.specs.declared.stamps.Stamp.{Stamp}
 use Rattle.tc_desk.specs.declared.dones.First.{First}
-use Rattle.tc_desk.specs.declared.dones.First.TheVariants as first
 use Rattle.tc_desk.specs.Book.{Book}
 use Rattle.tc_desk.specs.Good.{IsGoodBook}
 use Rattle.tc_desk.specs.Acts.{acted, first_of, first_refusal, is_question, tests_of}
-use Rattle.tc_desk.specs.Machine.{Outcome, act_reply, query_reply, reply_of}
-use Rattle.tc_cli.specs.Replies.{Reply, is_refused, refusal_reply}
+use Rattle.tc_desk.specs.Machine.{act_reply, query_reply, reply_of}
+use Rattle.tc_cli.specs.Replies.{Reply, refusal_reply}
 use Rattle.tc_cli.specs.Joined.{IsJoined}
 use Rattle.tc_cli.specs.Run.{IsUnread}
 use Rattle.tc_cli.specs.Session.{SessionStep, Standing}

@@ -1,5 +1,5 @@
 -- The session: a desk whose book stands in tables too, until the tables fail.
-use Rattle.std.specs.Prelude.{◌≡◌, ◌⊎◌, Bool, true, false, MatchBool, List, [], ◌∷◌, Result, Ok, Err}
+use Rattle.std.specs.Prelude.{◌≡◌, ◌⊎◌, Bool, true, false, MatchBool, Result, Ok, Err}
 use Rattle.tc_types.specs.declared.refusals.Refusal.{Refusal}
 use Rattle.tc_types.specs.declared.refusals.Refusal.TheVariants.{Store, Stopped}
 use Rattle.tc_types.specs.declared.acts.Act.{Act}

@@ -9,7 +9,7 @@ use Rattle.tc_types.specs.declared.acts.Act.TheVariants as act
 use Rattle.tc_types.specs.declared.acts.Query.{Query}
 use Rattle.tc_types.specs.declared.acts.Query.TheVariants as query
 use Rattle.tc_types.specs.declared.acts.Line.{Line}
-use Rattle.tc_types.specs.History.{entered, counts_of, rows_of}
+use Rattle.tc_types.specs.History.{entered, counts_of, rows_past}
 use Rattle.tc_types.specs.Lines.{entered_line, move_line, places_line, history_line, refusal_line}
 use Rattle.tc_desk.specs.declared.stamps.Stamp.{Stamp}
 use Rattle.tc_desk.specs.declared.dones.First.{First}
@@ -34,10 +34,6 @@ first_line (first.Entered n identity) = entered_line n identity
 -- the reply to an act: its first line, then a line for each row that it made
 abbrev pub act_reply : First → List Move → List (List ℕ)
 act_reply first rows = first_line first ∷ map move_line rows
-
--- the rows of a request past a number, in order
-abbrev pub rows_past : ℕ → ℕ → List Move → List Move
-rows_past n after history = filter (λ (row : Move). nat_lt after row.seq) (rows_of n history)
 
 -- the reply to a question
 abbrev pub query_reply : Book → Query → List (List ℕ)

@@ -1,4 +1,4 @@
-use Rattle.tc_cli.proofs.RunLemmas.{has_run-start, has_run-step, has_run-end}
+use Rattle.tc_cli.proofs.RunLemmas.{has_run-step, has_run-end}
 use Rattle.tc_cli.proofs.run.run_lines.Goals as goal
 
 pub loop-line-preserved : goal.loop-line-preserved
