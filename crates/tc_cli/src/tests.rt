@@ -207,7 +207,8 @@ fn stops_where_a_write_fails(rt: HostRuntime) -> Result<(), Fail> {
             taken: Vec::new(rt.alloc()),
             left,
         };
-        let ended = run_script(rt.alloc(), Config {}, &mut FIRST_RUN.as_ref(), &mut writer);
+        let mut reader = FIRST_RUN;
+        let ended = run_script(rt.alloc(), Config {}, &mut reader, &mut writer);
         let expected = if left < 6 {
             Err(ScriptFault::Output)
         } else {
