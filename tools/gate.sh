@@ -1,0 +1,8 @@
+#!/bin/sh
+# The gate: every proof from nothing, the edits that a proof must refuse, all tests, the program as two compilers build
+# it; and then each request of the program for memory refused in turn.
+set -eu
+cd "$(dirname "$(readlink -f "$0")")/.."
+rt ci
+./tcdesk run - </dev/null >/dev/null
+tools/fail_alloc.sh
