@@ -1,5 +1,5 @@
 -- An alert gives back what is queued: the actions of the table either stop the service or stay out of S6.
-use Rattle.std.proofs.Common.{◌≡◌, ℕ, ◌==◌, nat_lt, Bool, true, false, not, ◌&&◌, if◌then◌else◌, Option, Some, None, Ok, Err, List, [], ◌∷◌, ◌++◌, map, take, drop, refl, sym, ◌∙◌, ap, subst}
+use Rattle.std.proofs.Common.{◌≡◌, ℕ, ◌==◌, Bool, true, false, not, if◌then◌else◌, Option, Some, None, Ok, List, [], ◌∷◌, ◌++◌, map, take, refl, sym, ◌∙◌, ap}
 use Rattle.std.specs.List.{list_all}
 use Rattle.std.proofs.lemmas.Bool.{true≢false, false≢true}
 use Rattle.std.proofs.lemmas.List.{append-nil}
@@ -12,12 +12,12 @@ use Rattle.tc_fop.specs.declared.signals.AlertKind.TheVariants as alert
 use Rattle.tc_fop.specs.declared.signals.Directive.{Directive}
 use Rattle.tc_fop.specs.declared.signals.Directive.TheVariants as directive
 use Rattle.tc_fop.specs.declared.signals.FopState.{FopState}
-use Rattle.tc_fop.specs.declared.signals.FopState.TheVariants.{Active, RetransmitWithoutWait, RetransmitWithWait, InitialisingWithoutBc, InitialisingWithBc, Initial}
+use Rattle.tc_fop.specs.declared.signals.FopState.TheVariants.{Active, RetransmitWithoutWait, RetransmitWithWait, InitialisingWithoutBc, InitialisingWithBc}
 use Rattle.tc_fop.specs.declared.signals.Indication.TheVariants as indication
-use Rattle.tc_fop.specs.Machine.{Machine, Held, Waiting, Out, Action, Remove, InitiateRetransmission, Resend, Transmit, Alert, StartTimer, CancelTimer, LowerTimer, CountOne, SendControl, DropControl, Begin, To, Wait, Initiate, SetVsAlone, SetVsAndNn, SetKTo, SetT1To, SetLimitTo, change, after, output, ready, transmitted, given_back}
+use Rattle.tc_fop.specs.Machine.{Machine, Held, Waiting, Out, Action, Remove, InitiateRetransmission, Transmit, Alert, StartTimer, CancelTimer, LowerTimer, CountOne, SendControl, DropControl, Begin, To, Wait, Initiate, SetVsAlone, SetVsAndNn, SetKTo, SetT1To, SetLimitTo, change, after, ready, transmitted, given_back}
 use Rattle.tc_fop.specs.Rows.{row_of}
 use Rattle.tc_fop.specs.Cells.{cell, look, alerts, remove_some, timer_ended, timer_ended_at_limit}
-use Rattle.tc_fop.specs.Calls.{Given, Answers, is_taking, is_initial, look_in, offered, directed, told, ticked, at_last_tick}
+use Rattle.tc_fop.specs.Calls.{Answers, is_taking, is_initial, look_in, offered, directed, told, ticked}
 use Rattle.tc_fop.specs.Standing.{IsFop}
 use Rattle.tc_fop.specs.Requests.{GivesBack}
 use Rattle.tc_fop.proofs.RequestLemmas.{both}

@@ -1,16 +1,15 @@
 -- Which frames are put out, by induction over a list of actions.
-use Rattle.std.proofs.Common.{◌≡◌, ℕ, zero, suc, ◌+◌, ◌%◌, Bool, true, false, ◌&&◌, if◌then◌else◌, ◌⊎◌, inl, inr, ⊎_elim, Option, Some, None, Ok, Err, List, [], ◌∷◌, ◌++◌, map, filter, drop, refl, sym, ◌∙◌, ap, subst}
+use Rattle.std.proofs.Common.{◌≡◌, ℕ, zero, suc, Bool, true, false, if◌then◌else◌, inl, inr, ⊎_elim, Option, Some, None, Ok, List, [], ◌∷◌, ◌++◌, map, drop, refl, sym, ◌∙◌, ap, subst}
 use Rattle.std.specs.List.{list_all}
 use Rattle.std.proofs.lemmas.Bool.{false≢true}
 use Rattle.std.proofs.lemmas.List.{append_assoc, append-nil, map-append}
 use Rattle.tc_types.specs.declared.frames.Frame.{Frame}
 use Rattle.tc_types.specs.declared.frames.Frame.TheVariants.{Ad}
-use Rattle.tc_types.specs.declared.frames.Frame.TheVariants as frame
 use Rattle.tc_farm.specs.declared.clcws.Clcw.{Clcw}
-use Rattle.tc_fop.specs.Machine.{Machine, Held, Waiting, Out, Action, Remove, InitiateRetransmission, Resend, Transmit, Alert, SendControl, DropControl, LowerTimer, Wait, Initiate, SetVsAlone, SetVsAndNn, change, said, after, output, frame_of, flagged, cleared, flagged_of, is_window_open, ready_from, transmitted, transmits, option_list}
+use Rattle.tc_fop.specs.Machine.{Machine, Held, Waiting, Out, Action, Remove, InitiateRetransmission, Resend, Transmit, Alert, SendControl, DropControl, LowerTimer, Wait, Initiate, SetVsAlone, SetVsAndNn, change, said, output, frame_of, flagged, cleared, flagged_of, is_window_open, ready_from, transmitted, transmits, option_list}
 use Rattle.tc_fop.specs.Rows.{row_of}
 use Rattle.tc_fop.specs.Cells.{cell, timer_ended, timer_ended_at_limit}
-use Rattle.tc_fop.specs.Calls.{Given, Answers, is_taking, look_in, offered, told, ticked}
+use Rattle.tc_fop.specs.Calls.{Answers, is_taking, look_in, offered, told, ticked}
 use Rattle.tc_fop.specs.Standing.{IsFop}
 use Rattle.tc_fop.specs.Requests.{frames_of, IsAmong, AreAmong}
 use Rattle.tc_fop.proofs.RequestLemmas.{is_inner, both}

@@ -1,7 +1,7 @@
 -- What is confirmed stands at the front of the Sent_Queue, and where a request is transmitted the window was open.
-use Rattle.std.proofs.Common.{◌≡◌, ℕ, ◌+◌, ◌-◌, ◌%◌, ◌<◌, ◌≤◌, ◌==◌, nat_lt, Bool, true, false, ◌&&◌, ◌||◌, if◌then◌else◌, ◌⊎◌, inl, inr, ⊎_elim, Option, Some, None, Ok, Err, List, [], ◌∷◌, ◌++◌, map, take, drop, length, refl, sym, ◌∙◌, ap, subst, arith}
+use Rattle.std.proofs.Common.{◌≡◌, ℕ, ◌+◌, ◌-◌, ◌%◌, ◌<◌, ◌≤◌, ◌==◌, Bool, true, false, ◌&&◌, ◌||◌, if◌then◌else◌, ◌⊎◌, inl, inr, ⊎_elim, Option, Some, None, Ok, List, [], ◌∷◌, ◌++◌, map, take, length, refl, sym, ◌∙◌, ap, subst, arith}
 use Rattle.std.specs.List.{flat_map, list_any, list_all}
-use Rattle.std.proofs.lemmas.Bool.{true≢false, false≢true}
+use Rattle.std.proofs.lemmas.Bool.{false≢true}
 use Rattle.std.proofs.lemmas.Bool.Decides.{nat_tests}
 use Rattle.std.proofs.lemmas.Grind.{flat_map-append}
 use Rattle.std.proofs.lemmas.List.{append-nil, take-map}
@@ -16,15 +16,14 @@ use Rattle.tc_fop.specs.declared.signals.AlertKind.TheVariants as alert
 use Rattle.tc_fop.specs.declared.signals.Directive.{Directive}
 use Rattle.tc_fop.specs.declared.signals.Directive.TheVariants as directive
 use Rattle.tc_fop.specs.declared.signals.FopState.{FopState}
-use Rattle.tc_fop.specs.declared.signals.FopState.TheVariants.{Active, RetransmitWithoutWait, RetransmitWithWait, InitialisingWithoutBc, InitialisingWithBc, Initial}
-use Rattle.tc_fop.specs.declared.signals.Indication.{Indication}
+use Rattle.tc_fop.specs.declared.signals.FopState.TheVariants.{Active, RetransmitWithoutWait, RetransmitWithWait, InitialisingWithoutBc, InitialisingWithBc}
 use Rattle.tc_fop.specs.declared.signals.Indication.TheVariants as indication
-use Rattle.tc_fop.specs.Machine.{Machine, Held, Waiting, Out, Action, Remove, InitiateRetransmission, Resend, Transmit, Alert, StartTimer, CancelTimer, LowerTimer, CountOne, SendControl, DropControl, Begin, To, Wait, Initiate, SetVsAlone, SetVsAndNn, SetKTo, SetT1To, SetLimitTo, change, said, after, output, is_window_open, ready_from, transmitted, transmits, option_list, given_back}
+use Rattle.tc_fop.specs.Machine.{Machine, Held, Waiting, Out, Action, Remove, InitiateRetransmission, Transmit, Alert, StartTimer, CancelTimer, LowerTimer, SendControl, DropControl, Begin, To, Wait, Initiate, SetVsAlone, SetVsAndNn, SetKTo, SetT1To, SetLimitTo, change, said, after, output, is_window_open, ready_from, transmitted, transmits, option_list, given_back}
 use Rattle.tc_fop.specs.Rows.{Seen, row_seen, seen_in, row_of}
 use Rattle.tc_fop.specs.Cells.{cell, look, alerts, timer_ended, timer_ended_at_limit}
-use Rattle.tc_fop.specs.Calls.{Given, Answers, is_taking, is_initial, look_in, offered, directed, told, ticked}
+use Rattle.tc_fop.specs.Calls.{Answers, is_taking, is_initial, look_in, offered, directed, told, ticked}
 use Rattle.tc_fop.specs.Standing.{IsFop}
-use Rattle.tc_fop.specs.Requests.{sent_requests, confirms, is_first, is_transmitting, acknowledged, ConfirmsFront, KeepsWindow}
+use Rattle.tc_fop.specs.Requests.{confirms, is_first, is_transmitting, acknowledged, ConfirmsFront, KeepsWindow}
 use Rattle.tc_fop.proofs.RequestLemmas.{both, alerted, confirmed_confirm, doubted_unconfirmed, back_unconfirmed}
 use Rattle.tc_fop.proofs.TableLemmas.{by_state, of_tick, of_offer, of_initial, of_setting}
 

@@ -1,16 +1,14 @@
 -- What a list of actions does with the requests in the queues, by induction over the list.
-use Rattle.std.proofs.Common.{◌≡◌, ℕ, ◌+◌, ◌-◌, ◌%◌, ◌<◌, ◌≤◌, ◌==◌, nat_lt, Bool, true, false, ◌&&◌, ◌||◌, if◌then◌else◌, Option, Some, None, List, [], ◌∷◌, ◌++◌, map, take, drop, length, refl, sym, ◌∙◌, ap, subst, arith}
-use Rattle.std.specs.List.{flat_map, list_any, list_all}
-use Rattle.std.proofs.lemmas.Bool.{true≢false, false≢true}
+use Rattle.std.proofs.Common.{◌≡◌, ℕ, Bool, true, false, ◌&&◌, Option, Some, None, List, [], ◌∷◌, ◌++◌, map, take, drop, refl, sym, ◌∙◌, ap}
+use Rattle.std.specs.List.{flat_map, list_all}
+use Rattle.std.proofs.lemmas.Bool.{false≢true}
 use Rattle.std.proofs.lemmas.Grind.{flat_map-append}
 use Rattle.std.proofs.lemmas.List.{append_assoc, append-nil, map-append, take-append-drop}
-use Rattle.std.proofs.lemmas.List.Folds.{list_any-append}
-use Rattle.tc_farm.specs.Farm.{distance}
 use Rattle.tc_fop.specs.declared.signals.AlertKind.{AlertKind}
 use Rattle.tc_fop.specs.declared.signals.Indication.{Indication}
 use Rattle.tc_fop.specs.declared.signals.Indication.TheVariants as indication
-use Rattle.tc_fop.specs.Machine.{Machine, Held, Waiting, Out, Action, Remove, InitiateRetransmission, Resend, Transmit, Alert, StartTimer, CancelTimer, LowerTimer, CountOne, SendControl, DropControl, Begin, To, Wait, Initiate, SetVsAlone, SetVsAndNn, SetKTo, SetT1To, SetLimitTo, change, said, after, output, joined, nothing, flagged, cleared, is_window_open, ready, ready_from, transmitted, transmits, option_list, given_back}
-use Rattle.tc_fop.specs.Requests.{sent_requests, waiting_requests, queued, ends, leaves, confirms, is_first, is_transmitting}
+use Rattle.tc_fop.specs.Machine.{Machine, Held, Waiting, Action, Remove, InitiateRetransmission, Resend, Transmit, Alert, StartTimer, CancelTimer, LowerTimer, CountOne, SendControl, DropControl, Begin, To, Wait, Initiate, SetVsAlone, SetVsAndNn, SetKTo, SetT1To, SetLimitTo, change, said, after, output, flagged, cleared, is_window_open, ready_from, transmitted, transmits, option_list, given_back}
+use Rattle.tc_fop.specs.Requests.{sent_requests, waiting_requests, queued, ends, leaves, confirms}
 
 request_of : Held → ℕ
 request_of held = held.request

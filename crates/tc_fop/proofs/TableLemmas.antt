@@ -1,8 +1,8 @@
 -- What the lists of the table have in common.
-use Rattle.std.proofs.Common.{◌≡◌, ℕ, ◌≤◌, ◌==◌, nat_lt, Bool, true, false, if◌then◌else◌, is_some, Option, Some, None, Ok, Err, List, [], ◌∷◌, ◌++◌, map, refl, sym, ◌∙◌, ap, arith}
+use Rattle.std.proofs.Common.{◌≡◌, ℕ, ◌==◌, nat_lt, Bool, true, false, if◌then◌else◌, is_some, Option, Some, None, Ok, Err, List, [], ◌∷◌, ◌++◌, map, refl, sym, ◌∙◌, ap}
 use Rattle.std.specs.List.{flat_map, list_all}
-use Rattle.std.proofs.lemmas.Bool.{true≢false, false≢true}
-use Rattle.std.proofs.lemmas.List.{append_assoc, append-nil}
+use Rattle.std.proofs.lemmas.Bool.{false≢true}
+use Rattle.std.proofs.lemmas.List.{append-nil}
 use Rattle.tc_farm.specs.declared.clcws.Clcw.{Clcw}
 use Rattle.tc_fop.specs.declared.rows.Row.{Row}
 use Rattle.tc_fop.specs.declared.rows.Row.TheVariants.{P1, P2, P3, P4, P5, P6, P7, P8, P9, P10, P11, P12, P13, P14, P15, P16}
@@ -18,7 +18,7 @@ use Rattle.tc_fop.specs.declared.signals.FopState.TheVariants.{Active, Retransmi
 use Rattle.tc_fop.specs.Machine.{Machine, Held, Waiting, Out, Action, Remove, Alert, LowerTimer, Wait, StartTimer, SendControl, Begin, To, Initiate, SetVsAlone, SetVsAndNn, SetKTo, SetT1To, SetLimitTo, change, after, output, option_list}
 use Rattle.tc_fop.specs.Rows.{row_of}
 use Rattle.tc_fop.specs.Cells.{cell, timer_ended, timer_ended_at_limit}
-use Rattle.tc_fop.specs.Calls.{Given, Answers, is_taking, is_initial, look_in, offered, directed, told, ticked, at_last_tick, in_initial, setting}
+use Rattle.tc_fop.specs.Calls.{Given, Answers, is_taking, is_initial, look_in, offered, directed, told, ticked, at_last_tick}
 use Rattle.tc_fop.specs.Standing.{IsFop}
 use Rattle.tc_fop.specs.Requests.{sent_requests, waiting_requests, queued, ends, leaves, KeepsRequests, KeepsOrder}
 use Rattle.tc_fop.proofs.RequestLemmas.{is_inner, run_requests, run_order}

@@ -1,6 +1,5 @@
 -- What callers see of a FOP.
-use Rattle.std.specs.Prelude.{◌≡◌, ℕ, ◌<◌, ◌≤◌, Bool, IfOk, List, length}
-use Rattle.tc_types.specs.declared.refusals.Refusal.{Refusal}
+use Rattle.std.specs.Prelude.{◌≡◌, ◌<◌, ◌≤◌, Bool, IfOk, List, length}
 use Rattle.tc_fop.specs.declared.views.FopView.{FopView}
 use Rattle.tc_fop.specs.declared.rows.Row.{Row}
 use Rattle.tc_fop.specs.declared.rows.Row.TheVariants.{P1, P2, P3, P4, P5, P6, P7, P8, P9, P10, P11, P12, P13, P14, P15, P16}

@@ -1,4 +1,5 @@
-//! The variables of FOP-1 (CCSDS 232.1-B, 5.1) and the actions on them.
+//! The variables of FOP-1 (CCSDS 232.1-B, 5.1) and the actions on them. A method knows what stands between calls once it
+//! has read a field; some read one for that alone.
 ghost use Rattle.std.specs.Prelude.{◌≡◌, ◌+◌, ◌<◌, ◌≤◌, ◌==◌, nat_lt, [], ◌∷◌, length, map, option_map, true, false, None, Some, IfOk, IfErr, is_some, IsTrue, ◌↔◌, if◌then◌else◌};
 ghost use Rattle.std.specs.VecDeque.{deque_capacity};
 ghost use Rattle.tc_fop.specs.Machine.{Machine, CancelTimer, InitiateRetransmission, Resend, Transmit, Remove, Alert, StartTimer, LowerTimer, CountOne, SendControl, DropControl, Begin, To, Wait, Initiate, SetVsAlone, SetVsAndNn, SetKTo, SetT1To, SetLimitTo, joined, change, said, after, transmitted, transmits};
