@@ -117,3 +117,47 @@ fn a_stop_leaves_all_of_a_batch_or_none(rt: HostRuntime) -> Result<(), Fail> {
     assert!(rt; stopped_early > 5);
     Ok(())
 }
+
+/// Writes a batch of so many moves, in a database on two files.
+fn write_many(
+    alloc: Global,
+    conn: Connection<FileStore<Fuse<Memory>>>,
+    count: u32,
+) -> Option<Connection<FileStore<Fuse<Memory>>>> {
+    let Ok(mut tables) = Tables::create(alloc, conn) else {
+        return None;
+    };
+    let mut batch = Vec::new(alloc);
+    for seq in 1..=count {
+        if batch.push(entered(seq)?).is_err() {
+            return None;
+        }
+    }
+    if tables.write(&batch).is_err() {
+        return None;
+    }
+    Some(tables.into_connection())
+}
+
+/// How many moves are found after a batch of so many, a crash, and opening what is left.
+fn kept(alloc: Global, count: u32) -> Option<Found> {
+    let files = Files {
+        log: Fuse::new(Memory::new(alloc), u64::MAX),
+        db: Fuse::new(Memory::new(alloc), u64::MAX),
+    };
+    let Ok(conn) = Connection::open_files(alloc, files, Options::new(1)) else {
+        return None;
+    };
+    let mut left = write_many(alloc, conn, count)?.into_store().close();
+    left.log.crash();
+    left.db.crash();
+    let Ok(again) = Connection::open_files(alloc, left, Options::new(1)) else {
+        return None;
+    };
+    Some(left_in(again))
+}
+
+#[test]
+fn a_batch_of_two_hundred_rows_is_found_after_a_crash(rt: HostRuntime) {
+    assert!(rt; kept(rt.alloc(), 200) == Some(Found::Moves(200)));
+}

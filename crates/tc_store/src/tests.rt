@@ -107,6 +107,21 @@ fn what_is_written_is_read(rt: HostRuntime) -> Result<(), Fail> {
 }
 
 #[test]
+fn a_batch_of_two_hundred_rows(rt: HostRuntime) -> Result<(), Fail> {
+    let mut tables = made(rt.alloc())?;
+    let mut batch = Vec::new(rt.alloc());
+    for number in 1..=100u32 {
+        batch.push(Row::Entered(entered(number)?))?;
+        batch.push(Row::Moved(moved(number, number, None, Place::Entered, Cause::Enter)?))?;
+    }
+    tables.write(&batch)?;
+    let last = moved(100, 100, None, Place::Entered, Cause::Enter)?;
+    assert!(rt; tables.history_of(100, 0)?.as_slice() == &[last][..]);
+    assert!(rt; tables.counts()? == [100, 0, 0, 0, 0, 0, 0, 0, 0, 0, 0, 0, 0, 0, 0]);
+    Ok(())
+}
+
+#[test]
 fn an_empty_desk_counts_nothing(rt: HostRuntime) -> Result<(), Fail> {
     let mut tables = made(rt.alloc())?;
     assert!(rt; tables.counts()? == [0; 15]);
