@@ -1,0 +1,84 @@
+#!/bin/bash
+# Runs the built program on cases that only a built program meets: its words, its files, its statuses, and what it says
+# on standard error. Ends with how many passed; status 1 where one failed.
+set -u
+top=$(cd "$(dirname "${BASH_SOURCE[0]}")/.." && pwd) || exit 1
+program=${1:-$top/crates/tc_cli/out/tc_cli}
+[[ -x $program ]] || { echo "program_cases: $program is not built" >&2; exit 1; }
+work=$(mktemp -d) || exit 1
+trap 'rm -rf "$work"' EXIT
+cd "$work" || exit 1
+passed=0
+failed=0
+
+# check NAME STATUS STDOUT STDERR WORD..: runs the program on the words, with the file `input` as standard input. STDERR
+# is a piece that standard error holds; nothing at all is wanted there where it is empty.
+check() {
+    local name=$1 status=$2 out=$3 err=$4
+    shift 4
+    "$program" "$@" <input >out 2>err
+    local got=$?
+    if [[ $got == "$status" && $(cat out; echo .) == "$out." ]] &&
+        { [[ -z $err && ! -s err ]] || { [[ -n $err ]] && grep -qF -- "$err" err; }; }; then
+        passed=$((passed + 1))
+    else
+        failed=$((failed + 1))
+        echo "program_cases: $name: status $got, standard output and error:" >&2
+        cat out err >&2
+    fi
+}
+
+none=$'places 0: 0 0 0 0 0 0 0 0 0 0 0 0 0 0 0\n'
+one=$'ok request 1 5/0\nmove 1 7 ann 1 - Entered enter\nplaces 1: 1 0 0 0 0 0 0 0 0 0 0 0 0 0 0\n'
+first=$(cat <<'TEXT'
+ok request 1 5/0
+move 1 100 ann 1 - Entered enter
+ok request 2 5/1
+move 2 110 bob 2 - Entered enter
+ok
+move 3 120 ann 1 Entered Withdrawn withdraw
+places 2: 1 0 0 0 0 0 0 0 0 0 0 0 1 0 0
+history 1: 2
+move 1 100 ann 1 - Entered enter
+move 3 120 ann 1 Entered Withdrawn withdraw
+places 2: 1 0 0 0 0 0 0 0 0 0 0 0 1 0 0
+TEXT
+)$'\n'
+refused=$'refused 1 BadText\n'
+
+: >input
+: >empty
+check "an empty script" 0 "$none" "" run empty
+check "the first run" 0 "$first" "" run "$top/examples/first-run.tc"
+cp "$top/examples/first-run.tc" input
+check "no words" 0 "$first" ""
+check "standard input by its name" 0 "$first" "" run -
+: >input
+printf '# a comment\r\n\r\n\n7 ann enter 5 a--c no 8 1 - - ok\r\n' >crlf
+check "CR LF, comments and empty lines" 0 "$one" "" run crlf
+printf '7 ann enter 5 a--c no 8 1 - - ok' >open
+check "a missing last LF" 0 "$one" "" run open
+printf '7 ann enter 5 a--c no 8 1 - - ok\r' >cut
+check "a CR at the end of a last line without LF" 1 "$refused$none" "" run cut
+printf '\377\376\n' >bytes
+check "bytes that are not UTF-8" 1 "$refused$none" "" run bytes
+check "a missing file" 2 "" "tcdesk: cannot use missing" run missing
+mkdir folder
+check "a directory" 2 "" "tcdesk: cannot use folder" run folder
+check "an unknown option" 2 "" "--colour" run --colour empty
+check "an unknown command" 2 "" "fly" fly
+check "no script" 2 "" "SCRIPT" run
+head -c 1048577 /dev/zero | tr '\0' '\n' >large
+check "1,048,577 bytes" 2 "" "tcdesk: cannot use large" run large
+head -c 1048576 /dev/zero | tr '\0' '\n' >largest
+check "1,048,576 bytes" 0 "$none" "" run largest
+"$program" run "$top/examples/first-run.tc" >/dev/full 2>err
+if [[ $? == 2 ]] && grep -qF "tcdesk: cannot use output" err; then
+    passed=$((passed + 1))
+else
+    failed=$((failed + 1))
+    echo "program_cases: an output that takes nothing" >&2
+fi
+
+echo "program cases: $passed passed, $failed failed"
+[[ $failed == 0 ]]
