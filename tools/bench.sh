@@ -8,21 +8,21 @@ program=$top/crates/tc_cli/out/tc_cli
 work=$(mktemp -d)
 trap 'rm -rf "$work"' EXIT
 
-# enters N, each of another APID in turn
+# N entries, of ten APIDs in turn. Lines are short: a script has at most 1,048,576 bytes.
 enters() {
-    awk -v n="$1" 'BEGIN { for (i = 0; i < n; i++) print i " ann enter " (i % 2048) " a--c no 8 1 - - ok" }'
+    awk -v n="$1" 'BEGIN { for (i = 0; i < n; i++) print "0 a enter " (i % 10) " ---- no 8 1 - - ok" }'
 }
 withdraws() {
-    awk -v n="$1" 'BEGIN { for (i = 1; i <= n; i++) print i " bob withdraw " i }'
+    awk -v n="$1" 'BEGIN { for (i = 1; i <= n; i++) print "0 b withdraw " i }'
 }
 # measure NAME ACTS: runs the script work/NAME
 measure() {
     /usr/bin/time -f '%e %M' -o "$work/time" "$program" run "$work/$1" >"$work/out"
     read -r seconds kilobytes <"$work/time"
     awk -v name="$1" -v acts="$2" -v s="$seconds" -v kb="$kilobytes" \
-        'BEGIN { printf "%-28s %7d acts %8.2f s %9.0f acts/s %7.1f MB\n", name, acts, s, acts / s, kb / 1024 }'
+        'BEGIN { printf "%-28s %7d acts %8.2f s %9.0f acts/s %7.1f MB\n", name, acts, s, acts / (s > 0 ? s : 0.01), kb / 1024 }'
 }
-for n in 1000 10000 60000; do
+for n in 1000 10000 30000; do
     enters "$n" >"$work/enter-$n"
     measure "enter-$n" "$n"
 done
