@@ -1,13 +1,14 @@
 //! The words of the desk: requests and their places, the moves between places, acts and queries as text, the lines
-//! that are printed, refusals, and the rows of the desk's tables.
+//! that are printed, refusals, the rows of the desk's tables, and readers and writers that are counted.
 //!
-//! Every type here is `Copy` and takes no memory. A newtype keeps the range of its number, and a contract sees the
-//! number alone; a contract sees a `Name` as its bytes.
+//! Every type here but `Counted` is `Copy`, and none takes memory. A newtype keeps the range of its number, and a
+//! contract sees the number alone; a contract sees a `Name` as its bytes.
 #![tactic(auto)]
 
 pub mod act_reader;
 pub mod acts;
 pub mod causes;
+pub mod counted;
 pub mod entry_reader;
 pub mod frames;
 pub mod line_reader;
@@ -17,6 +18,7 @@ pub mod numbers;
 pub mod places;
 pub mod readers;
 pub mod refusals;
+pub mod reports;
 pub mod requests;
 pub mod rows;
 #[cfg(test)]

@@ -16,6 +16,8 @@ use linked_list_allocator::LocalHeap;
 use std::alloc::{AllocError, Allocator};
 use std::test::Fail;
 
+mod counting;
+
 const ALL: Ack = Ack {
     acceptance: true,
     start: true,
