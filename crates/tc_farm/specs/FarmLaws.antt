@@ -1,5 +1,5 @@
 -- What holds of the FARM-1 table, in the words of its users.
-use Rattle.std.specs.Prelude.{◌≡◌, ℕ, ◌+◌, ◌%◌, Bool, true}
+use Rattle.std.specs.Prelude.{◌≡◌, ℕ, ◌+◌, ◌%◌, ◌<◌, Bool, true}
 use Rattle.tc_types.specs.declared.requests.Body.{Body}
 use Rattle.tc_types.specs.declared.frames.Frame.{Frame}
 use Rattle.tc_types.specs.declared.frames.Frame.TheVariants.{Ad, Unlock, SetVr}
@@ -16,6 +16,12 @@ pub record IsInOrder (before : FarmView) (frame : Frame) (room : Bool) (request 
   pub open_state : before.state ≡ Open
   pub with_room : room ≡ true
   pub next_expected : after.vr ≡ (before.vr + 1) % 256
+
+-- a type-AD frame whose number is below 256, or a control command
+abbrev pub IsNumbered : Frame → Type 0
+IsNumbered (Ad ns request body) = ns < 256
+IsNumbered Unlock = Unit {0}
+IsNumbered (SetVr v) = Unit {0}
 
 -- a control command other than Set V(R) leaves V(R)
 abbrev pub IsControl : FarmView → Frame → FarmView → Type 0

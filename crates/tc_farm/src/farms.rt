@@ -100,6 +100,7 @@ impl Farm {
         // Lockout is left only by an Unlock
         ensures locked_out { self.old.state ≡ FarmState.Lockout → frame ≢ Frame.Unlock → self.new.state ≡ FarmState.Lockout }
         ensures wait_implies_retransmit { self.new.wait ≡ true → self.new.retransmit ≡ true }
+        ensures sound { IsFarm self.new }
     {
         match frame {
             Frame::Ad { ns, request, body } => {

@@ -3,5 +3,6 @@
 
 pub mod clcws;
 pub mod farms;
+pub mod laws;
 #[cfg(test)]
 mod tests;
