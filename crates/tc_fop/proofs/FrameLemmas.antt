@@ -46,7 +46,7 @@ are_of [] may h = tt
 are_of (f ∷ fs) may h = (h f (inl refl), are_of fs may (λ g p. h g (inr p)))
 
 -- flags are no part of a frame
-flagged_frames : (sent : List Held) → map frame_of (map flagged sent) ≡ map frame_of sent
+pub flagged_frames : (sent : List Held) → map frame_of (map flagged sent) ≡ map frame_of sent
 flagged_frames [] = refl
 flagged_frames (first ∷ others) = ap (λ l. frame_of first ∷ l) (flagged_frames others)
 

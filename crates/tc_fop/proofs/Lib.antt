@@ -1,6 +1,9 @@
 pub mod AlertLemmas
+pub mod CallLemmas
 pub mod FrameLemmas
 pub mod FrontLemmas
+pub mod MoveLemmas
+pub mod OpenLemmas
 pub mod QueueLemmas
 pub mod RequestLemmas
 pub mod Standing

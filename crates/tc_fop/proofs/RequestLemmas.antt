@@ -87,11 +87,11 @@ alerted f kind m e =
     ∙ append-nil (flat_map f (doubted ++ back))
     ∙ flat_map-append f doubted back
 
-flagged_requests : (sent : List Held) → map (λ (held : Held). held.request) (map flagged sent) ≡ map (λ (held : Held). held.request) sent
+pub flagged_requests : (sent : List Held) → map (λ (held : Held). held.request) (map flagged sent) ≡ map (λ (held : Held). held.request) sent
 flagged_requests [] = refl
 flagged_requests (first ∷ others) = ap (λ l. first.request ∷ l) (flagged_requests others)
 
-cleared_requests : (sent : List Held) → map (λ (held : Held). held.request) (map cleared sent) ≡ map (λ (held : Held). held.request) sent
+pub cleared_requests : (sent : List Held) → map (λ (held : Held). held.request) (map cleared sent) ≡ map (λ (held : Held). held.request) sent
 cleared_requests [] = refl
 cleared_requests (first ∷ others) = ap (λ l. first.request ∷ l) (cleared_requests others)
 

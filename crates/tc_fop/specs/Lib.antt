@@ -7,3 +7,4 @@ pub mod Queued
 pub mod Views
 pub mod Requests
 pub mod Laws
+pub mod Moves

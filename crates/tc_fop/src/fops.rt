@@ -1,8 +1,10 @@
 //! The FOP of one virtual channel.
-ghost use Rattle.std.specs.Prelude.{◌≡◌, ◌≢◌, ◌↔◌, ◌⊎◌, ℕ, true, is_some, IfSome, IfNone, IfOk, IfErr, IsOk, OnOk, Some, Err};
+ghost use Rattle.std.specs.Prelude.{◌≡◌, ◌≢◌, ◌↔◌, ◌⊎◌, ◌==◌, ℕ, true, is_some, IfSome, IfNone, IfOk, IfErr, IsOk, OnOk, Some, Err};
+ghost use Rattle.std.specs.List.{list_any};
 ghost use Rattle.tc_fop.specs.Machine.{Waiting, nothing};
 ghost use Rattle.tc_fop.specs.Calls.{new_machine, offered, directed, told, ticked, Answers};
 ghost use Rattle.tc_fop.specs.Standing.{IsFop};
+ghost use Rattle.tc_fop.specs.Requests.{waiting_requests};
 ghost use Rattle.tc_fop.specs.Views.{Link, view_of};
 
 use crate::outputs::Output;
@@ -97,6 +99,28 @@ impl<A: Allocator + Copy + Drop> Fop<A> {
             FopState::InitialisingWithoutBc | FopState::InitialisingWithBc | FopState::Initial =>
                 Some(Refusal::ServiceNotActive),
         }
+    }
+
+    /// How a directive would be refused now: `BadDirective` where it cannot be carried out now or its number is 0. It
+    /// takes no memory.
+    pub fn directive_refusal(&self, directive: &Directive) -> Option<Refusal>
+        ensures refused { IfSome result (λ e. directed self.now.machine directive.now ≡ Err e) }
+        ensures taken { IfNone result (IsOk (directed self.now.machine directive.now)) }
+        ensures memory { result ≢ Some Refusal.Memory }
+        ensures fop { IsFop self.now.machine }
+    {
+        if self.variables.allows(directive) {
+            None
+        } else {
+            Some(Refusal::BadDirective)
+        }
+    }
+
+    /// Whether this request waits for its first transmission. It takes no memory.
+    pub fn is_waiting(&self, request: RequestNumber) -> bool
+        ensures { result ≡ list_any (λ n. n == request) (waiting_requests self.now.machine) }
+    {
+        self.variables.is_waiting(request)
     }
 
     /// Offers a request. `ServiceNotActive` but in S1 to S3, else `WaitQueueFull` where one waits, else `Memory`; an

@@ -1,12 +1,14 @@
 //! What the table keeps, in the words of requests and frames. These functions do nothing: their clauses are the laws.
-ghost use Rattle.std.specs.Prelude.{◌≡◌, ℕ, ◌≤◌, Option, Some, List, Ok};
+ghost use Rattle.std.specs.Prelude.{◌≡◌, ℕ, ◌≤◌, Option, Some, None, List, Ok, true, false};
 ghost use Rattle.tc_farm.specs.declared.clcws.Clcw.{Clcw};
 ghost use Rattle.tc_fop.specs.declared.rows.Row.{Row};
 ghost use Rattle.tc_fop.specs.Machine.{Machine, Waiting, Out, Wait, change};
 ghost use Rattle.tc_fop.specs.Rows.{Seen, When, row_seen};
 ghost use Rattle.tc_fop.specs.Laws.{AtWords, AtTicks, AtOffers, AtDirectives};
 ghost use Rattle.tc_fop.specs.Requests.{KeepsRequests, KeepsOrder, KeepsWindow, ConfirmsFront, AreAmong, GivesBack, acknowledged, frames_of};
-ghost use Rattle.tc_fop.specs.Calls.{offered, told, Answers};
+ghost use Rattle.tc_fop.specs.Calls.{offered, directed, told, Answers};
+ghost use Rattle.tc_fop.specs.Moves.{MovesIn, Initiates, is_initiation};
+ghost use Rattle.tc_fop.specs.declared.signals.Directive.{Directive};
 ghost use Rattle.tc_fop.specs.Standing.{IsFop};
 
 /// The row that is chosen applies, and no other row does.
@@ -62,4 +64,17 @@ pub fn alerts_give_back()
     ensures ticks { AtTicks (λ offered old new out. GivesBack old new out) }
     ensures offers { AtOffers (λ offered old new out. GivesBack old new out) }
     ensures directives { AtDirectives (λ offered old new out. GivesBack old new out) }
+{}
+
+/// What a call that is no initiation makes of the service, by the state in which it comes.
+pub fn moves()
+    ensures words { (m : Machine) (word : Option Clcw) (new : Machine) (out : Out) → IsFop m → IsFop new → Answers (told m word) m new (Ok out) → MovesIn m.state word m new out }
+    ensures ticks { AtTicks (λ offered old new out. MovesIn old.state None old new out) }
+    ensures offers { AtOffers (λ offered old new out. MovesIn old.state None old new out) }
+    ensures directives { (m : Machine) (directive : Directive) (new : Machine) (out : Out) → is_initiation directive ≡ false → IsFop m → IsFop new → Answers (directed m directive) m new (Ok out) → MovesIn m.state None m new out }
+{}
+
+/// What an initiation makes of the service.
+pub fn initiates()
+    ensures directives { (m : Machine) (directive : Directive) (new : Machine) (out : Out) → is_initiation directive ≡ true → IsFop m → IsFop new → Answers (directed m directive) m new (Ok out) → Initiates directive m new out }
 {}

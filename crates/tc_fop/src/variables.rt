@@ -1,6 +1,7 @@
 //! The variables of FOP-1 (CCSDS 232.1-B, 5.1) and the actions on them. A method knows what stands between calls once it
 //! has read a field; some read one for that alone.
 ghost use Rattle.std.specs.Prelude.{◌≡◌, ◌+◌, ◌<◌, ◌≤◌, ◌==◌, nat_lt, [], ◌∷◌, length, map, option_map, true, false, None, Some, IfOk, IfErr, is_some, IsTrue, ◌↔◌, if◌then◌else◌};
+ghost use Rattle.std.specs.List.{list_any};
 ghost use Rattle.std.specs.VecDeque.{deque_capacity};
 ghost use Rattle.tc_fop.specs.Machine.{Machine, CancelTimer, InitiateRetransmission, Resend, Transmit, Remove, Alert, StartTimer, LowerTimer, CountOne, SendControl, DropControl, Begin, To, Wait, Initiate, SetVsAlone, SetVsAndNn, SetKTo, SetT1To, SetLimitTo, joined, change, said, after, transmitted, transmits};
 ghost use Rattle.tc_fop.specs.Rows.{row_of};
@@ -8,6 +9,7 @@ ghost use Rattle.tc_fop.specs.Calls.{new_machine, is_taking, is_initial};
 ghost use Rattle.tc_fop.specs.Cells.{look};
 ghost use Rattle.tc_fop.specs.Standing.{IsFop, is_starting, has_control};
 ghost use Rattle.tc_fop.specs.Queued.{held_of, waiting_of};
+ghost use Rattle.tc_fop.specs.Requests.{waiting_requests};
 ghost use Rattle.tc_fop.specs.Views.{Fits, view_of};
 
 use crate::outputs::Output;
@@ -20,6 +22,7 @@ use std::collections::VecDeque;
 use std::marker::Model;
 use tc_farm::clcws::Clcw;
 use tc_types::frames::Frame;
+use tc_types::numbers::RequestNumber;
 use tc_types::refusals::Refusal;
 
 /// The most frames that are out: the greatest K.
@@ -114,6 +117,16 @@ impl<A: Allocator + Copy + Drop> Variables<A> {
         ensures { result ≡ is_some self.now.waiting }
     {
         self.waiting.is_some()
+    }
+
+    /// Whether this request waits.
+    pub(crate) fn is_waiting(&self, request: RequestNumber) -> bool
+        ensures { result ≡ list_any (λ n. n == request) (waiting_requests self.now) }
+    {
+        match self.waiting {
+            Some(offer) => offer.request == request,
+            None => false,
+        }
     }
 
     /// Whether one more transmission may be counted.
