@@ -1,0 +1,78 @@
+-- A call of the FOP, carried out on the link.
+use Rattle.std.proofs.Common.{◌≡◌, ◌<◌, ◌⊎◌, ◌↔◌, inl, inr, ℕ, Bool, true, false, MatchBool, Option, Some, None, IsSome, IfSome, Ok, Err, List, [], ◌∷◌, ◌++◌, refl, sym, ◌∙◌, ap, subst}
+use Rattle.tc_types.specs.declared.frames.Frame.{Frame}
+use Rattle.tc_types.specs.declared.refusals.Refusal.{Refusal}
+use Rattle.tc_types.specs.declared.refusals.Refusal.TheVariants.{Memory}
+use Rattle.tc_types.specs.declared.reports.Report.{Report}
+use Rattle.tc_farm.specs.declared.clcws.Clcw.{Clcw}
+use Rattle.tc_farm.specs.ControlWord.{IsValid, word_of, without_ignored}
+use Rattle.tc_fop.specs.declared.signals.Directive.{Directive}
+use Rattle.tc_fop.specs.Moves.{is_initiation}
+use Rattle.tc_fop.specs.Machine.{Machine, Action, Out, after, output}
+use Rattle.tc_fop.specs.Calls.{Given, Answers, directed}
+use Rattle.tc_world.specs.declared.events.Indication.{Indication}
+use Rattle.tc_world.specs.Links.{Kind, PutsAll, IsReadied}
+use Rattle.tc_world.specs.Logs.{Log, noted, blank}
+use Rattle.tc_world.specs.World.{Whole, Carries, Begins, Directs, IsAsBefore, Reads, refusal_in, clean_after, told_by_fop}
+
+-- what was answered was given: the actions were carried out
+pub answered : (given : Given) (old new : Machine) (out : Out) → Answers given old new (Ok out) → (actions : List Action) × (given ≡ Ok actions) × (new ≡ after actions old) × (out ≡ output actions old)
+answered (Ok actions) old new out h = (actions, refl, h.0, h.1)
+answered (Err refusal) old new out h = absurd h
+
+-- the output was put on the link and written down
+pub carried : {U D : Type 0} (uplink : Kind U Frame) (old : Whole U D) (given : Given) (fop : Machine) (out : Out) (ready up : U) (newest : Log) (answer : List Indication)
+    → Answers given old.fop fop (Ok out) → IsReadied uplink old.up ready → PutsAll uplink ready out.frames up → newest ≡ noted out old.newest → answer ≡ told_by_fop out
+    → (actions : List Action) × (given ≡ Ok actions) × Carries uplink actions old (record old { fop = fop; up = up; newest = newest }) answer
+carried uplink old given fop out ready up newest answer h readied puts log told =
+    let a = answered given old.fop fop out h in (
+      a.0,
+      a.1,
+      record {
+        ready = ready;
+        readied = readied;
+        frames = subst (λ (o : Out). PutsAll uplink ready o.frames up) a.3 puts;
+        whole = λ i. record old { fop = a.2 i; up = up; newest = (log ∙ ap (λ (o : Out). noted o old.newest) a.3) i };
+        answered = told ∙ ap (λ (o : Out). told_by_fop o) a.3;
+      },
+    )
+
+-- what was refused: what was given, or memory where it was not refused; the machine stays
+pub refused_by : (given : Given) (old new : Machine) (refusal : Refusal) → Answers given old new (Err refusal) → ((refusal_in given ≡ Some refusal) ⊎ ((refusal_in given ≡ None) × (refusal ≡ Memory))) × (new ≡ old)
+refused_by (Ok actions) old new refusal h = (inr (refl, h.0), h.1)
+refused_by (Err other) old new refusal h = (inl (ap Some (sym h.0)), h.1)
+
+-- where only room was made it is as before
+pub as_before : {U D : Type 0} (uplink : Kind U Frame) (downlink : Kind D Report) (old : Whole U D) (fop : Machine) (ready : U) (newest : Log) → fop ≡ old.fop → IsReadied uplink old.up ready → newest ≡ old.newest → IsAsBefore uplink downlink old (record old { fop = fop; up = ready; newest = newest })
+as_before uplink downlink old fop ready newest same readied log = record {
+  up = readied;
+  down = refl;
+  rest = λ i. record old { fop = same i; up = ready; newest = log i };
+}
+
+-- a directive that is no initiation goes on in the newest session
+pub directs_on : {U D : Type 0} (uplink : Kind U Frame) (downlink : Kind D Report) (given : Directive) (actions : List Action) (old new : Whole U D) (answer : List Indication) → is_initiation given ≡ false → Carries uplink actions old new answer → Directs uplink downlink given actions old new answer
+directs_on uplink downlink given actions old new answer other h =
+    subst (λ (b : Bool). MatchBool b (Begins uplink downlink given actions old new answer) (Carries uplink actions old new answer)) (sym other) h
+
+-- an initiation was put on the link, and a session begins with it
+pub begun : {U D : Type 0} (uplink : Kind U Frame) (downlink : Kind D Report) (given : Directive) (old : Whole U D) (fop : Machine) (out : Out) (ready up : U) (past : List Log) (newest : Log) (clean : Bool) (answer : List Indication)
+    → Answers (directed old.fop given) old.fop fop (Ok out) → IsReadied uplink old.up ready → PutsAll uplink ready out.frames up → past ≡ old.past ++ old.newest ∷ [] → newest ≡ noted out (blank fop.vs) → clean ≡ clean_after uplink downlink given old → answer ≡ told_by_fop out
+    → (actions : List Action) × (directed old.fop given ≡ Ok actions) × Begins uplink downlink given actions old (record old { fop = fop; up = up; past = past; newest = newest; clean = clean }) answer
+begun uplink downlink given old fop out ready up past newest clean answer h readied puts earlier log good told =
+    let a = answered (directed old.fop given) old.fop fop out h in
+    let written = log ∙ ap (λ (o : Out). noted o (blank fop.vs)) a.3 ∙ ap (λ (m : Machine). noted (output a.0 old.fop) (blank m.vs)) a.2 in (
+      a.0,
+      a.1,
+      record {
+        ready = ready;
+        readied = readied;
+        frames = subst (λ (o : Out). PutsAll uplink ready o.frames up) a.3 puts;
+        whole = λ i. record old { fop = a.2 i; up = up; past = earlier i; newest = written i; clean = good i };
+        answered = told ∙ ap (λ (o : Out). told_by_fop o) a.3;
+      },
+    )
+
+-- what is read from a word, on the channel of the world
+pub reads_from : (word vc : ℕ) (heard : Option Clcw) → (IsSome heard ↔ IsValid word vc) → IfSome heard (λ (c : Clcw). word_of c ≡ without_ignored word) → IfSome heard (λ (c : Clcw). c.vc ≡ vc) → ((c : Clcw) → c.report < 256 → word ≡ word_of c → vc ≡ c.vc → heard ≡ Some c) → Reads word vc heard
+reads_from word vc heard valid back channel again = record { valid = valid; back = back; channel = channel; again = again }

@@ -1,0 +1,111 @@
+-- Lists with items left out, and what holds of each item and of pairs.
+use Rattle.std.proofs.Common.{◌≡◌, ℕ, ◌+◌, ◌≤◌, inl, inr, List, [], ◌∷◌, ◌++◌, length, sym, ap, subst, arith}
+use Rattle.std.proofs.lemmas.List.{append_assoc, append-nil}
+use Rattle.tc_world.specs.Sublist.{IsSublist, IsSublist-same}
+use Rattle.tc_world.specs.Links.{Kind, PutsAll}
+use Rattle.tc_world.specs.Kept.{Each, Pairs}
+
+-- items left out of what has items left out
+pub sublist_trans : {X : Type 0} (xs ys zs : List X) → IsSublist xs ys → IsSublist ys zs → IsSublist xs zs
+sublist_trans xs ys [] h k = subst (λ l. IsSublist xs l) k h
+sublist_trans xs ys (z ∷ zs) h k =
+    elim k [
+      | inl a ↦ inl (sublist_trans xs ys zs h a)
+      | inr b ↦
+          let there : IsSublist xs (z ∷ b.0) = subst (λ l. IsSublist xs l) b.1 h in
+          elim there [
+            | inl c ↦ inl (sublist_trans xs b.0 zs c b.2)
+            | inr d ↦ inr (d.0, d.1, sublist_trans d.0 b.0 zs d.2 b.2)
+          ]
+    ]
+
+-- both with the same behind
+pub sublist_append : {X : Type 0} (xs ys more : List X) → IsSublist xs ys → IsSublist (xs ++ more) (ys ++ more)
+sublist_append xs [] more h = subst (λ l. IsSublist (l ++ more) more) (sym h) (IsSublist-same more)
+sublist_append xs (y ∷ ys) more h =
+    elim h [
+      | inl a ↦ inl (sublist_append xs ys more a)
+      | inr b ↦ inr (b.0 ++ more, ap (λ l. l ++ more) b.1, sublist_append b.0 ys more b.2)
+    ]
+
+-- no more items than before
+pub sublist_length : {X : Type 0} (xs ys : List X) → IsSublist xs ys → length xs ≤ length ys
+sublist_length xs [] h =
+    let same : length xs ≡ 0 = ap (λ l. length l) h in
+    omega (arith, same)
+sublist_length xs (y ∷ ys) h =
+    elim h [
+      | inl a ↦
+          let fewer = sublist_length xs ys a in
+          let one : length (y ∷ ys) ≡ length ys + 1 = omega arith in
+          omega (arith, fewer, one)
+      | inr b ↦
+          let fewer = sublist_length b.0 ys b.2 in
+          let one : length (y ∷ ys) ≡ length ys + 1 = omega arith in
+          let two : length (y ∷ b.0) ≡ length b.0 + 1 = omega arith in
+          let same : length xs ≡ length (y ∷ b.0) = ap (λ l. length l) b.1 in
+          omega (arith, fewer, one, two, same)
+    ]
+
+-- the items that were put one after the other stand behind those before, with items left out
+pub puts_lose : {C T : Type 0} (kind : Kind C T) (old : C) (items : List T) (new : C)
+    → ((before next : C) (item : T) → kind.puts before item next → IsSublist (kind.content next) (kind.content before ++ item ∷ []))
+    → PutsAll kind old items new → IsSublist (kind.content new) (kind.content old ++ items)
+puts_lose kind old [] new law puts =
+    subst (λ c. IsSublist (kind.content c) (kind.content old ++ [])) (sym puts)
+    (subst (λ l. IsSublist (kind.content old) l) (sym (append-nil (kind.content old))) (IsSublist-same (kind.content old)))
+puts_lose kind old (item ∷ items) new law puts =
+    let mine = kind.content old in
+    let first = law old puts.0 item puts.1 in
+    let rest = puts_lose kind puts.0 items new law puts.2 in
+    let both = sublist_append (kind.content puts.0) (mine ++ item ∷ []) items first in
+    let whole = sublist_trans (kind.content new) (kind.content puts.0 ++ items) ((mine ++ item ∷ []) ++ items) rest both in
+    subst (λ l. IsSublist (kind.content new) l) (append_assoc mine (item ∷ []) items) whole
+
+-- what holds of each still does with items left out
+pub each_sub : (P : ℕ → Type 0) (xs ys : List ℕ) → IsSublist xs ys → Each P ys → Each P xs
+each_sub P xs [] h e = subst (λ l. Each P l) (sym h) tt
+each_sub P xs (y ∷ ys) h e =
+    elim h [
+      | inl a ↦ each_sub P xs ys a e.1
+      | inr b ↦ subst (λ l. Each P l) (sym b.1) (e.0, each_sub P b.0 ys b.2 e.1)
+    ]
+
+-- of each here and of each there
+pub each_append : (P : ℕ → Type 0) (xs ys : List ℕ) → Each P xs → Each P ys → Each P (xs ++ ys)
+each_append P [] ys e f = f
+each_append P (x ∷ xs) ys e f = (e.0, each_append P xs ys e.1 f)
+
+-- what follows from it holds of each
+pub each_map : (P Q : ℕ → Type 0) (xs : List ℕ) → ((x : ℕ) → P x → Q x) → Each P xs → Each Q xs
+each_map P Q [] f e = tt
+each_map P Q (x ∷ xs) f e = (f x e.0, each_map P Q xs f e.1)
+
+-- two things hold of each
+pub each_both : (P Q : ℕ → Type 0) (xs : List ℕ) → Each P xs → Each Q xs → Each (λ (x : ℕ). P x × Q x) xs
+each_both P Q [] e f = tt
+each_both P Q (x ∷ xs) e f = ((e.0, f.0), each_both P Q xs e.1 f.1)
+
+-- what stands behind a front
+pub each_behind : (P : ℕ → Type 0) (front xs : List ℕ) → Each P (front ++ xs) → Each P xs
+each_behind P [] xs e = e
+each_behind P (x ∷ front) xs e = each_behind P front xs e.1
+
+-- what holds of pairs still does with items left out
+pub pairs_sub : (R : ℕ → ℕ → Type 0) (xs ys : List ℕ) → IsSublist xs ys → Pairs R ys → Pairs R xs
+pairs_sub R xs [] h p = subst (λ l. Pairs R l) (sym h) tt
+pairs_sub R xs (y ∷ ys) h p =
+    elim h [
+      | inl a ↦ pairs_sub R xs ys a p.1
+      | inr b ↦ subst (λ l. Pairs R l) (sym b.1) (each_sub (R y) b.0 ys b.2 p.0, pairs_sub R b.0 ys b.2 p.1)
+    ]
+
+-- the pairs behind a front
+pub pairs_behind : (R : ℕ → ℕ → Type 0) (front xs : List ℕ) → Pairs R (front ++ xs) → Pairs R xs
+pairs_behind R [] xs p = p
+pairs_behind R (x ∷ front) xs p = pairs_behind R front xs p.1
+
+-- one more behind, to which each stands in R
+pub pairs_push : (R : ℕ → ℕ → Type 0) (xs : List ℕ) (y : ℕ) → Pairs R xs → Each (λ (x : ℕ). R x y) xs → Pairs R (xs ++ y ∷ [])
+pairs_push R [] y p e = (tt, tt)
+pairs_push R (x ∷ xs) y p e = (each_append (R x) xs (y ∷ []) p.0 (e.0, tt), pairs_push R xs y p.1 e.1)

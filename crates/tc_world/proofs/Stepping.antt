@@ -1,0 +1,140 @@
+-- The session that is on makes a run at each step, and stays sane.
+use Rattle.std.proofs.Common.{◌≡◌, ℕ, zero, suc, ◌+◌, ◌%◌, ◌<◌, ◌≤◌, Bool, true, false, ◌⊎◌, inl, inr, Option, Some, None, List, [], ◌∷◌, ◌++◌, length, refl, sym, ◌∙◌, ap, subst, arith}
+use Rattle.tc_farm.specs.declared.clcws.Clcw.{Clcw}
+use Rattle.tc_types.specs.declared.frames.Frame.{Frame}
+use Rattle.tc_types.specs.declared.reports.Report.{Report}
+use Rattle.tc_types.specs.declared.reports.Report.TheVariants.{Word, Telemetry}
+use Rattle.tc_types.specs.declared.reports.Telemetry.{Telemetry as Packet}
+use Rattle.tc_farm.specs.Farm.{farm_after, verdict_of, released}
+use Rattle.tc_types.specs.declared.frames.Frame.TheVariants.{Ad, Unlock, SetVr}
+use Rattle.tc_farm.specs.FarmLaws.{IsNumbered, Says}
+use Rattle.tc_fop.specs.Machine.{Out}
+use Rattle.tc_world.specs.Sublist.{IsSublist}
+use Rattle.tc_world.specs.Session.{Session, SessionRun, nothing_yet}
+use Rattle.tc_world.specs.Abstraction.{Bare, session_of, session_with, report_value}
+use Rattle.tc_world.specs.Window.{Distinct}
+use Rattle.tc_world.specs.Kept.{IsStarted, IsUnstarted, IsSane, IsInWindow, AreFrames, AreControls}
+use Rattle.tc_world.proofs.Moving.{Moving, IsFollowed}
+use Rattle.tc_world.proofs.FrameLists.{controls_behind, frames_behind}
+use Rattle.tc_world.proofs.WindowSteps.{runs_on}
+use Rattle.tc_world.proofs.StartedMoves.{started_moves, started_hears}
+use Rattle.tc_world.proofs.Starting.{unstarted_moves, IsHeardWell}
+use Rattle.tc_world.proofs.OtherSides.{after_frame, started_boards, unstarted_boards, started_releases, unstarted_releases, started_tells, unstarted_tells, started_reports, unstarted_reports, started_loses, unstarted_loses, started_word_taken, unstarted_word_taken}
+use Rattle.tc_world.proofs.Abstracted.{session_started, session_unstarted}
+
+-- what a step of the session that is on gives
+pub record Steps (w v : Bare) : Type 0 where
+  pub sane : IsSane v
+  pub run : SessionRun 255 (session_of w) (session_of v)
+
+-- from a started session to a started one
+started_on : (w v : Bare) (ns rs ms qs : List ℕ) → Distinct w.newest.sent → Distinct v.newest.sent
+    → w.newest.started ≡ true → IsStarted w ns rs → v.newest.started ≡ true → IsStarted v ms qs
+    → SessionRun 255 (session_with w.newest ns rs) (session_with v.newest ms qs) → Steps w v
+started_on w v ns rs ms qs dw dv sw kw sv kv run = record {
+  sane = inr (ms, qs, sv, kv);
+  run = subst (λ s. SessionRun 255 s (session_of v)) (sym (session_started w ns rs sw dw kw))
+      (subst (λ t. SessionRun 255 (session_with w.newest ns rs) t) (sym (session_started v ms qs sv dv kv)) run);
+}
+
+-- from a session that has not started to one that has not
+unstarted_on : (w v : Bare) → w.newest.started ≡ false → IsUnstarted w → v.newest.started ≡ false → IsUnstarted v → Steps w v
+unstarted_on w v sw kw sv kv = record {
+  sane = inl (sv, kv);
+  run = ([], session_unstarted v sv kv ∙ sym (session_unstarted w sw kw));
+}
+
+-- it begins
+begun_on : (w v : Bare) (rs : List ℕ) → Distinct v.newest.sent → w.newest.started ≡ false → IsUnstarted w
+    → v.newest.started ≡ true → IsStarted v [] rs → SessionRun 255 nothing_yet (session_with v.newest [] rs) → Steps w v
+begun_on w v rs dv sw kw sv kv run = record {
+  sane = inr ([], rs, sv, kv);
+  run = subst (λ s. SessionRun 255 s (session_of v)) (sym (session_unstarted w sw kw))
+      (subst (λ t. SessionRun 255 nothing_yet t) (sym (session_started v [] rs sv dv kv)) run);
+}
+
+begun_or_not : (w v : Bare) → Distinct v.newest.sent → w.newest.started ≡ false → IsUnstarted w
+    → (((v.newest.started ≡ false) × IsUnstarted v)
+    ⊎ ((rs : List ℕ) × (v.newest.started ≡ true) × IsStarted v [] rs × SessionRun 255 nothing_yet (session_with v.newest [] rs)))
+    → Steps w v
+begun_or_not w v dv sw kw (inl (sv, kv)) = unstarted_on w v sw kw sv kv
+begun_or_not w v dv sw kw (inr (rs, sv, kv, run)) = begun_on w v rs dv sw kw sv kv run
+
+-- a call of the FOP without a control word
+pub moves_on : (w v : Bare) (out : Out) → Distinct w.newest.sent → Distinct v.newest.sent → Moving None w v out → IsSane w → Steps w v
+moves_on w v out dw dv moving (inl (sw, kw)) = begun_or_not w v dv sw kw (unstarted_moves None w v out sw tt moving kw)
+moves_on w v out dw dv moving (inr (ns, rs, sw, kw)) =
+    let done = started_moves w v out ns rs sw moving kw in
+    started_on w v ns rs done.0 rs dw dv sw kw done.1 done.2 done.3
+
+-- frames in flight have numbers of 8 bits
+front_numbered : (base : ℕ) (sent : List ℕ) (frame : Frame) (rest : List Frame) (ns : List ℕ) → AreFrames base sent (frame ∷ rest) ns → IsNumbered frame
+front_numbered base sent (Ad number request body) rest ns (n, others, is, value, stands, a) = omega (arith, value)
+front_numbered base sent Unlock rest ns a = tt
+front_numbered base sent (SetVr v) rest ns a = tt
+
+control_numbered : (base : ℕ) (frame : Frame) (rest : List Frame) → AreControls base (frame ∷ rest) → IsNumbered frame
+control_numbered base (Ad number request body) rest a = absurd a
+control_numbered base Unlock rest a = tt
+control_numbered base (SetVr v) rest a = tt
+
+-- a frame came up
+pub boards_on : (w : Bare) (frame : Frame) (room : Bool) (lost rest : List Frame) → Distinct w.newest.sent
+    → w.farm.vr < 256 → (IsNumbered frame → Says (verdict_of w.farm frame room) w.farm frame room (farm_after w.farm frame room))
+    → w.up ≡ lost ++ frame ∷ rest → IsSane w → Steps w (after_frame w frame room rest)
+boards_on w frame room lost rest dw small says up (inl (sw, kw)) =
+    let numbered : IsNumbered frame =
+    control_numbered w.newest.base frame rest
+    (controls_behind w.newest.base lost (frame ∷ rest) (subst (λ l. AreControls w.newest.base l) up kw.up)) in
+    unstarted_on w (after_frame w frame room rest) sw kw sw (unstarted_boards w frame room lost rest (says numbered) up kw)
+boards_on w frame room lost rest dw small says up (inr (ns, rs, sw, kw)) =
+    let behind = frames_behind w.newest.base w.newest.sent lost (frame ∷ rest) ns
+    (subst (λ l. AreFrames w.newest.base w.newest.sent l ns) up kw.frames) in
+    let numbered : IsNumbered frame = front_numbered w.newest.base w.newest.sent frame rest behind.1 behind.4 in
+    let done = started_boards w frame room lost rest ns rs small (says numbered) up kw in
+    started_on w (after_frame w frame room rest) ns rs done.0 rs dw dw sw kw sw done.1 done.2
+
+pub releases_on : (w : Bare) → Distinct w.newest.sent → IsSane w → Steps w (record w { farm = released w.farm })
+releases_on w dw (inl (sw, kw)) = unstarted_on w (record w { farm = released w.farm }) sw kw sw (unstarted_releases w kw)
+releases_on w dw (inr (ns, rs, sw, kw)) =
+    started_on w (record w { farm = released w.farm }) ns rs ns rs dw dw sw kw sw (started_releases w ns rs kw) ([], refl)
+
+pub tells_on : (w : Bare) (word : ℕ) (down : List Report) → Distinct w.newest.sent → report_value word ≡ w.farm.vr
+    → IsSublist down (w.down ++ Word word ∷ []) → IsSane w → Steps w (record w { down = down })
+tells_on w word down dw value sub (inl (sw, kw)) =
+    unstarted_on w (record w { down = down }) sw kw sw (unstarted_tells w word down value sub kw)
+tells_on w word down dw value sub (inr (ns, rs, sw, kw)) =
+    let done = started_tells w word down ns rs value sub kw in
+    started_on w (record w { down = down }) ns rs ns done.0 dw dw sw kw sw done.1 done.2
+
+pub reports_on : (w : Bare) (telemetry : Packet) (down : List Report) → Distinct w.newest.sent
+    → IsSublist down (w.down ++ Telemetry telemetry ∷ []) → IsSane w → Steps w (record w { down = down })
+reports_on w telemetry down dw sub (inl (sw, kw)) =
+    unstarted_on w (record w { down = down }) sw kw sw (unstarted_reports w telemetry down sub kw)
+reports_on w telemetry down dw sub (inr (ns, rs, sw, kw)) =
+    let done = started_reports w telemetry down ns rs sub kw in
+    started_on w (record w { down = down }) ns rs ns done.0 dw dw sw kw sw done.1 done.2
+
+pub loses_on : (w : Bare) (up : List Frame) (down : List Report) → Distinct w.newest.sent
+    → IsSublist up w.up → IsSublist down w.down → IsSane w → Steps w (record w { up = up; down = down })
+loses_on w up down dw sub_up sub_down (inl (sw, kw)) =
+    unstarted_on w (record w { up = up; down = down }) sw kw sw (unstarted_loses w up down sub_up sub_down kw)
+loses_on w up down dw sub_up sub_down (inr (ns, rs, sw, kw)) =
+    let done = started_loses w up down ns rs sub_up sub_down kw in
+    started_on w (record w { up = up; down = down }) ns rs done.0 done.1 dw dw sw kw sw done.2 done.3
+
+-- a control word is taken and heard; what is left of the downlink is `rest`
+pub hears_on : (w v : Bare) (out : Out) (word : ℕ) (clcw : Clcw) (lost rest : List Report) → Distinct w.newest.sent → Distinct v.newest.sent
+    → clcw.report < 256 → report_value word ≡ clcw.report → w.down ≡ lost ++ Word word ∷ rest
+    → Moving (Some clcw) (record w { down = rest }) v out → IsSane w → Steps w v
+hears_on w v out word clcw lost rest dw dv small value down moving (inl (sw, kw)) =
+    let taken = unstarted_word_taken w word lost rest down kw in
+    let left : Bare = record w { down = rest } in
+    let followed : IsFollowed clcw.report left = subst (λ n. IsFollowed n left) value taken.1 in
+    begun_or_not w v dv sw kw (unstarted_moves (Some clcw) left v out sw (small, followed) moving taken.0)
+hears_on w v out word clcw lost rest dw dv small value down moving (inr (ns, rs, sw, kw)) =
+    let taken = started_word_taken w word lost rest ns rs down kw in
+    let left : Bare = record w { down = rest } in
+    let done = started_hears left v out clcw taken.0 ns taken.1 sw small (sym value ∙ taken.2) taken.3 moving taken.4 in
+    started_on w v ns rs done.0 taken.1 dw dv sw kw done.1 done.2
+    (runs_on 255 (session_with w.newest ns rs) (session_with w.newest ns (taken.0 ∷ taken.1)) (session_with v.newest done.0 taken.1) taken.5 done.3)

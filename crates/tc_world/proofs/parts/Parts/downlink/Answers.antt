@@ -1,0 +1,28 @@
+-- The control word was heard, or a report came down.
+use Rattle.std.proofs.Common.{sym, refl, inr}
+use Rattle.tc_types.specs.declared.reports.Report.TheVariants as report
+use Rattle.tc_world.proofs.parts.Parts.downlink.Goals as goal
+
+pub returns-in-Word-clause-happens : goal.returns-in-Word-clause-happens
+returns-in-Word-clause-happens g c =
+    rw (← c.self.view_is)
+    (inr (record {
+      item = report.Word c.in-Word.word;
+      left = c.take.new.self;
+      taken = rw c.in-Word.is at c.in-Some.ensures.some;
+      heard = c.hear.ensures.heard _ (sym c.reserve_fop_side.ensures.machine) c.reserve_fop_side.ensures.readied (sym c.reserve_fop_side.ensures.log) refl;
+    }))
+
+pub returns-in-Telemetry-clause-happens : goal.returns-in-Telemetry-clause-happens
+returns-in-Telemetry-clause-happens g c =
+    rw (← c.self.view_is)
+    (inr (record {
+      item = report.Telemetry c.in-Telemetry.telemetry;
+      left = c.take.new.self;
+      taken = rw c.in-Telemetry.is at c.in-Some.ensures.some;
+      heard = (
+        c.reserve_fop_side.ensures.readied,
+        rw (c.reserve_fop_side.ensures.machine, c.reserve_fop_side.ensures.log) refl,
+        rw c.in_ok-answer.ensures.answer.0 at c.push_reserved.ensures.items,
+      );
+    }))

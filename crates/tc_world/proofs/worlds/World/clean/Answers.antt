@@ -1,0 +1,8 @@
+-- What stands between events carries the claims.
+use Rattle.tc_world.proofs.Claims.{claimed}
+use Rattle.tc_world.proofs.worlds.World.clean.Goals as goal
+
+pub returns-clause-claims : goal.returns-clause-claims
+returns-clause-claims g c =
+    rw (← c.self.view_is)
+    (λ clean. claimed g.U.Carrier.kind g.D.Carrier.kind c.self.inside.parts (c.window_is_kept.ensures.claims _ c.self.invariant clean))

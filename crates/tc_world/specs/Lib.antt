@@ -1,0 +1,10 @@
+pub mod Sublist
+pub mod InFlight
+pub mod Links
+pub mod Logs
+pub mod Pages
+pub mod World
+pub mod Session
+pub mod Abstraction
+pub mod Window
+pub mod Kept

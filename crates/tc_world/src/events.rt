@@ -1,0 +1,42 @@
+//! What happens to the link, and what it tells.
+use tc_farm::farms::Verdict;
+use tc_fop::signals;
+use tc_types::numbers::RequestNumber;
+use tc_types::reports::{Report, Telemetry};
+use tc_types::requests::Body;
+
+/// What happens to the link. Control words come from its own FARM alone: no event puts one of another's.
+#[derive(Clone, Copy, Debug, PartialEq, Eq)]
+pub enum Event {
+    /// A request is offered to the FOP.
+    Offer { request: RequestNumber, body: Body },
+    /// The FOP gets a directive.
+    Directive(signals::Directive),
+    /// One tick of the FOP's timer.
+    Tick,
+    /// The FARM gets the first frame of the uplink; `room` says whether a buffer is free for it.
+    Uplink { room: bool },
+    /// The frame at this place of the uplink is lost, from 0 for the oldest.
+    LoseUp(usize),
+    /// A buffer became free on board.
+    Release,
+    /// The FARM puts its control word on the downlink.
+    Clcw,
+    /// The spacecraft puts a report on the downlink.
+    Put(Telemetry),
+    /// The ground gets the first item of the downlink.
+    Downlink,
+    /// The item at this place of the downlink is lost, from 0 for the oldest.
+    LoseDown(usize),
+}
+
+/// What the link tells of an event.
+#[derive(Clone, Copy, Debug, PartialEq, Eq)]
+pub enum Indication {
+    /// What the FOP tells.
+    Fop(signals::Indication),
+    /// What the FARM says of a frame.
+    Farm(Verdict),
+    /// This came down.
+    Received(Report),
+}

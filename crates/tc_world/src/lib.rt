@@ -1,0 +1,16 @@
+//! The link as one machine: FOP-1, an uplink, FARM-1 and a downlink, and the sessions that were held over it.
+#![tactic(auto)]
+
+pub mod carriers;
+pub mod events;
+mod farm_side;
+mod fop_side;
+pub mod laws;
+pub mod list_carriers;
+mod parts;
+pub mod runs;
+pub mod sessions;
+mod steps;
+#[cfg(test)]
+mod tests;
+pub mod worlds;

@@ -1,0 +1,88 @@
+//! A link that loses only what it is told to lose.
+ghost use Rattle.std.specs.Prelude.{◌≡◌, ◌↔◌, ◌+◌, ◌-◌, ◌<◌, ◌≤◌, ℕ, Bool, List, [], ◌∷◌, ◌++◌, length, remove, nat_lt, OnOk, IsOk, IsNone, IfNone, IfSome, IfErr, IsTrue};
+ghost use Rattle.tc_types.specs.declared.refusals.Refusal.TheVariants.{Memory};
+ghost use Rattle.tc_world.specs.Sublist.{IsSublist};
+
+use crate::carriers::Carrier;
+use std::alloc::Allocator;
+use std::collections::VecDeque;
+use std::marker::Model;
+use tc_types::refusals::Refusal;
+
+/// A link that loses only by `lose`, and only that one item. A contract sees what is in flight, and the room there is.
+#[derive(Drop)]
+pub struct ListCarrier<T: Drop, A: Allocator> {
+    items: VecDeque<T, A>,
+}
+
+impl<T: Drop, A: Allocator> Model for ListCarrier<T, A> {
+    ghost use Rattle.std.specs.Prelude.{◌-◌};
+    ghost use Rattle.std.specs.VecDeque.{deque_len, deque_capacity};
+    ghost use Rattle.tc_world.specs.InFlight.{InFlight};
+
+    ghost Value = { InFlight T };
+
+    ghost view = { λ c. record { content = c.items.items; covered = deque_capacity c.items - deque_len c.items } };
+}
+
+impl<T: Drop, A: Allocator> ListCarrier<T, A> {
+    /// A link with nothing in flight.
+    pub fn new(alloc: A) -> Self
+        ensures { result.content ≡ [] }
+    {
+        ListCarrier {
+            items: VecDeque::new(alloc),
+        }
+    }
+}
+
+impl<T: Drop, A: Allocator> Carrier<T> for ListCarrier<T, A> {
+    ghost use Rattle.std.proofs.Common.{subst, sym};
+    ghost use Rattle.std.specs.Prelude.{◌≡◌, ℕ, Bool, List, [], ◌∷◌, ◌++◌, length, remove, nat_lt};
+    ghost use Rattle.tc_world.specs.Sublist.{IsSublist, IsSublist-same, IsSublist-remove};
+    ghost use Rattle.tc_world.specs.Links.{Kind};
+
+    // a put is behind the others, and all stay; the first is taken, and no other leaves; that one item is lost, and past
+    // the end nothing is, and the answer is false
+    ghost kind = { record {
+      content = λ c. c.content;
+      puts = λ old item new. new.content ≡ old.content ++ item ∷ [];
+      takes = λ old item new. old.content ≡ item ∷ new.content;
+      loses = λ old place answer new. (answer ≡ nat_lt place (length old.content)) × (new.content ≡ remove old.content place);
+    } };
+
+    ghost covered = { λ c. c.covered };
+
+    fn reserve(&mut self, count: usize) -> Result<(), Refusal> {
+        match self.items.reserve(count) {
+            Ok(()) => Ok(()),
+            Err(_) => Err(Refusal::Memory),
+        }
+    }
+
+    fn put(&mut self, item: T) {
+        self.items.push_back_reserved(item);
+    }
+
+    fn take(&mut self) -> Option<T> {
+        self.items.pop_front()
+    }
+
+    fn lose(&mut self, place: usize) -> bool {
+        self.items.remove(place).is_some()
+    }
+
+    fn len(&self) -> usize {
+        self.items.len()
+    }
+
+    fn is_empty(&self) -> bool {
+        self.items.is_empty()
+    }
+
+    ghost put_only_loses = { λ old new item e. subst (λ xs. IsSublist xs (old.content ++ item ∷ [])) (sym e) (IsSublist-same (old.content ++ item ∷ [])) };
+
+    ghost take_is_in_order = { λ old new item e. ([], e) };
+
+    ghost lose_only_loses = { λ old new place answer e. subst (λ xs. IsSublist xs old.content) (sym e.1) (IsSublist-remove old.content place) };
+}

@@ -1,0 +1,191 @@
+//! The world: the link, and the sessions that were held over it.
+ghost use Rattle.std.specs.Prelude.{◌≡◌, ◌+◌, ◌≤◌, ◌<◌, ◌↔◌, ℕ, Bool, Some, None, Err, length, true, false, slice_get, IfErr, IfOk, IfSome, IfNone, IsOk, OnOk, [], ◌∷◌};
+ghost use Rattle.tc_types.specs.declared.refusals.Refusal.TheVariants.{BadDirective, Memory};
+ghost use Rattle.tc_farm.specs.Farm.{new_farm};
+ghost use Rattle.tc_fop.specs.declared.signals.FopState.TheVariants.{Initial};
+ghost use Rattle.tc_fop.specs.Views.{view_of};
+ghost use Rattle.tc_world.specs.Logs.{blank};
+ghost use Rattle.tc_world.specs.Abstraction.{seen};
+ghost use Rattle.tc_world.specs.Window.{Follows, FollowsOn, IsClaimed};
+ghost use Rattle.tc_world.specs.Kept.{IsKept};
+ghost use Rattle.tc_world.specs.World.{Whole, Happens, IsRefused, IsRun, IsAsBefore, IsQuietAboard, sessions_of, is_covered, puts_down};
+
+use crate::carriers::Carrier;
+use crate::events::{Event, Indication};
+use crate::laws::window_is_kept;
+use crate::parts::Parts;
+use crate::runs::RunEnd;
+use crate::sessions::Session;
+use std::alloc::Allocator;
+use std::marker::Model;
+use tc_farm::farms::{Farm, FarmView};
+use tc_fop::fops::Fop;
+use tc_fop::views::FopView;
+use tc_types::frames::Frame;
+use tc_types::refusals::Refusal;
+use tc_types::reports::Report;
+
+/// FOP-1, FARM-1 and two carriers as one machine, and what was written down of its sessions.
+#[derive(Drop)]
+pub struct World<U: Carrier<Frame> + Drop, D: Carrier<Report> + Drop, A: Allocator + Copy + Drop> {
+    parts: Parts<U, D, A>,
+}
+
+impl<U: Carrier<Frame> + Drop, D: Carrier<Report> + Drop, A: Allocator + Copy + Drop> Model
+    for World<U, D, A> {
+    ghost Value = { Whole U D };
+
+    ghost view = { λ w. w.parts };
+
+    // what stands between two events, and carries the window's claims
+    ghost invariant = { λ w. IsKept (seen U.kind D.kind w.parts) };
+}
+
+impl<U: Carrier<Frame> + Drop, D: Carrier<Report> + Drop, A: Allocator + Copy + Drop> World<
+    U,
+    D,
+    A,
+> {
+    /// A world in which nothing happened yet, on virtual channel `vc`, 0 to 63, else `BadDirective`. The carriers are
+    /// empty, the FOP is in S6, and the FARM is as it was made. It takes no memory.
+    pub fn new(
+        alloc: A,
+        fop: Fop<A>,
+        farm: Farm,
+        up: U,
+        down: D,
+        vc: u8,
+    ) -> Result<World<U, D, A>, Refusal>
+        requires up { U.kind.content up ≡ [] }
+        requires down { D.kind.content down ≡ [] }
+        requires fop { fop.machine.state ≡ Initial }
+        requires farm { farm ≡ new_farm farm.window }
+        ensures world { IfOk result (λ w. w ≡ record { fop = fop.machine; farm = farm; up = up; down = down; past = []; newest = blank 0; clean = true; vc = vc }) }
+        ensures channel { IsOk result ↔ (vc ≤ 63) }
+        ensures bad { IfErr result (λ refusal. refusal ≡ BadDirective) }
+    {
+        if vc > 63 {
+            return Err(Refusal::BadDirective);
+        }
+        Ok(World {
+            parts: Parts::new(alloc, fop, farm, up, down, vc),
+        })
+    }
+
+    /// One event, and what the link tells of it, in order: at most 258 indications, and at most 256 frames are put on
+    /// the uplink. An offer of a request that waits or was sent in any session is refused `WrongPlace`; else an offer
+    /// and a directive are refused as the FOP refuses them; `Memory` comes where none of these does. An error leaves
+    /// the world as it was.
+    pub fn step(&mut self, event: Event) -> Result<Vec<Indication, A>, Refusal>
+        ensures happens { IfOk result (λ answer. Happens U.kind D.kind event self.old self.new answer.items) }
+        ensures refused { IfErr result (λ refusal. IsRefused event self.old refusal × IsAsBefore U.kind D.kind self.old self.new) }
+        ensures indications { IfOk result (λ answer. length answer.items ≤ 258) }
+        ensures frames { length (U.kind.content self.new.up) ≤ length (U.kind.content self.old.up) + 256 }
+        ensures quiet { IfOk result (λ answer. IsQuietAboard event answer.items) }
+        ensures covered { is_covered event ≡ true → 0 < D.covered self.old.down → IsOk result }
+        ensures kept_room { puts_down event ≡ false → D.covered self.old.down ≤ D.covered self.new.down }
+        ensures room { D.covered self.old.down ≤ D.covered self.new.down + 1 }
+        // while every start was good, an event is a run of the session that is on, or another begins
+        ensures window { IfOk result (λ answer. self.new.clean ≡ true → Follows (seen U.kind D.kind self.old) (seen U.kind D.kind self.new)) }
+        ensures claims { self.new.clean ≡ true → IsClaimed self.new }
+        ensures was_clean { self.new.clean ≡ true → self.old.clean ≡ true }
+    {
+        window_is_kept();
+        self.parts.step(event)
+    }
+
+    /// Makes these events happen in turn, and stops at the first that is refused: those before it stand, and nothing
+    /// of it.
+    pub fn run(&mut self, events: &[Event]) -> RunEnd
+        ensures run { IsRun U.kind D.kind events.now result.done result.refusal self.old self.new }
+        // while every start was good, the events are runs of one session after the other
+        ensures window { self.new.clean ≡ true → FollowsOn (seen U.kind D.kind self.old) (seen U.kind D.kind self.new) }
+        ensures claims { self.new.clean ≡ true → IsClaimed self.new }
+    {
+        // the claims of the start, where no event happens
+        let _clean = self.clean();
+        for (done, event) in events.iter().enumerate() {
+            if let Err(refusal) = self.step(*event) {
+                return RunEnd {
+                    done,
+                    refusal: Some(refusal),
+                };
+            }
+        }
+        RunEnd {
+            done: events.len(),
+            refusal: None,
+        }
+    }
+
+    /// Takes the memory of so many reports and control words that are put on the downlink: so many `Put`s, and each
+    /// `Release`, are then not refused, if only `Uplink`, `Release` and `Put` come between. Nothing else changes.
+    pub fn reserve(&mut self, puts: usize) -> Result<(), Refusal>
+        ensures same { IsAsBefore U.kind D.kind self.old self.new }
+        ensures room { OnOk result (puts ≤ D.covered self.new.down) }
+        ensures kept { D.covered self.old.down ≤ D.covered self.new.down }
+        ensures memory { IfErr result (λ refusal. refusal ≡ Memory) }
+    {
+        self.parts.down.reserve(puts)
+    }
+
+    /// Whether every start so far was good: at each accepted initiation both carriers were empty, and at each without
+    /// check also V(S) was V(R) and the FARM had no flag.
+    pub fn clean(&self) -> bool
+        ensures value { result ≡ self.now.clean }
+        ensures claims { self.now.clean ≡ true → IsClaimed self.now }
+    {
+        window_is_kept();
+        self.parts.clean
+    }
+
+    /// How many sessions there were, the one that is on among them.
+    pub fn session_count(&self) -> usize
+        ensures { result ≡ length (sessions_of self.now) }
+    {
+        self.parts.past.len()
+    }
+
+    /// The session at this place, from 0 for the first.
+    pub fn session(&self, place: usize) -> Option<&Session<A>>
+        ensures found { IfSome result (λ session. slice_get (sessions_of self.now) place ≡ Some session.now.log) }
+        ensures none { IfNone result (slice_get (sessions_of self.now) place ≡ None) }
+    {
+        let count = self.parts.past.len();
+        if place >= count {
+            return None;
+        }
+        if place + 1 == count {
+            return Some(&self.parts.newest);
+        }
+        Some(&self.parts.past[place + 1])
+    }
+
+    /// What a status line prints of the FOP.
+    pub fn fop_view(&self) -> FopView
+        ensures { result ≡ view_of self.now.fop }
+    {
+        self.parts.fop.view()
+    }
+
+    /// The variables of the FARM.
+    pub fn farm_view(&self) -> FarmView
+        ensures { result ≡ self.now.farm }
+    {
+        self.parts.farm.view()
+    }
+
+    /// How many frames are in flight.
+    pub fn up_len(&self) -> usize
+        ensures { result ≡ length (U.kind.content self.now.up) }
+    {
+        self.parts.up.len()
+    }
+
+    /// How many control words and reports are in flight.
+    pub fn down_len(&self) -> usize
+        ensures { result ≡ length (D.kind.content self.now.down) }
+    {
+        self.parts.down.len()
+    }
+}
