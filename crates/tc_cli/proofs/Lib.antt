@@ -1,3 +1,5 @@
+mod KeptLemmas
 mod MemoryLemmas
 mod RunLemmas
+mod ScriptLemmas
 mod SessionLemmas

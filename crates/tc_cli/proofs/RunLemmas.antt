@@ -1,22 +1,46 @@
 -- The loop over the lines of a script.
-use Rattle.std.proofs.Common.{◌≡◌, ◌∙◌, ℕ, Bool, true, false, Option, List, [], ◌∷◌, ◌++◌, refl, sym, ap, subst, append_assoc, append-nil}
-use Rattle.std.specs.Prelude.{◌||◌, IfSome, if◌then◌else◌}
+use Rattle.std.proofs.Common.{◌≡◌, ◌∙◌, ◌+◌, ◌-◌, ◌<◌, ℕ, Bool, true, false, Option, Some, None, List, [], ◌∷◌, ◌++◌, refl, sym, ap, subst, append_assoc, append-nil, arith, length, take, drop, take-append-drop}
+use Rattle.std.specs.Prelude.{◌≢◌, ◌||◌, IfSome, if◌then◌else◌}
+use Rattle.std.proofs.Math.Seq.{take-add, take-length}
+use Rattle.std.proofs.lemmas.Bool.{ne_eqb}
+use Rattle.std.proofs.lemmas.List.{length-drop}
 use Rattle.std.specs.List.{flat_map, list_any}
-use Rattle.std.specs.Io.KnownBytes.{Appends, Consumes, IsAtEnd, Keeps}
-use Rattle.std.proofs.KnownBytes.{Appends-trans, Appends-nil, Appends-kept, Consumes-whole}
+use Rattle.std.specs.Io.KnownBytes.{Appends, Keeps}
+use Rattle.std.proofs.KnownBytes.{Appends-trans, Appends-nil, Appends-kept}
+use Rattle.tc_types.specs.declared.counted.Counts.{Counts}
+use Rattle.tc_types.specs.Counts.{CanCount, is_nothing, no_counts, plus_if}
 use Rattle.tc_cli.specs.Replies.{Reply, ended, is_refused}
 use Rattle.tc_cli.specs.Session.{Standing, just_opened}
-use Rattle.tc_cli.specs.Run.{AnswersLine, AsksPlaces, IsAnswered, TakesLine, TakesLines, is_skipped, script_lines}
+use Rattle.tc_cli.specs.declared.script.ScriptFault.{ScriptFault}
+use Rattle.tc_cli.specs.declared.script.ScriptFault.TheVariants.{Script, Output, Memory}
+use Rattle.tc_cli.specs.Run.{AnswersLine, AsksPlaces, IsAnswered, IsCutShort, LeavesPart, StopsAfter, TakesFront, TakesLine, TakesLines, is_skipped, script_lines}
+use Rattle.tc_cli.proofs.KeptLemmas.{run_leaves}
 
--- What was written so far are replies, and with what the lines left are answered behind them they answer all lines.
+-- What was written so far are the replies to the lines that were taken.
 pub record HasRun (start : Standing) (lines : List (List ℕ)) (old : Option (List ℕ)) (at : Standing) (left : List (List ℕ)) (new : Option (List ℕ)) (refused : Bool) : Type 0 where
   pub replies : List Reply
+  pub taken : TakesFront start lines replies at left
   pub written : Appends old new (flat_map ended replies)
   pub refusals : refused ≡ list_any is_refused replies
-  pub run : (later : List Reply) (end : Standing) → TakesLines at left later end → TakesLines start lines (replies ++ later) end
 
 pub has_run-start : (start : Standing) (lines : List (List ℕ)) (w : Option (List ℕ)) → HasRun start lines w start lines w false
-has_run-start start lines w = record { replies = []; written = Appends-nil w; refusals = refl; run = λ later end takes. takes }
+has_run-start start lines w = record { replies = []; taken = ([], refl, (refl, refl)); written = Appends-nil w; refusals = refl }
+
+-- one more line is taken behind those before
+takes_lines-snoc : (old : Standing) (front : List (List ℕ)) (replies : List Reply) (mid : Standing) (line : List ℕ) (now : List Reply) (new : Standing)
+    → TakesLines old front replies mid → TakesLine mid line now new → TakesLines old (front ++ line ∷ []) (replies ++ now) new
+takes_lines-snoc old [] replies mid line now new (none, same) takes =
+    (now, new, [], subst (λ (s : Standing). TakesLine s line now new) same takes, (refl, refl), rw none (sym (append-nil now)))
+takes_lines-snoc old (x ∷ xs) replies mid line now new (first, next, later, takes_first, goes, are) takes =
+    (first, next, later ++ now, takes_first, takes_lines-snoc next xs later mid line now new goes takes, rw are (append_assoc first later now))
+
+takes_front-step : (start : Standing) (lines : List (List ℕ)) (replies : List Reply) (at : Standing) (left : List (List ℕ)) (line : List ℕ) (others : List (List ℕ)) (now : List Reply) (next : Standing)
+    → TakesFront start lines replies at left → left ≡ line ∷ others → TakesLine at line now next → TakesFront start lines (replies ++ now) next others
+takes_front-step start lines replies at left line others now next (front, whole, takes) is_line goes = (
+  front ++ line ∷ [],
+  whole ∙ ap (λ (ls : List (List ℕ)). front ++ ls) is_line ∙ sym (append_assoc front (line ∷ []) others),
+  takes_lines-snoc start front replies at line now next takes goes,
+)
 
 pub flat_map-append : {X A : Type 0} (f : X → List A) (xs ys : List X) → flat_map f (xs ++ ys) ≡ flat_map f xs ++ flat_map f ys
 flat_map-append f [] ys = refl
@@ -54,36 +78,135 @@ pub has_run-step : (start : Standing) (lines : List (List ℕ)) (old : Option (L
     → HasRun start lines old next others new (before || now)
 has_run-step start lines old at left line others mid new before now next h is_line (replies, takes, written, refusals) = record {
   replies = h.replies ++ replies;
+  taken = takes_front-step start lines h.replies at left line others replies next h.taken is_line takes;
   written = rw flat_map-append (Appends-trans _ _ _ _ _ h.written written);
   refusals = rw (h.refusals, refusals) (sym (list_any-append is_refused h.replies replies));
-  run = λ later end goes. rw append_assoc (h.run (replies ++ later) end (rw is_line (replies, next, later, takes, goes, refl)));
 }
+
+takes_front-end : (start : Standing) (lines : List (List ℕ)) (replies : List Reply) (at : Standing) (left : List (List ℕ))
+    → TakesFront start lines replies at left → left ≡ [] → TakesLines start lines replies at
+takes_front-end start lines replies at left (front, whole, takes) none =
+    subst (λ (ls : List (List ℕ)). TakesLines start ls replies at) (sym (whole ∙ ap (λ (ls : List (List ℕ)). front ++ ls) none ∙ append-nil front)) takes
 
 pub has_run-end : (start : Standing) (lines : List (List ℕ)) (old : Option (List ℕ)) (at : Standing) (left : List (List ℕ)) (new : Option (List ℕ)) (refused : Bool)
     → HasRun start lines old at left new refused → left ≡ []
     → (replies : List Reply) × TakesLines start lines replies at × Appends old new (flat_map ended replies) × (refused ≡ list_any is_refused replies)
 has_run-end start lines old at left new refused h none =
-    (h.replies, rw (← append-nil h.replies) (h.run [] at (rw none (refl, refl))), h.written, h.refusals)
+    (h.replies, takes_front-end start lines h.replies at left h.taken none, h.written, h.refusals)
 
--- what a session was asked at the end
-abbrev pub Asked : Standing → Standing → List ℕ → Bool → Type 0
-Asked end after text refused = (reply : Reply) × AsksPlaces end reply after × (text ≡ ended reply) × (refused ≡ is_refused reply)
+-- the reply to the question at the end was cut short
+pub stopped_in_question : (end after : Standing) (bytes text : List ℕ) (last : Bool) (mid new : Option (List ℕ)) (fault : ScriptFault)
+    → (reply : Reply) × AsksPlaces end reply after × (text ≡ ended reply) × (last ≡ is_refused reply)
+    → bytes ≡ text → fault ≡ Output → (part : List ℕ) × IsCutShort bytes part × Appends mid new part
+    → (part : List ℕ) × LeavesPart fault end [] part × Appends mid new part
+stopped_in_question end after bytes text last mid new fault (reply, asks, is_text, is_reply) are is_output (part, cut, written) =
+    (part, rw is_output (reply, (after, asks), subst (λ (given : List ℕ). IsCutShort given part) (are ∙ is_text) cut), written)
+
+-- memory was refused before anything of the reply was written
+pub stopped_before : (at : Standing) (left : List (List ℕ)) (w : Option (List ℕ)) (fault : ScriptFault)
+    → fault ≢ Output → (part : List ℕ) × LeavesPart fault at left part × Appends w w part
+stopped_before at left w Script is_other = ([], refl, Appends-nil w)
+stopped_before at left w Output is_other = absurd (is_other refl)
+stopped_before at left w Memory is_other = ([], refl, Appends-nil w)
+
+-- what the question at the end came to
+abbrev pub CameLast : Standing → Standing → Option (List ℕ) → Option (List ℕ) → Bool → Type 0
+CameLast end after mid new refused =
+    (reply : Reply) × AsksPlaces end reply after × Appends mid new (ended reply) × (refused ≡ is_refused reply)
 
 abbrev pub CameAll : Standing → List (List ℕ) → Standing → Option (List ℕ) → Option (List ℕ) → Bool → Type 0
 CameAll start lines end old new refused =
     (replies : List Reply) × TakesLines start lines replies end × Appends old new (flat_map ended replies) × (refused ≡ list_any is_refused replies)
 
--- the lines of all that was read, and the question at the end
-pub run_answered : (read left : Option (List ℕ)) (input : List ℕ) (start end after : Standing) (refused last : Bool) (text : List ℕ) (old mid put new : Option (List ℕ))
-    → Consumes read left input → IsAtEnd left → start ≡ just_opened
-    → CameAll start (script_lines input) end old mid refused → Asked end after text last
-    → Appends mid put text → Keeps put new
-    → IfSome read (λ all. IsAnswered all (if refused || last then 1 else 0) old new)
-run_answered read left input start end after refused last text old mid put new taken whole opened (replies, takes, written, refusals) (reply, asks, is_text, is_reply) appends keeps =
-    let all : flat_map ended (replies ++ reply ∷ []) ≡ flat_map ended replies ++ text =
-    flat_map-append ended replies (reply ∷ []) ∙ ap (λ bytes. flat_map ended replies ++ bytes) (append-nil (ended reply) ∙ sym is_text) in
+-- the lines of a script, and the question at the end
+pub run_answered : (input : List ℕ) (start end after : Standing) (refused last : Bool) (old mid new : Option (List ℕ))
+    → start ≡ just_opened → CameAll start (script_lines input) end old mid refused → CameLast end after mid new last
+    → IsAnswered input (if refused || last then 1 else 0) old new
+run_answered input start end after refused last old mid new opened (replies, takes, written, refusals) (reply, asks, appends, is_reply) =
+    let all : flat_map ended (replies ++ reply ∷ []) ≡ flat_map ended replies ++ ended reply =
+    flat_map-append ended replies (reply ∷ []) ∙ ap (λ bytes. flat_map ended replies ++ bytes) (append-nil (ended reply)) in
     let any : list_any is_refused (replies ++ reply ∷ []) ≡ (refused || last) =
     list_any-append is_refused replies (reply ∷ []) ∙ rw (refusals, is_reply) (ap (λ b. list_any is_refused replies || b) (or_false (is_refused reply))) in
-    let bytes : Appends old new (flat_map ended (replies ++ reply ∷ [])) = rw all (Appends-kept _ _ _ _ (Appends-trans _ _ _ _ _ written appends) keeps) in
-    Consumes-whole read left input _ taken whole
-    (replies, end, reply, after, subst (λ (s : Standing). TakesLines s (script_lines input) replies end) opened takes, asks, bytes, ap (λ (b : Bool). if b then 1 else 0) (sym any))
+    let bytes : Appends old new (flat_map ended (replies ++ reply ∷ [])) = rw all (Appends-trans _ _ _ _ _ written appends) in
+    let from_open = subst (λ (s : Standing). TakesLines s (script_lines input) replies end) opened takes in
+    (replies, end, reply, after, from_open, asks, bytes, ap (λ (b : Bool). if b then 1 else 0) (sym any), run_leaves (script_lines input) replies end reply after from_open asks)
+
+-- a run that stopped at the question at the end
+pub run_stopped_at_end : (lines : List (List ℕ)) (start end : Standing) (refused : Bool) (old mid new : Option (List ℕ)) (fault : ScriptFault)
+    → start ≡ just_opened → CameAll start lines end old mid refused
+    → (part : List ℕ) × LeavesPart fault end [] part × Appends mid new part
+    → StopsAfter fault just_opened lines old new
+run_stopped_at_end lines start end refused old mid new fault opened (replies, takes, written, refusals) (part, leaves, appends) = (
+  replies,
+  end,
+  [],
+  part,
+  (lines, sym (append-nil lines), subst (λ (s : Standing). TakesLines s lines replies end) opened takes),
+  leaves,
+  Appends-trans _ _ _ _ _ written appends,
+)
+
+-- a run that stopped at one of the lines
+pub run_stopped : (lines : List (List ℕ)) (start : Standing) (old new : Option (List ℕ)) (fault : ScriptFault)
+    → start ≡ just_opened → StopsAfter fault start lines old new → StopsAfter fault just_opened lines old new
+run_stopped lines start old new fault opened stops = subst (λ (s : Standing). StopsAfter fault s lines old new) opened stops
+
+-- a run that stopped before its first line
+pub stops_first : (lines : List (List ℕ)) (w : Option (List ℕ)) (start : Standing) (fault : ScriptFault) → fault ≢ Output
+    → StopsAfter fault start lines w w
+stops_first lines w start fault is_other =
+    let none = stopped_before start lines w fault is_other in
+    ([], start, lines, none.0, ([], refl, (refl, refl)), none.1, none.2)
+
+memory_other : Memory ≢ Output
+memory_other e = cc
+
+-- a run that found no memory before its first line
+pub stops_for_memory : (lines : List (List ℕ)) (w : Option (List ℕ)) (start : Standing) (fault : ScriptFault) → fault ≡ Memory
+    → StopsAfter fault start lines w w
+stops_for_memory lines w start fault is_memory = rw is_memory (stops_first lines w start Memory memory_other)
+
+-- a run whose script could not be read
+pub stops_at_once : (read w : Option (List ℕ)) (start : Standing) (fault : ScriptFault) → fault ≢ Output
+    → IfSome read (λ input. StopsAfter fault start (script_lines input) w w)
+stops_at_once None w start fault is_other = tt
+stops_at_once (Some input) w start fault is_other = stops_first (script_lines input) w start fault is_other
+
+take_none : (xs : List ℕ) (n : ℕ) → n ≡ 0 → take n xs ≡ []
+take_none [] n is = rw is refl
+take_none (x ∷ xs) n is = rw is refl
+
+-- all of what is left
+take_rest : (bytes : List ℕ) (done : ℕ) → take (length bytes - done) (drop done bytes) ≡ drop done bytes
+take_rest bytes done = ap (λ n. take n (drop done bytes)) (sym (length-drop done bytes)) ∙ take-length (drop done bytes)
+
+-- a reply that went out in part
+pub put_cut : (a b c : Option (List ℕ)) (bytes : List ℕ) (done : ℕ) → done < length bytes → Appends a b (take done bytes) → Appends b c []
+    → (part : List ℕ) × IsCutShort bytes part × Appends a c part
+put_cut a b c bytes done more written none = (
+  take done bytes,
+  (drop done bytes, sym (take-append-drop done bytes), λ empty. let e : length (drop done bytes) ≡ 0 = ap length empty in let l : length (drop done bytes) ≡ length bytes - done = length-drop done bytes in omega arith),
+  subst (Appends a c) (append-nil (take done bytes)) (Appends-trans a b c (take done bytes) [] written none),
+)
+
+-- what is kept is appended to by nothing
+pub kept_appends : (b c : Option (List ℕ)) → Keeps b c → Appends b c []
+kept_appends b c keeps = Appends-kept b b c [] (Appends-nil b) keeps
+
+-- a write that took nothing
+pub none_appends : (b c : Option (List ℕ)) (bytes : List ℕ) (count : ℕ) → count ≡ 0 → Appends b c (take count bytes) → Appends b c []
+none_appends b c bytes count none appends = subst (Appends b c) (take_none bytes count none) appends
+
+-- some bytes more went out
+pub put_on : (a b c : Option (List ℕ)) (bytes : List ℕ) (done count : ℕ) → Appends a b (take done bytes)
+    → Appends b c (take count (take (length bytes - done) (drop done bytes))) → Appends a c (take (done + count) bytes)
+put_on a b c bytes done count written more =
+    let rest : Appends b c (take count (drop done bytes)) = subst (λ (bs : List ℕ). Appends b c (take count bs)) (take_rest bytes done) more in
+    subst (Appends a c) (sym (take-add done count bytes)) (Appends-trans a b c (take done bytes) (take count (drop done bytes)) written rest)
+
+-- the counts after a write that took something
+pub put_counts : (old new : Counts) (room count : ℕ) → old ≡ no_counts → count ≢ 0
+    → (CanCount old → new ≡ record { reads = old.reads; faults = plus_if old.faults (is_nothing count room); ends = old.ends }) → new ≡ no_counts
+put_counts old new room count fresh some counted =
+    let can : CanCount old = rw fresh (record { reads = omega arith; faults = omega arith; ends = omega arith }) in
+    counted can ∙ rw (fresh, ne_eqb count 0 some) refl

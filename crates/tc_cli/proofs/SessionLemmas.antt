@@ -1,5 +1,5 @@
 -- The steps of a session.
-use Rattle.std.proofs.Common.{◌≡◌, ◌∙◌, ◌⊎◌, inl, inr, ℕ, true, false, Option, Some, None, Result, Ok, Err, List, refl, sym, ap, subst, length, drop}
+use Rattle.std.proofs.Common.{◌≡◌, ◌∙◌, ◌⊎◌, inl, inr, ℕ, Bool, true, false, Option, Some, None, Result, Ok, Err, List, refl, sym, ap, subst, length, drop}
 use Rattle.std.specs.Prelude.{◌≢◌, ◌≤◌, ◌↔◌, sum}
 use Rattle.std.proofs.lemmas.List.{length-map}
 use Rattle.sqlite_trees.specs.declared.memory.MemStore.{MemStore}
@@ -23,6 +23,10 @@ use Rattle.tc_cli.specs.Replies.{Reply, refusal_reply}
 use Rattle.tc_cli.specs.Joined.{IsJoined}
 use Rattle.tc_cli.specs.Run.{IsUnread}
 use Rattle.tc_cli.specs.Session.{SessionStep, Standing}
+
+-- a session goes on: its flag, as its view told it
+pub goes_on : (inside view : Standing) (told : Bool) → inside ≡ view → told ≡ view.stopped → told ≡ false → inside.stopped ≡ false
+goes_on inside view told same is none = ap (λ (s : Standing). s.stopped) same ∙ sym is ∙ none
 
 -- no test holds: the desk machine's reply, and its book
 pub steps_done : (book new : Book) (stamp : Stamp) (given : Act) → first_refusal (tests_of book given) ≡ None → new ≡ acted stamp given book

@@ -1,16 +1,23 @@
 -- The run of a script: what is written for the lines that were read.
-use Rattle.std.specs.Prelude.{◌≡◌, ◌≢◌, ◌≤◌, ◌↔◌, ◌⊎◌, ℕ, ◌==◌, Bool, true, if◌then◌else◌, MatchBool, Option, List, [], ◌∷◌, ◌++◌, length, map}
+use Rattle.std.specs.Prelude.{◌≡◌, ◌≢◌, ◌≤◌, ◌↔◌, ◌⊎◌, ℕ, ◌==◌, Bool, true, false, if◌then◌else◌, MatchBool, Option, List, [], ◌∷◌, ◌++◌, length, map}
 use Rattle.std.specs.List.{list_any, flat_map}
 use Rattle.std.specs.Io.KnownBytes.{Appends}
 use Rattle.bstr.specs.Text.{lines_of, without_terminator}
 use Rattle.tc_types.specs.declared.refusals.Refusal.{Refusal}
-use Rattle.tc_types.specs.declared.refusals.Refusal.TheVariants.{BadText, TooLong}
+use Rattle.tc_types.specs.declared.refusals.Refusal.TheVariants.{BadText, Store, TooLong}
 use Rattle.tc_types.specs.declared.acts.Act.TheVariants as act
 use Rattle.tc_types.specs.declared.acts.Query.TheVariants as query
 use Rattle.tc_types.specs.declared.acts.Line.{Line}
 use Rattle.tc_types.specs.Grammar.{HasLongAct, SpellsLine, act_text}
 use Rattle.tc_desk.specs.declared.stamps.Stamp.{Stamp}
+use Rattle.tc_types.specs.History.{counts_of, entered}
+use Rattle.tc_types.specs.Lines.{places_line}
+use Rattle.tc_desk.specs.Book.{Book}
+use Rattle.tc_desk.specs.Conserved.{IsConserved}
+use Rattle.tc_desk.specs.Good.{IsGoodBook}
 use Rattle.tc_desk.specs.Machine.{stamp_of}
+use Rattle.tc_cli.specs.declared.script.ScriptFault.{ScriptFault}
+use Rattle.tc_cli.specs.declared.script.ScriptFault.TheVariants.{Script, Output, Memory}
 use Rattle.tc_cli.specs.Replies.{Reply, ended, is_refused, refusal_reply}
 use Rattle.tc_cli.specs.Session.{Standing, SessionStep, just_opened}
 
@@ -57,6 +64,21 @@ AsksPlaces old reply new = (stamp : Stamp) → SessionStep old stamp (act.Ask qu
 abbrev pub status_of : List Reply → ℕ
 status_of replies = if list_any is_refused replies then 1 else 0
 
+-- ---- a run that ends
+
+-- no reply says that the database failed
+abbrev pub NoneFailed : List Reply → Type 0
+NoneFailed [] = Unit {0}
+NoneFailed (reply ∷ replies) = (reply ≢ refusal_reply Store) × NoneFailed replies
+
+-- What a run leaves: a book that the desk could have written, whose history has one row for each move; each request
+-- that was entered stands at a place, and the counts of the fifteen places sum to those entered. That is what the
+-- last reply tells, where it is no refusal.
+pub record LeavesBook (book : Book) (last : Reply) : Type 0 where
+  pub good : IsGoodBook book
+  pub conserved : IsConserved book.history
+  pub told : is_refused last ≡ false → last ≡ places_line (length (entered book.history)) (counts_of book.history) ∷ []
+
 -- These bytes were read, and the run wrote the replies to their lines, and then the reply to `places`.
 abbrev pub IsAnswered : List ℕ → ℕ → Option (List ℕ) → Option (List ℕ) → Type 0
 IsAnswered input status old new =
@@ -64,3 +86,33 @@ IsAnswered input status old new =
     × TakesLines just_opened (script_lines input) replies end × AsksPlaces end last after
     × Appends old new (flat_map ended (replies ++ last ∷ []))
     × (status ≡ status_of (replies ++ last ∷ []))
+    × (NoneFailed (replies ++ last ∷ []) → LeavesBook end.book last)
+
+-- ---- a run that stops
+
+-- some first lines were taken, and these are left
+abbrev pub TakesFront : Standing → List (List ℕ) → List Reply → Standing → List (List ℕ) → Type 0
+TakesFront old lines replies new left =
+    (front : List (List ℕ)) × (lines ≡ front ++ left) × TakesLines old front replies new
+
+-- what comes next is answered: the next line, or, where none is left, the question `places`
+abbrev pub AnswersNext : Standing → List (List ℕ) → Reply → Type 0
+AnswersNext at [] reply = (after : Standing) × AsksPlaces at reply after
+AnswersNext at (line ∷ lines) reply = (after : Standing) × (is_skipped line ≡ false) × AnswersLine at line reply after
+
+-- a front of these bytes, and not all
+abbrev pub IsCutShort : List ℕ → List ℕ → Type 0
+IsCutShort bytes part = (rest : List ℕ) × (bytes ≡ part ++ rest) × (rest ≢ [])
+
+-- What a fault leaves of the next reply: where a write failed a front of it, and else nothing.
+abbrev pub LeavesPart : ScriptFault → Standing → List (List ℕ) → List ℕ → Type 0
+LeavesPart Script at left part = part ≡ []
+LeavesPart Output at left part = (next : Reply) × AnswersNext at left next × IsCutShort (ended next) part
+LeavesPart Memory at left part = part ≡ []
+
+-- The run of these lines stopped after some of them: their replies are written, and of the next what the fault leaves.
+abbrev pub StopsAfter : ScriptFault → Standing → List (List ℕ) → Option (List ℕ) → Option (List ℕ) → Type 0
+StopsAfter fault start lines old new =
+    (replies : List Reply) × (at : Standing) × (left : List (List ℕ)) × (part : List ℕ)
+    × TakesFront start lines replies at left × LeavesPart fault at left part
+    × Appends old new (flat_map ended replies ++ part)

@@ -19,6 +19,7 @@ use std::alloc::{AllocError, Global};
 use std::process::ExitCode;
 use std::rt::{Env, Files};
 use std::{env, fs, io};
+use tc_types::counted::Counted;
 use words::{Line, UsageFault, read_words};
 
 /// The exit status of a fault: of usage, of a file or of memory.
@@ -78,12 +79,13 @@ fn run_path<R: Files + Input + Print + Eprint + AllocGlobal>(rt: &R, path: &str)
 }
 
 fn run_at<R: Files + Input + Print + AllocGlobal>(rt: &R, path: &str) -> Result<u8, ScriptFault> {
-    let mut writer = io::writer(rt);
+    let mut writer = Counted::new(io::writer(rt));
     if path == "-" {
-        return run_script(rt.alloc(), Config {}, &mut rt.reader(), &mut writer);
+        let mut reader = Counted::new(rt.reader());
+        return run_script(rt.alloc(), Config {}, &mut reader, &mut writer);
     }
     match fs::open(rt, path) {
-        Ok(mut file) => run_script(rt.alloc(), Config {}, &mut file, &mut writer),
+        Ok(file) => run_script(rt.alloc(), Config {}, &mut Counted::new(file), &mut writer),
         Err(error) if error.kind() == io::ErrorKind::OutOfMemory => Err(ScriptFault::Memory),
         Err(_) => Err(ScriptFault::Script),
     }

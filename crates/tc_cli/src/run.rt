@@ -1,9 +1,13 @@
 //! The run of a script.
-ghost use Rattle.std.specs.Prelude.{◌≡◌, ◌≢◌, if◌then◌else◌, List, IfErr, IfOk, IfSome, OnOk};
+ghost use Rattle.std.specs.Prelude.{◌≡◌, ◌≢◌, ℕ, if◌then◌else◌, List, [], ◌∷◌, Err, IfErr, IfOk, IfSome, OnErr, OnOk};
 ghost use Rattle.std.specs.List.{flat_map, list_any};
-ghost use Rattle.std.specs.Io.KnownBytes.{Appends, Keeps};
+ghost use Rattle.std.specs.Io.KnownBytes.{Appends};
+ghost use Rattle.tc_types.specs.Counts.{counts_of, inner_of, no_counts};
 ghost use Rattle.tc_cli.specs.Replies.{Reply, ended, is_refused};
-ghost use Rattle.tc_cli.specs.Run.{IsAnswered, TakesLine, TakesLines, is_skipped, script_lines};
+ghost use Rattle.tc_cli.specs.Session.{just_opened};
+ghost use Rattle.tc_cli.specs.Script.{IsUnreadable, written_counts};
+ghost use Rattle.tc_cli.specs.Run.{AsksPlaces, IsAnswered, IsCutShort, LeavesPart, StopsAfter, TakesLine, TakesLines};
+ghost use Rattle.tc_cli.specs.Run.{is_skipped, script_lines};
 
 use crate::answers::{answer_line, answer_places};
 use crate::script::{ScriptFault, read_script};
@@ -11,26 +15,54 @@ use crate::session::{Config, Session};
 use bstr::ByteSlice;
 use std::alloc::Global;
 use std::io::{Read, Write};
+use tc_types::counted::Counted;
 
 /// Runs the lines of a script on a desk where nothing happened yet, and writes what they are answered, and at the end
 /// what `places` is answered. Gives the exit status: 1 where any line or that question was refused, else 0.
+///
+/// The script is read whole before a line is run: where that fails, the writer is as it was. The reader and the writer
+/// begin to count here, so that a caller sees which of them failed. What the writer holds back is the caller's to flush.
 pub fn run_script<R: Read, W: Write>(
     alloc: Global,
     config: Config,
-    reader: &mut R,
-    writer: &mut W,
+    reader: &mut Counted<R>,
+    writer: &mut Counted<W>,
 ) -> Result<u8, ScriptFault>
-    ensures answered { IfOk result (λ status. IfSome (R.remaining reader.old) (λ input.
-        IsAnswered input status (W.contents writer.old) (W.contents writer.new))) }
-    ensures unread { result ≡ Err ScriptFault.Script → Keeps (W.contents writer.old) (W.contents writer.new) }
+    requires unread { counts_of reader.old ≡ no_counts }
+    requires unwritten { counts_of writer.old ≡ no_counts }
+    ensures answered { IfOk result (λ status. IfSome (R.remaining (inner_of reader.old)) (λ input.
+        IsAnswered input status (W.contents (inner_of writer.old)) (W.contents (inner_of writer.new)))) }
+    ensures stopped { IfErr result (λ fault. IfSome (R.remaining (inner_of reader.old)) (λ input.
+        StopsAfter fault just_opened (script_lines input) (W.contents (inner_of writer.old)) (W.contents (inner_of writer.new)))) }
+    ensures script { result ≡ Err ScriptFault.Script →
+        IsUnreadable (counts_of reader.new) (R.remaining (inner_of reader.old)) (R.remaining (inner_of reader.new))
+        × (writer.new ≡ writer.old) }
+    ensures failed { (counts_of reader.new).faults ≢ 0 → result ≡ Err ScriptFault.Script }
+    ensures written { counts_of writer.new ≡ written_counts result }
 {
     let text = read_script(alloc, reader)?;
+    run_text(alloc, config, &text, writer)
+}
+
+/// Runs the lines of a script that was read. It fails with `Output` and `Memory` alone.
+fn run_text<W: Write>(
+    alloc: Global,
+    config: Config,
+    text: &[u8],
+    writer: &mut Counted<W>,
+) -> Result<u8, ScriptFault>
+    requires { counts_of writer.old ≡ no_counts }
+    ensures answered { IfOk result (λ status.
+        IsAnswered text.now status (W.contents (inner_of writer.old)) (W.contents (inner_of writer.new))) }
+    ensures stopped { IfErr result (λ fault. StopsAfter fault just_opened (script_lines text.now)
+        (W.contents (inner_of writer.old)) (W.contents (inner_of writer.new))) }
+    ensures fault { IfErr result (λ fault. fault ≢ ScriptFault.Script) }
+    ensures counted { counts_of writer.new ≡ written_counts result }
+{
     let mut session = Session::open(alloc, config)?;
-    let refused = run_lines(alloc, &mut session, &text, writer)?;
-    let last = answer_places(alloc, &mut session)?;
-    put(writer, last.text.as_bytes())?;
-    flush(writer)?;
-    Ok(status_of(refused | last.refused))
+    let refused = run_lines(alloc, &mut session, text, writer)?;
+    let last = run_places(alloc, &mut session, writer)?;
+    Ok(status_of(refused | last))
 }
 
 /// The exit status, where some line was refused or none was.
@@ -40,26 +72,28 @@ fn status_of(refused: bool) -> u8
     if refused { 1 } else { 0 }
 }
 
-/// Hands on what a writer holds back.
-fn flush<W: Write>(writer: &mut W) -> Result<(), ScriptFault>
-    ensures kept { Keeps (W.contents writer.old) (W.contents writer.new) }
+/// Writes all bytes, until a write fails.
+fn put<W: Write>(writer: &mut Counted<W>, bytes: &[u8]) -> Result<(), ScriptFault>
+    requires { counts_of writer.old ≡ no_counts }
+    ensures written { OnOk result (Appends (W.contents (inner_of writer.old)) (W.contents (inner_of writer.new)) bytes.now) }
+    ensures cut { OnErr result ((part : List ℕ) × IsCutShort bytes.now part
+        × Appends (W.contents (inner_of writer.old)) (W.contents (inner_of writer.new)) part) }
     ensures fault { IfErr result (λ fault. fault ≡ ScriptFault.Output) }
+    ensures counted { counts_of writer.new ≡ written_counts result }
 {
-    match writer.flush() {
-        Ok(()) => Ok(()),
-        Err(_) => Err(ScriptFault::Output),
+    let mut done = 0;
+    while done < bytes.len() {
+        match writer.write(&bytes[done..]) {
+            Ok(count) => {
+                if count == 0 {
+                    return Err(ScriptFault::Output);
+                }
+                done += count;
+            }
+            Err(_) => return Err(ScriptFault::Output),
+        }
     }
-}
-
-/// Writes all bytes.
-fn put<W: Write>(writer: &mut W, bytes: &[u8]) -> Result<(), ScriptFault>
-    ensures written { OnOk result (Appends (W.contents writer.old) (W.contents writer.new) bytes.now) }
-    ensures fault { IfErr result (λ fault. fault ≡ ScriptFault.Output) }
-{
-    match writer.write_all(bytes) {
-        Ok(()) => Ok(()),
-        Err(_) => Err(ScriptFault::Output),
-    }
+    Ok(())
 }
 
 /// Whether a line is empty or begins with `#`.
@@ -77,11 +111,16 @@ fn run_line<W: Write>(
     alloc: Global,
     session: &mut Session,
     line: &[u8],
-    writer: &mut W,
+    writer: &mut Counted<W>,
 ) -> Result<bool, ScriptFault>
+    requires { counts_of writer.old ≡ no_counts }
     ensures taken { IfOk result (λ refused. (replies : List Reply) × TakesLine session.old line.now replies session.new
-        × Appends (W.contents writer.old) (W.contents writer.new) (flat_map ended replies) × (refused ≡ list_any is_refused replies)) }
+        × Appends (W.contents (inner_of writer.old)) (W.contents (inner_of writer.new)) (flat_map ended replies)
+        × (refused ≡ list_any is_refused replies)) }
+    ensures stopped { IfErr result (λ fault. (part : List ℕ) × LeavesPart fault session.old (line.now ∷ []) part
+        × Appends (W.contents (inner_of writer.old)) (W.contents (inner_of writer.new)) part) }
     ensures fault { IfErr result (λ fault. fault ≢ ScriptFault.Script) }
+    ensures counted { counts_of writer.new ≡ written_counts result }
 {
     if is_skipped(line) {
         return Ok(false);
@@ -96,15 +135,40 @@ fn run_lines<W: Write>(
     alloc: Global,
     session: &mut Session,
     text: &[u8],
-    writer: &mut W,
+    writer: &mut Counted<W>,
 ) -> Result<bool, ScriptFault>
+    requires { counts_of writer.old ≡ no_counts }
     ensures taken { IfOk result (λ refused. (replies : List Reply) × TakesLines session.old (script_lines text.now) replies session.new
-        × Appends (W.contents writer.old) (W.contents writer.new) (flat_map ended replies) × (refused ≡ list_any is_refused replies)) }
+        × Appends (W.contents (inner_of writer.old)) (W.contents (inner_of writer.new)) (flat_map ended replies)
+        × (refused ≡ list_any is_refused replies)) }
+    ensures stopped { IfErr result (λ fault. StopsAfter fault session.old (script_lines text.now)
+        (W.contents (inner_of writer.old)) (W.contents (inner_of writer.new))) }
     ensures fault { IfErr result (λ fault. fault ≢ ScriptFault.Script) }
+    ensures counted { counts_of writer.new ≡ written_counts result }
 {
     let mut refused = false;
     for line in text.lines() {
         refused |= run_line(alloc, session, line, writer)?;
     }
     Ok(refused)
+}
+
+/// Asks the question `places`, and says whether it was refused.
+fn run_places<W: Write>(
+    alloc: Global,
+    session: &mut Session,
+    writer: &mut Counted<W>,
+) -> Result<bool, ScriptFault>
+    requires { counts_of writer.old ≡ no_counts }
+    ensures taken { IfOk result (λ refused. (reply : Reply) × AsksPlaces session.old reply session.new
+        × Appends (W.contents (inner_of writer.old)) (W.contents (inner_of writer.new)) (ended reply)
+        × (refused ≡ is_refused reply)) }
+    ensures stopped { IfErr result (λ fault. (part : List ℕ) × LeavesPart fault session.old [] part
+        × Appends (W.contents (inner_of writer.old)) (W.contents (inner_of writer.new)) part) }
+    ensures fault { IfErr result (λ fault. fault ≢ ScriptFault.Script) }
+    ensures counted { counts_of writer.new ≡ written_counts result }
+{
+    let last = answer_places(alloc, session)?;
+    put(writer, last.text.as_bytes())?;
+    Ok(last.refused)
 }

@@ -1,10 +1,13 @@
 //! A script: the faults that end its run, and the reading of its text.
-ghost use Rattle.std.specs.Prelude.{◌≡◌, ◌≢◌, ◌≤◌, IfErr, IfOk, OnOk, vec_len};
+ghost use Rattle.std.specs.Prelude.{◌≡◌, ◌≢◌, ◌≤◌, Err, IfErr, IfOk, OnOk, vec_len};
 ghost use Rattle.std.specs.Io.KnownBytes.{Consumes, IsAtEnd};
+ghost use Rattle.tc_types.specs.Counts.{counts_of, inner_of, no_counts};
+ghost use Rattle.tc_cli.specs.Script.{IsUnreadable};
 ghost use Rattle.tc_cli.specs.declared.script.ScriptFault.TheVariants.{Memory};
 
 use std::alloc::{AllocError, AllocFailed, Global};
 use std::io::Read;
+use tc_types::counted::Counted;
 use thiserror::Error;
 
 /// How many bytes a script has at most.
@@ -44,13 +47,19 @@ impl<T: Drop> From<AllocFailed<T>> for ScriptFault {
     }
 }
 
-/// Reads a script to its end.
-pub fn read_script<R: Read>(alloc: Global, reader: &mut R) -> Result<Vec<u8>, ScriptFault>
+/// Reads a script to its end. It fails with `Script` and `Memory` alone.
+pub fn read_script<R: Read>(alloc: Global, reader: &mut Counted<R>) -> Result<Vec<u8>, ScriptFault>
+    requires { counts_of reader.old ≡ no_counts }
     ensures taken { IfOk result (λ text.
-        Consumes (R.remaining reader.old) (R.remaining reader.new) text.items) }
-    ensures whole { OnOk result (IsAtEnd (R.remaining reader.new)) }
+        Consumes (R.remaining (inner_of reader.old)) (R.remaining (inner_of reader.new)) text.items) }
+    ensures whole { OnOk result (IsAtEnd (R.remaining (inner_of reader.new))) }
     ensures short { IfOk result (λ text. vec_len text ≤ LARGEST_SCRIPT) }
+    ensures ended { OnOk result ((counts_of reader.new).ends ≡ 1) }
     ensures fault { IfErr result (λ fault. fault ≢ ScriptFault.Output) }
+    ensures script { result ≡ Err ScriptFault.Script →
+        IsUnreadable (counts_of reader.new) (R.remaining (inner_of reader.old)) (R.remaining (inner_of reader.new)) }
+    ensures failed { (counts_of reader.new).faults ≢ 0 → result ≡ Err ScriptFault.Script }
+    ensures few { (counts_of reader.new).reads ≤ MOST_READS }
 {
     let mut text = Vec::new(alloc);
     let mut buffer = [0; 4096];

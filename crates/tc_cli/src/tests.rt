@@ -4,9 +4,10 @@ use crate::script::{LARGEST_SCRIPT, ScriptFault};
 use crate::session::Config;
 use crate::words::{Line, UsageFault, read_words};
 use std::alloc::Global;
-use std::io;
-use std::io::{Read, Write};
 use std::test::Fail;
+use tc_types::counted::Counted;
+
+mod streams;
 
 const FIRST_RUN: &[u8] = b"100 ann enter 5 a--c no 8 1 - - ok
 110 bob enter 5 a--c no 8 2 - - ok
@@ -83,10 +84,10 @@ places 1: 0 0 0 0 0 0 0 0 0 0 0 0 1 0 0
 ];
 
 fn answers(alloc: Global, script: &[u8]) -> Result<(u8, Vec<u8>), ScriptFault> {
-    let mut reader = script;
-    let mut written = Vec::new(alloc);
-    let status = run_script(alloc, Config {}, &mut reader, &mut written)?;
-    Ok((status, written))
+    let mut reader = Counted::new(script);
+    let mut writer = Counted::new(Vec::new(alloc));
+    let status = run_script(alloc, Config {}, &mut reader, &mut writer)?;
+    Ok((status, writer.into_inner()))
 }
 
 #[test]
@@ -121,102 +122,12 @@ fn takes_no_more_than_a_script_may_have(rt: HostRuntime) -> Result<(), Fail> {
     let (status, _) = answers(rt.alloc(), &script)?;
     assert_eq!(rt; status, 0);
     script.push(b'\n')?;
-    let mut written = Vec::new(rt.alloc());
-    let ended = run_script(rt.alloc(), Config {}, &mut script.as_slice(), &mut written);
+    let mut reader = Counted::new(script.as_slice());
+    let mut writer = Counted::new(Vec::new(rt.alloc()));
+    let ended = run_script(rt.alloc(), Config {}, &mut reader, &mut writer);
     assert_eq!(rt; ended, Err(ScriptFault::Script));
-    assert_eq!(rt; written.len(), 0);
-    Ok(())
-}
-
-/// Gives one byte at each read, and fails at one of them.
-#[derive(Drop)]
-struct Drip<'a> {
-    rest: &'a [u8],
-    left: usize,
-}
-
-impl Read for Drip<'_> {
-    fn read(&mut self, buf: &mut [u8]) -> io::Result<usize> {
-        if self.left == 0 {
-            return Err(io::Error::from(io::ErrorKind::Other));
-        }
-        self.left -= 1;
-        let Some((first, rest)) = self.rest.split_first() else {
-            return Ok(0);
-        };
-        if buf.is_empty() {
-            return Ok(0);
-        }
-        buf[0] = *first;
-        self.rest = rest;
-        Ok(1)
-    }
-}
-
-#[test]
-fn runs_nothing_where_a_read_fails(rt: HostRuntime) -> Result<(), Fail> {
-    for left in 0..FIRST_RUN.len() + 1 {
-        let mut reader = Drip {
-            rest: FIRST_RUN,
-            left,
-        };
-        let mut written = Vec::new(rt.alloc());
-        let ended = run_script(rt.alloc(), Config {}, &mut reader, &mut written);
-        assert_eq!(rt; ended, Err(ScriptFault::Script));
-        assert_eq!(rt; written.len(), 0);
-    }
-    let mut reader = Drip {
-        rest: FIRST_RUN,
-        left: FIRST_RUN.len() + 1,
-    };
-    let mut written = Vec::new(rt.alloc());
-    assert_eq!(rt;
-        run_script(rt.alloc(), Config {}, &mut reader, &mut written),
-        Ok(0)
-    );
-    assert_eq!(rt; written.as_slice(), FIRST_ANSWERS);
-    Ok(())
-}
-
-/// Takes what it is given, until it fails.
-#[derive(Drop)]
-struct Clog {
-    taken: Vec<u8>,
-    left: usize,
-}
-
-impl Write for Clog {
-    fn write(&mut self, buf: &[u8]) -> io::Result<usize> {
-        if self.left == 0 {
-            return Err(io::Error::from(io::ErrorKind::Other));
-        }
-        self.left -= 1;
-        self.taken.extend_from_slice(buf)?;
-        Ok(buf.len())
-    }
-
-    fn flush(&mut self) -> io::Result<()> {
-        Ok(())
-    }
-}
-
-#[test]
-fn stops_where_a_write_fails(rt: HostRuntime) -> Result<(), Fail> {
-    for left in 0usize..7 {
-        let mut writer = Clog {
-            taken: Vec::new(rt.alloc()),
-            left,
-        };
-        let mut reader = FIRST_RUN;
-        let ended = run_script(rt.alloc(), Config {}, &mut reader, &mut writer);
-        let expected = if left < 6 {
-            Err(ScriptFault::Output)
-        } else {
-            Ok(0)
-        };
-        assert_eq!(rt; ended, expected);
-        assert!(rt; FIRST_ANSWERS.starts_with(writer.taken.as_slice()));
-    }
+    assert_eq!(rt; reader.counts().faults, 0);
+    assert_eq!(rt; writer.into_inner().len(), 0);
     Ok(())
 }
 

@@ -72,10 +72,3 @@ DeskStep old stamp given outcome = (outcome ≡ outcome_of old stamp given) ⊎ 
 
 abbrev pub stamp_of : Line → Stamp
 stamp_of line = record { by = line.by; moment = line.moment }
-
--- A run: each line is answered in turn, from the book that the line before left.
-abbrev pub DeskRun : Book → List Line → List (List (List ℕ)) → Book → Type 0
-DeskRun old [] replies new = (replies ≡ []) × (new ≡ old)
-DeskRun old (line ∷ lines) replies new =
-    (outcome : Outcome) × (others : List (List (List ℕ)))
-    × (replies ≡ outcome.reply ∷ others) × DeskStep old (stamp_of line) line.act outcome × DeskRun outcome.book lines others new

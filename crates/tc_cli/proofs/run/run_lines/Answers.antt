@@ -1,8 +1,11 @@
 use Rattle.tc_cli.proofs.RunLemmas.{has_run-step, has_run-end}
 use Rattle.tc_cli.proofs.run.run_lines.Goals as goal
 
-pub loop-line-preserved : goal.loop-line-preserved
-loop-line-preserved g c = has_run-step _ _ _ _ _ _ _ _ _ _ _ _ c.loop-line.invariant c.in-Some.ensures.steps c.in_ok-refused.ensures.taken
-
 pub returns-clause-taken : goal.returns-clause-taken
-returns-clause-taken g c = has_run-end _ _ _ _ _ _ _ c.loop-line.invariant c.in-None.ensures.steps.0
+returns-clause-taken g c = has_run-end _ _ _ _ _ _ _ c.loop-line.invariant.run c.in-None.ensures.steps.0
+
+pub loop-line-preserved : goal.loop-line-preserved
+loop-line-preserved g c = record {
+  run = has_run-step _ _ _ _ _ _ _ _ _ _ _ _ c.loop-line.invariant.run c.in-Some.ensures.steps c.in_ok-refused.ensures.taken;
+  counts = c.in_ok-refused.ensures.counted;
+}

@@ -1,6 +1,11 @@
+use Rattle.std.proofs.Common.{◌≡◌}
+use Rattle.tc_types.specs.Counts.{counts_of, inner_of, no_counts}
 use Rattle.tc_cli.specs.Run.{script_lines}
 use Rattle.tc_cli.proofs.RunLemmas.{HasRun}
 use Rattle.tc_cli.proofs.run.run_lines.Given as goal
 
 abbrev pub invariant-loop-line : goal.invariant-loop-line
-invariant-loop-line g l = HasRun l.fn.session (script_lines l.fn.text) (g.W.Write.contents l.fn.writer) l.session l.line-iterator (g.W.Write.contents l.writer) l.refused
+invariant-loop-line g l = record {
+  run : HasRun l.fn.session (script_lines l.fn.text) (g.W.Write.contents (inner_of l.fn.writer)) l.session l.line-iterator (g.W.Write.contents (inner_of l.writer)) l.refused;
+  counts : counts_of l.writer ≡ no_counts;
+}

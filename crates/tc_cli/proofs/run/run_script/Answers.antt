@@ -1,14 +1,24 @@
-use Rattle.std.proofs.Common.{List, ℕ, subst, sym}
-use Rattle.std.specs.Io.KnownBytes.{Appends, Consumes}
-use Rattle.tc_cli.proofs.RunLemmas.{run_answered}
+use Rattle.std.proofs.Common.{◌≡◌, Err, List, ℕ, arith, subst, sym}
+use Rattle.std.proofs.lemmas.Result.{IfErr-weaker, IfOk-weaker}
+use Rattle.std.proofs.KnownBytes.{Consumes-whole}
+use Rattle.std.specs.Io.KnownBytes.{Consumes}
+use Rattle.tc_types.specs.Counts.{inner_of}
+use Rattle.tc_cli.proofs.RunLemmas.{stops_at_once}
 use Rattle.tc_cli.proofs.run.run_script.Goals as goal
+
+pub returns-in_err-text-clause-stopped : goal.returns-in_err-text-clause-stopped
+returns-in_err-text-clause-stopped g c =
+    let gone : c.from_residual.result ≡ Err c.in_err-text.field-0.0 = grind arith in
+    rw gone (stops_at_once _ _ _ _ c.in_err-text.ensures.fault)
 
 pub returns-clause-answered : goal.returns-clause-answered
 returns-clause-answered g c =
-    let taken = subst (λ (bytes : List ℕ). Consumes (g.R.Read.remaining c.args.reader.now) (g.R.Read.remaining c.read_script.new.reader) bytes)
+    let taken = subst (λ (bytes : List ℕ). Consumes (g.R.Read.remaining (inner_of c.args.reader.now)) (g.R.Read.remaining (inner_of c.read_script.new.reader)) bytes)
     (sym c.deref.ensures.value) c.in_ok-text.ensures.taken in
-    let appends = subst (λ (bytes : List ℕ). Appends (g.W.Write.contents c.run_lines.new.writer) (g.W.Write.contents c.put.new.writer) bytes)
-    c.as_bytes.ensures.value c.in_ok-put.ensures.written in
-    rw c.status_of.ensures
-    (run_answered _ _ _ _ _ _ _ _ _ _ _ _ _ taken c.in_ok-text.ensures.whole c.in_ok-session.ensures.opened
-    c.in_ok-refused.ensures.taken c.in_ok-last.ensures appends c.in_ok-flush.ensures.kept)
+    IfOk-weaker c.run_text.result _ _ (λ status answered. Consumes-whole _ _ _ _ taken c.in_ok-text.ensures.whole answered) c.run_text.ensures.answered
+
+pub returns-clause-stopped : goal.returns-clause-stopped
+returns-clause-stopped g c =
+    let taken = subst (λ (bytes : List ℕ). Consumes (g.R.Read.remaining (inner_of c.args.reader.now)) (g.R.Read.remaining (inner_of c.read_script.new.reader)) bytes)
+    (sym c.deref.ensures.value) c.in_ok-text.ensures.taken in
+    IfErr-weaker c.run_text.result _ _ (λ fault stopped. Consumes-whole _ _ _ _ taken c.in_ok-text.ensures.whole stopped) c.run_text.ensures.stopped

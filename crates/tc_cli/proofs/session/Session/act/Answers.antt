@@ -1,12 +1,12 @@
 use Rattle.std.proofs.Common.{arith, ◌≡◌, Err, subst}
 use Rattle.tc_cli.specs.Joined.{HasImage}
-use Rattle.tc_cli.proofs.SessionLemmas.{good-few, joined_stopped, steps_refusal, steps_act}
+use Rattle.tc_cli.proofs.SessionLemmas.{goes_on, good-few, joined_stopped, steps_refusal, steps_act}
 use Rattle.tc_cli.proofs.session.Session.act.Goals as goal
 
 pub returns-in_err-done : goal.returns-in_err-done
 returns-in_err-done c =
     let gone : c.from_residual.result ≡ Err c.in_err-done.field-0.0 = grind arith in
-    rw (gone, ← c.self.view_is, c.if-self.false)
+    rw (gone, ← c.self.view_is, goes_on _ _ _ c.self.view_is c.has_stopped.ensures c.if-has_stopped.false)
     (steps_refusal c.self.inside.desk c.act.new.self (record { by = c.args.by; moment = c.args.moment }) c.args.act _ c.in_err-done.ensures.answers.0 c.in_err-done.ensures.answers.1)
 
 pub invariant_of-self-in-Ok : goal.invariant_of-self-in-Ok
@@ -21,6 +21,6 @@ invariant_of-self-in-Err-1 c = joined_stopped _ _ c.in_ok-done.ensures.conserved
 
 pub returns-in-Ok : goal.returns-in-Ok
 returns-in-Ok c =
-    rw (← c.self.view_is, c.if-self.false)
+    rw (← c.self.view_is, goes_on _ _ _ c.self.view_is c.has_stopped.ensures c.if-has_stopped.false)
     (steps_act c.self.inside.desk c.act.new.self (record { by = c.args.by; moment = c.args.moment }) c.args.act c.in_ok-done.done.first c.in_ok-done.done.moves.items
     c.requires c.in_ok-done.ensures.answers.0 c.in_ok-done.ensures.answers.1 c.in_ok-done.ensures.answers.2 c.in_ok-done.ensures.moves)

@@ -1,0 +1,29 @@
+-- The reading of a script, and the counts of the reader and writer of a run.
+use Rattle.std.specs.Prelude.{◌≡◌, ◌≤◌, ◌<◌, ◌*◌, ◌⊎◌, ℕ, Result, Ok, Err, Option, List, length}
+use Rattle.std.specs.Io.KnownBytes.{Consumes}
+use Rattle.tc_types.specs.declared.counted.Counts.{Counts}
+use Rattle.tc_types.specs.Counts.{no_counts}
+use Rattle.tc_cli.specs.declared.script.ScriptFault.{ScriptFault}
+use Rattle.tc_cli.specs.declared.script.ScriptFault.TheVariants.{Script, Output, Memory}
+
+-- more was read than a script may have, by reads that gave 4,096 bytes at most
+pub record IsTooLong (counts : Counts) (old new : Option (List ℕ)) : Type 0 where
+  pub text : List ℕ
+  pub taken : Consumes old new text
+  pub long : 1048576 < length text
+  pub reads : length text ≤ 4096 * counts.reads
+
+-- Why a script could not be read: its reader failed, or was read 100,000 times, or gave too much.
+abbrev pub IsUnreadable : Counts → Option (List ℕ) → Option (List ℕ) → Type 0
+IsUnreadable counts old new = (counts.faults ≡ 1) ⊎ ((counts.reads ≡ 100000) ⊎ IsTooLong counts old new)
+
+-- one read or write failed
+abbrev pub one_fault : Counts
+one_fault = record { reads = 0; faults = 1; ends = 0 }
+
+-- The counts of the writer: one write failed where the answer is Output, and none where it is another.
+abbrev pub written_counts : {X : Type 0} → Result X ScriptFault → Counts
+written_counts (Ok answer) = no_counts
+written_counts (Err Script) = no_counts
+written_counts (Err Output) = one_fault
+written_counts (Err Memory) = no_counts
