@@ -1,0 +1,4 @@
+//! The link, tested from outside: a link that skips, and what the tests of the whole link share.
+#![tactic(auto)]
+
+pub mod skipping;
