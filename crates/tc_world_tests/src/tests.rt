@@ -1,8 +1,4 @@
 //! What no clause says: that events happen where there is memory, with which values, and what refused memory leaves.
-use crate::carriers::Carrier;
-use crate::events::{Event, Indication};
-use crate::list_carriers::ListCarrier;
-use crate::worlds::World;
 use linked_list_allocator::LocalHeap;
 use std::alloc::{Allocator, Global};
 use std::process::Abort;
@@ -15,6 +11,10 @@ use tc_types::numbers::{Apid, RequestNumber, SequenceCount, Service, Subtype};
 use tc_types::refusals::Refusal;
 use tc_types::reports::Report;
 use tc_types::requests::{Ack, Body, Command, Identity, Outcome};
+use tc_world::carriers::Carrier;
+use tc_world::events::{Event, Indication};
+use tc_world::list_carriers::ListCarrier;
+use tc_world::worlds::World;
 
 mod refusing;
 mod starts;

@@ -1,9 +1,9 @@
 //! Starts that are not good, after which `clean` stays false.
 use super::{AMPLE, all_happen, lists, offer};
-use crate::events::Event;
 use linked_list_allocator::LocalHeap;
 use std::test::Fail;
 use tc_fop::signals::Directive;
+use tc_world::events::Event;
 
 /// The service starts without check.
 const START: Event = Event::Directive(Directive::InitiateNone);
