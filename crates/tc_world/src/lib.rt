@@ -11,6 +11,4 @@ mod parts;
 pub mod runs;
 pub mod sessions;
 mod steps;
-#[cfg(test)]
-mod tests;
 pub mod worlds;

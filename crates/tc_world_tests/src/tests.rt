@@ -1,8 +1,6 @@
 //! What no clause says: that events happen where there is memory, with which values, and what refused memory leaves.
-use crate::carriers::Carrier;
-use crate::events::{Event, Indication};
-use crate::list_carriers::ListCarrier;
-use crate::worlds::World;
+use crate::links::{Link, Written};
+use crate::skipping::SkippingCarrier;
 use linked_list_allocator::LocalHeap;
 use std::alloc::{Allocator, Global};
 use std::process::Abort;
@@ -15,28 +13,49 @@ use tc_types::numbers::{Apid, RequestNumber, SequenceCount, Service, Subtype};
 use tc_types::refusals::Refusal;
 use tc_types::reports::Report;
 use tc_types::requests::{Ack, Body, Command, Identity, Outcome};
+use tc_world::events::{Event, Indication};
+use tc_world::list_carriers::ListCarrier;
+use tc_world::worlds::World;
 
+mod courses;
+mod lockouts;
 mod refusing;
+mod rooms;
+mod rounds;
 mod starts;
 
-/// More than any world here takes.
+/// More than any world on a heap takes here.
 const AMPLE: usize = 4_194_304;
 
-/// A link of lists on a heap.
-type Lists<'a> = World<
-    ListCarrier<Frame, &'a LocalHeap>,
-    ListCarrier<Report, &'a LocalHeap>,
-    &'a LocalHeap,
->;
+/// The service starts without check.
+const START: Event = Event::Directive(Directive::InitiateNone);
+
+/// The service starts with a check.
+const CHECK: Event = Event::Directive(Directive::InitiateCheck);
+
+/// The service starts with an Unlock.
+const UNLOCK: Event = Event::Directive(Directive::InitiateUnlock);
+
+/// The service stops.
+const STOP: Event = Event::Directive(Directive::Terminate);
+
+/// A frame comes up, and a buffer is free for it.
+const UP: Event = Event::Uplink { room: true };
+
+/// A world over links that lose what they are told to lose.
+type Lists<A> = World<ListCarrier<Frame, A>, ListCarrier<Report, A>, A>;
+
+/// A world over links that skip.
+type Skips<A> = World<SkippingCarrier<Frame, A>, SkippingCarrier<Report, A>, A>;
 
 /// The number of a request.
 fn number(rt: &impl Abort, n: u32) -> RequestNumber {
     RequestNumber::new(n).expect(rt, "a number of a request")
 }
 
-/// The name of request `n` on board: requests differ by their count.
+/// The name of request `n` on board: requests that follow one another differ by their count.
 fn identity(rt: &impl Abort, n: u32) -> Identity {
-    let count = u16::try_from(n).expect(rt, "a small number");
+    let count = u16::try_from(n % 16_384).expect(rt, "a small number");
     Identity {
         apid: Apid::new(5).expect(rt, "an application process"),
         count: SequenceCount::new(count).expect(rt, "a count"),
@@ -84,54 +103,73 @@ fn offers(
     Ok(events)
 }
 
-/// A FARM with this window width.
-fn farm(rt: &impl Abort, window: u16) -> Farm {
-    Farm::new(window).expect(rt, "a window width")
-}
-
-/// A world over lists: its memory is this heap's.
-fn lists<'a>(
-    rt: &impl Abort,
-    heap: &'a LocalHeap,
+/// A world over lists: its memory is this allocator's.
+fn lists<A: Allocator + Copy + Drop>(
+    alloc: A,
     k: u8,
     window: u16,
     vc: u8,
-) -> Result<Lists<'a>, Refusal> {
-    let fop = Fop::new(heap, k, 10, 3)?;
+) -> Result<Lists<A>, Refusal> {
+    let fop = Fop::new(alloc, k, 10, 3)?;
     let Some(farm) = Farm::new(window) else {
         return Err(Refusal::BadDirective);
     };
     World::new(
-        heap,
+        alloc,
         fop,
         farm,
-        ListCarrier::new(heap),
-        ListCarrier::new(heap),
+        ListCarrier::new(alloc),
+        ListCarrier::new(alloc),
         vc,
     )
 }
 
+/// A world over links that skip, with as many transmissions as there may be.
+fn skips<A: Allocator + Copy + Drop>(alloc: A, k: u8, window: u16) -> Result<Skips<A>, Refusal> {
+    let fop = Fop::new(alloc, k, 10, 255)?;
+    let Some(farm) = Farm::new(window) else {
+        return Err(Refusal::BadDirective);
+    };
+    World::new(
+        alloc,
+        fop,
+        farm,
+        SkippingCarrier::new(alloc),
+        SkippingCarrier::new(alloc),
+        0,
+    )
+}
+
 /// Makes an event happen, and checks all that the link tells of it.
-fn happens<U: Carrier<Frame> + Drop, D: Carrier<Report> + Drop, A: Allocator + Copy + Drop>(
+fn happens<L: Link>(
     rt: &impl Abort,
-    world: &mut World<U, D, A>,
+    link: &mut L,
     event: Event,
     told: &[Indication],
 ) -> Result<(), Fail> {
-    let answer = world.step(event)?;
-    assert_eq!(rt; &answer[..], told, "{event:?}");
+    let is_told = link.tells(event, told)?;
+    assert!(rt; is_told, "{event:?}");
     Ok(())
 }
 
 /// Makes events happen, none of which is refused.
-fn all_happen<U: Carrier<Frame> + Drop, D: Carrier<Report> + Drop, A: Allocator + Copy + Drop>(
-    rt: &impl Abort,
-    world: &mut World<U, D, A>,
-    events: &[Event],
-) {
-    let end = world.run(events);
+fn all_happen<L: Link>(rt: &impl Abort, link: &mut L, events: &[Event]) {
+    let end = link.does_all(events);
     assert_eq!(rt; end.refusal, None);
     assert_eq!(rt; end.done, events.len());
+}
+
+/// Makes an event happen so many times.
+fn repeats<L: Link>(link: &mut L, event: &Event, times: usize) -> Result<(), Fail> {
+    for _ in 0..times {
+        link.does(*event)?;
+    }
+    Ok(())
+}
+
+/// What is written down of the session at this place.
+fn written<'a, L: Link>(rt: &impl Abort, link: &'a L, place: usize) -> Written<'a> {
+    link.written(place).expect(rt, "a session")
 }
 
 /// Checks that these are the requests from one number on.

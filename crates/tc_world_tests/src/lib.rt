@@ -1,0 +1,7 @@
+//! The link, tested from outside: a link that skips, and what the tests of the whole link share.
+#![tactic(auto)]
+
+pub mod links;
+pub mod skipping;
+#[cfg(test)]
+mod tests;

@@ -1,0 +1,106 @@
+//! A link as a test sees it.
+use std::alloc::Allocator;
+use tc_farm::farms::FarmView;
+use tc_fop::views::FopView;
+use tc_types::frames::Frame;
+use tc_types::numbers::RequestNumber;
+use tc_types::refusals::Refusal;
+use tc_types::reports::Report;
+use tc_world::carriers::Carrier;
+use tc_world::events::{Event, Indication};
+use tc_world::runs::RunEnd;
+use tc_world::worlds::World;
+
+/// What is written down of a session.
+#[derive(Clone, Copy, Debug, PartialEq, Eq)]
+pub struct Written<'a> {
+    /// The requests that were sent, in order.
+    pub sent: &'a [RequestNumber],
+    /// The requests that the FARM accepted, in order.
+    pub accepted: &'a [RequestNumber],
+    /// The requests that the FOP confirmed, in order.
+    pub confirmed: &'a [RequestNumber],
+}
+
+/// A world, of which nothing is promised here: what a test does with it needs no proof but that of its own loops and
+/// indexes, whatever the links of the world are.
+pub trait Link {
+    /// Makes an event happen.
+    fn does(&mut self, event: Event) -> Result<(), Refusal>;
+
+    /// Makes an event happen, and says whether the link tells exactly this of it.
+    fn tells(&mut self, event: Event, told: &[Indication]) -> Result<bool, Refusal>;
+
+    /// Makes events happen, up to the first that is refused.
+    fn does_all(&mut self, events: &[Event]) -> RunEnd;
+
+    /// Whether each start so far was good.
+    fn is_clean(&self) -> bool;
+
+    /// How many sessions there were.
+    fn sessions(&self) -> usize;
+
+    /// What is written down of the session at this place, from 0 for the first.
+    fn written(&self, place: usize) -> Option<Written<'_>>;
+
+    /// What a status line prints of the FOP.
+    fn fop(&self) -> FopView;
+
+    /// The variables of the FARM.
+    fn farm(&self) -> FarmView;
+
+    /// How many frames are in flight, and how many control words and reports.
+    fn in_flight(&self) -> (usize, usize);
+}
+
+impl<U: Carrier<Frame> + Drop, D: Carrier<Report> + Drop, A: Allocator + Copy + Drop> Link
+    for World<U, D, A> {
+    fn does(&mut self, event: Event) -> Result<(), Refusal> {
+        match self.step(event) {
+            Ok(_) => Ok(()),
+            Err(refusal) => Err(refusal),
+        }
+    }
+
+    fn tells(&mut self, event: Event, told: &[Indication]) -> Result<bool, Refusal> {
+        match self.step(event) {
+            Ok(answer) => Ok(answer.as_slice() == told),
+            Err(refusal) => Err(refusal),
+        }
+    }
+
+    fn does_all(&mut self, events: &[Event]) -> RunEnd {
+        self.run(events)
+    }
+
+    fn is_clean(&self) -> bool {
+        self.clean()
+    }
+
+    fn sessions(&self) -> usize {
+        self.session_count()
+    }
+
+    fn written(&self, place: usize) -> Option<Written<'_>> {
+        match self.session(place) {
+            Some(session) => Some(Written {
+                sent: session.sent(),
+                accepted: session.accepted(),
+                confirmed: session.confirmed(),
+            }),
+            None => None,
+        }
+    }
+
+    fn fop(&self) -> FopView {
+        self.fop_view()
+    }
+
+    fn farm(&self) -> FarmView {
+        self.farm_view()
+    }
+
+    fn in_flight(&self) -> (usize, usize) {
+        (self.up_len(), self.down_len())
+    }
+}

@@ -1,0 +1,260 @@
+//! Long courses of random events, after each of which the claims are computed: in each session confirmed is a prefix of
+//! accepted and accepted of sent, and no request is sent twice or accepted twice over all sessions.
+//!
+//! Requests are offered in the order of their numbers, so that none is sent twice where the numbers rise over all
+//! sessions. After each event the newest session is computed, and at the end of each session all of them: no event
+//! writes into an earlier one.
+use super::{STOP, UP, identity, lists, number, offer, skips};
+use crate::links::{Link, Written};
+use std::process::Abort;
+use std::test::Fail;
+use tc_farm::farms::FarmView;
+use tc_fop::signals::{Directive, FopState};
+use tc_types::numbers::RequestNumber;
+use tc_types::refusals::Refusal;
+use tc_types::reports::{Telemetry, Verification};
+use tc_world::events::Event;
+
+/// A linear congruential generator.
+#[derive(Drop)]
+struct Dice {
+    state: u64,
+}
+
+impl Dice {
+    /// A number below this one.
+    fn roll(&mut self, sides: u32) -> u32 {
+        self.state = self
+            .state
+            .wrapping_mul(6_364_136_223_846_793_005)
+            .wrapping_add(1_442_695_040_888_963_407);
+        let high = u32::try_from(self.state >> 33).unwrap_or(0);
+        high.checked_rem(sides).unwrap_or(0)
+    }
+
+    /// A small place.
+    fn place(&mut self) -> usize {
+        usize::try_from(self.roll(6)).unwrap_or(0)
+    }
+}
+
+/// Where a course stands.
+#[derive(Drop)]
+struct Course {
+    dice: Dice,
+    /// The next request to be offered.
+    next: u32,
+    /// The last request that was sent in an earlier session.
+    earlier: u32,
+    /// How often the FOP stopped by itself.
+    alerts: u32,
+    /// How often an old request was offered again.
+    again: u32,
+}
+
+/// Checks the claims in a session, where the earlier sessions sent requests up to this one; answers the last.
+fn expect_claims(rt: &impl Abort, session: &Written<'_>, earlier: u32) -> u32 {
+    assert!(rt; session.sent.starts_with(session.accepted));
+    assert!(rt; session.accepted.starts_with(session.confirmed));
+    let mut last = earlier;
+    for request in session.sent {
+        assert!(rt; last < request.get());
+        last = request.get();
+    }
+    last
+}
+
+/// Checks the claims in the newest session; answers the last request that was sent.
+fn expect_newest<L: Link>(rt: &impl Abort, link: &L, earlier: u32) -> u32 {
+    assert!(rt; link.is_clean());
+    let Some(newest) = link.sessions().checked_sub(1) else {
+        return earlier;
+    };
+    let session = link.written(newest).expect(rt, "a session");
+    expect_claims(rt, &session, earlier)
+}
+
+/// Checks the claims in all sessions; answers how many requests were confirmed.
+fn expect_all<L: Link>(rt: &impl Abort, link: &L) -> usize {
+    let mut last = 0;
+    let mut confirmed = 0usize;
+    for place in 0..link.sessions() {
+        let session = link.written(place).expect(rt, "a session");
+        last = expect_claims(rt, &session, last);
+        confirmed = confirmed.saturating_add(session.confirmed.len());
+    }
+    confirmed
+}
+
+/// An event happens, and the claims stand after it.
+fn goes<L: Link>(rt: &impl Abort, link: &mut L, course: &Course, event: Event) -> Result<(), Fail> {
+    link.does(event)?;
+    expect_newest(rt, link, course.earlier);
+    Ok(())
+}
+
+/// The next request is offered, and the FOP may refuse it.
+fn offers_next<L: Link>(rt: &impl Abort, link: &mut L, course: &mut Course) {
+    let refusal = link.does(offer(rt, course.next)).err();
+    match refusal {
+        None => course.next = course.next.saturating_add(1),
+        Some(Refusal::WaitQueueFull) => {}
+        _ => assert_eq!(rt; refusal, Some(Refusal::ServiceNotActive)),
+    }
+    expect_newest(rt, link, course.earlier);
+}
+
+/// A request that was sent in some session.
+fn sent_before<L: Link>(link: &L, dice: &mut Dice) -> Option<RequestNumber> {
+    let count = u32::try_from(link.sessions()).unwrap_or(0);
+    let place = usize::try_from(dice.roll(count)).unwrap_or(0);
+    let session = link.written(place)?;
+    session.sent.get(dice.place()).copied()
+}
+
+/// A request that was sent is offered again, and is refused.
+fn offers_again<L: Link>(rt: &impl Abort, link: &mut L, course: &mut Course) {
+    let Some(request) = sent_before(link, &mut course.dice) else {
+        return;
+    };
+    let answer = link.does(offer(rt, request.get()));
+    assert_eq!(rt; answer.err(), Some(Refusal::WrongPlace), "{request:?}");
+    course.again = course.again.saturating_add(1);
+    expect_newest(rt, link, course.earlier);
+}
+
+/// A report of the spacecraft.
+fn report(rt: &impl Abort) -> Telemetry {
+    Telemetry::Verification {
+        verification: Verification::Completed,
+        request: number(rt, 1),
+        identity: identity(rt, 1),
+    }
+}
+
+/// An event that is neither an offer nor a directive.
+fn random_event(rt: &impl Abort, dice: &mut Dice) -> Event {
+    match dice.roll(24) {
+        0 => Event::Uplink { room: false },
+        1..=3 => Event::Clcw,
+        4..=8 => Event::Downlink,
+        9 => Event::Tick,
+        10 | 11 => Event::Release,
+        12 => Event::Put(report(rt)),
+        13 => Event::LoseUp(dice.place()),
+        14 => Event::LoseDown(dice.place()),
+        _ => UP,
+    }
+}
+
+/// How the next session starts, where both sides are level.
+fn start(farm: &FarmView, dice: &mut Dice) -> Directive {
+    let is_flagged = farm.wait || farm.retransmit;
+    match dice.roll(4) {
+        _ if farm.lockout => Directive::InitiateUnlock,
+        0 if !is_flagged => Directive::InitiateNone,
+        1 => Directive::InitiateCheck,
+        2 => Directive::InitiateUnlock,
+        _ => Directive::InitiateSetVr(u8::try_from(dice.roll(256)).unwrap_or(0)),
+    }
+}
+
+/// The same event so many times.
+fn goes_on<L: Link>(
+    rt: &impl Abort,
+    link: &mut L,
+    course: &Course,
+    event: &Event,
+    times: usize,
+) -> Result<(), Fail> {
+    for _ in 0..times {
+        goes(rt, link, course, *event)?;
+    }
+    Ok(())
+}
+
+/// A good start: the service ends, all that is in flight arrives, and both sides are level.
+fn restarts<L: Link>(rt: &impl Abort, link: &mut L, course: &mut Course) -> Result<(), Fail> {
+    goes(rt, link, course, STOP)?;
+    let (frames, reports) = link.in_flight();
+    goes_on(rt, link, course, &UP, frames)?;
+    goes_on(rt, link, course, &Event::Downlink, reports)?;
+    goes_on(rt, link, course, &UP, link.in_flight().0)?;
+    assert_eq!(rt; link.in_flight(), (0, 0));
+    expect_all(rt, link);
+    let farm = link.farm();
+    goes(
+        rt,
+        link,
+        course,
+        Event::Directive(Directive::SetVs(farm.vr)),
+    )?;
+    course.earlier = expect_newest(rt, link, course.earlier);
+    let first = start(&farm, &mut course.dice);
+    goes(rt, link, course, Event::Directive(first))
+}
+
+/// One random event, and a start where the FOP stopped, and now and then where it did not.
+fn turns<L: Link>(rt: &impl Abort, link: &mut L, course: &mut Course) -> Result<(), Fail> {
+    match course.dice.roll(32) {
+        0..=8 => offers_next(rt, link, course),
+        9 => offers_again(rt, link, course),
+        _ => {
+            let event = random_event(rt, &mut course.dice);
+            goes(rt, link, course, event)?;
+        }
+    }
+    let is_stopped = link.fop().state == FopState::Initial;
+    if is_stopped {
+        course.alerts = course.alerts.saturating_add(1);
+    }
+    if is_stopped || course.dice.roll(1_000) == 0 {
+        restarts(rt, link, course)?;
+    }
+    Ok(())
+}
+
+/// So many random events, from a generator that starts here. At least so many requests are confirmed, in several
+/// sessions, some requests are offered again, and some sessions end by an alert.
+fn courses<L: Link>(
+    rt: &impl Abort,
+    link: &mut L,
+    seed: u64,
+    events: u32,
+    least: usize,
+) -> Result<(), Fail> {
+    let mut course = Course {
+        dice: Dice { state: seed },
+        next: 1,
+        earlier: 0,
+        alerts: 0,
+        again: 0,
+    };
+    for _ in 0..events {
+        turns(rt, link, &mut course)?;
+    }
+    let confirmed = expect_all(rt, link);
+    assert!(rt; confirmed >= least, "{confirmed} confirmed");
+    assert!(rt; link.sessions() > 5, "{} sessions", link.sessions());
+    assert!(rt; course.alerts > 2, "{} alerts", course.alerts);
+    assert!(rt; course.again > 9, "{} again", course.again);
+    Ok(())
+}
+
+#[test]
+fn the_claims_stand_over_100_000_events(rt: HostRuntime) -> Result<(), Fail> {
+    for (k, window) in [(255, 254), (127, 254), (10, 20), (3, 4)] {
+        let mut link = lists(rt.alloc(), k, window, 63)?;
+        courses(&rt, &mut link, 1, 25_000, 1_000)?;
+    }
+    Ok(())
+}
+
+#[test]
+fn the_claims_stand_over_links_that_skip(rt: HostRuntime) -> Result<(), Fail> {
+    for (k, window) in [(255, 254), (10, 20), (2, 4)] {
+        let mut link = skips(rt.alloc(), k, window)?;
+        courses(&rt, &mut link, 2, 10_000, 100)?;
+    }
+    Ok(())
+}
