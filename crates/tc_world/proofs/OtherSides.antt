@@ -185,11 +185,11 @@ ad_boards w number request body room Discarded farm rest ns n others rs says sub
 ad_boards w number request body room Control farm rest ns n others rs says sub frames none value there kept = absurd says
 
 pub started_boards : (w : Bare) (frame : Frame) (room : Bool) (lost rest : List Frame) (ns rs : List ℕ)
-    → w.farm.vr < 256 → Says (verdict_of w.farm frame room) w.farm frame room (farm_after w.farm frame room)
+    → Says (verdict_of w.farm frame room) w.farm frame room (farm_after w.farm frame room)
     → w.up ≡ lost ++ frame ∷ rest → IsStarted w ns rs
     → (ms : List ℕ) × IsStarted (after_frame w frame room rest) ms rs
     × SessionRun 255 (session_with w.newest ns rs) (session_with (after_frame w frame room rest).newest ms rs)
-started_boards w (Ad number request body) room lost rest ns rs small says up kept =
+started_boards w (Ad number request body) room lost rest ns rs says up kept =
     let base = w.newest.base in
     let frame = Ad number request body in
     let b = frames_behind base w.newest.sent lost (frame ∷ rest) ns (subst (λ (l : List Frame). AreFrames base w.newest.sent l ns) up kept.frames) in
@@ -198,13 +198,13 @@ started_boards w (Ad number request body) room lost rest ns rs small says up kep
     let f = b.4 in
     ad_boards w number request body room (verdict_of w.farm frame room) (farm_after w.farm frame room) rest ns f.0 f.1 rs says
     (left_behind b.0 (f.0 ∷ f.1) ns (b.2 ∙ ap (λ (l : List ℕ). b.0 ++ l) f.2)) f.5 none f.3 f.4 kept
-started_boards w Unlock room lost rest ns rs small says up kept =
+started_boards w Unlock room lost rest ns rs says up kept =
     let base = w.newest.base in
     let b = frames_behind base w.newest.sent lost (Unlock ∷ rest) ns (subst (λ (l : List Frame). AreFrames base w.newest.sent l ns) up kept.frames) in
     let left = leftover_behind base (length w.newest.accepted) lost (Unlock ∷ rest)
     (subst (λ (l : List Frame). IsLeftover base (length w.newest.accepted) l) up kept.leftover) in
     passes w (unlocked w.farm) rest ns b.1 rs (left_behind b.0 b.1 ns b.2) b.4 left kept.vr kept
-started_boards w (SetVr v) room lost rest ns rs small says up kept =
+started_boards w (SetVr v) room lost rest ns rs says up kept =
     let base = w.newest.base in
     let b = frames_behind base w.newest.sent lost (SetVr v ∷ rest) ns (subst (λ (l : List Frame). AreFrames base w.newest.sent l ns) up kept.frames) in
     let left = leftover_behind base (length w.newest.accepted) lost (SetVr v ∷ rest)
@@ -213,11 +213,10 @@ started_boards w (SetVr v) room lost rest ns rs small says up kept =
     (vr_set base (length w.newest.accepted) v w.farm.state w.farm kept.base left.0 left.1 kept.vr) kept
 
 pub unstarted_boards : (w : Bare) (frame : Frame) (room : Bool) (lost rest : List Frame)
-    → Says (verdict_of w.farm frame room) w.farm frame room (farm_after w.farm frame room)
     → w.up ≡ lost ++ frame ∷ rest → IsUnstarted w → IsUnstarted (after_frame w frame room rest)
-unstarted_boards w (Ad number request body) room lost rest says up kept =
+unstarted_boards w (Ad number request body) room lost rest up kept =
     absurd (controls_behind w.newest.base lost (Ad number request body ∷ rest) (subst (λ (l : List Frame). AreControls w.newest.base l) up kept.up))
-unstarted_boards w Unlock room lost rest says up kept =
+unstarted_boards w Unlock room lost rest up kept =
     record {
       base = kept.base;
       sent = kept.sent;
@@ -227,7 +226,7 @@ unstarted_boards w Unlock room lost rest says up kept =
       down = kept.down;
       fop = kept.fop;
     }
-unstarted_boards w (SetVr v) room lost rest says up kept =
+unstarted_boards w (SetVr v) room lost rest up kept =
     let controls = controls_behind w.newest.base lost (SetVr v ∷ rest) (subst (λ (l : List Frame). AreControls w.newest.base l) up kept.up) in
     record {
       base = kept.base;

@@ -134,12 +134,12 @@ hears w v out clcw r ns rs value window moving kept =
 
 -- with a control word that flew for r: some are confirmed, then requests are sent again and sent
 pub started_hears : (w v : Bare) (out : Out) (clcw : Clcw) (r : ℕ) (ns rs : List ℕ) → w.newest.started ≡ true
-    → clcw.report < 256 → clcw.report ≡ (w.newest.base + r) % 256
+    → clcw.report ≡ (w.newest.base + r) % 256
     → IsInWindow 255 (session_with w.newest ns (r ∷ rs))
     → Moving (Some clcw) w v out → IsStarted w ns rs
     → (ms : List ℕ) × (v.newest.started ≡ true) × IsStarted v ms rs
     × SessionRun 255 (session_with w.newest ns (r ∷ rs)) (session_with v.newest ms rs)
-started_hears w v out clcw r ns rs started small value window moving kept =
+started_hears w v out clcw r ns rs started value window moving kept =
     let s = session_with w.newest ns (r ∷ rs) in
     let t = session_after w.newest out ns rs in
     let heard = hears w v out clcw r ns rs value window moving kept in
