@@ -1,5 +1,5 @@
 -- One event keeps what stands between events, and is a run of the session that is on or begins another.
-use Rattle.std.proofs.Common.{◌≡◌, ℕ, ◌<◌, Bool, true, false, ◌⊎◌, inl, inr, Option, Some, None, Ok, List, [], ◌∷◌, ◌++◌, refl, sym, ◌∙◌, ap, subst, map}
+use Rattle.std.proofs.Common.{◌≡◌, ℕ, ◌<◌, Bool, true, false, inl, inr, Option, Some, None, Ok, List, [], ◌∷◌, ◌++◌, refl, sym, ◌∙◌, ap, subst, map}
 use Rattle.std.specs.Prelude.{MatchBool, if◌then◌else◌}
 use Rattle.std.specs.List.{flat_map}
 use Rattle.std.proofs.lemmas.List.{append-nil}
@@ -16,7 +16,7 @@ use Rattle.tc_fop.specs.Machine.{Machine, Waiting, Action, Out, after, output, o
 use Rattle.tc_fop.specs.Calls.{Given, offered, directed, told, ticked, Answers, is_taking}
 use Rattle.tc_fop.specs.Standing.{IsFop}
 use Rattle.tc_fop.specs.Requests.{KeepsOrder, waiting_requests}
-use Rattle.tc_fop.specs.Moves.{MovesIn, Initiates, is_initiation, transmitted_in, transmitted_by}
+use Rattle.tc_fop.specs.Moves.{MovesIn, is_initiation, transmitted_in, transmitted_by}
 use Rattle.tc_world.specs.declared.events.Event.{Event}
 use Rattle.tc_world.specs.declared.events.Event.TheVariants as event
 use Rattle.tc_world.specs.declared.events.Indication.{Indication}
@@ -27,12 +27,11 @@ use Rattle.tc_world.specs.Session.{SessionRun, nothing_yet}
 use Rattle.tc_world.specs.Abstraction.{Bare, session_of, report_value}
 use Rattle.tc_world.specs.Window.{Distinct, IsPrefix, IsPrefixed, ArePrefixed, Follows}
 use Rattle.tc_world.specs.Kept.{IsKept, IsSane, AreOwnWords}
-use Rattle.tc_world.specs.World.{Happens, Carries, Begins, IsIdle, Boards, Lands, Hears, Descends, Reads, all_sent, is_good_start, clean_after}
+use Rattle.tc_world.specs.World.{Happens, Carries, Begins, IsIdle, Boards, Hears, Descends, Reads, all_sent, is_good_start, clean_after}
 use Rattle.tc_world.proofs.TableLaws.{Laws}
 use Rattle.tc_world.proofs.Lists.{puts_lose, sublist_trans}
 use Rattle.tc_world.proofs.WordLists.{value_of_word, own_append, own_sub, own_behind}
 use Rattle.tc_world.proofs.Moving.{Moving}
-use Rattle.tc_world.proofs.OtherSides.{after_frame}
 use Rattle.tc_world.proofs.Stepping.{Steps, moves_on, hears_on, boards_on, releases_on, tells_on, reports_on, loses_on}
 use Rattle.tc_world.proofs.Newest.{same_sent, distinct_newest}
 use Rattle.tc_world.proofs.Starting.{Initiating, both_true, good_start}

@@ -1,12 +1,12 @@
 -- A session that has started, and a call of the FOP.
-use Rattle.std.proofs.Common.{◌≡◌, ℕ, ◌+◌, ◌-◌, ◌%◌, ◌<◌, ◌≤◌, ◌⊎◌, inl, inr, ⊎_elim, Bool, true, if◌then◌else◌, Option, Some, None, List, [], ◌∷◌, ◌++◌, length, take, drop, refl, sym, ◌∙◌, ap, subst, arith}
+use Rattle.std.proofs.Common.{◌≡◌, ℕ, ◌+◌, ◌%◌, ◌≤◌, ◌⊎◌, inl, inr, ⊎_elim, Bool, true, if◌then◌else◌, Option, Some, None, List, [], ◌∷◌, ◌++◌, length, take, drop, refl, sym, ◌∙◌, ap, subst, arith}
 use Rattle.std.proofs.lemmas.List.{append-nil}
 use Rattle.tc_farm.specs.declared.clcws.Clcw.{Clcw}
 use Rattle.tc_fop.specs.declared.signals.FopState.{FopState}
 use Rattle.tc_fop.specs.Machine.{Out}
 use Rattle.tc_fop.specs.Requests.{sent_requests, acknowledged}
-use Rattle.tc_fop.specs.Moves.{MovesIn, Advances, Rests, confirmed_in, transmitted_in, starts_in}
-use Rattle.tc_world.specs.Sublist.{IsSublist, IsSublist-same}
+use Rattle.tc_fop.specs.Moves.{MovesIn, Rests, confirmed_in, transmitted_in, starts_in}
+use Rattle.tc_world.specs.Sublist.{IsSublist-same}
 use Rattle.tc_world.specs.Logs.{Log, noted, is_some_start}
 use Rattle.tc_world.specs.Session.{Session, SessionRun}
 use Rattle.tc_world.specs.Abstraction.{Bare, session_with}

@@ -1,5 +1,5 @@
 -- The session that is on makes a run at each step, and stays sane.
-use Rattle.std.proofs.Common.{◌≡◌, ℕ, zero, suc, ◌+◌, ◌%◌, ◌<◌, ◌≤◌, Bool, true, false, ◌⊎◌, inl, inr, Option, Some, None, List, [], ◌∷◌, ◌++◌, length, refl, sym, ◌∙◌, ap, subst, arith}
+use Rattle.std.proofs.Common.{◌≡◌, ℕ, ◌<◌, Bool, true, false, ◌⊎◌, inl, inr, Some, None, List, [], ◌∷◌, ◌++◌, refl, sym, ◌∙◌, subst, arith}
 use Rattle.tc_farm.specs.declared.clcws.Clcw.{Clcw}
 use Rattle.tc_types.specs.declared.frames.Frame.{Frame}
 use Rattle.tc_types.specs.declared.reports.Report.{Report}
@@ -10,15 +10,15 @@ use Rattle.tc_types.specs.declared.frames.Frame.TheVariants.{Ad, Unlock, SetVr}
 use Rattle.tc_farm.specs.FarmLaws.{IsNumbered, Says}
 use Rattle.tc_fop.specs.Machine.{Out}
 use Rattle.tc_world.specs.Sublist.{IsSublist}
-use Rattle.tc_world.specs.Session.{Session, SessionRun, nothing_yet}
+use Rattle.tc_world.specs.Session.{SessionRun, nothing_yet}
 use Rattle.tc_world.specs.Abstraction.{Bare, session_of, session_with, report_value}
 use Rattle.tc_world.specs.Window.{Distinct}
-use Rattle.tc_world.specs.Kept.{IsStarted, IsUnstarted, IsSane, IsInWindow, AreFrames, AreControls}
+use Rattle.tc_world.specs.Kept.{IsStarted, IsUnstarted, IsSane, AreFrames}
 use Rattle.tc_world.proofs.Moving.{Moving, IsFollowed}
-use Rattle.tc_world.proofs.FrameLists.{controls_behind, frames_behind}
+use Rattle.tc_world.proofs.FrameLists.{frames_behind}
 use Rattle.tc_world.proofs.WindowSteps.{runs_on}
 use Rattle.tc_world.proofs.StartedMoves.{started_moves, started_hears}
-use Rattle.tc_world.proofs.Starting.{unstarted_moves, IsHeardWell}
+use Rattle.tc_world.proofs.Starting.{unstarted_moves}
 use Rattle.tc_world.proofs.OtherSides.{after_frame, started_boards, unstarted_boards, started_releases, unstarted_releases, started_tells, unstarted_tells, started_reports, unstarted_reports, started_loses, unstarted_loses, started_word_taken, unstarted_word_taken}
 use Rattle.tc_world.proofs.Abstracted.{session_started, session_unstarted}
 
