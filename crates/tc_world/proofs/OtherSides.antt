@@ -250,17 +250,22 @@ started_releases w ns rs kept =
       fop = kept.fop;
     }
 
-pub unstarted_releases : (w : Bare) → IsUnstarted w → IsUnstarted (record w { farm = released w.farm })
-unstarted_releases w kept =
+-- other things in flight, or the FARM in another state
+unstarted_flies : (w : Bare) (farm : FarmView) (up : List Frame) (down : List Report) → AreControls w.newest.base up
+    → Sticks w.newest.base farm.vr down → IsUnstarted w → IsUnstarted (record w { farm = farm; up = up; down = down })
+unstarted_flies w farm up down controls sticks kept =
     record {
       base = kept.base;
       sent = kept.sent;
       accepted = kept.accepted;
       confirmed = kept.confirmed;
-      up = kept.up;
-      down = kept.down;
+      up = controls;
+      down = sticks;
       fop = kept.fop;
     }
+
+pub unstarted_releases : (w : Bare) → IsUnstarted w → IsUnstarted (record w { farm = released w.farm })
+unstarted_releases w kept = unstarted_flies w (released w.farm) w.up w.down kept.up kept.down kept
 
 -- other things in flight, after a run
 flies : (w : Bare) (up : List Frame) (down : List Report) (ns rs ms qs : List ℕ)
@@ -298,16 +303,10 @@ started_tells w word down ns rs value sub kept =
 pub unstarted_tells : (w : Bare) (word : ℕ) (down : List Report) → report_value word ≡ w.farm.vr
     → IsSublist down (w.down ++ Word word ∷ []) → IsUnstarted w → IsUnstarted (record w { down = down })
 unstarted_tells w word down value sub kept =
-    record {
-      base = kept.base;
-      sent = kept.sent;
-      accepted = kept.accepted;
-      confirmed = kept.confirmed;
-      up = kept.up;
-      down = sticks_sub w.newest.base w.farm.vr down (w.down ++ Word word ∷ []) sub
-          (sticks_push w.newest.base w.farm.vr word w.down value kept.down);
-      fop = kept.fop;
-    }
+    unstarted_flies w w.farm w.up down kept.up
+    (sticks_sub w.newest.base w.farm.vr down (w.down ++ Word word ∷ []) sub
+    (sticks_push w.newest.base w.farm.vr word w.down value kept.down))
+    kept
 
 -- no control word is put behind
 all_report_telemetry : (base : ℕ) (telemetry : Sent) (xs : List Report) → AllReport base xs → AllReport base (xs ++ Telemetry telemetry ∷ [])
@@ -336,16 +335,10 @@ started_reports w telemetry down ns rs sub kept =
 pub unstarted_reports : (w : Bare) (telemetry : Sent) (down : List Report)
     → IsSublist down (w.down ++ Telemetry telemetry ∷ []) → IsUnstarted w → IsUnstarted (record w { down = down })
 unstarted_reports w telemetry down sub kept =
-    record {
-      base = kept.base;
-      sent = kept.sent;
-      accepted = kept.accepted;
-      confirmed = kept.confirmed;
-      up = kept.up;
-      down = sticks_sub w.newest.base w.farm.vr down (w.down ++ Telemetry telemetry ∷ []) sub
-          (sticks_telemetry w.newest.base w.farm.vr telemetry w.down kept.down);
-      fop = kept.fop;
-    }
+    unstarted_flies w w.farm w.up down kept.up
+    (sticks_sub w.newest.base w.farm.vr down (w.down ++ Telemetry telemetry ∷ []) sub
+    (sticks_telemetry w.newest.base w.farm.vr telemetry w.down kept.down))
+    kept
 
 -- something in flight is lost
 pub started_loses : (w : Bare) (up : List Frame) (down : List Report) (ns rs : List ℕ)
@@ -362,15 +355,8 @@ started_loses w up down ns rs sub_up sub_down kept =
 pub unstarted_loses : (w : Bare) (up : List Frame) (down : List Report)
     → IsSublist up w.up → IsSublist down w.down → IsUnstarted w → IsUnstarted (record w { up = up; down = down })
 unstarted_loses w up down sub_up sub_down kept =
-    record {
-      base = kept.base;
-      sent = kept.sent;
-      accepted = kept.accepted;
-      confirmed = kept.confirmed;
-      up = controls_sub w.newest.base up w.up sub_up kept.up;
-      down = sticks_sub w.newest.base w.farm.vr down w.down sub_down kept.down;
-      fop = kept.fop;
-    }
+    unstarted_flies w w.farm up down (controls_sub w.newest.base up w.up sub_up kept.up)
+    (sticks_sub w.newest.base w.farm.vr down w.down sub_down kept.down) kept
 
 -- the first of the downlink is taken, and others before it are lost: a control word flew for some r
 pub started_word_taken : (w : Bare) (word : ℕ) (lost rest : List Report) (ns rs : List ℕ)
@@ -401,15 +387,5 @@ pub unstarted_word_taken : (w : Bare) (word : ℕ) (lost rest : List Report)
     → w.down ≡ lost ++ Word word ∷ rest → IsUnstarted w
     → IsUnstarted (record w { down = rest }) × IsFollowed (report_value word) (record w { down = rest })
 unstarted_word_taken w word lost rest down kept =
-    let s = sticks_behind w.newest.base w.farm.vr lost (Word word ∷ rest) (subst (λ (l : List Report). Sticks w.newest.base w.farm.vr l) down kept.down) in (
-      record {
-        base = kept.base;
-        sent = kept.sent;
-        accepted = kept.accepted;
-        confirmed = kept.confirmed;
-        up = kept.up;
-        down = s.1;
-        fop = kept.fop;
-      },
-      s.0,
-    )
+    let s = sticks_behind w.newest.base w.farm.vr lost (Word word ∷ rest) (subst (λ (l : List Report). Sticks w.newest.base w.farm.vr l) down kept.down) in
+    (unstarted_flies w w.farm w.up rest kept.up s.1 kept, s.0)
