@@ -1,6 +1,7 @@
 -- The session that a world stands for, as a function of the world.
 use Rattle.std.proofs.Common.{◌≡◌, ℕ, zero, suc, ◌+◌, ◌%◌, ◌≤◌, ◌==◌, Bool, true, false, if◌then◌else◌, Some, List, [], ◌∷◌, length, slice_get, sym, ◌∙◌, ap, subst, arith}
 use Rattle.std.specs.List.{list_any}
+use Rattle.std.proofs.lemmas.Bool.{or_parts}
 use Rattle.tc_types.specs.declared.frames.Frame.{Frame}
 use Rattle.tc_types.specs.declared.frames.Frame.TheVariants.{Ad, Unlock, SetVr}
 use Rattle.tc_types.specs.declared.reports.Report.{Report}
@@ -11,7 +12,6 @@ use Rattle.tc_world.specs.Abstraction.{Bare, session_of, session_with, position_
 use Rattle.tc_world.specs.Window.{Distinct}
 use Rattle.tc_world.specs.Kept.{IsStarted, IsUnstarted, AreFrames, AreWords, Each}
 use Rattle.tc_world.proofs.Lists.{each_map}
-use Rattle.tc_world.proofs.Requests.{either}
 
 -- what no item meets is not met by the one at a place
 none_at : (test : ℕ → Bool) (xs : List ℕ) (n x : ℕ) → list_any test xs ≡ false → slice_get xs n ≡ Some x
@@ -19,9 +19,9 @@ none_at : (test : ℕ → Bool) (xs : List ℕ) (n x : ℕ) → list_any test xs
 none_at test [] n x none stands = cc
 none_at test (first ∷ others) zero x none stands =
     let same : first ≡ x = cc in
-    subst (λ (y : ℕ). test y ≡ false) same (either (test first) (list_any test others) none).0
+    subst (λ (y : ℕ). test y ≡ false) same (or_parts (test first) (list_any test others) none).0
 none_at test (first ∷ others) (suc n) x none stands =
-    none_at test others n x (either (test first) (list_any test others) none).1 stands
+    none_at test others n x (or_parts (test first) (list_any test others) none).1 stands
 
 -- a list of numbers of which none stands twice has each at one place
 position_at : (sent : List ℕ) (n request : ℕ) → Distinct sent → slice_get sent n ≡ Some request

@@ -1,5 +1,5 @@
 -- One event keeps what stands between events, and is a run of the session that is on or begins another.
-use Rattle.std.proofs.Common.{◌≡◌, ℕ, ◌<◌, Bool, true, false, ◌⊎◌, inl, inr, Option, Some, None, Ok, List, [], ◌∷◌, ◌++◌, refl, sym, ◌∙◌, ap, subst, map}
+use Rattle.std.proofs.Common.{◌≡◌, ℕ, ◌<◌, Bool, true, false, inl, inr, Option, Some, None, Ok, List, [], ◌∷◌, ◌++◌, refl, sym, ◌∙◌, ap, subst, map}
 use Rattle.std.specs.Prelude.{MatchBool, if◌then◌else◌}
 use Rattle.std.specs.List.{flat_map}
 use Rattle.std.proofs.lemmas.List.{append-nil}
@@ -16,7 +16,7 @@ use Rattle.tc_fop.specs.Machine.{Machine, Waiting, Action, Out, after, output, o
 use Rattle.tc_fop.specs.Calls.{Given, offered, directed, told, ticked, Answers, is_taking}
 use Rattle.tc_fop.specs.Standing.{IsFop}
 use Rattle.tc_fop.specs.Requests.{KeepsOrder, waiting_requests}
-use Rattle.tc_fop.specs.Moves.{MovesIn, Initiates, is_initiation, transmitted_in, transmitted_by}
+use Rattle.tc_fop.specs.Moves.{MovesIn, is_initiation, transmitted_in, transmitted_by}
 use Rattle.tc_world.specs.declared.events.Event.{Event}
 use Rattle.tc_world.specs.declared.events.Event.TheVariants as event
 use Rattle.tc_world.specs.declared.events.Indication.{Indication}
@@ -27,15 +27,14 @@ use Rattle.tc_world.specs.Session.{SessionRun, nothing_yet}
 use Rattle.tc_world.specs.Abstraction.{Bare, session_of, report_value}
 use Rattle.tc_world.specs.Window.{Distinct, IsPrefix, IsPrefixed, ArePrefixed, Follows}
 use Rattle.tc_world.specs.Kept.{IsKept, IsSane, AreOwnWords}
-use Rattle.tc_world.specs.World.{Happens, Carries, Begins, IsIdle, Boards, Lands, Hears, Descends, Reads, all_sent, is_good_start, clean_after}
+use Rattle.tc_world.specs.World.{Happens, Carries, Begins, IsIdle, Boards, Hears, Descends, Reads, all_sent, is_good_start, clean_after}
 use Rattle.tc_world.proofs.TableLaws.{Laws}
 use Rattle.tc_world.proofs.Lists.{puts_lose, sublist_trans}
 use Rattle.tc_world.proofs.WordLists.{value_of_word, own_append, own_sub, own_behind}
 use Rattle.tc_world.proofs.Moving.{Moving}
-use Rattle.tc_world.proofs.OtherSides.{after_frame}
 use Rattle.tc_world.proofs.Stepping.{Steps, moves_on, hears_on, boards_on, releases_on, tells_on, reports_on, loses_on}
 use Rattle.tc_world.proofs.Newest.{same_sent, distinct_newest}
-use Rattle.tc_world.proofs.Starting.{Initiating, good_start}
+use Rattle.tc_world.proofs.Starting.{Initiating, both_true, good_start}
 use Rattle.tc_world.proofs.Abstracted.{session_started, session_unstarted}
 use Rattle.tc_world.proofs.Requests.{carries_distinct, offered_distinct, begins_distinct, prefixed, prefixed_push}
 
@@ -70,12 +69,11 @@ up_loses w v actions answer h =
     subst (λ l. IsSublist v.up (l ++ (output actions w.fop).frames)) h.readied
     (puts_lose lossy h.ready (output actions w.fop).frames v.up (λ before next item put. put) h.frames)
 
-moving_of : (heard : Option Clcw) (w v : Bare) (actions : List Action) (answer : List Indication) → IsFop w.fop → IsFop v.fop
+moving_of : (heard : Option Clcw) (w v : Bare) (actions : List Action) (answer : List Indication) → IsFop w.fop
     → Carries lossy actions w v answer → MovesIn w.fop.state heard w.fop v.fop (output actions w.fop)
     → Moving heard w v (output actions w.fop)
-moving_of heard w v actions answer old_fop new_fop h moves = record {
+moving_of heard w v actions answer old_fop h moves = record {
   old_fop = old_fop;
-  new_fop = new_fop;
   moves = moves;
   up = up_loses w v actions answer h;
   whole = h.whole ∙ ap (λ m. record w { fop = m; up = v.up; newest = noted (output actions w.fop) w.newest }) (sym (ap (λ x. x.fop) h.whole));
@@ -95,7 +93,7 @@ carried w v actions answer requests kept fop farm h moves order fresh =
     carries_distinct w v (output actions w.fop) requests past (ap (λ x. x.newest.sent) h.whole) order fresh in
     goes_on w v kept fop farm past clean words distinct
     (λ sane. moves_on w v (output actions w.fop) (distinct_newest w (waiting_requests w.fop) kept.distinct)
-    (distinct_newest v (waiting_requests v.fop) distinct) (moving_of None w v actions answer kept.fop fop h moves) sane)
+    (distinct_newest v (waiting_requests v.fop) distinct) (moving_of None w v actions answer kept.fop h moves) sane)
 
 -- nothing is offered
 without_offer : (w : Bare) → Distinct (all_sent w ++ waiting_requests w.fop) → Distinct (all_sent w ++ waiting_requests w.fop ++ [])
@@ -139,7 +137,7 @@ boards laws w v room answer kept fop farm h =
     (subst (λ m. Distinct (all_sent w ++ waiting_requests m)) (sym (ap (λ x. x.fop) h.whole)) kept.distinct) in
     goes_on w v kept fop farm past (ap (λ x. x.clean) h.whole) words distinct
     (λ sane. subst (λ x. Steps w x) (sym h.whole)
-    (boards_on w h.frame room h.taken.0 v.up (distinct_newest w (waiting_requests w.fop) kept.distinct) kept.farm.vr
+    (boards_on w h.frame room h.taken.0 v.up (distinct_newest w (waiting_requests w.fop) kept.distinct)
     (laws.frames w.farm h.frame room kept.farm) h.taken.1 sane))
 
 -- something that leaves the FOP, the FARM and the sessions
@@ -215,7 +213,7 @@ hears laws w v word lost left heard actions answer kept fop farm down reads give
     goes_on w v kept fop farm past (ap (λ x. x.clean) h.whole) words distinct
     (λ sane. hears_on w v (output actions w.fop) word clcw lost left (distinct_newest w (waiting_requests w.fop) kept.distinct)
     (distinct_newest v (waiting_requests v.fop) distinct) small (ap (λ n. report_value n) written ∙ value_of_word clcw small) down
-    (moving_of (Some clcw) before v actions answer kept.fop fop h moves) sane)
+    (moving_of (Some clcw) before v actions answer kept.fop h moves) sane)
 
 -- a report of the spacecraft came down
 receives : (w v : Bare) (telemetry : Packet) (lost left : List Report) → IsKept w
@@ -233,11 +231,6 @@ lands laws w v (Word word) lost left answer kept fop farm down (heard, actions, 
 lands laws w v (Telemetry telemetry) lost left answer kept fop farm down (readied, whole, answered) =
     receives w v telemetry lost left kept down
     (whole ∙ ap (λ up. record w { up = up; down = left }) readied)
-
--- both hold
-pub both : (a b : Bool) → (if a then b else false) ≡ true → (a ≡ true) × (b ≡ true)
-both true b e = (refl, e)
-both false b e = absurd cc
 
 -- the session that was on is prefixed
 pub newest_prefixed : (w : Bare) → IsSane w → IsPrefixed w.newest
@@ -274,9 +267,7 @@ begins laws w v given actions answer kept fop farm initiation gives h =
     begins_distinct w v past sent (ap (λ o. map (λ (waiting : Waiting). waiting.request) (option_list o)) law.waiting) kept.distinct in
     let initiating : Initiating given w v out = record {
       initiation = initiation;
-      old_fop = kept.fop;
       new_fop = fop;
-      farm = kept.farm;
       begins = law;
       up = subst (λ l. IsSublist v.up (l ++ out.frames)) h.readied
           (puts_lose lossy h.ready out.frames v.up (λ before next item put. put) h.frames);
@@ -286,7 +277,7 @@ begins laws w v given actions answer kept fop farm initiation gives h =
     } in
     let good : v.clean ≡ true → IsSane v × SessionRun 255 nothing_yet (session_of v) =
     λ c. good_goes given w v out (distinct_newest v (waiting_requests v.fop) distinct) initiating
-    (both w.clean (is_good_start lossy lossy given w) (sym clean ∙ c)).1 in
+    (both_true w.clean (is_good_start lossy lossy given w) (sym clean ∙ c)).1 in
     record {
       kept = record {
         fop = fop;
@@ -294,7 +285,7 @@ begins laws w v given actions answer kept fop farm initiation gives h =
         words = subst (λ x. AreOwnWords x.vc x.down) (sym h.whole) kept.words;
         distinct = distinct;
         past = λ c.
-            let was : w.clean ≡ true = (both w.clean (is_good_start lossy lossy given w) (sym clean ∙ c)).0 in
+            let was : w.clean ≡ true = (both_true w.clean (is_good_start lossy lossy given w) (sym clean ∙ c)).0 in
             subst (λ logs. ArePrefixed logs) (sym past) (prefixed_push w.past w.newest (kept.past was) (newest_prefixed w (kept.sane was)));
         sane = λ c. (good c).0;
       };

@@ -1,5 +1,5 @@
 -- What happens over links of any kind that keep the laws happens, in what is in flight, over links that only lose.
-use Rattle.std.proofs.Common.{◌≡◌, ℕ, Bool, true, false, ◌⊎◌, inl, inr, List, [], ◌∷◌, ◌++◌, refl, sym, ◌∙◌, ap, subst}
+use Rattle.std.proofs.Common.{◌≡◌, ℕ, Bool, true, false, inl, inr, List, [], ◌∷◌, ◌++◌, ap}
 use Rattle.std.specs.Prelude.{MatchBool}
 use Rattle.tc_types.specs.declared.frames.Frame.{Frame}
 use Rattle.tc_types.specs.declared.reports.Report.{Report}
@@ -11,9 +11,9 @@ use Rattle.tc_world.specs.declared.events.Event.{Event}
 use Rattle.tc_world.specs.declared.events.Event.TheVariants as event
 use Rattle.tc_world.specs.declared.events.Indication.{Indication}
 use Rattle.tc_world.specs.Sublist.{IsSublist}
-use Rattle.tc_world.specs.Links.{Kind, lossy, PutsAll, IsReadied}
-use Rattle.tc_world.specs.Abstraction.{Bare, seen}
-use Rattle.tc_world.specs.World.{Whole, Happens, Carries, Begins, IsIdle, IsAsBefore, Boards, Lands, Hears, Descends, LosesUp, LosesDown, Directs}
+use Rattle.tc_world.specs.Links.{Kind, lossy, PutsAll}
+use Rattle.tc_world.specs.Abstraction.{seen}
+use Rattle.tc_world.specs.World.{Whole, Happens, Carries, Begins, IsIdle, Boards, Lands, Hears, Descends}
 
 -- the laws of a carrier, of its kind
 pub record OnlyLoses {C T : Type 0} (kind : Kind C T) : Type 0 where

@@ -1,7 +1,7 @@
 -- Lists with items left out, and what holds of each item and of pairs.
-use Rattle.std.proofs.Common.{◌≡◌, ℕ, ◌+◌, ◌≤◌, inl, inr, List, [], ◌∷◌, ◌++◌, length, sym, ap, subst, arith}
+use Rattle.std.proofs.Common.{◌≡◌, ℕ, zero, suc, ◌≤◌, inl, inr, ⊎_elim, List, [], ◌∷◌, ◌++◌, length, take, refl, sym, ap, subst, arith}
 use Rattle.std.proofs.lemmas.List.{append_assoc, append-nil}
-use Rattle.tc_world.specs.Sublist.{IsSublist, IsSublist-same}
+use Rattle.tc_world.specs.Sublist.{IsSublist, IsSublist-same, IsSublist-nil}
 use Rattle.tc_world.specs.Links.{Kind, PutsAll}
 use Rattle.tc_world.specs.Kept.{Each, Pairs}
 
@@ -19,33 +19,38 @@ sublist_trans xs ys (z ∷ zs) h k =
           ]
     ]
 
--- both with the same behind
-pub sublist_append : {X : Type 0} (xs ys more : List X) → IsSublist xs ys → IsSublist (xs ++ more) (ys ++ more)
-sublist_append xs [] more h = subst (λ l. IsSublist (l ++ more) more) (sym h) (IsSublist-same more)
-sublist_append xs (y ∷ ys) more h =
-    elim h [
-      | inl a ↦ inl (sublist_append xs ys more a)
-      | inr b ↦ inr (b.0 ++ more, ap (λ l. l ++ more) b.1, sublist_append b.0 ys more b.2)
-    ]
+-- the same in front of both
+pub sublist_front : {X : Type 0} (front xs ys : List X) → IsSublist xs ys → IsSublist (front ++ xs) (front ++ ys)
+sublist_front [] xs ys h = h
+sublist_front (x ∷ front) xs ys h = inr (front ++ xs, refl, sublist_front front xs ys h)
+
+-- here and there
+pub sublist_both : {X : Type 0} (xs ys zs ws : List X) → IsSublist xs ys → IsSublist zs ws → IsSublist (xs ++ zs) (ys ++ ws)
+sublist_both {X} xs [] zs ws h k = subst (λ (l : List X). IsSublist (l ++ zs) ws) (sym h) k
+sublist_both {X} xs (y ∷ ys) zs ws h k = ⊎_elim
+    (λ (out : IsSublist xs ys). inl (sublist_both xs ys zs ws out k))
+    (λ (on : (rest : List X) × (xs ≡ y ∷ rest) × IsSublist rest ys).
+    inr (on.0 ++ zs, ap (λ (l : List X). l ++ zs) on.1, sublist_both on.0 ys zs ws on.2 k))
+    h
+
+-- a front of a list
+pub sublist_take : {X : Type 0} (n : ℕ) (xs : List X) → IsSublist (take n xs) xs
+sublist_take zero xs = IsSublist-nil xs
+sublist_take (suc n) [] = refl
+sublist_take (suc n) (x ∷ xs) = inr (take n xs, refl, sublist_take n xs)
+
+-- what stands in front
+pub sublist_of_front : {X : Type 0} (front more : List X) → IsSublist front (front ++ more)
+sublist_of_front [] more = IsSublist-nil more
+sublist_of_front (x ∷ front) more = inr (front, refl, sublist_of_front front more)
 
 -- no more items than before
 pub sublist_length : {X : Type 0} (xs ys : List X) → IsSublist xs ys → length xs ≤ length ys
-sublist_length xs [] h =
-    let same : length xs ≡ 0 = ap (λ l. length l) h in
-    omega (arith, same)
-sublist_length xs (y ∷ ys) h =
-    elim h [
-      | inl a ↦
-          let fewer = sublist_length xs ys a in
-          let one : length (y ∷ ys) ≡ length ys + 1 = omega arith in
-          omega (arith, fewer, one)
-      | inr b ↦
-          let fewer = sublist_length b.0 ys b.2 in
-          let one : length (y ∷ ys) ≡ length ys + 1 = omega arith in
-          let two : length (y ∷ b.0) ≡ length b.0 + 1 = omega arith in
-          let same : length xs ≡ length (y ∷ b.0) = ap (λ l. length l) b.1 in
-          omega (arith, fewer, one, two, same)
-    ]
+sublist_length xs [] none = subst (λ l. length l ≤ 0) (sym none) (omega arith)
+sublist_length xs (y ∷ ys) (inl out) = let rest = sublist_length xs ys out in omega (arith, rest)
+sublist_length xs (y ∷ ys) (inr within) =
+    let rest = sublist_length within.0 ys within.2 in
+    subst (λ l. length l ≤ length (y ∷ ys)) (sym within.1) (omega (arith, rest))
 
 -- the items that were put one after the other stand behind those before, with items left out
 pub puts_lose : {C T : Type 0} (kind : Kind C T) (old : C) (items : List T) (new : C)
@@ -58,7 +63,7 @@ puts_lose kind old (item ∷ items) new law puts =
     let mine = kind.content old in
     let first = law old puts.0 item puts.1 in
     let rest = puts_lose kind puts.0 items new law puts.2 in
-    let both = sublist_append (kind.content puts.0) (mine ++ item ∷ []) items first in
+    let both = sublist_both (kind.content puts.0) (mine ++ item ∷ []) items items first (IsSublist-same items) in
     let whole = sublist_trans (kind.content new) (kind.content puts.0 ++ items) ((mine ++ item ∷ []) ++ items) rest both in
     subst (λ l. IsSublist (kind.content new) l) (append_assoc mine (item ∷ []) items) whole
 
@@ -81,16 +86,6 @@ pub each_map : (P Q : ℕ → Type 0) (xs : List ℕ) → ((x : ℕ) → P x →
 each_map P Q [] f e = tt
 each_map P Q (x ∷ xs) f e = (f x e.0, each_map P Q xs f e.1)
 
--- two things hold of each
-pub each_both : (P Q : ℕ → Type 0) (xs : List ℕ) → Each P xs → Each Q xs → Each (λ (x : ℕ). P x × Q x) xs
-each_both P Q [] e f = tt
-each_both P Q (x ∷ xs) e f = ((e.0, f.0), each_both P Q xs e.1 f.1)
-
--- what stands behind a front
-pub each_behind : (P : ℕ → Type 0) (front xs : List ℕ) → Each P (front ++ xs) → Each P xs
-each_behind P [] xs e = e
-each_behind P (x ∷ front) xs e = each_behind P front xs e.1
-
 -- what holds of pairs still does with items left out
 pub pairs_sub : (R : ℕ → ℕ → Type 0) (xs ys : List ℕ) → IsSublist xs ys → Pairs R ys → Pairs R xs
 pairs_sub R xs [] h p = subst (λ l. Pairs R l) (sym h) tt
@@ -99,11 +94,6 @@ pairs_sub R xs (y ∷ ys) h p =
       | inl a ↦ pairs_sub R xs ys a p.1
       | inr b ↦ subst (λ l. Pairs R l) (sym b.1) (each_sub (R y) b.0 ys b.2 p.0, pairs_sub R b.0 ys b.2 p.1)
     ]
-
--- the pairs behind a front
-pub pairs_behind : (R : ℕ → ℕ → Type 0) (front xs : List ℕ) → Pairs R (front ++ xs) → Pairs R xs
-pairs_behind R [] xs p = p
-pairs_behind R (x ∷ front) xs p = pairs_behind R front xs p.1
 
 -- one more behind, to which each stands in R
 pub pairs_push : (R : ℕ → ℕ → Type 0) (xs : List ℕ) (y : ℕ) → Pairs R xs → Each (λ (x : ℕ). R x y) xs → Pairs R (xs ++ y ∷ [])

@@ -185,11 +185,11 @@ ad_boards w number request body room Discarded farm rest ns n others rs says sub
 ad_boards w number request body room Control farm rest ns n others rs says sub frames none value there kept = absurd says
 
 pub started_boards : (w : Bare) (frame : Frame) (room : Bool) (lost rest : List Frame) (ns rs : List ℕ)
-    → w.farm.vr < 256 → Says (verdict_of w.farm frame room) w.farm frame room (farm_after w.farm frame room)
+    → Says (verdict_of w.farm frame room) w.farm frame room (farm_after w.farm frame room)
     → w.up ≡ lost ++ frame ∷ rest → IsStarted w ns rs
     → (ms : List ℕ) × IsStarted (after_frame w frame room rest) ms rs
     × SessionRun 255 (session_with w.newest ns rs) (session_with (after_frame w frame room rest).newest ms rs)
-started_boards w (Ad number request body) room lost rest ns rs small says up kept =
+started_boards w (Ad number request body) room lost rest ns rs says up kept =
     let base = w.newest.base in
     let frame = Ad number request body in
     let b = frames_behind base w.newest.sent lost (frame ∷ rest) ns (subst (λ (l : List Frame). AreFrames base w.newest.sent l ns) up kept.frames) in
@@ -198,13 +198,13 @@ started_boards w (Ad number request body) room lost rest ns rs small says up kep
     let f = b.4 in
     ad_boards w number request body room (verdict_of w.farm frame room) (farm_after w.farm frame room) rest ns f.0 f.1 rs says
     (left_behind b.0 (f.0 ∷ f.1) ns (b.2 ∙ ap (λ (l : List ℕ). b.0 ++ l) f.2)) f.5 none f.3 f.4 kept
-started_boards w Unlock room lost rest ns rs small says up kept =
+started_boards w Unlock room lost rest ns rs says up kept =
     let base = w.newest.base in
     let b = frames_behind base w.newest.sent lost (Unlock ∷ rest) ns (subst (λ (l : List Frame). AreFrames base w.newest.sent l ns) up kept.frames) in
     let left = leftover_behind base (length w.newest.accepted) lost (Unlock ∷ rest)
     (subst (λ (l : List Frame). IsLeftover base (length w.newest.accepted) l) up kept.leftover) in
     passes w (unlocked w.farm) rest ns b.1 rs (left_behind b.0 b.1 ns b.2) b.4 left kept.vr kept
-started_boards w (SetVr v) room lost rest ns rs small says up kept =
+started_boards w (SetVr v) room lost rest ns rs says up kept =
     let base = w.newest.base in
     let b = frames_behind base w.newest.sent lost (SetVr v ∷ rest) ns (subst (λ (l : List Frame). AreFrames base w.newest.sent l ns) up kept.frames) in
     let left = leftover_behind base (length w.newest.accepted) lost (SetVr v ∷ rest)
@@ -213,11 +213,10 @@ started_boards w (SetVr v) room lost rest ns rs small says up kept =
     (vr_set base (length w.newest.accepted) v w.farm.state w.farm kept.base left.0 left.1 kept.vr) kept
 
 pub unstarted_boards : (w : Bare) (frame : Frame) (room : Bool) (lost rest : List Frame)
-    → Says (verdict_of w.farm frame room) w.farm frame room (farm_after w.farm frame room)
     → w.up ≡ lost ++ frame ∷ rest → IsUnstarted w → IsUnstarted (after_frame w frame room rest)
-unstarted_boards w (Ad number request body) room lost rest says up kept =
+unstarted_boards w (Ad number request body) room lost rest up kept =
     absurd (controls_behind w.newest.base lost (Ad number request body ∷ rest) (subst (λ (l : List Frame). AreControls w.newest.base l) up kept.up))
-unstarted_boards w Unlock room lost rest says up kept =
+unstarted_boards w Unlock room lost rest up kept =
     record {
       base = kept.base;
       sent = kept.sent;
@@ -227,7 +226,7 @@ unstarted_boards w Unlock room lost rest says up kept =
       down = kept.down;
       fop = kept.fop;
     }
-unstarted_boards w (SetVr v) room lost rest says up kept =
+unstarted_boards w (SetVr v) room lost rest up kept =
     let controls = controls_behind w.newest.base lost (SetVr v ∷ rest) (subst (λ (l : List Frame). AreControls w.newest.base l) up kept.up) in
     record {
       base = kept.base;
@@ -251,17 +250,22 @@ started_releases w ns rs kept =
       fop = kept.fop;
     }
 
-pub unstarted_releases : (w : Bare) → IsUnstarted w → IsUnstarted (record w { farm = released w.farm })
-unstarted_releases w kept =
+-- other things in flight, or the FARM in another state
+unstarted_flies : (w : Bare) (farm : FarmView) (up : List Frame) (down : List Report) → AreControls w.newest.base up
+    → Sticks w.newest.base farm.vr down → IsUnstarted w → IsUnstarted (record w { farm = farm; up = up; down = down })
+unstarted_flies w farm up down controls sticks kept =
     record {
       base = kept.base;
       sent = kept.sent;
       accepted = kept.accepted;
       confirmed = kept.confirmed;
-      up = kept.up;
-      down = kept.down;
+      up = controls;
+      down = sticks;
       fop = kept.fop;
     }
+
+pub unstarted_releases : (w : Bare) → IsUnstarted w → IsUnstarted (record w { farm = released w.farm })
+unstarted_releases w kept = unstarted_flies w (released w.farm) w.up w.down kept.up kept.down kept
 
 -- other things in flight, after a run
 flies : (w : Bare) (up : List Frame) (down : List Report) (ns rs ms qs : List ℕ)
@@ -299,16 +303,10 @@ started_tells w word down ns rs value sub kept =
 pub unstarted_tells : (w : Bare) (word : ℕ) (down : List Report) → report_value word ≡ w.farm.vr
     → IsSublist down (w.down ++ Word word ∷ []) → IsUnstarted w → IsUnstarted (record w { down = down })
 unstarted_tells w word down value sub kept =
-    record {
-      base = kept.base;
-      sent = kept.sent;
-      accepted = kept.accepted;
-      confirmed = kept.confirmed;
-      up = kept.up;
-      down = sticks_sub w.newest.base w.farm.vr down (w.down ++ Word word ∷ []) sub
-          (sticks_push w.newest.base w.farm.vr word w.down value kept.down);
-      fop = kept.fop;
-    }
+    unstarted_flies w w.farm w.up down kept.up
+    (sticks_sub w.newest.base w.farm.vr down (w.down ++ Word word ∷ []) sub
+    (sticks_push w.newest.base w.farm.vr word w.down value kept.down))
+    kept
 
 -- no control word is put behind
 all_report_telemetry : (base : ℕ) (telemetry : Sent) (xs : List Report) → AllReport base xs → AllReport base (xs ++ Telemetry telemetry ∷ [])
@@ -337,16 +335,10 @@ started_reports w telemetry down ns rs sub kept =
 pub unstarted_reports : (w : Bare) (telemetry : Sent) (down : List Report)
     → IsSublist down (w.down ++ Telemetry telemetry ∷ []) → IsUnstarted w → IsUnstarted (record w { down = down })
 unstarted_reports w telemetry down sub kept =
-    record {
-      base = kept.base;
-      sent = kept.sent;
-      accepted = kept.accepted;
-      confirmed = kept.confirmed;
-      up = kept.up;
-      down = sticks_sub w.newest.base w.farm.vr down (w.down ++ Telemetry telemetry ∷ []) sub
-          (sticks_telemetry w.newest.base w.farm.vr telemetry w.down kept.down);
-      fop = kept.fop;
-    }
+    unstarted_flies w w.farm w.up down kept.up
+    (sticks_sub w.newest.base w.farm.vr down (w.down ++ Telemetry telemetry ∷ []) sub
+    (sticks_telemetry w.newest.base w.farm.vr telemetry w.down kept.down))
+    kept
 
 -- something in flight is lost
 pub started_loses : (w : Bare) (up : List Frame) (down : List Report) (ns rs : List ℕ)
@@ -363,15 +355,8 @@ started_loses w up down ns rs sub_up sub_down kept =
 pub unstarted_loses : (w : Bare) (up : List Frame) (down : List Report)
     → IsSublist up w.up → IsSublist down w.down → IsUnstarted w → IsUnstarted (record w { up = up; down = down })
 unstarted_loses w up down sub_up sub_down kept =
-    record {
-      base = kept.base;
-      sent = kept.sent;
-      accepted = kept.accepted;
-      confirmed = kept.confirmed;
-      up = controls_sub w.newest.base up w.up sub_up kept.up;
-      down = sticks_sub w.newest.base w.farm.vr down w.down sub_down kept.down;
-      fop = kept.fop;
-    }
+    unstarted_flies w w.farm up down (controls_sub w.newest.base up w.up sub_up kept.up)
+    (sticks_sub w.newest.base w.farm.vr down w.down sub_down kept.down) kept
 
 -- the first of the downlink is taken, and others before it are lost: a control word flew for some r
 pub started_word_taken : (w : Bare) (word : ℕ) (lost rest : List Report) (ns rs : List ℕ)
@@ -402,15 +387,5 @@ pub unstarted_word_taken : (w : Bare) (word : ℕ) (lost rest : List Report)
     → w.down ≡ lost ++ Word word ∷ rest → IsUnstarted w
     → IsUnstarted (record w { down = rest }) × IsFollowed (report_value word) (record w { down = rest })
 unstarted_word_taken w word lost rest down kept =
-    let s = sticks_behind w.newest.base w.farm.vr lost (Word word ∷ rest) (subst (λ (l : List Report). Sticks w.newest.base w.farm.vr l) down kept.down) in (
-      record {
-        base = kept.base;
-        sent = kept.sent;
-        accepted = kept.accepted;
-        confirmed = kept.confirmed;
-        up = kept.up;
-        down = s.1;
-        fop = kept.fop;
-      },
-      s.0,
-    )
+    let s = sticks_behind w.newest.base w.farm.vr lost (Word word ∷ rest) (subst (λ (l : List Report). Sticks w.newest.base w.farm.vr l) down kept.down) in
+    (unstarted_flies w w.farm w.up rest kept.up s.1 kept, s.0)

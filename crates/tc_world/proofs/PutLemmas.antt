@@ -1,8 +1,9 @@
 -- One more put after the others, and what it adds at most.
-use Rattle.std.proofs.Common.{◌≡◌, ◌⊎◌, inl, inr, ℕ, ◌≤◌, ◌+◌, List, [], ◌∷◌, ◌++◌, length, take, get_or, ◌<◌, refl, sym, subst, ap, arith}
+use Rattle.std.proofs.Common.{◌≡◌, ℕ, ◌≤◌, ◌+◌, List, [], ◌∷◌, ◌++◌, length, take, get_or, ◌<◌, refl, sym, subst, arith}
 use Rattle.std.proofs.lemmas.List.{length-append, take_more}
 use Rattle.tc_world.specs.Links.{Kind, PutsAll}
 use Rattle.tc_world.specs.Sublist.{IsSublist}
+use Rattle.tc_world.proofs.Lists.{sublist_length}
 
 -- one more behind the others
 pub PutsAll-push : {C T : Type 0} (kind : Kind C T) (old mid new : C) (items : List T) (item : T) → PutsAll kind old items mid → kind.puts mid item new → PutsAll kind old (items ++ item ∷ []) new
@@ -13,14 +14,6 @@ PutsAll-push kind old mid new (first ∷ items) item all put = (all.0, all.1, Pu
 pub PutsAll-more : {C T : Type 0} (kind : Kind C T) (old mid new : C) (items : List T) (k : ℕ) (d : T) → k < length items → PutsAll kind old (take k items) mid → kind.puts mid (get_or items k d) new → PutsAll kind old (take (k + 1) items) new
 PutsAll-more kind old mid new items k d within all put =
     subst (λ xs. PutsAll kind old xs new) (sym (take_more items k d within)) (PutsAll-push kind old mid new (take k items) (get_or items k d) all put)
-
--- a list with items left out is no longer
-pub sublist_length : {X : Type 0} (xs ys : List X) → IsSublist xs ys → length xs ≤ length ys
-sublist_length xs [] none = subst (λ l. length l ≤ 0) (sym none) (omega arith)
-sublist_length xs (y ∷ ys) (inl out) = let rest = sublist_length xs ys out in omega (arith, rest)
-sublist_length xs (y ∷ ys) (inr within) =
-    let rest = sublist_length within.0 ys within.2 in
-    subst (λ l. length l ≤ length (y ∷ ys)) (sym within.1) (omega (arith, rest))
 
 -- a put adds one item at most
 pub put_length : {X : Type 0} (old new : List X) (item : X) → IsSublist new (old ++ item ∷ []) → length new ≤ length old + 1

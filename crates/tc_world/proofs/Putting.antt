@@ -1,5 +1,5 @@
 -- What a call of the FOP puts out in a session that has started, in S1 to S3 and in S6.
-use Rattle.std.proofs.Common.{◌≡◌, ℕ, zero, suc, ◌+◌, ◌-◌, ◌%◌, ◌<◌, ◌≤◌, ◌⊎◌, inl, inr, ⊎_elim, Bool, true, false, is_some, Option, Some, None, List, [], ◌∷◌, ◌++◌, map, length, take, drop, slice_get, refl, sym, ◌∙◌, ap, subst, zero-add, arith}
+use Rattle.std.proofs.Common.{◌≡◌, ℕ, zero, suc, ◌+◌, ◌-◌, ◌%◌, ◌<◌, ◌≤◌, ◌⊎◌, inl, inr, ⊎_elim, true, is_some, Option, Some, List, [], ◌∷◌, ◌++◌, map, length, take, drop, slice_get, refl, sym, ◌∙◌, ap, subst, zero-add, arith}
 use Rattle.std.proofs.lemmas.Bool.{false≢true, cases_Bool}
 use Rattle.std.proofs.lemmas.List.{append-nil, length-append, length-map, length-take-le, length-drop, drop-drop, drop-map, drop-append-le}
 use Rattle.tc_types.specs.declared.frames.Frame.{Frame}
@@ -10,12 +10,12 @@ use Rattle.tc_fop.specs.Machine.{Machine, Held, Waiting, Out, nothing, option_li
 use Rattle.tc_fop.specs.Calls.{is_taking}
 use Rattle.tc_fop.specs.Standing.{IsFop}
 use Rattle.tc_fop.specs.Requests.{sent_requests, acknowledged}
-use Rattle.tc_fop.specs.Moves.{MovesIn, Advances, GoesOn, Rests, confirmed_in, transmitted_in, first_frame}
+use Rattle.tc_fop.specs.Moves.{MovesIn, Advances, GoesOn, Rests, confirmed_in, transmitted_in}
 use Rattle.tc_world.specs.Logs.{Log}
 use Rattle.tc_world.specs.Session.{Session, SessionRun}
 use Rattle.tc_world.specs.Abstraction.{session_with}
 use Rattle.tc_world.specs.Kept.{AreFrames, HasNoSetVr, IsInWindow, Stands}
-use Rattle.tc_world.proofs.Sending.{request_of, requests_of, frames_again, all_fly, all_plain}
+use Rattle.tc_world.proofs.Sending.{request_of, requests_of, all_fly, all_plain}
 
 -- the session with what the call confirms
 abbrev pub session_after : Log → Out → List ℕ → List ℕ → Session

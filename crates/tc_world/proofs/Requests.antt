@@ -1,7 +1,7 @@
 -- No request is sent twice.
-use Rattle.std.proofs.Common.{◌≡◌, ℕ, ◌==◌, inl, inr, ⊎_elim, Bool, true, false, ◌||◌, zero, suc, List, [], ◌∷◌, ◌++◌, length, take, refl, sym, ◌∙◌, ap, subst, append-nil, append_assoc, arith}
+use Rattle.std.proofs.Common.{◌≡◌, ℕ, ◌==◌, inl, inr, ⊎_elim, Bool, false, ◌||◌, List, [], ◌∷◌, ◌++◌, length, take, refl, sym, ◌∙◌, ap, subst, append-nil, append_assoc, arith}
 use Rattle.std.specs.List.{flat_map, list_any}
-use Rattle.std.proofs.lemmas.Bool.{false≢true}
+use Rattle.std.proofs.lemmas.Bool.{or_parts, or_from}
 use Rattle.std.proofs.lemmas.Grind.{flat_map-append}
 use Rattle.std.proofs.lemmas.List.{take-take}
 use Rattle.std.proofs.lemmas.List.Folds.{list_any-append}
@@ -10,55 +10,25 @@ use Rattle.tc_fop.specs.declared.signals.Indication.TheVariants as indication
 use Rattle.tc_fop.specs.Machine.{Out}
 use Rattle.tc_fop.specs.Requests.{waiting_requests, leaves, KeepsOrder}
 use Rattle.tc_fop.specs.Moves.{transmitted_by, transmitted_in}
-use Rattle.tc_world.specs.Sublist.{IsSublist, IsSublist-same, IsSublist-nil}
+use Rattle.tc_world.specs.Sublist.{IsSublist, IsSublist-same}
 use Rattle.tc_world.specs.Logs.{Log}
 use Rattle.tc_world.specs.Abstraction.{Bare, session_with}
 use Rattle.tc_world.specs.World.{all_sent, is_known}
 use Rattle.tc_world.specs.Window.{Distinct, IsPrefixed, ArePrefixed}
 use Rattle.tc_world.specs.Kept.{IsInWindow}
-
--- ---- lists with items left out
-
--- the same in front of both
-sublist_front : {X : Type 0} (front xs ys : List X) → IsSublist xs ys → IsSublist (front ++ xs) (front ++ ys)
-sublist_front [] xs ys h = h
-sublist_front (x ∷ front) xs ys h = inr (front ++ xs, refl, sublist_front front xs ys h)
-
--- one behind the other
-sublist_both : {X : Type 0} (xs ys zs ws : List X) → IsSublist xs ys → IsSublist zs ws → IsSublist (xs ++ zs) (ys ++ ws)
-sublist_both {X} xs [] zs ws h k = subst (λ (l : List X). IsSublist (l ++ zs) ws) (sym h) k
-sublist_both {X} xs (y ∷ ys) zs ws h k = ⊎_elim
-    (λ (out : IsSublist xs ys). inl (sublist_both xs ys zs ws out k))
-    (λ (on : (rest : List X) × (xs ≡ y ∷ rest) × IsSublist rest ys).
-    inr (on.0 ++ zs, ap (λ (l : List X). l ++ zs) on.1, sublist_both on.0 ys zs ws on.2 k))
-    h
-
--- a front of a list
-sublist_take : {X : Type 0} (n : ℕ) (xs : List X) → IsSublist (take n xs) xs
-sublist_take zero xs = IsSublist-nil xs
-sublist_take (suc n) [] = refl
-sublist_take (suc n) (x ∷ xs) = inr (take n xs, refl, sublist_take n xs)
+use Rattle.tc_world.proofs.Lists.{sublist_front, sublist_both, sublist_of_front, sublist_take}
 
 -- ---- no number twice
-
--- where one of two tests is not met, neither is
-pub either : (a b : Bool) → (a || b) ≡ false → (a ≡ false) × (b ≡ false)
-either true b e = absurd (false≢true (sym e))
-either false b e = (refl, e)
-
--- and back
-neither : (a b : Bool) → a ≡ false → b ≡ false → (a || b) ≡ false
-neither a b e f = ap (λ (x : Bool). x || b) e ∙ f
 
 -- what is not among the items is not among those that are left
 none_sub : (test : ℕ → Bool) (xs ys : List ℕ) → IsSublist xs ys → list_any test ys ≡ false → list_any test xs ≡ false
 none_sub test xs [] h e = ap (list_any test) h
 none_sub test xs (y ∷ ys) h e =
-    let parts = either (test y) (list_any test ys) e in
+    let parts = or_parts (test y) (list_any test ys) e in
     ⊎_elim
     (λ (out : IsSublist xs ys). none_sub test xs ys out parts.1)
     (λ (on : (rest : List ℕ) × (xs ≡ y ∷ rest) × IsSublist rest ys).
-    ap (list_any test) on.1 ∙ neither (test y) (list_any test on.0) parts.0 (none_sub test on.0 ys on.2 parts.1))
+    ap (list_any test) on.1 ∙ or_from (test y) (list_any test on.0) parts.0 (none_sub test on.0 ys on.2 parts.1))
     h
 
 -- items left out of a list in which no number stands twice
@@ -70,6 +40,10 @@ distinct_sub xs (y ∷ ys) h d = ⊎_elim
     subst Distinct (sym on.1) (none_sub (λ (n : ℕ). n == y) on.0 ys on.2 d.0, distinct_sub on.0 ys on.2 d.1))
     h
 
+-- those in front
+pub distinct_front : (xs ys : List ℕ) → Distinct (xs ++ ys) → Distinct xs
+distinct_front xs ys d = distinct_sub xs (xs ++ ys) (sublist_of_front xs ys) d
+
 -- a test for equal numbers, from the other side
 other_way : (a b : ℕ) → (a == b) ≡ false → (b == a) ≡ false
 other_way a b e = grind arith
@@ -79,17 +53,17 @@ pub distinct_push : (xs : List ℕ) (y : ℕ) → list_any (λ (n : ℕ). n == y
     → Distinct (xs ++ y ∷ [])
 distinct_push [] y e d = (refl, tt)
 distinct_push (x ∷ xs) y e d =
-    let parts = either (x == y) (list_any (λ (n : ℕ). n == y) xs) e in (
+    let parts = or_parts (x == y) (list_any (λ (n : ℕ). n == y) xs) e in (
       list_any-append (λ (n : ℕ). n == x) xs (y ∷ [])
-          ∙ neither (list_any (λ (n : ℕ). n == x) xs) ((y == x) || false) d.0
-          (neither (y == x) false (other_way x y parts.0) refl),
+          ∙ or_from (list_any (λ (n : ℕ). n == x) xs) ((y == x) || false) d.0
+          (or_from (y == x) false (other_way x y parts.0) refl),
       distinct_push xs y parts.1 d.1,
     )
 
 -- ---- the requests of a world
 
 -- those of the earlier sessions, and then those of the newest
-all_sent_is : (w : Bare) → all_sent w ≡ flat_map (λ (log : Log). log.sent) w.past ++ w.newest.sent
+pub all_sent_is : (w : Bare) → all_sent w ≡ flat_map (λ (log : Log). log.sent) w.past ++ w.newest.sent
 all_sent_is w =
     let earlier = flat_map (λ (log : Log). log.sent) w.past in
     flat_map-append (λ (log : Log). log.sent) w.past (w.newest ∷ [])
@@ -153,10 +127,7 @@ begins_distinct w v past sent none distinct =
     ∙ append-nil known in
     let whole : known ≡ all_sent v ++ waiting_requests v.fop =
     sym (ap (λ (l : List ℕ). all_sent v ++ l) none ∙ append-nil (all_sent v) ∙ same) in
-    let fewer : IsSublist known (known ++ waits) =
-    subst (λ (l : List ℕ). IsSublist l (known ++ waits)) (append-nil known)
-    (sublist_front known [] waits (IsSublist-nil waits)) in
-    subst Distinct whole (distinct_sub known (known ++ waits) fewer distinct)
+    subst Distinct whole (distinct_front known waits distinct)
 
 -- ---- the claims of a session
 

@@ -1,5 +1,5 @@
 -- Where a session stands: the earlier ones in order, without the time before the first.
-use Rattle.std.proofs.Common.{◌≡◌, ℕ, ◌+◌, ◌<◌, List, [], ◌∷◌, ◌++◌, Option, Some, length, map, drop, get_or, slice_get, sym, ap, arith, add-one, zero, suc}
+use Rattle.std.proofs.Common.{◌≡◌, ℕ, ◌+◌, ◌<◌, List, [], ◌∷◌, ◌++◌, Some, length, map, drop, get_or, slice_get, sym, ap, arith, add-one, zero, suc}
 use Rattle.tc_world.specs.Logs.{Log}
 use Rattle.tc_world.specs.Pages.{Page}
 

@@ -1,12 +1,12 @@
 -- A session that has started, and a call of the FOP.
-use Rattle.std.proofs.Common.{◌≡◌, ℕ, ◌+◌, ◌-◌, ◌%◌, ◌<◌, ◌≤◌, ◌⊎◌, inl, inr, ⊎_elim, Bool, true, if◌then◌else◌, Option, Some, None, List, [], ◌∷◌, ◌++◌, length, take, drop, refl, sym, ◌∙◌, ap, subst, arith}
+use Rattle.std.proofs.Common.{◌≡◌, ℕ, ◌+◌, ◌%◌, ◌≤◌, ◌⊎◌, inl, inr, ⊎_elim, Bool, true, if◌then◌else◌, Option, Some, None, List, [], ◌∷◌, ◌++◌, length, take, drop, refl, sym, ◌∙◌, ap, subst, arith}
 use Rattle.std.proofs.lemmas.List.{append-nil}
 use Rattle.tc_farm.specs.declared.clcws.Clcw.{Clcw}
 use Rattle.tc_fop.specs.declared.signals.FopState.{FopState}
 use Rattle.tc_fop.specs.Machine.{Out}
 use Rattle.tc_fop.specs.Requests.{sent_requests, acknowledged}
-use Rattle.tc_fop.specs.Moves.{MovesIn, Advances, Rests, confirmed_in, transmitted_in, starts_in}
-use Rattle.tc_world.specs.Sublist.{IsSublist, IsSublist-same}
+use Rattle.tc_fop.specs.Moves.{MovesIn, Rests, confirmed_in, transmitted_in, starts_in}
+use Rattle.tc_world.specs.Sublist.{IsSublist-same}
 use Rattle.tc_world.specs.Logs.{Log, noted, is_some_start}
 use Rattle.tc_world.specs.Session.{Session, SessionRun}
 use Rattle.tc_world.specs.Abstraction.{Bare, session_with}
@@ -134,12 +134,12 @@ hears w v out clcw r ns rs value window moving kept =
 
 -- with a control word that flew for r: some are confirmed, then requests are sent again and sent
 pub started_hears : (w v : Bare) (out : Out) (clcw : Clcw) (r : ℕ) (ns rs : List ℕ) → w.newest.started ≡ true
-    → clcw.report < 256 → clcw.report ≡ (w.newest.base + r) % 256
+    → clcw.report ≡ (w.newest.base + r) % 256
     → IsInWindow 255 (session_with w.newest ns (r ∷ rs))
     → Moving (Some clcw) w v out → IsStarted w ns rs
     → (ms : List ℕ) × (v.newest.started ≡ true) × IsStarted v ms rs
     × SessionRun 255 (session_with w.newest ns (r ∷ rs)) (session_with v.newest ms rs)
-started_hears w v out clcw r ns rs started small value window moving kept =
+started_hears w v out clcw r ns rs started value window moving kept =
     let s = session_with w.newest ns (r ∷ rs) in
     let t = session_after w.newest out ns rs in
     let heard = hears w v out clcw r ns rs value window moving kept in

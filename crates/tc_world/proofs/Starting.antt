@@ -5,7 +5,7 @@ use Rattle.tc_types.specs.declared.frames.Frame.{Frame}
 use Rattle.tc_types.specs.declared.reports.Report.{Report}
 use Rattle.tc_farm.specs.declared.clcws.Clcw.{Clcw}
 use Rattle.tc_farm.specs.declared.farms.FarmView.{FarmView}
-use Rattle.tc_farm.specs.Farm.{IsFarm, distance}
+use Rattle.tc_farm.specs.Farm.{distance}
 use Rattle.tc_fop.specs.declared.signals.Directive.{Directive}
 use Rattle.tc_fop.specs.declared.signals.Directive.TheVariants as directive
 use Rattle.tc_fop.specs.declared.signals.FopState.{FopState}
@@ -298,7 +298,7 @@ unstarted_moves heard w v out started well moving kept =
 -- ---- an initiation
 
 -- a test that asks another one
-both_true : (a b : Bool) → (if a then b else false) ≡ true → (a ≡ true) × (b ≡ true)
+pub both_true : (a b : Bool) → (if a then b else false) ≡ true → (a ≡ true) × (b ≡ true)
 both_true true b e = (refl, e)
 both_true false b e = absurd (false≢true e)
 
@@ -310,9 +310,7 @@ nothing_empty (item ∷ items) e = absurd (false≢true e)
 -- the world after an initiation
 pub record Initiating (given : Directive) (w v : Bare) (out : Out) : Type 0 where
   pub initiation : is_initiation given ≡ true
-  pub old_fop : IsFop w.fop
   pub new_fop : IsFop v.fop
-  pub farm : IsFarm w.farm
   pub begins : Initiates given w.fop v.fop out
   pub up : IsSublist v.up (w.up ++ out.frames)
   pub whole : v ≡ record w {

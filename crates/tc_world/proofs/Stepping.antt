@@ -1,5 +1,5 @@
 -- The session that is on makes a run at each step, and stays sane.
-use Rattle.std.proofs.Common.{◌≡◌, ℕ, zero, suc, ◌+◌, ◌%◌, ◌<◌, ◌≤◌, Bool, true, false, ◌⊎◌, inl, inr, Option, Some, None, List, [], ◌∷◌, ◌++◌, length, refl, sym, ◌∙◌, ap, subst, arith}
+use Rattle.std.proofs.Common.{◌≡◌, ℕ, ◌<◌, Bool, true, false, ◌⊎◌, inl, inr, Some, None, List, [], ◌∷◌, ◌++◌, refl, sym, ◌∙◌, subst, arith}
 use Rattle.tc_farm.specs.declared.clcws.Clcw.{Clcw}
 use Rattle.tc_types.specs.declared.frames.Frame.{Frame}
 use Rattle.tc_types.specs.declared.reports.Report.{Report}
@@ -10,15 +10,15 @@ use Rattle.tc_types.specs.declared.frames.Frame.TheVariants.{Ad, Unlock, SetVr}
 use Rattle.tc_farm.specs.FarmLaws.{IsNumbered, Says}
 use Rattle.tc_fop.specs.Machine.{Out}
 use Rattle.tc_world.specs.Sublist.{IsSublist}
-use Rattle.tc_world.specs.Session.{Session, SessionRun, nothing_yet}
+use Rattle.tc_world.specs.Session.{SessionRun, nothing_yet}
 use Rattle.tc_world.specs.Abstraction.{Bare, session_of, session_with, report_value}
 use Rattle.tc_world.specs.Window.{Distinct}
-use Rattle.tc_world.specs.Kept.{IsStarted, IsUnstarted, IsSane, IsInWindow, AreFrames, AreControls}
+use Rattle.tc_world.specs.Kept.{IsStarted, IsUnstarted, IsSane, AreFrames}
 use Rattle.tc_world.proofs.Moving.{Moving, IsFollowed}
-use Rattle.tc_world.proofs.FrameLists.{controls_behind, frames_behind}
+use Rattle.tc_world.proofs.FrameLists.{frames_behind}
 use Rattle.tc_world.proofs.WindowSteps.{runs_on}
 use Rattle.tc_world.proofs.StartedMoves.{started_moves, started_hears}
-use Rattle.tc_world.proofs.Starting.{unstarted_moves, IsHeardWell}
+use Rattle.tc_world.proofs.Starting.{unstarted_moves}
 use Rattle.tc_world.proofs.OtherSides.{after_frame, started_boards, unstarted_boards, started_releases, unstarted_releases, started_tells, unstarted_tells, started_reports, unstarted_reports, started_loses, unstarted_loses, started_word_taken, unstarted_word_taken}
 use Rattle.tc_world.proofs.Abstracted.{session_started, session_unstarted}
 
@@ -73,25 +73,17 @@ front_numbered base sent (Ad number request body) rest ns (n, others, is, value,
 front_numbered base sent Unlock rest ns a = tt
 front_numbered base sent (SetVr v) rest ns a = tt
 
-control_numbered : (base : ℕ) (frame : Frame) (rest : List Frame) → AreControls base (frame ∷ rest) → IsNumbered frame
-control_numbered base (Ad number request body) rest a = absurd a
-control_numbered base Unlock rest a = tt
-control_numbered base (SetVr v) rest a = tt
-
 -- a frame came up
 pub boards_on : (w : Bare) (frame : Frame) (room : Bool) (lost rest : List Frame) → Distinct w.newest.sent
-    → w.farm.vr < 256 → (IsNumbered frame → Says (verdict_of w.farm frame room) w.farm frame room (farm_after w.farm frame room))
+    → (IsNumbered frame → Says (verdict_of w.farm frame room) w.farm frame room (farm_after w.farm frame room))
     → w.up ≡ lost ++ frame ∷ rest → IsSane w → Steps w (after_frame w frame room rest)
-boards_on w frame room lost rest dw small says up (inl (sw, kw)) =
-    let numbered : IsNumbered frame =
-    control_numbered w.newest.base frame rest
-    (controls_behind w.newest.base lost (frame ∷ rest) (subst (λ l. AreControls w.newest.base l) up kw.up)) in
-    unstarted_on w (after_frame w frame room rest) sw kw sw (unstarted_boards w frame room lost rest (says numbered) up kw)
-boards_on w frame room lost rest dw small says up (inr (ns, rs, sw, kw)) =
+boards_on w frame room lost rest dw says up (inl (sw, kw)) =
+    unstarted_on w (after_frame w frame room rest) sw kw sw (unstarted_boards w frame room lost rest up kw)
+boards_on w frame room lost rest dw says up (inr (ns, rs, sw, kw)) =
     let behind = frames_behind w.newest.base w.newest.sent lost (frame ∷ rest) ns
     (subst (λ l. AreFrames w.newest.base w.newest.sent l ns) up kw.frames) in
     let numbered : IsNumbered frame = front_numbered w.newest.base w.newest.sent frame rest behind.1 behind.4 in
-    let done = started_boards w frame room lost rest ns rs small (says numbered) up kw in
+    let done = started_boards w frame room lost rest ns rs (says numbered) up kw in
     started_on w (after_frame w frame room rest) ns rs done.0 rs dw dw sw kw sw done.1 done.2
 
 pub releases_on : (w : Bare) → Distinct w.newest.sent → IsSane w → Steps w (record w { farm = released w.farm })
@@ -135,6 +127,6 @@ hears_on w v out word clcw lost rest dw dv small value down moving (inl (sw, kw)
 hears_on w v out word clcw lost rest dw dv small value down moving (inr (ns, rs, sw, kw)) =
     let taken = started_word_taken w word lost rest ns rs down kw in
     let left : Bare = record w { down = rest } in
-    let done = started_hears left v out clcw taken.0 ns taken.1 sw small (sym value ∙ taken.2) taken.3 moving taken.4 in
+    let done = started_hears left v out clcw taken.0 ns taken.1 sw (sym value ∙ taken.2) taken.3 moving taken.4 in
     started_on w v ns rs done.0 taken.1 dw dv sw kw done.1 done.2
     (runs_on 255 (session_with w.newest ns rs) (session_with w.newest ns (taken.0 ∷ taken.1)) (session_with v.newest done.0 taken.1) taken.5 done.3)

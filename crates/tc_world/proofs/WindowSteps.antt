@@ -13,6 +13,44 @@ take_next (y ∷ ys) zero x e =
     ap (λ z. z ∷ []) (sym same)
 take_next (y ∷ ys) (suc n) x e = ap (λ l. y ∷ l) (take_next ys n x e)
 
+-- other positions are in flight
+up_in_window : (bound : ℕ) (s : Session) (up : List ℕ) → Each (λ (n : ℕ). length s.accepted ≤ n + bound) up
+    → Each (λ (n : ℕ). n < length s.sent) up → Pairs (λ (n m : ℕ). n + 1 ≤ m + bound) up
+    → IsInWindow bound s → IsInWindow bound (record s { up = up })
+up_in_window bound s up low high order w = record {
+  small = w.small;
+  accepted = w.accepted;
+  confirmed = w.confirmed;
+  confirmed_few = w.confirmed_few;
+  accepted_few = w.accepted_few;
+  sent_few = w.sent_few;
+  up_low = low;
+  up_high = high;
+  up_order = order;
+  down_low = w.down_low;
+  down_high = w.down_high;
+  down_order = w.down_order;
+}
+
+-- other reports are in flight
+down_in_window : (bound : ℕ) (s : Session) (down : List ℕ) → Each (λ (r : ℕ). length s.confirmed ≤ r) down
+    → Each (λ (r : ℕ). r ≤ length s.accepted) down → Pairs (λ (r q : ℕ). r ≤ q) down
+    → IsInWindow bound s → IsInWindow bound (record s { down = down })
+down_in_window bound s down low high order w = record {
+  small = w.small;
+  accepted = w.accepted;
+  confirmed = w.confirmed;
+  confirmed_few = w.confirmed_few;
+  accepted_few = w.accepted_few;
+  sent_few = w.sent_few;
+  up_low = w.up_low;
+  up_high = w.up_high;
+  up_order = w.up_order;
+  down_low = low;
+  down_high = high;
+  down_order = order;
+}
+
 -- a first transmission
 pub sends_keeps : (bound : ℕ) (s t : Session) → Sends bound s t → IsInWindow bound s → IsInWindow bound t
 sends_keeps bound s t h w =
@@ -44,26 +82,14 @@ sends_keeps bound s t h w =
 -- a transmission again
 pub sends_again_keeps : (bound : ℕ) (s t : Session) → SendsAgain s t → IsInWindow bound s → IsInWindow bound t
 sends_again_keeps bound s t h w =
-    let next : Session = record s { up = s.up ++ h.position ∷ [] } in
-    let kept : IsInWindow bound next = record {
-      small = w.small;
-      accepted = w.accepted;
-      confirmed = w.confirmed;
-      confirmed_few = w.confirmed_few;
-      accepted_few = w.accepted_few;
-      sent_few = w.sent_few;
-      up_low =
-          each_append (λ (n : ℕ). length s.accepted ≤ n + bound) s.up (h.position ∷ []) w.up_low
-          (omega (arith, w.accepted_few, w.sent_few, h.low), tt);
-      up_high = each_append (λ (n : ℕ). n < length s.sent) s.up (h.position ∷ []) w.up_high (h.high, tt);
-      up_order =
-          pairs_push (λ (n m : ℕ). n + 1 ≤ m + bound) s.up h.position w.up_order
-          (each_map (λ (n : ℕ). n < length s.sent) (λ (n : ℕ). n + 1 ≤ h.position + bound) s.up (λ n p. omega (arith, p, w.sent_few, h.low)) w.up_high);
-      down_low = w.down_low;
-      down_high = w.down_high;
-      down_order = w.down_order;
-    } in
-    subst (λ u. IsInWindow bound u) (sym h.whole) kept
+    subst (λ u. IsInWindow bound u) (sym h.whole)
+    (up_in_window bound s (s.up ++ h.position ∷ [])
+    (each_append (λ (n : ℕ). length s.accepted ≤ n + bound) s.up (h.position ∷ []) w.up_low
+    (omega (arith, w.accepted_few, w.sent_few, h.low), tt))
+    (each_append (λ (n : ℕ). n < length s.sent) s.up (h.position ∷ []) w.up_high (h.high, tt))
+    (pairs_push (λ (n m : ℕ). n + 1 ≤ m + bound) s.up h.position w.up_order
+    (each_map (λ (n : ℕ). n < length s.sent) (λ (n : ℕ). n + 1 ≤ h.position + bound) s.up (λ n p. omega (arith, p, w.sent_few, h.low)) w.up_high))
+    w)
 
 -- the first of the uplink is discarded
 pub discarded_keeps : (bound : ℕ) (s : Session) (position : ℕ) (rest : List ℕ) → s.up ≡ position ∷ rest
@@ -72,20 +98,7 @@ discarded_keeps bound s position rest first w =
     let low : Each (λ (n : ℕ). length s.accepted ≤ n + bound) (position ∷ rest) = subst (λ l. Each (λ (n : ℕ). length s.accepted ≤ n + bound) l) first w.up_low in
     let high : Each (λ (n : ℕ). n < length s.sent) (position ∷ rest) = subst (λ l. Each (λ (n : ℕ). n < length s.sent) l) first w.up_high in
     let order : Pairs (λ (n m : ℕ). n + 1 ≤ m + bound) (position ∷ rest) = subst (λ l. Pairs (λ (n m : ℕ). n + 1 ≤ m + bound) l) first w.up_order in
-    record {
-      small = w.small;
-      accepted = w.accepted;
-      confirmed = w.confirmed;
-      confirmed_few = w.confirmed_few;
-      accepted_few = w.accepted_few;
-      sent_few = w.sent_few;
-      up_low = low.1;
-      up_high = high.1;
-      up_order = order.1;
-      down_low = w.down_low;
-      down_high = w.down_high;
-      down_order = w.down_order;
-    }
+    up_in_window bound s rest low.1 high.1 order.1 w
 
 -- the first of the uplink is accepted
 pub accepted_keeps : (bound : ℕ) (s : Session) (position : ℕ) (rest : List ℕ) (request : ℕ) → s.up ≡ position ∷ rest
@@ -130,22 +143,12 @@ arrives_keeps bound s t h w =
 -- a report
 pub reports_keeps : (bound : ℕ) (s t : Session) → Reports s t → IsInWindow bound s → IsInWindow bound t
 reports_keeps bound s t h w =
-    let next : Session = record s { down = s.down ++ length s.accepted ∷ [] } in
-    let kept : IsInWindow bound next = record {
-      small = w.small;
-      accepted = w.accepted;
-      confirmed = w.confirmed;
-      confirmed_few = w.confirmed_few;
-      accepted_few = w.accepted_few;
-      sent_few = w.sent_few;
-      up_low = w.up_low;
-      up_high = w.up_high;
-      up_order = w.up_order;
-      down_low = each_append (λ (r : ℕ). length s.confirmed ≤ r) s.down (length s.accepted ∷ []) w.down_low (w.confirmed_few, tt);
-      down_high = each_append (λ (r : ℕ). r ≤ length s.accepted) s.down (length s.accepted ∷ []) w.down_high (omega arith, tt);
-      down_order = pairs_push (λ (r q : ℕ). r ≤ q) s.down (length s.accepted) w.down_order w.down_high;
-    } in
-    subst (λ u. IsInWindow bound u) (sym h) kept
+    subst (λ u. IsInWindow bound u) (sym h)
+    (down_in_window bound s (s.down ++ length s.accepted ∷ [])
+    (each_append (λ (r : ℕ). length s.confirmed ≤ r) s.down (length s.accepted ∷ []) w.down_low (w.confirmed_few, tt))
+    (each_append (λ (r : ℕ). r ≤ length s.accepted) s.down (length s.accepted ∷ []) w.down_high (omega arith, tt))
+    (pairs_push (λ (r q : ℕ). r ≤ q) s.down (length s.accepted) w.down_order w.down_high)
+    w)
 
 -- the first of the downlink is heard, and nothing is done
 pub ignored_keeps : (bound : ℕ) (s : Session) (value : ℕ) (rest : List ℕ) → s.down ≡ value ∷ rest
@@ -154,20 +157,7 @@ ignored_keeps bound s value rest first w =
     let low : Each (λ (r : ℕ). length s.confirmed ≤ r) (value ∷ rest) = subst (λ l. Each (λ (r : ℕ). length s.confirmed ≤ r) l) first w.down_low in
     let high : Each (λ (r : ℕ). r ≤ length s.accepted) (value ∷ rest) = subst (λ l. Each (λ (r : ℕ). r ≤ length s.accepted) l) first w.down_high in
     let order : Pairs (λ (r q : ℕ). r ≤ q) (value ∷ rest) = subst (λ l. Pairs (λ (r q : ℕ). r ≤ q) l) first w.down_order in
-    record {
-      small = w.small;
-      accepted = w.accepted;
-      confirmed = w.confirmed;
-      confirmed_few = w.confirmed_few;
-      accepted_few = w.accepted_few;
-      sent_few = w.sent_few;
-      up_low = w.up_low;
-      up_high = w.up_high;
-      up_order = w.up_order;
-      down_low = low.1;
-      down_high = high.1;
-      down_order = order.1;
-    }
+    down_in_window bound s rest low.1 high.1 order.1 w
 
 -- the first of the downlink is heard, and so many are confirmed
 pub confirmed_keeps : (bound : ℕ) (s : Session) (value : ℕ) (rest : List ℕ) → s.down ≡ value ∷ rest → length s.confirmed ≤ value
@@ -204,22 +194,16 @@ heard_keeps bound s t h w =
 -- a loss
 pub loses_keeps : (bound : ℕ) (s t : Session) → Loses s t → IsInWindow bound s → IsInWindow bound t
 loses_keeps bound s t h w =
-    let next : Session = record s { up = t.up; down = t.down } in
-    let kept : IsInWindow bound next = record {
-      small = w.small;
-      accepted = w.accepted;
-      confirmed = w.confirmed;
-      confirmed_few = w.confirmed_few;
-      accepted_few = w.accepted_few;
-      sent_few = w.sent_few;
-      up_low = each_sub (λ (n : ℕ). length s.accepted ≤ n + bound) t.up s.up h.up w.up_low;
-      up_high = each_sub (λ (n : ℕ). n < length s.sent) t.up s.up h.up w.up_high;
-      up_order = pairs_sub (λ (n m : ℕ). n + 1 ≤ m + bound) t.up s.up h.up w.up_order;
-      down_low = each_sub (λ (r : ℕ). length s.confirmed ≤ r) t.down s.down h.down w.down_low;
-      down_high = each_sub (λ (r : ℕ). r ≤ length s.accepted) t.down s.down h.down w.down_high;
-      down_order = pairs_sub (λ (r q : ℕ). r ≤ q) t.down s.down h.down w.down_order;
-    } in
-    subst (λ u. IsInWindow bound u) (sym h.whole) kept
+    subst (λ u. IsInWindow bound u) (sym h.whole)
+    (down_in_window bound (record s { up = t.up }) t.down
+    (each_sub (λ (r : ℕ). length s.confirmed ≤ r) t.down s.down h.down w.down_low)
+    (each_sub (λ (r : ℕ). r ≤ length s.accepted) t.down s.down h.down w.down_high)
+    (pairs_sub (λ (r q : ℕ). r ≤ q) t.down s.down h.down w.down_order)
+    (up_in_window bound s t.up
+    (each_sub (λ (n : ℕ). length s.accepted ≤ n + bound) t.up s.up h.up w.up_low)
+    (each_sub (λ (n : ℕ). n < length s.sent) t.up s.up h.up w.up_high)
+    (pairs_sub (λ (n m : ℕ). n + 1 ≤ m + bound) t.up s.up h.up w.up_order)
+    w))
 
 -- each step keeps it
 pub step_keeps_window : (bound : ℕ) (s t : Session) → SessionStep bound s t → IsInWindow bound s → IsInWindow bound t

@@ -1,5 +1,5 @@
 -- What sequence control means: a session with unbounded numbers, without a modulus, a state table or a timer.
-use Rattle.std.specs.Prelude.{◌≡◌, ◌⊎◌, ℕ, ◌+◌, ◌<◌, ◌≤◌, Option, Some, List, [], ◌∷◌, ◌++◌, length, take, slice_get}
+use Rattle.std.specs.Prelude.{◌≡◌, ◌⊎◌, ℕ, ◌+◌, ◌<◌, ◌≤◌, Some, List, [], ◌∷◌, ◌++◌, length, take, slice_get}
 use Rattle.tc_world.specs.Sublist.{IsSublist}
 
 -- The requests that were sent, accepted and confirmed. On the uplink fly the positions in `sent` of the frames that

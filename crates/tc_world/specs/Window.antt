@@ -1,5 +1,5 @@
 -- What the window keeps while every start was good.
-use Rattle.std.specs.Prelude.{◌≡◌, ◌⊎◌, ℕ, ◌==◌, Bool, false, List, [], ◌∷◌, ◌++◌, length, take}
+use Rattle.std.specs.Prelude.{◌≡◌, ◌⊎◌, ℕ, ◌==◌, false, List, [], ◌∷◌, ◌++◌, length, take}
 use Rattle.std.specs.List.{flat_map, list_any}
 use Rattle.tc_world.specs.Logs.{Log}
 use Rattle.tc_world.specs.Session.{SessionRun, nothing_yet}

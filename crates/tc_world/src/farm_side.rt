@@ -51,6 +51,7 @@ impl<U: Carrier<Frame> + Drop, D: Carrier<Report> + Drop, A: Allocator + Copy + 
         ensures frames { length (U.kind.content self.new.up) ≤ length (U.kind.content self.old.up) + 256 }
         ensures down { D.covered self.old.down ≤ D.covered self.new.down }
         ensures covered { 0 < D.covered self.old.down → IsOk result }
+        ensures always { IsOk result }
         ensures sound { IsFop self.new.fop × IsFarm self.new.farm }
     {
         self.up.lose(place);
@@ -65,6 +66,7 @@ impl<U: Carrier<Frame> + Drop, D: Carrier<Report> + Drop, A: Allocator + Copy + 
         ensures frames { length (U.kind.content self.new.up) ≤ length (U.kind.content self.old.up) + 256 }
         ensures down { D.covered self.old.down ≤ D.covered self.new.down }
         ensures covered { 0 < D.covered self.old.down → IsOk result }
+        ensures always { IsOk result }
         ensures sound { IsFop self.new.fop × IsFarm self.new.farm }
     {
         self.farm.release();
@@ -144,6 +146,7 @@ impl<U: Carrier<Frame> + Drop, D: Carrier<Report> + Drop, A: Allocator + Copy + 
         ensures frames { length (U.kind.content self.new.up) ≤ length (U.kind.content self.old.up) + 256 }
         ensures down { D.covered self.old.down ≤ D.covered self.new.down }
         ensures covered { 0 < D.covered self.old.down → IsOk result }
+        ensures always { IsOk result }
         ensures sound { IsFop self.new.fop × IsFarm self.new.farm }
     {
         self.down.lose(place);

@@ -21,13 +21,13 @@ ghost use Rattle.tc_world.specs.World.{Whole, Happens, Hears, Begins, IsRefused,
 
 use crate::carriers::Carrier;
 use crate::events::{Event, Indication};
-use crate::parts::{MOST_FRAMES, MOST_INDICATIONS, Parts};
+use crate::parts::{MOST_INDICATIONS, Parts};
 use crate::sessions::Session;
 use std::alloc::Allocator;
 use std::mem;
 use tc_farm::clcws::Clcw;
 use tc_fop::fops::Fop;
-use tc_fop::outputs::Output;
+use tc_fop::outputs::{MOST_FRAMES, Output};
 use tc_fop::signals;
 use tc_fop::signals::Directive;
 use tc_types::frames::Frame;

@@ -18,9 +18,6 @@ use tc_types::frames::Frame;
 use tc_types::refusals::Refusal;
 use tc_types::reports::Report;
 
-/// The most frames that one event puts on the uplink.
-pub const MOST_FRAMES: usize = 256;
-
 /// The most indications that one event answers: what came down, 255 in doubt, one given back, and the alert.
 pub const MOST_INDICATIONS: usize = 258;
 

@@ -83,6 +83,7 @@ impl<U: Carrier<Frame> + Drop, D: Carrier<Report> + Drop, A: Allocator + Copy + 
         ensures frames { length (U.kind.content self.new.up) ≤ length (U.kind.content self.old.up) + 256 }
         ensures quiet { IfOk result (λ answer. IsQuietAboard event answer.items) }
         ensures covered { is_covered event ≡ true → 0 < D.covered self.old.down → IsOk result }
+        ensures always { is_covered event ≡ true → puts_down event ≡ false → IsOk result }
         ensures kept_room { puts_down event ≡ false → D.covered self.old.down ≤ D.covered self.new.down }
         ensures room { D.covered self.old.down ≤ D.covered self.new.down + 1 }
         // while every start was good, an event is a run of the session that is on, or another begins

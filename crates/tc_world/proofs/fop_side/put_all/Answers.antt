@@ -1,5 +1,5 @@
 -- One more frame is put.
-use Rattle.std.proofs.Common.{◌+◌, ◌≤◌, length, arith}
+use Rattle.std.proofs.Common.{arith}
 use Rattle.tc_world.proofs.PutLemmas.{PutsAll-more, put_length}
 use Rattle.tc_world.proofs.fop_side.put_all.Goals as goal
 

@@ -1,4 +1,4 @@
-use Rattle.std.proofs.Common.{◌≡◌, ◌+◌, ◌≤◌, length, take}
+use Rattle.std.proofs.Common.{◌+◌, ◌≤◌, length, take}
 use Rattle.tc_world.specs.Links.{PutsAll}
 use Rattle.tc_world.proofs.fop_side.put_all.Given as goal
 

@@ -1,5 +1,5 @@
 -- The word was heard.
-use Rattle.std.proofs.Common.{◌≡◌, Ok, ap, sym, subst, ◌∙◌, refl}
+use Rattle.std.proofs.Common.{Ok, ap, sym, subst, ◌∙◌, refl}
 use Rattle.tc_fop.specs.Machine.{Machine}
 use Rattle.tc_fop.specs.Calls.{Answers, told}
 use Rattle.tc_world.specs.Logs.{Log, noted}

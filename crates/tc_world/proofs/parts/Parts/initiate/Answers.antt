@@ -2,7 +2,7 @@
 use Rattle.std.proofs.Common.{◌≡◌, ◌++◌, List, [], ◌∷◌, map, refl, ap, ◌∙◌}
 use Rattle.std.proofs.lemmas.List.{map-append}
 use Rattle.tc_fop.specs.declared.views.FopView.{FopView}
-use Rattle.tc_world.specs.Logs.{blank, noted}
+use Rattle.tc_world.specs.Logs.{blank}
 use Rattle.tc_world.specs.Pages.{Page}
 use Rattle.tc_world.proofs.CarryLemmas.{begun}
 use Rattle.tc_world.proofs.parts.Parts.initiate.Goals as goal

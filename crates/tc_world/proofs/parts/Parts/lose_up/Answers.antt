@@ -1,6 +1,6 @@
 -- A frame that is lost leaves no more than there were.
-use Rattle.std.proofs.Common.{◌+◌, ◌≤◌, length, arith}
-use Rattle.tc_world.proofs.PutLemmas.{sublist_length}
+use Rattle.std.proofs.Common.{◌≤◌, length, arith}
+use Rattle.tc_world.proofs.Lists.{sublist_length}
 use Rattle.tc_world.proofs.parts.Parts.lose_up.Goals as goal
 
 pub returns-clause-frames : goal.returns-clause-frames

@@ -1,5 +1,5 @@
 -- Where the run ends, and one event more.
-use Rattle.std.proofs.Common.{◌≡◌, length, refl, sym, subst, ◌∙◌, [], arith}
+use Rattle.std.proofs.Common.{◌≡◌, length, refl, sym, subst, [], arith}
 use Rattle.std.proofs.lemmas.Option.{slice_get_read}
 use Rattle.tc_world.specs.Abstraction.{seen}
 use Rattle.tc_world.specs.Window.{FollowsOn}
