@@ -1,5 +1,7 @@
 //! 300 requests, over the end of the frames' numbers.
-use super::{AMPLE, START, UP, all_happen, expect_from, lists, offer, offers, repeats, written};
+use super::{
+    AMPLE, START, UP, all_happen, expect_from, lists, offer, offers, repeats, skips, written,
+};
 use crate::links::Link;
 use linked_list_allocator::LocalHeap;
 use std::alloc::Global;
@@ -63,5 +65,37 @@ fn confirms_300_requests_in_order(rt: HostRuntime) -> Result<(), Fail> {
     fills_the_window(&rt, rt.alloc(), &mut link)?;
     goes_on(&rt, rt.alloc(), &mut link)?;
     expect_all(&rt, &link);
+    Ok(())
+}
+
+/// All events up to the last offer, as one list.
+fn round(rt: &impl Abort, alloc: Global) -> Result<Vec<Event, Global>, Fail> {
+    let mut events = Vec::new(alloc);
+    events.push(START)?;
+    let first = offers(rt, alloc, 1, 256)?;
+    events.extend_from_slice(&first)?;
+    for _ in 0..255 {
+        events.push(UP)?;
+    }
+    events.push(Event::Clcw)?;
+    events.push(Event::Downlink)?;
+    let more = offers(rt, alloc, 257, 300)?;
+    events.extend_from_slice(&more)?;
+    Ok(events)
+}
+
+#[test]
+fn stops_over_links_that_skip(rt: HostRuntime) -> Result<(), Fail> {
+    let events = round(&rt, rt.alloc())?;
+    let mut link = skips(rt.alloc(), 255, 254)?;
+    let end = link.does_all(&events);
+    assert_eq!(rt;
+        (end.done, end.refusal),
+        (514, Some(Refusal::ServiceNotActive))
+    );
+    assert!(rt; link.is_clean());
+    let session = written(&rt, &link, 0);
+    expect_from(&rt, session.sent, 1, 255, "sent");
+    assert_eq!(rt; (session.accepted.len(), session.confirmed.len()), (0, 0));
     Ok(())
 }
