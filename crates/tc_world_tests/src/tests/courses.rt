@@ -134,15 +134,15 @@ fn report(rt: &impl Abort) -> Telemetry {
 
 /// An event that is neither an offer nor a directive.
 fn random_event(rt: &impl Abort, dice: &mut Dice) -> Event {
-    match dice.roll(24) {
-        0 => Event::Uplink { room: false },
-        1..=3 => Event::Clcw,
-        4..=8 => Event::Downlink,
-        9 => Event::Tick,
-        10 | 11 => Event::Release,
-        12 => Event::Put(report(rt)),
-        13 => Event::LoseUp(dice.place()),
-        14 => Event::LoseDown(dice.place()),
+    match dice.roll(96) {
+        0 | 1 => Event::Uplink { room: false },
+        2..=13 => Event::Clcw,
+        14..=33 => Event::Downlink,
+        34 | 35 => Event::Tick,
+        36..=43 => Event::Release,
+        44..=47 => Event::Put(report(rt)),
+        48 => Event::LoseUp(dice.place()),
+        49 => Event::LoseDown(dice.place()),
         _ => UP,
     }
 }
@@ -214,15 +214,14 @@ fn turns<L: Link>(rt: &impl Abort, link: &mut L, course: &mut Course) -> Result<
     Ok(())
 }
 
-/// So many random events, from a generator that starts here. At least so many requests are confirmed, in several
-/// sessions, some requests are offered again, and some sessions end by an alert.
+/// So many random events, from a generator that starts here: several sessions, and some requests offered again. Answers
+/// how many requests were confirmed, and how often the FOP stopped by itself.
 fn courses<L: Link>(
     rt: &impl Abort,
     link: &mut L,
     seed: u64,
     events: u32,
-    least: usize,
-) -> Result<(), Fail> {
+) -> Result<(usize, u32), Fail> {
     let mut course = Course {
         dice: Dice { state: seed },
         next: 1,
@@ -233,28 +232,34 @@ fn courses<L: Link>(
     for _ in 0..events {
         turns(rt, link, &mut course)?;
     }
-    let confirmed = expect_all(rt, link);
-    assert!(rt; confirmed >= least, "{confirmed} confirmed");
     assert!(rt; link.sessions() > 5, "{} sessions", link.sessions());
-    assert!(rt; course.alerts > 2, "{} alerts", course.alerts);
     assert!(rt; course.again > 9, "{} again", course.again);
-    Ok(())
+    Ok((expect_all(rt, link), course.alerts))
 }
 
 #[test]
 fn the_claims_stand_over_100_000_events(rt: HostRuntime) -> Result<(), Fail> {
+    let mut confirmed = 0usize;
+    let mut alerts = 0u32;
     for (k, window) in [(255, 254), (127, 254), (10, 20), (3, 4)] {
         let mut link = lists(rt.alloc(), k, window, 63)?;
-        courses(&rt, &mut link, 1, 25_000, 1_000)?;
+        let counts = courses(&rt, &mut link, 1, 25_000)?;
+        confirmed = confirmed.saturating_add(counts.0);
+        alerts = alerts.saturating_add(counts.1);
     }
+    assert!(rt; confirmed > 2_000, "{confirmed} confirmed");
+    assert!(rt; alerts > 9, "{alerts} alerts");
     Ok(())
 }
 
 #[test]
 fn the_claims_stand_over_links_that_skip(rt: HostRuntime) -> Result<(), Fail> {
+    let mut confirmed = 0usize;
     for (k, window) in [(255, 254), (10, 20), (2, 4)] {
         let mut link = skips(rt.alloc(), k, window)?;
-        courses(&rt, &mut link, 2, 10_000, 100)?;
+        let counts = courses(&rt, &mut link, 2, 10_000)?;
+        confirmed = confirmed.saturating_add(counts.0);
     }
+    assert!(rt; confirmed > 9, "{confirmed} confirmed");
     Ok(())
 }
