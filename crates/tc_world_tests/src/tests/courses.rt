@@ -241,9 +241,14 @@ fn courses<L: Link>(
 fn the_claims_stand_over_100_000_events(rt: HostRuntime) -> Result<(), Fail> {
     let mut confirmed = 0usize;
     let mut alerts = 0u32;
-    for (k, window) in [(255, 254), (127, 254), (10, 20), (3, 4)] {
+    for (k, window, events) in [
+        (255, 254, 100_000),
+        (127, 254, 10_000),
+        (10, 20, 10_000),
+        (3, 4, 10_000),
+    ] {
         let mut link = lists(rt.alloc(), k, window, 63)?;
-        let counts = courses(&rt, &mut link, 1, 25_000)?;
+        let counts = courses(&rt, &mut link, 1, events)?;
         confirmed = confirmed.saturating_add(counts.0);
         alerts = alerts.saturating_add(counts.1);
     }
