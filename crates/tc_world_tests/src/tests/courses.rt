@@ -2,8 +2,7 @@
 //! accepted and accepted of sent, and no request is sent twice or accepted twice over all sessions.
 //!
 //! Requests are offered in the order of their numbers, so that none is sent twice where the numbers rise over all
-//! sessions. After each event the newest session is computed, and at the end of each session all of them: no event
-//! writes into an earlier one.
+//! sessions.
 use super::{STOP, UP, identity, lists, number, offer, skips};
 use crate::links::{Link, Written};
 use std::process::Abort;
@@ -44,8 +43,6 @@ struct Course {
     dice: Dice,
     /// The next request to be offered.
     next: u32,
-    /// The last request that was sent in an earlier session.
-    earlier: u32,
     /// How often the FOP stopped by itself.
     alerts: u32,
     /// How often an old request was offered again.
@@ -64,18 +61,9 @@ fn expect_claims(rt: &impl Abort, session: &Written<'_>, earlier: u32) -> u32 {
     last
 }
 
-/// Checks the claims in the newest session; answers the last request that was sent.
-fn expect_newest<L: Link>(rt: &impl Abort, link: &L, earlier: u32) -> u32 {
-    assert!(rt; link.is_clean());
-    let Some(newest) = link.sessions().checked_sub(1) else {
-        return earlier;
-    };
-    let session = link.written(newest).expect(rt, "a session");
-    expect_claims(rt, &session, earlier)
-}
-
 /// Checks the claims in all sessions; answers how many requests were confirmed.
 fn expect_all<L: Link>(rt: &impl Abort, link: &L) -> usize {
+    assert!(rt; link.is_clean());
     let mut last = 0;
     let mut confirmed = 0usize;
     for place in 0..link.sessions() {
@@ -87,9 +75,9 @@ fn expect_all<L: Link>(rt: &impl Abort, link: &L) -> usize {
 }
 
 /// An event happens, and the claims stand after it.
-fn goes<L: Link>(rt: &impl Abort, link: &mut L, course: &Course, event: Event) -> Result<(), Fail> {
+fn goes<L: Link>(rt: &impl Abort, link: &mut L, event: Event) -> Result<(), Fail> {
     link.does(event)?;
-    expect_newest(rt, link, course.earlier);
+    expect_all(rt, link);
     Ok(())
 }
 
@@ -101,7 +89,7 @@ fn offers_next<L: Link>(rt: &impl Abort, link: &mut L, course: &mut Course) {
         Some(Refusal::WaitQueueFull) => {}
         _ => assert_eq!(rt; refusal, Some(Refusal::ServiceNotActive)),
     }
-    expect_newest(rt, link, course.earlier);
+    expect_all(rt, link);
 }
 
 /// A request that was sent in some session.
@@ -120,7 +108,7 @@ fn offers_again<L: Link>(rt: &impl Abort, link: &mut L, course: &mut Course) {
     let answer = link.does(offer(rt, request.get()));
     assert_eq!(rt; answer.err(), Some(Refusal::WrongPlace), "{request:?}");
     course.again = course.again.saturating_add(1);
-    expect_newest(rt, link, course.earlier);
+    expect_all(rt, link);
 }
 
 /// A report of the spacecraft.
@@ -163,35 +151,27 @@ fn start(farm: &FarmView, dice: &mut Dice) -> Directive {
 fn goes_on<L: Link>(
     rt: &impl Abort,
     link: &mut L,
-    course: &Course,
     event: &Event,
     times: usize,
 ) -> Result<(), Fail> {
     for _ in 0..times {
-        goes(rt, link, course, *event)?;
+        goes(rt, link, *event)?;
     }
     Ok(())
 }
 
 /// A good start: the service ends, all that is in flight arrives, and both sides are level.
 fn restarts<L: Link>(rt: &impl Abort, link: &mut L, course: &mut Course) -> Result<(), Fail> {
-    goes(rt, link, course, STOP)?;
+    goes(rt, link, STOP)?;
     let (frames, reports) = link.in_flight();
-    goes_on(rt, link, course, &UP, frames)?;
-    goes_on(rt, link, course, &Event::Downlink, reports)?;
-    goes_on(rt, link, course, &UP, link.in_flight().0)?;
+    goes_on(rt, link, &UP, frames)?;
+    goes_on(rt, link, &Event::Downlink, reports)?;
+    goes_on(rt, link, &UP, link.in_flight().0)?;
     assert_eq!(rt; link.in_flight(), (0, 0));
-    expect_all(rt, link);
     let farm = link.farm();
-    goes(
-        rt,
-        link,
-        course,
-        Event::Directive(Directive::SetVs(farm.vr)),
-    )?;
-    course.earlier = expect_newest(rt, link, course.earlier);
+    goes(rt, link, Event::Directive(Directive::SetVs(farm.vr)))?;
     let first = start(&farm, &mut course.dice);
-    goes(rt, link, course, Event::Directive(first))
+    goes(rt, link, Event::Directive(first))
 }
 
 /// One random event, and a start where the FOP stopped, and now and then where it did not.
@@ -201,7 +181,7 @@ fn turns<L: Link>(rt: &impl Abort, link: &mut L, course: &mut Course) -> Result<
         9 => offers_again(rt, link, course),
         _ => {
             let event = random_event(rt, &mut course.dice);
-            goes(rt, link, course, event)?;
+            goes(rt, link, event)?;
         }
     }
     let is_stopped = link.fop().state == FopState::Initial;
@@ -225,7 +205,6 @@ fn courses<L: Link>(
     let mut course = Course {
         dice: Dice { state: seed },
         next: 1,
-        earlier: 0,
         alerts: 0,
         again: 0,
     };
