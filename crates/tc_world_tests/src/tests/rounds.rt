@@ -7,6 +7,7 @@ use linked_list_allocator::LocalHeap;
 use std::alloc::Global;
 use std::process::Abort;
 use std::test::Fail;
+use tc_farm::farms::FarmState;
 use tc_types::refusals::Refusal;
 use tc_world::events::Event;
 
@@ -84,6 +85,7 @@ fn round(rt: &impl Abort, alloc: Global) -> Result<Vec<Event, Global>, Fail> {
     Ok(events)
 }
 
+/// The first frame never comes up, and one far ahead does: the FARM locks, the service stops, and so does the run.
 #[test]
 fn stops_over_links_that_skip(rt: HostRuntime) -> Result<(), Fail> {
     let events = round(&rt, rt.alloc())?;
@@ -94,6 +96,7 @@ fn stops_over_links_that_skip(rt: HostRuntime) -> Result<(), Fail> {
         (514, Some(Refusal::ServiceNotActive))
     );
     assert!(rt; link.is_clean());
+    assert_eq!(rt; link.farm().state, FarmState::Lockout);
     let session = written(&rt, &link, 0);
     expect_from(&rt, session.sent, 1, 255, "sent");
     assert_eq!(rt; (session.accepted.len(), session.confirmed.len()), (0, 0));
