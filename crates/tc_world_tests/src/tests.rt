@@ -160,11 +160,10 @@ fn all_happen<L: Link>(rt: &impl Abort, link: &mut L, events: &[Event]) {
 }
 
 /// Makes an event happen so many times.
-fn repeats<L: Link>(link: &mut L, event: &Event, times: usize) -> Result<(), Fail> {
+fn repeats<L: Link>(rt: &impl Abort, link: &mut L, event: &Event, times: usize) {
     for _ in 0..times {
-        link.does(*event)?;
+        all_happen(rt, link, &[*event]);
     }
-    Ok(())
 }
 
 /// What is written down of the session at this place.

@@ -28,7 +28,7 @@ fn fills_the_window<L: Link>(rt: &impl Abort, alloc: Global, link: &mut L) -> Re
     let more = link.does(offer(rt, 257));
     assert_eq!(rt; more.err(), Some(Refusal::WaitQueueFull));
     assert_eq!(rt; link.in_flight(), (255, 0));
-    repeats(link, &UP, 255)?;
+    repeats(rt, link, &UP, 255);
     assert_eq!(rt; standing(link), (255, 0, 255, 1, 255));
     all_happen(rt, link, &[Event::Clcw, Event::Downlink]);
     assert_eq!(rt; standing(link), (0, 255, 1, 0, 255));
@@ -41,7 +41,7 @@ fn goes_on<L: Link>(rt: &impl Abort, alloc: Global, link: &mut L) -> Result<(), 
     let more = offers(rt, alloc, 257, 300)?;
     all_happen(rt, link, &more);
     assert_eq!(rt; standing(link), (44, 255, 45, 0, 255));
-    repeats(link, &UP, 45)?;
+    repeats(rt, link, &UP, 45);
     assert_eq!(rt; standing(link), (44, 255, 45, 0, 44));
     all_happen(rt, link, &[Event::Clcw, Event::Downlink]);
     assert_eq!(rt; standing(link), (44, 44, 0, 0, 44));
