@@ -1,5 +1,2 @@
-mod KeptLemmas
-mod MemoryLemmas
 mod RunLemmas
 mod ScriptLemmas
-mod SessionLemmas

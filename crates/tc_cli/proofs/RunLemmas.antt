@@ -1,5 +1,5 @@
 -- The loop over the lines of a script.
-use Rattle.std.proofs.Common.{◌≡◌, ◌∙◌, ◌+◌, ◌-◌, ◌<◌, ℕ, Bool, true, false, Option, Some, None, List, [], ◌∷◌, ◌++◌, refl, sym, ap, subst, append_assoc, append-nil, arith, length, take, drop, take-append-drop}
+use Rattle.std.proofs.Common.{◌≡◌, ◌∙◌, ◌+◌, ◌-◌, ◌<◌, ℕ, Bool, true, false, Option, Some, None, List, [], ◌∷◌, ◌++◌, refl, sym, ap, subst, ◌⊎◌, inl, inr, append_assoc, append-nil, arith, length, take, drop, take-append-drop}
 use Rattle.std.specs.Prelude.{◌≢◌, ◌||◌, IfSome, if◌then◌else◌}
 use Rattle.std.proofs.Math.Seq.{take-add, take-length}
 use Rattle.std.proofs.lemmas.Bool.{ne_eqb}
@@ -9,12 +9,19 @@ use Rattle.std.specs.Io.KnownBytes.{Appends, Keeps}
 use Rattle.std.proofs.KnownBytes.{Appends-trans, Appends-nil, Appends-kept}
 use Rattle.tc_types.specs.declared.counted.Counts.{Counts}
 use Rattle.tc_types.specs.Counts.{CanCount, is_nothing, no_counts, plus_if}
-use Rattle.tc_cli.specs.Replies.{Reply, ended, is_refused}
-use Rattle.tc_cli.specs.Session.{Standing, just_opened}
+use Rattle.tc_types.specs.declared.acts.Act.TheVariants as act
+use Rattle.tc_types.specs.declared.acts.Query.TheVariants as query
+use Rattle.tc_types.specs.declared.refusals.Refusal.TheVariants.{Stopped}
+use Rattle.tc_types.specs.History.{counts_of, entered}
+use Rattle.tc_types.specs.Lines.{places_line}
+use Rattle.tc_desk.specs.declared.stamps.Stamp.{Stamp}
+use Rattle.tc_room.specs.Answers.{AnswersLine, AsksPlaces}
+use Rattle.tc_room.specs.Joined.{IsKept}
+use Rattle.tc_room.specs.Replies.{Reply, ended, is_refused, refusal_reply}
+use Rattle.tc_room.specs.Room.{Standing, StepsDesk, FailsStore, just_opened}
 use Rattle.tc_cli.specs.declared.script.ScriptFault.{ScriptFault}
 use Rattle.tc_cli.specs.declared.script.ScriptFault.TheVariants.{Script, Output, Memory}
-use Rattle.tc_cli.specs.Run.{AnswersLine, AsksPlaces, IsAnswered, IsCutShort, LeavesPart, StopsAfter, TakesFront, TakesLine, TakesLines, is_skipped, script_lines}
-use Rattle.tc_cli.proofs.KeptLemmas.{run_leaves}
+use Rattle.tc_cli.specs.Run.{IsAnswered, IsCutShort, LeavesPart, StopsAfter, TakesFront, TakesLine, TakesLines, is_skipped, script_lines}
 
 -- What was written so far are the replies to the lines that were taken.
 pub record HasRun (start : Standing) (lines : List (List ℕ)) (old : Option (List ℕ)) (at : Standing) (left : List (List ℕ)) (new : Option (List ℕ)) (refused : Bool) : Type 0 where
@@ -118,18 +125,46 @@ abbrev pub CameAll : Standing → List (List ℕ) → Standing → Option (List 
 CameAll start lines end old new refused =
     (replies : List Reply) × TakesLines start lines replies end × Appends old new (flat_map ended replies) × (refused ≡ list_any is_refused replies)
 
+true_false : true ≡ false → ⊥
+true_false e = cc
+
+truth : (b : Bool) → (b ≡ true) ⊎ (b ≡ false)
+truth true = inl refl
+truth false = inr refl
+
+-- what is answered to `places`, where it is no refusal
+places_told : (at after : Standing) (reply : Reply) → AsksPlaces at reply after → is_refused reply ≡ false
+    → reply ≡ places_line (length (entered at.book.history)) (counts_of at.book.history) ∷ []
+places_told at after reply asks granted =
+    let stamp : Stamp = record { by = []; moment = 0 } in
+    elim (truth at.stopped) [
+      | inl stopped ↦ let told = rw stopped at (asks stamp) in not_refused (rw told.0 refl)
+      | inr going ↦
+          let step : StepsDesk at stamp (act.Ask query.Places) reply after ⊎ FailsStore reply after = rw going at (asks stamp) in
+          elim step [
+            | inl (outcome, steps, is_reply, is_new) ↦ elim steps [
+              | inl same ↦ rw same at is_reply
+              | inr lacks ↦ not_refused (rw (is_reply, lacks.1) refl)
+            ]
+            | inr fails ↦ not_refused (rw fails.0 refl)
+          ]
+    ]
+  where
+    not_refused : is_refused reply ≡ true → reply ≡ places_line (length (entered at.book.history)) (counts_of at.book.history) ∷ []
+    not_refused refused = absurd (true_false (sym refused ∙ granted))
+
 -- the lines of a script, and the question at the end
 pub run_answered : (input : List ℕ) (start end after : Standing) (refused last : Bool) (old mid new : Option (List ℕ))
     → start ≡ just_opened → CameAll start (script_lines input) end old mid refused → CameLast end after mid new last
-    → IsAnswered input (if refused || last then 1 else 0) old new
-run_answered input start end after refused last old mid new opened (replies, takes, written, refusals) (reply, asks, appends, is_reply) =
+    → IsKept end.book → IsAnswered input (if refused || last then 1 else 0) old new
+run_answered input start end after refused last old mid new opened (replies, takes, written, refusals) (reply, asks, appends, is_reply) kept =
     let all : flat_map ended (replies ++ reply ∷ []) ≡ flat_map ended replies ++ ended reply =
     flat_map-append ended replies (reply ∷ []) ∙ ap (λ bytes. flat_map ended replies ++ bytes) (append-nil (ended reply)) in
     let any : list_any is_refused (replies ++ reply ∷ []) ≡ (refused || last) =
     list_any-append is_refused replies (reply ∷ []) ∙ rw (refusals, is_reply) (ap (λ b. list_any is_refused replies || b) (or_false (is_refused reply))) in
     let bytes : Appends old new (flat_map ended (replies ++ reply ∷ [])) = rw all (Appends-trans _ _ _ _ _ written appends) in
     let from_open = subst (λ (s : Standing). TakesLines s (script_lines input) replies end) opened takes in
-    (replies, end, reply, after, from_open, asks, bytes, ap (λ (b : Bool). if b then 1 else 0) (sym any), run_leaves (script_lines input) replies end reply after from_open asks)
+    (replies, end, reply, after, from_open, asks, bytes, ap (λ (b : Bool). if b then 1 else 0) (sym any), record { kept = kept; told = places_told end after reply asks })
 
 -- a run that stopped at the question at the end
 pub run_stopped_at_end : (lines : List (List ℕ)) (start end : Standing) (refused : Bool) (old mid new : Option (List ℕ)) (fault : ScriptFault)

@@ -1,25 +1,17 @@
 -- The run of a script: what is written for the lines that were read.
-use Rattle.std.specs.Prelude.{◌≡◌, ◌≢◌, ◌≤◌, ◌↔◌, ◌⊎◌, ℕ, ◌==◌, Bool, true, false, if◌then◌else◌, MatchBool, Option, List, [], ◌∷◌, ◌++◌, length, map}
+use Rattle.std.specs.Prelude.{◌≡◌, ◌≢◌, ℕ, ◌==◌, Bool, true, false, if◌then◌else◌, MatchBool, Option, List, [], ◌∷◌, ◌++◌, length, map}
 use Rattle.std.specs.List.{list_any, flat_map}
 use Rattle.std.specs.Io.KnownBytes.{Appends}
 use Rattle.bstr.specs.Text.{lines_of, without_terminator}
-use Rattle.tc_types.specs.declared.refusals.Refusal.{Refusal}
-use Rattle.tc_types.specs.declared.refusals.Refusal.TheVariants.{BadText, Store, TooLong}
-use Rattle.tc_types.specs.declared.acts.Act.TheVariants as act
-use Rattle.tc_types.specs.declared.acts.Query.TheVariants as query
-use Rattle.tc_types.specs.declared.acts.Line.{Line}
-use Rattle.tc_types.specs.Grammar.{HasLongAct, SpellsLine, act_text}
-use Rattle.tc_desk.specs.declared.stamps.Stamp.{Stamp}
 use Rattle.tc_types.specs.History.{counts_of, entered}
 use Rattle.tc_types.specs.Lines.{places_line}
 use Rattle.tc_desk.specs.Book.{Book}
-use Rattle.tc_desk.specs.Conserved.{IsConserved}
-use Rattle.tc_desk.specs.Good.{IsGoodBook}
-use Rattle.tc_desk.specs.Machine.{stamp_of}
+use Rattle.tc_room.specs.Answers.{AnswersLine, AsksPlaces}
+use Rattle.tc_room.specs.Joined.{IsKept}
+use Rattle.tc_room.specs.Replies.{Reply, ended, is_refused}
+use Rattle.tc_room.specs.Room.{Standing, just_opened}
 use Rattle.tc_cli.specs.declared.script.ScriptFault.{ScriptFault}
 use Rattle.tc_cli.specs.declared.script.ScriptFault.TheVariants.{Script, Output, Memory}
-use Rattle.tc_cli.specs.Replies.{Reply, ended, is_refused, refusal_reply}
-use Rattle.tc_cli.specs.Session.{Standing, SessionStep, just_opened}
 
 -- the lines of a script: LF ends a line, and one CR just before that LF is dropped; the last LF may be missing
 abbrev pub script_lines : List ℕ → List (List ℕ)
@@ -30,35 +22,18 @@ abbrev pub is_skipped : List ℕ → Bool
 is_skipped [] = true
 is_skipped (first ∷ others) = first == 35
 
--- A line that is refused as it is read: with TooLong exactly where its act is too long, and else with BadText, where no
--- line with an act of 200 bytes or fewer is spelled so.
-pub record IsUnread (line : List ℕ) (refusal : Refusal) : Type 0 where
-  pub too_long : (refusal ≡ TooLong) ↔ HasLongAct line
-  pub others : refusal ≢ TooLong → refusal ≡ BadText
-  pub unspelled : (read : Line) → SpellsLine line read → ¬ (length (act_text read.act) ≤ 200)
-
--- A line is answered: one that cannot be read is refused, also where the session has stopped; another makes a step.
-abbrev pub AnswersLine : Standing → List ℕ → Reply → Standing → Type 0
-AnswersLine old line reply new =
-    ((refusal : Refusal) × IsUnread line refusal × (reply ≡ refusal_reply refusal) × (new ≡ old))
-    ⊎ ((read : Line) × SpellsLine line read × ¬ HasLongAct line × SessionStep old (stamp_of read) read.act reply new)
-
 -- a line that is skipped is not answered
 abbrev pub TakesLine : Standing → List ℕ → List Reply → Standing → Type 0
 TakesLine old line replies new = MatchBool (is_skipped line)
     ((replies ≡ []) × (new ≡ old))
     ((reply : Reply) × (replies ≡ reply ∷ []) × AnswersLine old line reply new)
 
--- each line is taken in turn, from where the line before left the session
+-- each line is taken in turn, from where the line before left the room
 abbrev pub TakesLines : Standing → List (List ℕ) → List Reply → Standing → Type 0
 TakesLines old [] replies new = (replies ≡ []) × (new ≡ old)
 TakesLines old (line ∷ lines) replies new =
     (now : List Reply) × (mid : Standing) × (later : List Reply)
     × TakesLine old line now mid × TakesLines mid lines later new × (replies ≡ now ++ later)
-
--- the question `places`, whoever asks
-abbrev pub AsksPlaces : Standing → Reply → Standing → Type 0
-AsksPlaces old reply new = (stamp : Stamp) → SessionStep old stamp (act.Ask query.Places) reply new
 
 -- the exit status: 1 where some reply is a refusal
 abbrev pub status_of : List Reply → ℕ
@@ -66,17 +41,11 @@ status_of replies = if list_any is_refused replies then 1 else 0
 
 -- ---- a run that ends
 
--- no reply says that the database failed
-abbrev pub NoneFailed : List Reply → Type 0
-NoneFailed [] = Unit {0}
-NoneFailed (reply ∷ replies) = (reply ≢ refusal_reply Store) × NoneFailed replies
-
 -- What a run leaves: a book that the desk could have written, whose history has one row for each move; each request
 -- that was entered stands at a place, and the counts of the fifteen places sum to those entered. That is what the
 -- last reply tells, where it is no refusal.
 pub record LeavesBook (book : Book) (last : Reply) : Type 0 where
-  pub good : IsGoodBook book
-  pub conserved : IsConserved book.history
+  pub kept : IsKept book
   pub told : is_refused last ≡ false → last ≡ places_line (length (entered book.history)) (counts_of book.history) ∷ []
 
 -- These bytes were read, and the run wrote the replies to their lines, and then the reply to `places`.
@@ -86,7 +55,7 @@ IsAnswered input status old new =
     × TakesLines just_opened (script_lines input) replies end × AsksPlaces end last after
     × Appends old new (flat_map ended (replies ++ last ∷ []))
     × (status ≡ status_of (replies ++ last ∷ []))
-    × (NoneFailed (replies ++ last ∷ []) → LeavesBook end.book last)
+    × LeavesBook end.book last
 
 -- ---- a run that stops
 

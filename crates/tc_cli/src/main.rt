@@ -4,21 +4,17 @@
 //! what the desk answers. Given no words at all it is `tcdesk run -`.
 #![tactic(auto)]
 
-mod answers;
-mod memory;
-mod replies;
 mod run;
 mod script;
-mod session;
 mod words;
 
 use run::run_script;
 use script::ScriptFault;
-use session::Config;
 use std::alloc::{AllocError, Global};
 use std::process::ExitCode;
 use std::rt::{Env, Files};
 use std::{env, fs, io};
+use tc_room::rooms::Config;
 use tc_types::counted::Counted;
 use words::{Line, UsageFault, read_words};
 

@@ -3,18 +3,20 @@ ghost use Rattle.std.specs.Prelude.{◌≡◌, ◌≢◌, ℕ, if◌then◌else�
 ghost use Rattle.std.specs.List.{flat_map, list_any};
 ghost use Rattle.std.specs.Io.KnownBytes.{Appends};
 ghost use Rattle.tc_types.specs.Counts.{counts_of, inner_of, no_counts};
-ghost use Rattle.tc_cli.specs.Replies.{Reply, ended, is_refused};
-ghost use Rattle.tc_cli.specs.Session.{just_opened};
+ghost use Rattle.tc_room.specs.Answers.{AsksPlaces};
+ghost use Rattle.tc_room.specs.Joined.{IsKept};
+ghost use Rattle.tc_room.specs.Replies.{Reply, ended, is_refused};
+ghost use Rattle.tc_room.specs.Room.{just_opened};
 ghost use Rattle.tc_cli.specs.Script.{IsUnreadable, written_counts};
-ghost use Rattle.tc_cli.specs.Run.{AsksPlaces, IsAnswered, IsCutShort, LeavesPart, StopsAfter, TakesLine, TakesLines};
+ghost use Rattle.tc_cli.specs.Run.{IsAnswered, IsCutShort, LeavesPart, StopsAfter, TakesLine, TakesLines};
 ghost use Rattle.tc_cli.specs.Run.{is_skipped, script_lines};
 
-use crate::answers::{answer_line, answer_places};
 use crate::script::{ScriptFault, read_script};
-use crate::session::{Config, Session};
 use bstr::ByteSlice;
 use std::alloc::Global;
 use std::io::{Read, Write};
+use tc_room::answers::{answer_line, answer_places};
+use tc_room::rooms::{Config, Room};
 use tc_types::counted::Counted;
 
 /// Runs the lines of a script on a desk where nothing happened yet, and writes what they are answered, and at the end
@@ -59,9 +61,9 @@ fn run_text<W: Write>(
     ensures fault { IfErr result (λ fault. fault ≢ ScriptFault.Script) }
     ensures counted { counts_of writer.new ≡ written_counts result }
 {
-    let mut session = Session::open(alloc, config)?;
-    let refused = run_lines(alloc, &mut session, text, writer)?;
-    let last = run_places(alloc, &mut session, writer)?;
+    let mut room = Room::open(alloc, config)?;
+    let refused = run_lines(alloc, &mut room, text, writer)?;
+    let last = run_places(alloc, &mut room, writer)?;
     Ok(status_of(refused | last))
 }
 
@@ -109,15 +111,15 @@ fn is_skipped(line: &[u8]) -> bool
 /// Takes one line, and says whether it was refused.
 fn run_line<W: Write>(
     alloc: Global,
-    session: &mut Session,
+    room: &mut Room,
     line: &[u8],
     writer: &mut Counted<W>,
 ) -> Result<bool, ScriptFault>
     requires { counts_of writer.old ≡ no_counts }
-    ensures taken { IfOk result (λ refused. (replies : List Reply) × TakesLine session.old line.now replies session.new
+    ensures taken { IfOk result (λ refused. (replies : List Reply) × TakesLine room.old line.now replies room.new
         × Appends (W.contents (inner_of writer.old)) (W.contents (inner_of writer.new)) (flat_map ended replies)
         × (refused ≡ list_any is_refused replies)) }
-    ensures stopped { IfErr result (λ fault. (part : List ℕ) × LeavesPart fault session.old (line.now ∷ []) part
+    ensures stopped { IfErr result (λ fault. (part : List ℕ) × LeavesPart fault room.old (line.now ∷ []) part
         × Appends (W.contents (inner_of writer.old)) (W.contents (inner_of writer.new)) part) }
     ensures fault { IfErr result (λ fault. fault ≢ ScriptFault.Script) }
     ensures counted { counts_of writer.new ≡ written_counts result }
@@ -125,7 +127,7 @@ fn run_line<W: Write>(
     if is_skipped(line) {
         return Ok(false);
     }
-    let answer = answer_line(alloc, session, line)?;
+    let answer = answer_line(alloc, room, line)?;
     put(writer, answer.text.as_bytes())?;
     Ok(answer.refused)
 }
@@ -133,22 +135,22 @@ fn run_line<W: Write>(
 /// Takes each line in turn, and says whether any was refused.
 fn run_lines<W: Write>(
     alloc: Global,
-    session: &mut Session,
+    room: &mut Room,
     text: &[u8],
     writer: &mut Counted<W>,
 ) -> Result<bool, ScriptFault>
     requires { counts_of writer.old ≡ no_counts }
-    ensures taken { IfOk result (λ refused. (replies : List Reply) × TakesLines session.old (script_lines text.now) replies session.new
+    ensures taken { IfOk result (λ refused. (replies : List Reply) × TakesLines room.old (script_lines text.now) replies room.new
         × Appends (W.contents (inner_of writer.old)) (W.contents (inner_of writer.new)) (flat_map ended replies)
         × (refused ≡ list_any is_refused replies)) }
-    ensures stopped { IfErr result (λ fault. StopsAfter fault session.old (script_lines text.now)
+    ensures stopped { IfErr result (λ fault. StopsAfter fault room.old (script_lines text.now)
         (W.contents (inner_of writer.old)) (W.contents (inner_of writer.new))) }
     ensures fault { IfErr result (λ fault. fault ≢ ScriptFault.Script) }
     ensures counted { counts_of writer.new ≡ written_counts result }
 {
     let mut refused = false;
     for line in text.lines() {
-        refused |= run_line(alloc, session, line, writer)?;
+        refused |= run_line(alloc, room, line, writer)?;
     }
     Ok(refused)
 }
@@ -156,19 +158,20 @@ fn run_lines<W: Write>(
 /// Asks the question `places`, and says whether it was refused.
 fn run_places<W: Write>(
     alloc: Global,
-    session: &mut Session,
+    room: &mut Room,
     writer: &mut Counted<W>,
 ) -> Result<bool, ScriptFault>
     requires { counts_of writer.old ≡ no_counts }
-    ensures taken { IfOk result (λ refused. (reply : Reply) × AsksPlaces session.old reply session.new
+    ensures taken { IfOk result (λ refused. (reply : Reply) × AsksPlaces room.old reply room.new
         × Appends (W.contents (inner_of writer.old)) (W.contents (inner_of writer.new)) (ended reply)
         × (refused ≡ is_refused reply)) }
-    ensures stopped { IfErr result (λ fault. (part : List ℕ) × LeavesPart fault session.old [] part
+    ensures stopped { IfErr result (λ fault. (part : List ℕ) × LeavesPart fault room.old [] part
         × Appends (W.contents (inner_of writer.old)) (W.contents (inner_of writer.new)) part) }
     ensures fault { IfErr result (λ fault. fault ≢ ScriptFault.Script) }
+    ensures kept { IsKept room.old.book }
     ensures counted { counts_of writer.new ≡ written_counts result }
 {
-    let last = answer_places(alloc, session)?;
+    let last = answer_places(alloc, room)?;
     put(writer, last.text.as_bytes())?;
     Ok(last.refused)
 }

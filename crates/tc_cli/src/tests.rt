@@ -1,10 +1,10 @@
 //! Whole runs of scripts.
 use crate::run::run_script;
 use crate::script::{LARGEST_SCRIPT, ScriptFault};
-use crate::session::Config;
 use crate::words::{Line, UsageFault, read_words};
 use std::alloc::Global;
 use std::test::Fail;
+use tc_room::rooms::Config;
 use tc_types::counted::Counted;
 
 mod streams;

@@ -2,10 +2,10 @@
 use super::{FIRST_ANSWERS, FIRST_RUN};
 use crate::run::run_script;
 use crate::script::{LARGEST_SCRIPT, MOST_READS, ScriptFault};
-use crate::session::Config;
 use std::io;
 use std::io::{Read, Write};
 use std::test::Fail;
+use tc_room::rooms::Config;
 use tc_types::counted::{Counted, Counts};
 
 /// Gives one byte at each read, and fails at one of them.

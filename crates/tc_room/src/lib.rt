@@ -1,0 +1,10 @@
+//! Desk and tables as one: each act is carried out on the desk's book and written to the tables of that book, and each
+//! line of a script is answered as the desk machine answers it.
+#![tactic(auto)]
+
+pub mod answers;
+mod memory;
+mod replies;
+pub mod rooms;
+#[cfg(test)]
+mod tests;
