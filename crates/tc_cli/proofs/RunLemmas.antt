@@ -11,13 +11,12 @@ use Rattle.tc_types.specs.declared.counted.Counts.{Counts}
 use Rattle.tc_types.specs.Counts.{CanCount, is_nothing, no_counts, plus_if}
 use Rattle.tc_types.specs.declared.acts.Act.TheVariants as act
 use Rattle.tc_types.specs.declared.acts.Query.TheVariants as query
-use Rattle.tc_types.specs.declared.refusals.Refusal.TheVariants.{Stopped}
 use Rattle.tc_types.specs.History.{counts_of, entered}
 use Rattle.tc_types.specs.Lines.{places_line}
 use Rattle.tc_desk.specs.declared.stamps.Stamp.{Stamp}
 use Rattle.tc_room.specs.Answers.{AnswersLine, AsksPlaces}
 use Rattle.tc_room.specs.Joined.{IsKept}
-use Rattle.tc_room.specs.Replies.{Reply, ended, is_refused, refusal_reply}
+use Rattle.tc_room.specs.Replies.{Reply, ended, is_refused}
 use Rattle.tc_room.specs.Room.{Standing, StepsDesk, FailsStore, just_opened}
 use Rattle.tc_cli.specs.declared.script.ScriptFault.{ScriptFault}
 use Rattle.tc_cli.specs.declared.script.ScriptFault.TheVariants.{Script, Output, Memory}

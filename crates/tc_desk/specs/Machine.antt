@@ -1,6 +1,5 @@
 -- The desk machine: what is answered to whom, and what the book becomes.
-use Rattle.std.specs.Prelude.{◌≡◌, ℕ, ◌⊎◌, nat_lt, Option, Some, None, Ok, Err, Result, List, [], ◌∷◌, length, map, filter, take, drop, codes}
-use Rattle.std.specs.Fmt.{decimal}
+use Rattle.std.specs.Prelude.{◌≡◌, ℕ, ◌⊎◌, nat_lt, Option, Some, None, Ok, Err, Result, List, [], ◌∷◌, length, map, take, drop, codes}
 use Rattle.tc_types.specs.declared.moves.Move.{Move}
 use Rattle.tc_types.specs.declared.refusals.Refusal.{Refusal}
 use Rattle.tc_types.specs.declared.refusals.Refusal.TheVariants.{Memory}
