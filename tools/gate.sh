@@ -1,9 +1,51 @@
-#!/bin/sh
-# The gate: every proof from nothing, the edits that a proof must refuse, all tests, the program as two compilers build
-# it; then the program's words, files and statuses, and each of its requests for memory refused in turn.
-set -eu
-cd "$(dirname "$(readlink -f "$0")")/.."
-rt ci
-./tcdesk run - </dev/null >/dev/null
-tools/program_cases.sh
-tools/fail_alloc.sh
+#!/bin/bash
+# The gate, from nothing: every proof, all tests and the program as two compilers build it, with the few edits of
+# must-fail/ (`rt ci`); the edits of wrong/, many in a check, and the test of the tool that tries them; then the built
+# program's words, files, statuses, faulty streams, and each of its requests for memory refused in turn.
+# It stops at the first part that fails. At its end it prints what each part took: docs/GATE.md has that table for each
+# landing.
+set -u
+cd "$(dirname "$(readlink -f "$0")")/.." || exit 1
+
+parts=()
+began=$(date +%s)
+
+# part NAME COMMAND..: runs the command, and notes what it took: minutes by the clock, and of processors.
+part() {
+    local name=$1 status
+    shift
+    echo "== $name"
+    TIMEFORMAT='%R %U %S'
+    { time "$@" 2>&3; } 3>&2 2>"$times"
+    status=$?
+    parts+=("$(awk -v name="$name" '{ printf "%-44s %6.1f %10.1f", name, $1 / 60, ($2 + $3) / 60 }' "$times")")
+    if ((status != 0)); then
+        table
+        echo "gate: $name failed"
+        exit 1
+    fi
+}
+
+# What each part took.
+table() {
+    local minutes
+    minutes=$(awk -v s=$(($(date +%s) - began)) 'BEGIN { printf "%.1f", s / 60 }')
+    echo
+    printf '%-44s %6s %10s\n' "part, on $(nproc) cores" minutes "processor"
+    printf '%s\n' "${parts[@]}"
+    printf '%s\n' "${parts[@]}" | awk -v m="$minutes" '{ p += $NF } END { printf "%-44s %6.1f %10.1f\n", "all", m, p }'
+}
+
+times=$(mktemp) || exit 1
+trap 'rm -f "$times"' EXIT
+rm -rf crates/*/out
+
+part "rt ci" rt ci
+part "the test of the tool for edits" tools/edits_test.py
+part "edits of wrong/, many in a check" tools/edits.py
+part "the program runs" sh -c './tcdesk run - </dev/null >/dev/null'
+part "program cases" tools/program_cases.sh
+part "streams that fail" tools/stream_cases.sh
+part "memory refused" tools/fail_alloc.sh
+table
+echo "gate: all parts passed"

@@ -1,6 +1,7 @@
 #!/bin/bash
 # Runs the built program on cases that only a built program meets: its words, its files, its statuses, and what it says
-# on standard error. Ends with how many passed; status 1 where one failed.
+# on standard error; and tc_bench, which has to write the moves that the desk does. Ends with how many passed; status 1
+# where one failed.
 set -u
 top=$(cd "$(dirname "${BASH_SOURCE[0]}")/.." && pwd) || exit 1
 program=${1:-$top/crates/tc_cli/out/tc_cli}
@@ -62,6 +63,18 @@ printf '7 ann enter 5 a--c no 8 1 - - ok\r' >cut
 check "a CR at the end of a last line without LF" 1 "$refused$none" "" run cut
 printf '\377\376\n' >bytes
 check "bytes that are not UTF-8" 1 "$refused$none" "" run bytes
+printf '# places\r\n\r\n\n1 ann places\r\n2 ann places' >mixed
+check "CR LF, LF, a comment, empty lines and no last LF" 0 "$none$none$none" "" run mixed
+printf '1 ann places\r' >last
+check "a question with a last CR and no LF" 1 "$refused$none" "" run last
+printf '\377\n1 desk places\n1  ann places\n' >spelled
+check "a byte that is not UTF-8, the desk as a person, and two spaces" 1 "$refused$refused$refused$none" "" run spelled
+# 200 bytes are no act, and 201 too many, also where what stands before them is no moment and no person.
+act=$(printf '%200s' "" | tr ' ' x)
+printf "nobody's moment %s" "$act" >longest
+check "an act of 200 bytes" 1 "$refused$none" "" run longest
+printf "nobody's moment %sx" "$act" >longer
+check "an act of 201 bytes" 1 $'refused 17 TooLong\n'"$none" "" run longer
 check "a missing file" 2 "" "tcdesk: cannot use missing" run missing
 mkdir folder
 check "a directory" 2 "" "tcdesk: cannot use folder" run folder
@@ -79,6 +92,29 @@ else
     failed=$((failed + 1))
     echo "program_cases: an output that takes nothing" >&2
 fi
+
+# The bare store of tc_bench tells the moves that the desk answers, for the same entries of ten APIDs in turn.
+bare=$top/crates/tc_bench/out/tc_bench
+for ((place = 0; place < 25; place++)); do
+    echo "0 a enter $((place % 10)) ---- no 8 1 - - ok"
+done >entries
+"$program" run entries | grep '^move ' >moves
+if "$bare" 25 history >out 2>err && [[ $(wc -l <moves) == 25 ]] && cmp moves out >>err 2>&1; then
+    passed=$((passed + 1))
+else
+    failed=$((failed + 1))
+    echo "program_cases: the moves of tc_bench, and standard error:" >&2
+    cat out err >&2
+fi
+
+# Each script of tools/cases, beside what it prints and, where that is not 0, its status.
+for script in "$top"/tools/cases/*.tc; do
+    case=${script%.tc}
+    status=0
+    [[ ! -e $case.status ]] || status=$(<"$case.status")
+    lines=$(cat "$case.stdout"; echo .)
+    check "${case##*/}" "$status" "${lines%.}" "" run "$script"
+done
 
 echo "program cases: $passed passed, $failed failed"
 [[ $failed == 0 ]]

@@ -2,7 +2,7 @@
 //! memory, without the desk.
 //!
 //! `tc_bench COUNT` writes so many entries, 10 where no count is given, and prints how many requests then stand at
-//! Entered.
+//! Entered. `tc_bench COUNT history` prints in its place the moves of each request in turn, as the tables tell them.
 #![tactic(auto)]
 
 use sqlite::{Connection, MemStore};
@@ -29,32 +29,48 @@ const PROCESSES: u32 = 10;
 type Rows = [Row; 2];
 
 fn main(rt: HostRuntime) -> ExitCode {
-    let Some(count) = count_given(&rt) else {
-        let _ = eprintln!(rt; "tc_bench: wants a count, or nothing");
+    let Some((count, is_history)) = asked(&rt) else {
+        let _ = eprintln!(rt; "tc_bench: wants a count, a count and the word history, or nothing");
         return ExitCode::FAILURE;
     };
-    let Some(entered) = written(rt.alloc(), count) else {
-        let _ = eprintln!(rt; "tc_bench: a write failed");
+    let Some(text) = shown(rt.alloc(), count, is_history) else {
+        let _ = eprintln!(rt; "tc_bench: a write or a read failed");
         return ExitCode::FAILURE;
     };
-    match println!(rt; "{entered}") {
+    match print!(rt; "{text}") {
         Ok(()) => ExitCode::SUCCESS,
         Err(_) => ExitCode::FAILURE,
     }
 }
 
-/// The count that is given. None where it is no count.
-fn count_given<R: Env + AllocGlobal>(rt: &R) -> Option<u32> {
+/// The count that the words ask for, and whether they ask for the history. None where they ask for neither.
+fn asked<R: Env + AllocGlobal>(rt: &R) -> Option<(u32, bool)> {
     let args = env::args(rt).ok()?;
     let args = args.collect::<Vec<String>>(rt.alloc()).ok()?;
-    match args.get(1) {
-        Some(word) => word.as_str().parse::<u32>().ok(),
-        None => Some(FEW),
+    let count = match args.get(1) {
+        Some(word) => word.as_str().parse::<u32>().ok()?,
+        None => FEW,
+    };
+    match args.get(2) {
+        Some(word) if word.as_str() == "history" => Some((count, true)),
+        Some(_) => None,
+        None => Some((count, false)),
     }
 }
 
-/// Writes so many entries, and counts those that stand at Entered. None where a write failed.
-fn written(alloc: Global, count: u32) -> Option<u32> {
+/// Writes so many entries, and tells of them what is asked. None where a write or a read failed.
+fn shown(alloc: Global, count: u32, is_history: bool) -> Option<String> {
+    let mut tables = written(alloc, count)?;
+    if is_history {
+        moves_text(alloc, &mut tables, count)
+    } else {
+        let [entered, ..] = tables.counts().ok()?;
+        format!(in alloc; "{entered}\n").ok()
+    }
+}
+
+/// Tables with so many entries. None where a write failed.
+fn written(alloc: Global, count: u32) -> Option<Tables<MemStore>> {
     let conn = Connection::open_in_memory(alloc).ok()?;
     let Ok(tables) = Tables::create(alloc, conn) else {
         return None;
@@ -64,8 +80,20 @@ fn written(alloc: Global, count: u32) -> Option<u32> {
         let rows: Rows = rows_of(place)?;
         tables.write(&rows).ok()?;
     }
-    let [entered, ..] = tables.counts().ok()?;
-    Some(entered)
+    Some(tables)
+}
+
+/// The lines of the moves of requests 1 to `count`. None where a read failed.
+fn moves_text(alloc: Global, tables: &mut Tables<MemStore>, count: u32) -> Option<String> {
+    let mut text = String::new(alloc);
+    for request in 1..=count {
+        let rows = tables.history_of(request, 0).ok()?;
+        for row in &rows {
+            text.push_str(row.text(alloc).ok()?.as_str()).ok()?;
+            text.push_str("\n").ok()?;
+        }
+    }
+    Some(text)
 }
 
 /// What the request at this place of the list, from 0, is named on board.
@@ -116,6 +144,3 @@ fn rows_of(place: u32) -> Option<Rows> {
     };
     Some([Row::Entered(request), Row::Moved(row)])
 }
-
-#[cfg(test)]
-mod tests;

@@ -92,6 +92,3 @@ fn cannot_use(rt: &impl Eprint, name: &str) -> u8 {
     let _ = eprintln!(rt; "tcdesk: cannot use {name}");
     UNUSABLE
 }
-
-#[cfg(test)]
-mod tests;

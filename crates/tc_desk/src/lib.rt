@@ -3,6 +3,7 @@
 //! A contract sees a `Desk` as its book: the requests in order of number, and the history.
 #![tactic(auto)]
 
+mod acts;
 pub mod desks;
 pub mod dones;
 mod drafts;
@@ -10,5 +11,3 @@ mod marks;
 mod reading;
 mod records;
 pub mod stamps;
-#[cfg(test)]
-mod tests;

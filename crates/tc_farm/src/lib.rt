@@ -4,5 +4,3 @@
 pub mod clcws;
 pub mod farms;
 pub mod laws;
-#[cfg(test)]
-mod tests;

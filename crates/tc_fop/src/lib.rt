@@ -9,7 +9,5 @@ pub mod outputs;
 pub mod queues;
 pub mod rows;
 pub mod signals;
-#[cfg(test)]
-mod tests;
 mod variables;
 pub mod views;

@@ -4,7 +4,5 @@
 
 pub mod answers;
 mod memory;
-mod replies;
+pub mod replies;
 pub mod rooms;
-#[cfg(test)]
-mod tests;

@@ -12,9 +12,5 @@ mod history;
 mod moves;
 mod requests;
 mod steps;
-#[cfg(test)]
-mod stops;
 pub mod tables;
-#[cfg(test)]
-mod tests;
 mod writes;

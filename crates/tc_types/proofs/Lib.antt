@@ -2,3 +2,4 @@ pub mod NameLaws
 pub mod WordLaws
 pub mod NumberLaws
 pub mod Spellings
+mod WorkedCases

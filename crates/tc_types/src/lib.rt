@@ -21,7 +21,5 @@ pub mod refusals;
 pub mod reports;
 pub mod requests;
 pub mod rows;
-#[cfg(test)]
-mod tests;
 pub mod texts;
 pub mod words;

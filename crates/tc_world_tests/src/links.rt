@@ -12,7 +12,7 @@ use tc_world::runs::RunEnd;
 use tc_world::worlds::World;
 
 /// What is written down of a session.
-#[derive(Clone, Copy, Debug, PartialEq, Eq)]
+#[derive(Clone, Copy, PartialEq, Eq)]
 pub struct Written<'a> {
     /// The requests that were sent, in order.
     pub sent: &'a [RequestNumber],

@@ -1,5 +1,10 @@
 //! What no clause says: that events happen where there is memory, with which values, and what refused memory leaves.
-use crate::links::{Link, Written};
+//!
+//! A function that holds a world makes it and hands it to one scenario, and does nothing else; a scenario is a function
+//! over any `Link`, and its events stand as data.
+ghost use Rattle.std.specs.Prelude.{◌≡◌, []};
+
+use crate::links::Link;
 use crate::skipping::SkippingCarrier;
 use linked_list_allocator::LocalHeap;
 use std::alloc::{Allocator, Global};
@@ -13,7 +18,8 @@ use tc_types::numbers::{Apid, RequestNumber, SequenceCount, Service, Subtype};
 use tc_types::refusals::Refusal;
 use tc_types::reports::Report;
 use tc_types::requests::{Ack, Body, Command, Identity, Outcome};
-use tc_world::events::{Event, Indication};
+use tc_world::carriers::Carrier;
+use tc_world::events::Event;
 use tc_world::list_carriers::ListCarrier;
 use tc_world::worlds::World;
 
@@ -28,16 +34,16 @@ mod starts;
 const AMPLE: usize = 4_194_304;
 
 /// The service starts without check.
-const START: Event = Event::Directive(Directive::InitiateNone);
+const START: Act = Act::Directive(Directive::InitiateNone);
 
 /// The service starts with a check.
-const CHECK: Event = Event::Directive(Directive::InitiateCheck);
+const CHECK: Act = Act::Directive(Directive::InitiateCheck);
 
 /// The service starts with an Unlock.
-const UNLOCK: Event = Event::Directive(Directive::InitiateUnlock);
+const UNLOCK: Act = Act::Directive(Directive::InitiateUnlock);
 
 /// The service stops.
-const STOP: Event = Event::Directive(Directive::Terminate);
+const STOP: Act = Act::Directive(Directive::Terminate);
 
 /// A frame comes up, and a buffer is free for it.
 const UP: Event = Event::Uplink { room: true };
@@ -47,6 +53,42 @@ type Lists<A> = World<ListCarrier<Frame, A>, ListCarrier<Report, A>, A>;
 
 /// A world over links that skip.
 type Skips<A> = World<SkippingCarrier<Frame, A>, SkippingCarrier<Report, A>, A>;
+
+/// An event, an offer by the number of its request.
+#[derive(Clone, Copy)]
+enum Act {
+    /// Request `n` is offered.
+    Offer(u32),
+    /// A directive.
+    Directive(Directive),
+    /// A frame comes up, and a buffer is free for it.
+    Up,
+    /// The frame at this place of the uplink is lost, from 0 for the oldest.
+    LoseUp(usize),
+    /// A control word is sent.
+    Clcw,
+    /// A control word or a report comes down.
+    Downlink,
+}
+
+/// What is done over lists on a heap with more memory than it takes.
+#[derive(Clone, Copy)]
+enum Scenario {
+    /// 300 requests.
+    Round,
+    /// A lock-out, and how the service comes back.
+    Lockout,
+    /// Offers and starts, some of which are refused.
+    Refusals,
+    /// The first start.
+    FirstSession,
+    /// A start over a frame in flight.
+    OverFrame,
+    /// A start over a control word in flight.
+    OverWord,
+    /// A start where V(S) is this and V(R) is 0, and whether it is good.
+    StartsAt(u8, Directive, bool),
+}
 
 /// The number of a request.
 fn number(rt: &impl Abort, n: u32) -> RequestNumber {
@@ -88,95 +130,182 @@ fn offer(rt: &impl Abort, n: u32) -> Event {
     }
 }
 
-/// The requests from one number to another, the last among them, are offered.
-fn offers(
-    rt: &impl Abort,
-    alloc: Global,
-    first: u32,
-    last: u32,
-) -> Result<Vec<Event, Global>, Fail> {
-    let mut events = Vec::new(alloc);
-    for n in first..last {
-        events.push(offer(rt, n))?;
+/// The event of an act.
+fn event(rt: &impl Abort, act: &Act) -> Event {
+    match *act {
+        Act::Offer(n) => offer(rt, n),
+        Act::Directive(directive) => Event::Directive(directive),
+        Act::Up => UP,
+        Act::LoseUp(place) => Event::LoseUp(place),
+        Act::Clcw => Event::Clcw,
+        Act::Downlink => Event::Downlink,
     }
-    events.push(offer(rt, last))?;
-    Ok(events)
 }
 
-/// A world over lists: its memory is this allocator's.
+/// Puts the offers of the requests from one number to another, the last among them, behind these events.
+fn add_offers(
+    rt: &impl Abort,
+    events: &mut Vec<Event, Global>,
+    first: u32,
+    last: u32,
+) -> Result<(), Fail> {
+    for n in first..=last {
+        events.push(offer(rt, n))?;
+    }
+    Ok(())
+}
+
+/// Puts an act so many times behind these events.
+fn add(
+    rt: &impl Abort,
+    events: &mut Vec<Event, Global>,
+    act: Act,
+    times: usize,
+) -> Result<(), Fail> {
+    for _ in 0..times {
+        events.push(event(rt, &act))?;
+    }
+    Ok(())
+}
+
+/// A world whose FOP stops after so many transmissions: its memory is this allocator's.
+fn world<U: Carrier<Frame> + Drop, D: Carrier<Report> + Drop, A: Allocator + Copy + Drop>(
+    alloc: A,
+    up: U,
+    down: D,
+    k: u8,
+    limit: u8,
+    window: u16,
+    vc: u8,
+) -> Result<World<U, D, A>, Refusal>
+    requires up { U.kind.content up ≡ [] }
+    requires down { D.kind.content down ≡ [] }
+{
+    let Some(farm) = Farm::new(window) else {
+        return Err(Refusal::BadDirective);
+    };
+    let fop = Fop::new(alloc, k, 10, limit)?;
+    World::new(alloc, fop, farm, up, down, vc)
+}
+
+/// A world over lists.
 fn lists<A: Allocator + Copy + Drop>(
     alloc: A,
     k: u8,
     window: u16,
     vc: u8,
 ) -> Result<Lists<A>, Refusal> {
-    let fop = Fop::new(alloc, k, 10, 3)?;
-    let Some(farm) = Farm::new(window) else {
-        return Err(Refusal::BadDirective);
-    };
-    World::new(
+    world(
         alloc,
-        fop,
-        farm,
         ListCarrier::new(alloc),
         ListCarrier::new(alloc),
+        k,
+        3,
+        window,
         vc,
     )
 }
 
 /// A world over links that skip, with as many transmissions as there may be.
 fn skips<A: Allocator + Copy + Drop>(alloc: A, k: u8, window: u16) -> Result<Skips<A>, Refusal> {
-    let fop = Fop::new(alloc, k, 10, 255)?;
-    let Some(farm) = Farm::new(window) else {
-        return Err(Refusal::BadDirective);
-    };
-    World::new(
+    world(
         alloc,
-        fop,
-        farm,
         SkippingCarrier::new(alloc),
         SkippingCarrier::new(alloc),
+        k,
+        255,
+        window,
         0,
     )
 }
 
-/// Makes an event happen, and checks all that the link tells of it.
-fn happens<L: Link>(
+/// Plays a scenario on a link.
+fn plays<L: Link>(
     rt: &impl Abort,
+    alloc: Global,
     link: &mut L,
-    event: Event,
-    told: &[Indication],
+    scenario: Scenario,
 ) -> Result<(), Fail> {
-    let is_told = link.tells(event, told)?;
-    assert!(rt; is_told, "{event:?}");
+    match scenario {
+        Scenario::Round => rounds::confirms(rt, alloc, link)?,
+        Scenario::Lockout => lockouts::comes_back(rt, alloc, link)?,
+        Scenario::Refusals => refusing::refuses(rt, link),
+        Scenario::FirstSession => refusing::begins_with_none(rt, link),
+        Scenario::OverFrame => starts::starts_over_a_frame(rt, link),
+        Scenario::OverWord => starts::starts_over_a_word(rt, link),
+        Scenario::StartsAt(first, start, good) => starts::starts_at(rt, link, first, start, good),
+    }
     Ok(())
+}
+
+/// Plays a scenario over lists on a heap.
+fn over_lists(
+    rt: &impl Abort,
+    alloc: Global,
+    scenario: Scenario,
+    k: u8,
+    window: u16,
+    vc: u8,
+) -> Result<(), Fail> {
+    let heap = LocalHeap::new(alloc, AMPLE)?;
+    let mut link = lists(&heap, k, window, vc)?;
+    plays(rt, alloc, &mut link, scenario)
 }
 
 /// Makes events happen, none of which is refused.
 fn all_happen<L: Link>(rt: &impl Abort, link: &mut L, events: &[Event]) {
     let end = link.does_all(events);
-    assert_eq!(rt; end.refusal, None);
+    assert!(rt; end.refusal.is_none());
     assert_eq!(rt; end.done, events.len());
 }
 
-/// Makes an event happen so many times.
-fn repeats<L: Link>(rt: &impl Abort, link: &mut L, event: &Event, times: usize) {
+/// Makes an act happen so many times.
+fn repeats<L: Link>(rt: &impl Abort, link: &mut L, act: &Act, times: usize) {
     for _ in 0..times {
-        all_happen(rt, link, &[*event]);
+        all_happen(rt, link, &[event(rt, act)]);
     }
 }
 
-/// What is written down of the session at this place.
-fn written<'a, L: Link>(rt: &impl Abort, link: &'a L, place: usize) -> Written<'a> {
-    link.written(place).expect(rt, "a session")
+/// Makes these acts happen, none of which is refused.
+fn acts<L: Link>(rt: &impl Abort, link: &mut L, acts: &[Act]) {
+    for act in acts {
+        all_happen(rt, link, &[event(rt, act)]);
+    }
+}
+
+/// Whether an event is refused so, or happens where there is no refusal.
+fn answers<L: Link>(link: &mut L, event: Event, refusal: Option<Refusal>) -> bool {
+    link.does(event).err() == refusal
+}
+
+/// Whether so many frames are in flight, and no control word and no report.
+fn flies<L: Link>(link: &L, frames: usize) -> bool {
+    let (up, down) = link.in_flight();
+    up == frames && down == 0
+}
+
+/// Checks the session at this place: the requests from one number on, as many as these were sent, accepted and
+/// confirmed.
+fn expect_session<L: Link>(
+    rt: &impl Abort,
+    link: &L,
+    place: usize,
+    first: u32,
+    counts: [usize; 3],
+) {
+    let session = link.written(place).expect(rt, "a session");
+    let [sent, accepted, confirmed] = counts;
+    expect_from(rt, session.sent, first, sent, "sent");
+    expect_from(rt, session.accepted, first, accepted, "accepted");
+    expect_from(rt, session.confirmed, first, confirmed, "confirmed");
 }
 
 /// Checks that these are the requests from one number on.
 fn expect_from(rt: &impl Abort, requests: &[RequestNumber], first: u32, count: usize, what: &str) {
-    assert_eq!(rt; requests.len(), count, "{what}");
+    assert!(rt; requests.len() == count, "{what}");
     let mut next = first;
     for request in requests {
-        assert_eq!(rt; request.get(), next, "{what}");
+        assert!(rt; request.get() == next, "{what}");
         next = next.saturating_add(1);
     }
 }

@@ -3,7 +3,7 @@
 //!
 //! Requests are offered in the order of their numbers, so that none is sent twice where the numbers rise over all
 //! sessions.
-use super::{STOP, UP, identity, lists, number, offer, skips};
+use super::{UP, answers, flies, identity, lists, number, offer, skips};
 use crate::links::{Link, Written};
 use std::process::Abort;
 use std::test::Fail;
@@ -87,7 +87,7 @@ fn offers_next<L: Link>(rt: &impl Abort, link: &mut L, course: &mut Course) {
     match refusal {
         None => course.next = course.next.saturating_add(1),
         Some(Refusal::WaitQueueFull) => {}
-        _ => assert_eq!(rt; refusal, Some(Refusal::ServiceNotActive)),
+        _ => assert!(rt; refusal == Some(Refusal::ServiceNotActive)),
     }
     expect_all(rt, link);
 }
@@ -105,8 +105,8 @@ fn offers_again<L: Link>(rt: &impl Abort, link: &mut L, course: &mut Course) {
     let Some(request) = sent_before(link, &mut course.dice) else {
         return;
     };
-    let answer = link.does(offer(rt, request.get()));
-    assert_eq!(rt; answer.err(), Some(Refusal::WrongPlace), "{request:?}");
+    let is_refused = answers(link, offer(rt, request.get()), Some(Refusal::WrongPlace));
+    assert!(rt; is_refused, "{}", request.get());
     course.again = course.again.saturating_add(1);
     expect_all(rt, link);
 }
@@ -162,12 +162,12 @@ fn goes_on<L: Link>(
 
 /// A good start: the service ends, all that is in flight arrives, and both sides are level.
 fn restarts<L: Link>(rt: &impl Abort, link: &mut L, course: &mut Course) -> Result<(), Fail> {
-    goes(rt, link, STOP)?;
+    goes(rt, link, Event::Directive(Directive::Terminate))?;
     let (frames, reports) = link.in_flight();
     goes_on(rt, link, &UP, frames)?;
     goes_on(rt, link, &Event::Downlink, reports)?;
     goes_on(rt, link, &UP, link.in_flight().0)?;
-    assert_eq!(rt; link.in_flight(), (0, 0));
+    assert!(rt; flies(link, 0));
     let farm = link.farm();
     goes(rt, link, Event::Directive(Directive::SetVs(farm.vr)))?;
     let first = start(&farm, &mut course.dice);

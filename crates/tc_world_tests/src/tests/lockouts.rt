@@ -1,7 +1,7 @@
 //! A lock-out, and how the service comes back, with each control word bit by bit.
-use super::{AMPLE, START, STOP, UNLOCK, UP, body, happens, lists, number, offer, written};
+use super::{Act, START, STOP, Scenario, UNLOCK, body, event, expect_session, number, over_lists};
 use crate::links::Link;
-use linked_list_allocator::LocalHeap;
+use std::alloc::Global;
 use std::process::Abort;
 use std::test::Fail;
 use tc_farm::clcws::Clcw;
@@ -9,105 +9,224 @@ use tc_farm::farms::{FarmState, Verdict};
 use tc_fop::signals;
 use tc_fop::signals::{AlertKind, Directive, FopState};
 use tc_types::reports::Report;
-use tc_world::events::{Event, Indication};
+use tc_world::events::Indication;
 
-/// The FOP tells that request `n` was sent.
-fn sent(rt: &impl Abort, n: u32) -> Indication {
-    Indication::Fop(signals::Indication::Sent(number(rt, n)))
+/// What the link tells, a request by its number.
+#[derive(Clone, Copy)]
+enum Told {
+    /// The FOP sent a request.
+    Sent(u32),
+    /// The FOP has a request in doubt.
+    InDoubt(u32),
+    /// The FOP stops for this.
+    Alert(AlertKind),
+    /// The service began.
+    Started,
+    /// The FARM discarded a frame.
+    Discarded,
+    /// The FARM carried out a control command.
+    Control,
+    /// The FARM accepted a request.
+    Accepted(u32),
+    /// A control word on channel 3 with report value 0 came down: whether it says Lockout, its count of control
+    /// commands modulo 4, and its 32 bits.
+    Word(bool, u8, u32),
 }
 
-/// The FOP tells that request `n` is in doubt.
-fn in_doubt(rt: &impl Abort, n: u32) -> Indication {
-    Indication::Fop(signals::Indication::InDoubt(number(rt, n)))
+/// An act, and all that the link tells of it.
+#[derive(Clone, Copy)]
+struct Step {
+    act: Act,
+    told: &'static [Told],
 }
 
-/// The FOP stops for this.
-fn alert(kind: AlertKind) -> Indication {
-    Indication::Fop(signals::Indication::Alert(kind))
-}
+/// Three frames, the first of which is lost: the second is outside the window.
+const LOSES: &[Step] = &[
+    Step {
+        act: START,
+        told: &[Told::Started],
+    },
+    Step {
+        act: Act::Offer(1),
+        told: &[Told::Sent(1)],
+    },
+    Step {
+        act: Act::Offer(2),
+        told: &[Told::Sent(2)],
+    },
+    Step {
+        act: Act::Offer(3),
+        told: &[Told::Sent(3)],
+    },
+    Step {
+        act: Act::LoseUp(0),
+        told: &[],
+    },
+    Step {
+        act: Act::Up,
+        told: &[Told::Discarded],
+    },
+];
 
-/// A control word on channel 3 with report value 0 comes down; its bytes have to be these.
-fn word(rt: &impl Abort, clcw: &Clcw, bytes: [u8; 4]) -> Indication {
-    assert_eq!(rt; clcw.word().to_be_bytes(), bytes, "{clcw:?}");
-    Indication::Received(Report::Word(clcw.word()))
-}
+/// The FARM is locked, and the FOP hears of it.
+const LOCKS: &[Step] = &[
+    Step {
+        act: Act::Clcw,
+        told: &[],
+    },
+    Step {
+        act: Act::Downlink,
+        told: &[
+            Told::Word(true, 0, 0x010c_2000),
+            Told::InDoubt(1),
+            Told::InDoubt(2),
+            Told::InDoubt(3),
+            Told::Alert(AlertKind::Lockout),
+        ],
+    },
+    Step {
+        act: Act::Up,
+        told: &[Told::Discarded],
+    },
+];
 
-/// Three frames, the first of which is lost: the second is outside the window, and the FARM locks.
-fn locks<L: Link>(rt: &impl Abort, link: &mut L) -> Result<(), Fail> {
-    let started = Indication::Fop(signals::Indication::Started);
-    happens(rt, link, START, &[started])?;
-    happens(rt, link, offer(rt, 1), &[sent(rt, 1)])?;
-    happens(rt, link, offer(rt, 2), &[sent(rt, 2)])?;
-    happens(rt, link, offer(rt, 3), &[sent(rt, 3)])?;
-    happens(rt, link, Event::LoseUp(0), &[])?;
-    happens(rt, link, UP, &[Indication::Farm(Verdict::Discarded)])?;
-    assert_eq!(rt; link.farm().state, FarmState::Lockout);
-    happens(rt, link, Event::Clcw, &[])?;
-    let locked = Clcw {
-        vc: 3,
-        lockout: true,
-        wait: false,
-        retransmit: false,
-        farm_b: 0,
-        report: 0,
-    };
-    let told = [
-        word(rt, &locked, [0x01, 0x0c, 0x20, 0x00]),
-        in_doubt(rt, 1),
-        in_doubt(rt, 2),
-        in_doubt(rt, 3),
-        alert(AlertKind::Lockout),
-    ];
-    happens(rt, link, Event::Downlink, &told)?;
-    happens(rt, link, UP, &[Indication::Farm(Verdict::Discarded)])
-}
+/// An Unlock opens the FARM.
+const UNLOCKS: &[Step] = &[
+    Step {
+        act: UNLOCK,
+        told: &[],
+    },
+    Step {
+        act: Act::Up,
+        told: &[Told::Control],
+    },
+];
 
-/// An Unlock opens the FARM, which expects 0 where the FOP is at 3: its word is ignored.
-fn unlocks<L: Link>(rt: &impl Abort, link: &mut L) -> Result<(), Fail> {
-    happens(rt, link, UNLOCK, &[])?;
-    happens(rt, link, UP, &[Indication::Farm(Verdict::Control)])?;
-    let farm = link.farm();
-    assert_eq!(rt; (farm.state, farm.vr, farm.farm_b), (FarmState::Open, 0, 1));
-    happens(rt, link, Event::Clcw, &[])?;
-    let open = Clcw {
-        vc: 3,
-        lockout: false,
-        wait: false,
-        retransmit: false,
-        farm_b: 1,
-        report: 0,
-    };
-    let told = [word(rt, &open, [0x01, 0x0c, 0x02, 0x00])];
-    happens(rt, link, Event::Downlink, &told)?;
-    assert_eq!(rt; link.fop().state, FopState::InitialisingWithBc);
-    happens(rt, link, STOP, &[alert(AlertKind::Term)])
-}
+/// The FARM expects 0 where the FOP is at 3: its word is ignored.
+const IGNORES: &[Step] = &[
+    Step {
+        act: Act::Clcw,
+        told: &[],
+    },
+    Step {
+        act: Act::Downlink,
+        told: &[Told::Word(false, 1, 0x010c_0200)],
+    },
+];
 
 /// A Set V(R) makes both sides level, and the next request is accepted.
-fn goes_on<L: Link>(rt: &impl Abort, link: &mut L) -> Result<(), Fail> {
-    let set = Event::Directive(Directive::InitiateSetVr(0));
-    happens(rt, link, set, &[])?;
-    happens(rt, link, UP, &[Indication::Farm(Verdict::Control)])?;
-    happens(rt, link, Event::Clcw, &[])?;
-    let level = Clcw {
+const GOES_ON: &[Step] = &[
+    Step {
+        act: STOP,
+        told: &[Told::Alert(AlertKind::Term)],
+    },
+    Step {
+        act: Act::Directive(Directive::InitiateSetVr(0)),
+        told: &[],
+    },
+    Step {
+        act: Act::Up,
+        told: &[Told::Control],
+    },
+    Step {
+        act: Act::Clcw,
+        told: &[],
+    },
+    Step {
+        act: Act::Downlink,
+        told: &[Told::Word(false, 2, 0x010c_0400), Told::Started],
+    },
+    Step {
+        act: Act::Offer(4),
+        told: &[Told::Sent(4)],
+    },
+    Step {
+        act: Act::Up,
+        told: &[Told::Accepted(4)],
+    },
+];
+
+/// The FOP tells this.
+fn fop(told: signals::Indication) -> Indication {
+    Indication::Fop(told)
+}
+
+/// The FARM accepted request `n`.
+fn accepted(rt: &impl Abort, n: u32) -> Indication {
+    Indication::Farm(Verdict::Accepted {
+        request: number(rt, n),
+        body: body(rt, n),
+    })
+}
+
+/// A control word on channel 3 with report value 0 comes down; its bits have to be these.
+fn word(rt: &impl Abort, lockout: bool, farm_b: u8, bits: u32) -> Indication {
+    let clcw = Clcw {
         vc: 3,
-        lockout: false,
+        lockout,
         wait: false,
         retransmit: false,
-        farm_b: 2,
+        farm_b: farm_b % 4,
         report: 0,
     };
-    let told = [
-        word(rt, &level, [0x01, 0x0c, 0x04, 0x00]),
-        Indication::Fop(signals::Indication::Started),
-    ];
-    happens(rt, link, Event::Downlink, &told)?;
-    happens(rt, link, offer(rt, 4), &[sent(rt, 4)])?;
-    let taken = Verdict::Accepted {
-        request: number(rt, 4),
-        body: body(rt, 4),
-    };
-    happens(rt, link, UP, &[Indication::Farm(taken)])
+    assert!(rt; clcw.word() == bits, "not {bits:x}");
+    Indication::Received(Report::Word(bits))
+}
+
+/// What the link tells.
+fn indication(rt: &impl Abort, told: &Told) -> Indication {
+    match *told {
+        Told::Sent(n) => fop(signals::Indication::Sent(number(rt, n))),
+        Told::InDoubt(n) => fop(signals::Indication::InDoubt(number(rt, n))),
+        Told::Alert(kind) => fop(signals::Indication::Alert(kind)),
+        Told::Started => fop(signals::Indication::Started),
+        Told::Discarded => Indication::Farm(Verdict::Discarded),
+        Told::Control => Indication::Farm(Verdict::Control),
+        Told::Accepted(n) => accepted(rt, n),
+        Told::Word(lockout, farm_b, bits) => word(rt, lockout, farm_b, bits),
+    }
+}
+
+/// Puts what the link tells into one list.
+fn add_told(rt: &impl Abort, all: &mut Vec<Indication, Global>, told: &[Told]) -> Result<(), Fail> {
+    for one in told {
+        all.push(indication(rt, one))?;
+    }
+    Ok(())
+}
+
+/// Makes an act happen; whether the link tells exactly this of it.
+fn happens<L: Link>(
+    rt: &impl Abort,
+    alloc: Global,
+    link: &mut L,
+    step: &Step,
+) -> Result<bool, Fail> {
+    let mut told = Vec::new(alloc);
+    add_told(rt, &mut told, step.told)?;
+    let is_told = link.tells(event(rt, &step.act), &told)?;
+    Ok(is_told)
+}
+
+/// Makes acts happen, and checks all that the link tells of each.
+fn all_told<L: Link>(
+    rt: &impl Abort,
+    alloc: Global,
+    link: &mut L,
+    steps: &[Step],
+    what: &str,
+) -> Result<(), Fail> {
+    for (place, step) in steps.iter().enumerate() {
+        let is_told = happens(rt, alloc, link, step)?;
+        assert!(rt; is_told, "{place} of {what}");
+    }
+    Ok(())
+}
+
+/// Whether the FARM is open, and expects 0 after one control command.
+fn is_open<L: Link>(link: &L) -> bool {
+    let farm = link.farm();
+    farm.state == FarmState::Open && farm.vr == 0 && farm.farm_b == 1
 }
 
 /// Three sessions: nothing of the first was accepted, nothing was sent in the second, and the third has the fourth
@@ -115,26 +234,26 @@ fn goes_on<L: Link>(rt: &impl Abort, link: &mut L) -> Result<(), Fail> {
 fn expect_sessions<L: Link>(rt: &impl Abort, link: &L) {
     assert!(rt; link.is_clean());
     assert_eq!(rt; link.sessions(), 3);
-    let first = written(rt, link, 0);
-    let numbers = [number(rt, 1), number(rt, 2), number(rt, 3)];
-    assert_eq!(rt; first.sent, numbers.as_slice());
-    assert_eq!(rt; (first.accepted.len(), first.confirmed.len()), (0, 0));
-    let second = written(rt, link, 1);
-    assert_eq!(rt; (second.sent.len(), second.accepted.len()), (0, 0));
-    let third = written(rt, link, 2);
-    let fourth = [number(rt, 4)];
-    assert_eq!(rt; third.sent, fourth.as_slice());
-    assert_eq!(rt; third.accepted, fourth.as_slice());
-    assert_eq!(rt; third.confirmed.len(), 0);
+    expect_session(rt, link, 0, 1, [3, 0, 0]);
+    expect_session(rt, link, 1, 1, [0, 0, 0]);
+    expect_session(rt, link, 2, 4, [1, 1, 0]);
+}
+
+/// A lost frame locks the FARM, and the service comes back.
+pub fn comes_back<L: Link>(rt: &impl Abort, alloc: Global, link: &mut L) -> Result<(), Fail> {
+    all_told(rt, alloc, link, LOSES, "the loss")?;
+    assert!(rt; link.farm().state == FarmState::Lockout);
+    all_told(rt, alloc, link, LOCKS, "the lock-out")?;
+    all_told(rt, alloc, link, UNLOCKS, "the Unlock")?;
+    assert!(rt; is_open(link));
+    all_told(rt, alloc, link, IGNORES, "the word")?;
+    assert!(rt; link.fop().state == FopState::InitialisingWithBc);
+    all_told(rt, alloc, link, GOES_ON, "the Set V(R)")?;
+    expect_sessions(rt, link);
+    Ok(())
 }
 
 #[test]
 fn comes_back_from_a_lockout(rt: HostRuntime) -> Result<(), Fail> {
-    let heap = LocalHeap::new(rt.alloc(), AMPLE)?;
-    let mut link = lists(&heap, 3, 2, 3)?;
-    locks(&rt, &mut link)?;
-    unlocks(&rt, &mut link)?;
-    goes_on(&rt, &mut link)?;
-    expect_sessions(&rt, &link);
-    Ok(())
+    over_lists(&rt, rt.alloc(), Scenario::Lockout, 3, 2, 3)
 }

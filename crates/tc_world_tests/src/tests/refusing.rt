@@ -1,66 +1,71 @@
 //! Which refusal comes first.
-use super::{AMPLE, CHECK, START, STOP, all_happen, lists, offer};
+use super::{AMPLE, Act, CHECK, START, STOP, Scenario, acts, answers, event, lists, over_lists};
 use crate::links::Link;
 use linked_list_allocator::LocalHeap;
 use std::process::Abort;
 use std::test::Fail;
 use tc_types::refusals::Refusal;
 
-/// A request that was sent, or that waits, is refused before all that the FOP refuses.
-fn refuses_twice<L: Link>(rt: &impl Abort, link: &mut L) {
-    let before = link.does(offer(rt, 1));
-    assert_eq!(rt; before.err(), Some(Refusal::ServiceNotActive));
-    all_happen(rt, link, &[START, offer(rt, 1), offer(rt, 2)]);
-    for (n, refusal) in [
-        (1, Refusal::WrongPlace),
-        (2, Refusal::WrongPlace),
-        (3, Refusal::WaitQueueFull),
-    ] {
-        assert_eq!(rt; link.does(offer(rt, n)).err(), Some(refusal), "{n} in S1");
-    }
-    all_happen(rt, link, &[STOP]);
-}
+/// Why this act is refused, where it is.
+type Tried = (Act, Option<Refusal>);
+
+/// A request that was sent, or that waits, is refused before all that the FOP refuses: before the first start, and in
+/// the session.
+const IN_SESSION: &[Tried] = &[
+    (Act::Offer(1), Some(Refusal::ServiceNotActive)),
+    (START, None),
+    (Act::Offer(1), None),
+    (Act::Offer(2), None),
+    (Act::Offer(1), Some(Refusal::WrongPlace)),
+    (Act::Offer(2), Some(Refusal::WrongPlace)),
+    (Act::Offer(3), Some(Refusal::WaitQueueFull)),
+    (STOP, None),
+];
 
 /// After the end of that session, in S6 and in the next session.
-fn refuses_later<L: Link>(rt: &impl Abort, link: &mut L) {
-    for (n, refusal) in [
-        (1, Refusal::WrongPlace),
-        (2, Refusal::ServiceNotActive),
-        (3, Refusal::ServiceNotActive),
-    ] {
-        assert_eq!(rt; link.does(offer(rt, n)).err(), Some(refusal), "{n} in S6");
+const LATER: &[Tried] = &[
+    (Act::Offer(1), Some(Refusal::WrongPlace)),
+    (Act::Offer(2), Some(Refusal::ServiceNotActive)),
+    (Act::Offer(3), Some(Refusal::ServiceNotActive)),
+    (START, None),
+    (Act::Offer(1), Some(Refusal::WrongPlace)),
+    (Act::Offer(2), None),
+    (START, Some(Refusal::BadDirective)),
+];
+
+/// Each act is answered so.
+fn tries<L: Link>(rt: &impl Abort, link: &mut L, tried: &[Tried], what: &str) {
+    for (place, (act, refusal)) in tried.iter().enumerate() {
+        let is_so = answers(link, event(rt, act), *refusal);
+        assert!(rt; is_so, "{place} {what}");
     }
-    all_happen(rt, link, &[START]);
-    let earlier = link.does(offer(rt, 1));
-    assert_eq!(rt; earlier.err(), Some(Refusal::WrongPlace));
-    all_happen(rt, link, &[offer(rt, 2)]);
-    let active = link.does(START);
-    assert_eq!(rt; active.err(), Some(Refusal::BadDirective));
+}
+
+/// A request is refused in the session in which it was sent, and later.
+pub fn refuses<L: Link>(rt: &impl Abort, link: &mut L) {
+    tries(rt, link, IN_SESSION, "in the session");
+    tries(rt, link, LATER, "later");
 }
 
 /// There is no session before the first start.
-fn begins_with_none<L: Link>(rt: &impl Abort, link: &mut L) {
+pub fn begins_with_none<L: Link>(rt: &impl Abort, link: &mut L) {
     assert_eq!(rt; link.sessions(), 0);
     assert!(rt; link.written(0).is_none());
     assert!(rt; link.written(usize::MAX).is_none());
-    all_happen(rt, link, &[CHECK]);
+    acts(rt, link, &[CHECK]);
     assert_eq!(rt; link.sessions(), 1);
     assert!(rt; link.written(0).is_some());
     assert!(rt; link.written(1).is_none());
 }
 
-/// Why there is no world on this virtual channel.
-fn refusal_on(heap: &LocalHeap, vc: u8) -> Option<Refusal> {
-    lists(heap, 3, 4, vc).err()
+/// Whether a world on this virtual channel is refused so, or made where there is no refusal.
+fn answers_on(heap: &LocalHeap, vc: u8, refusal: Option<Refusal>) -> bool {
+    lists(heap, 3, 4, vc).err() == refusal
 }
 
 #[test]
 fn refuses_a_request_twice(rt: HostRuntime) -> Result<(), Fail> {
-    let heap = LocalHeap::new(rt.alloc(), AMPLE)?;
-    let mut link = lists(&heap, 1, 4, 0)?;
-    refuses_twice(&rt, &mut link);
-    refuses_later(&rt, &mut link);
-    Ok(())
+    over_lists(&rt, rt.alloc(), Scenario::Refusals, 1, 4, 0)
 }
 
 #[test]
@@ -72,15 +77,12 @@ fn has_channels_0_to_63(rt: HostRuntime) -> Result<(), Fail> {
         (64, Some(Refusal::BadDirective)),
         (255, Some(Refusal::BadDirective)),
     ] {
-        assert_eq!(rt; refusal_on(&heap, vc), refusal, "{vc}");
+        assert!(rt; answers_on(&heap, vc, refusal), "{vc}");
     }
     Ok(())
 }
 
 #[test]
 fn has_no_session_before_the_first(rt: HostRuntime) -> Result<(), Fail> {
-    let heap = LocalHeap::new(rt.alloc(), AMPLE)?;
-    let mut link = lists(&heap, 1, 4, 0)?;
-    begins_with_none(&rt, &mut link);
-    Ok(())
+    over_lists(&rt, rt.alloc(), Scenario::FirstSession, 1, 4, 0)
 }

@@ -1,5 +1,5 @@
 //! Memory refused: an event that has no memory does not happen, and those before it stand.
-use super::{START, UP, all_happen, lists, offers};
+use super::{Act, START, add, add_offers, all_happen, lists};
 use crate::links::{Link, Written};
 use linked_list_allocator::LocalHeap;
 use std::alloc::Global;
@@ -10,20 +10,16 @@ use tc_types::refusals::Refusal;
 use tc_world::events::Event;
 
 /// The first 300 events of 300 requests: a start, 256 offers, and 43 frames that come up.
-fn first_events(rt: &impl Abort, alloc: Global) -> Result<Vec<Event, Global>, Fail> {
-    let mut events = Vec::new(alloc);
-    events.push(START)?;
-    let requests = offers(rt, alloc, 1, 256)?;
-    events.extend_from_slice(&requests)?;
-    for _ in 0..43 {
-        events.push(UP)?;
-    }
+fn first_events(rt: &impl Abort, events: &mut Vec<Event, Global>) -> Result<(), Fail> {
+    add(rt, events, START, 1)?;
+    add_offers(rt, events, 1, 256)?;
+    add(rt, events, Act::Up, 43)?;
     assert_eq!(rt; events.len(), 300);
-    Ok(events)
+    Ok(())
 }
 
 /// All that is seen of a link in its first session.
-#[derive(Clone, Copy, Debug, PartialEq, Eq)]
+#[derive(Clone, Copy, PartialEq, Eq)]
 struct Standing<'a> {
     fop: FopView,
     vr: u8,
@@ -43,6 +39,11 @@ fn seen<L: Link>(link: &L) -> Standing<'_> {
     }
 }
 
+/// Whether two links stand alike.
+fn is_alike<L: Link, M: Link>(link: &L, ample: &M) -> bool {
+    seen(link) == seen(ample)
+}
+
 /// Makes the events happen on a link that may be refused memory, and those that happened on one that is not: the two
 /// then stand alike. Answers whether one was refused.
 fn is_refused<L: Link, M: Link>(
@@ -54,10 +55,10 @@ fn is_refused<L: Link, M: Link>(
     let end = link.does_all(events);
     let happened = events.get(..end.done).expect(rt, "no more than there are");
     all_happen(rt, ample, happened);
-    assert!(rt; seen(link) == seen(ample), "after {} events", end.done);
+    assert!(rt; is_alike(link, ample), "after {} events", end.done);
     match end.refusal {
         Some(refusal) => {
-            assert_eq!(rt; refusal, Refusal::Memory, "after {} events", end.done);
+            assert!(rt; refusal == Refusal::Memory, "after {} events", end.done);
             true
         }
         None => {
@@ -68,6 +69,22 @@ fn is_refused<L: Link, M: Link>(
 }
 
 /// Whether the memory of so many bytes is refused to the events, or to the world itself.
+fn is_refused_beside<M: Link>(
+    rt: &impl Abort,
+    heap: &LocalHeap,
+    ample: &mut M,
+    events: &[Event],
+) -> bool {
+    match lists(heap, 255, 254, 0) {
+        Ok(mut link) => is_refused(rt, &mut link, ample, events),
+        Err(refusal) => {
+            assert!(rt; refusal == Refusal::Memory);
+            true
+        }
+    }
+}
+
+/// Whether the memory of a heap of so many bytes is refused, beside a world with ample memory.
 fn is_refused_in(
     rt: &impl Abort,
     alloc: Global,
@@ -76,18 +93,13 @@ fn is_refused_in(
 ) -> Result<bool, Fail> {
     let heap = LocalHeap::new(alloc, size)?;
     let mut ample = lists(alloc, 255, 254, 0)?;
-    match lists(&heap, 255, 254, 0) {
-        Ok(mut link) => Ok(is_refused(rt, &mut link, &mut ample, events)),
-        Err(refusal) => {
-            assert_eq!(rt; refusal, Refusal::Memory);
-            Ok(true)
-        }
-    }
+    Ok(is_refused_beside(rt, &heap, &mut ample, events))
 }
 
 #[test]
 fn is_refused_memory_and_stands(rt: HostRuntime) -> Result<(), Fail> {
-    let events = first_events(&rt, rt.alloc())?;
+    let mut events = Vec::new(rt.alloc());
+    first_events(&rt, &mut events)?;
     let mut refused = 0u32;
     let mut is_last_refused = true;
     for size in (4_096..524_288).step_by(2_048) {

@@ -1,54 +1,62 @@
 //! Starts that are not good, after which `clean` stays false.
-use super::{AMPLE, CHECK, START, STOP, UNLOCK, UP, all_happen, lists, offer};
+use super::{Act, CHECK, START, STOP, Scenario, UNLOCK, acts, flies, over_lists};
 use crate::links::Link;
-use linked_list_allocator::LocalHeap;
 use std::process::Abort;
 use std::test::Fail;
 use tc_fop::signals::Directive;
-use tc_world::events::Event;
+
+/// A session that leaves a frame in flight.
+const LEAVES_A_FRAME: &[Act] = &[START, Act::Offer(1), STOP];
+
+/// The frame comes up, and the session ends.
+const TAKES_THE_FRAME: &[Act] = &[Act::Up, STOP];
+
+/// A start with a check.
+const CHECKS: &[Act] = &[CHECK];
+
+/// A start over a control word in flight.
+const OVER_A_WORD: &[Act] = &[Act::Clcw, UNLOCK];
+
+/// Another session, with a good start.
+const ANOTHER: &[Act] = &[STOP, CHECK];
+
+/// After these acts each start was good, or not.
+fn leaves<L: Link>(rt: &impl Abort, link: &mut L, done: &[Act], good: bool, what: &str) {
+    acts(rt, link, done);
+    assert!(rt; link.is_clean() == good, "{what}");
+}
 
 /// A start over a frame in flight, and a good one after it.
-fn starts_over_a_frame<L: Link>(rt: &impl Abort, link: &mut L) {
-    all_happen(rt, link, &[START, offer(rt, 1), STOP]);
-    assert!(rt; link.is_clean());
-    all_happen(rt, link, &[CHECK]);
-    assert!(rt; !link.is_clean());
-    all_happen(rt, link, &[UP, STOP]);
-    assert_eq!(rt; link.in_flight(), (0, 0));
-    all_happen(rt, link, &[CHECK]);
-    assert!(rt; !link.is_clean());
+pub fn starts_over_a_frame<L: Link>(rt: &impl Abort, link: &mut L) {
+    leaves(rt, link, LEAVES_A_FRAME, true, "before");
+    leaves(rt, link, CHECKS, false, "over a frame");
+    leaves(rt, link, TAKES_THE_FRAME, false, "without the frame");
+    assert!(rt; flies(link, 0));
+    leaves(rt, link, CHECKS, false, "after a good start");
     assert_eq!(rt; link.sessions(), 3);
 }
 
 /// A start over a control word in flight.
-fn starts_over_a_word<L: Link>(rt: &impl Abort, link: &mut L) {
-    all_happen(rt, link, &[Event::Clcw, UNLOCK]);
-    assert!(rt; !link.is_clean());
+pub fn starts_over_a_word<L: Link>(rt: &impl Abort, link: &mut L) {
+    leaves(rt, link, OVER_A_WORD, false, "over a word");
 }
 
 /// A start where V(S) is this and V(R) is 0, and a good one after it: both end so.
-fn starts_at<L: Link>(rt: &impl Abort, link: &mut L, first: u8, start: Directive, good: bool) {
-    let set = Event::Directive(Directive::SetVs(first));
-    all_happen(rt, link, &[set, Event::Directive(start)]);
-    assert_eq!(rt; link.is_clean(), good, "{start:?} at {first}");
-    all_happen(rt, link, &[STOP, CHECK]);
-    assert_eq!(rt; link.is_clean(), good, "{start:?} at {first}");
+pub fn starts_at<L: Link>(rt: &impl Abort, link: &mut L, first: u8, start: Directive, good: bool) {
+    let set = Act::Directive(Directive::SetVs(first));
+    acts(rt, link, &[set]);
+    leaves(rt, link, &[Act::Directive(start)], good, "at the start");
+    leaves(rt, link, ANOTHER, good, "after another");
 }
 
 #[test]
 fn a_start_with_a_frame_in_flight_is_not_good(rt: HostRuntime) -> Result<(), Fail> {
-    let heap = LocalHeap::new(rt.alloc(), AMPLE)?;
-    let mut link = lists(&heap, 3, 4, 0)?;
-    starts_over_a_frame(&rt, &mut link);
-    Ok(())
+    over_lists(&rt, rt.alloc(), Scenario::OverFrame, 3, 4, 0)
 }
 
 #[test]
 fn a_start_with_a_word_in_flight_is_not_good(rt: HostRuntime) -> Result<(), Fail> {
-    let heap = LocalHeap::new(rt.alloc(), AMPLE)?;
-    let mut link = lists(&heap, 3, 4, 0)?;
-    starts_over_a_word(&rt, &mut link);
-    Ok(())
+    over_lists(&rt, rt.alloc(), Scenario::OverWord, 3, 4, 0)
 }
 
 #[test]
@@ -59,9 +67,8 @@ fn a_start_without_check_wants_both_sides_level(rt: HostRuntime) -> Result<(), F
         (5, Directive::InitiateNone, false),
         (5, Directive::InitiateCheck, true),
     ] {
-        let heap = LocalHeap::new(rt.alloc(), AMPLE)?;
-        let mut link = lists(&heap, 3, 4, 0)?;
-        starts_at(&rt, &mut link, first, start, good);
+        let scenario = Scenario::StartsAt(first, start, good);
+        over_lists(&rt, rt.alloc(), scenario, 3, 4, 0)?;
     }
     Ok(())
 }

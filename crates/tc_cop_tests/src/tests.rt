@@ -1,0 +1,52 @@
+//! What no clause says: that calls succeed where there is memory, and with which values.
+use std::process::Abort;
+use tc_types::frames::Frame;
+use tc_types::numbers::{Apid, RequestNumber, SequenceCount, Service, Subtype};
+use tc_types::requests::{Ack, Body, Command, Identity, Outcome};
+
+mod calls;
+mod cells;
+mod ends;
+mod numbers;
+mod rooms;
+mod runs;
+mod starting;
+mod tables;
+mod windows;
+mod words;
+
+/// The number of a request.
+fn number(rt: &impl Abort, n: u32) -> RequestNumber {
+    RequestNumber::new(n).expect(rt, "a number of a request")
+}
+
+/// The part of request `n` that flies: requests differ by their count.
+fn body(rt: &impl Abort, n: u32) -> Body {
+    let count = u16::try_from(n).expect(rt, "a small number");
+    Body {
+        identity: Identity {
+            apid: Apid::new(5).expect(rt, "an application process"),
+            count: SequenceCount::new(count).expect(rt, "a count"),
+        },
+        ack: Ack {
+            acceptance: true,
+            start: false,
+            progress: false,
+            completion: true,
+        },
+        command: Command::Plain {
+            service: Service::new(8).expect(rt, "a service"),
+            subtype: Subtype::new(1).expect(rt, "a subtype"),
+        },
+        outcome: Outcome::Completes,
+    }
+}
+
+/// The frame of request `n` under this number.
+fn ad(rt: &impl Abort, ns: u8, n: u32) -> Frame {
+    Frame::Ad {
+        ns,
+        request: number(rt, n),
+        body: body(rt, n),
+    }
+}

@@ -1,0 +1,144 @@
+//! A case for each cell of the table that is not empty and that calls can reach.
+use super::calls::{Call, all_done, done, expect_view};
+use super::ends::{OnGround, Said, fop};
+use super::tables::{
+    ACKNOWLEDGES, ALL_AGAIN, BEGINS, Case, Flown, LEFT, LIMITS, NO_MORE, STOPPED, STOPS, Start,
+    Stop, Told,
+};
+use super::{ad, number};
+use std::alloc::Global;
+use std::process::Abort;
+use std::test::Fail;
+use tc_fop::signals::{Directive, Indication};
+use tc_fop::views::FopView;
+use tc_types::frames::Frame;
+use tc_types::refusals::Refusal;
+
+/// The indication.
+fn indication(rt: &impl Abort, told: Told) -> Indication {
+    match told {
+        Told::Sent(n) => Indication::Sent(number(rt, n)),
+        Told::Confirmed(n) => Indication::Confirmed(number(rt, n)),
+        Told::Back(n) => Indication::GivenBack(number(rt, n)),
+        Told::Doubt(n) => Indication::InDoubt(number(rt, n)),
+        Told::Alert(kind) => Indication::Alert(kind),
+        Told::Started => Indication::Started,
+    }
+}
+
+/// The frame.
+fn frame(rt: &impl Abort, flown: Flown) -> Frame {
+    match flown {
+        Flown::Ad(ns, n) => ad(rt, ns, n),
+        Flown::Unlock => Frame::Unlock,
+    }
+}
+
+/// How a new FOP comes to stand so.
+fn calls_to(start: Start) -> &'static [Call] {
+    const FIRST: Call = Call::Tell(Directive::InitiateNone);
+    const ONE: Call = Call::Offer(1);
+    const TWO: Call = Call::Offer(2);
+    const THREE: Call = Call::Offer(3);
+    match start {
+        Start::S1 => &[FIRST, ONE, TWO, THREE],
+        Start::S2 => &[FIRST, ONE, TWO, THREE, Call::Again(0)],
+        Start::S3 => &[FIRST, ONE, TWO, THREE, Call::AgainWait(0)],
+        Start::S4 => &[Call::Tell(Directive::InitiateCheck)],
+        Start::S5 => &[Call::Tell(Directive::InitiateUnlock)],
+    }
+}
+
+/// Whether these frames are put out.
+fn are_sent(rt: &impl Abort, frames: &[Frame], want: &[Flown]) -> bool {
+    let mut equal = frames.len() == want.len();
+    for (got, flown) in frames.iter().zip(want) {
+        equal = equal && *got == frame(rt, *flown);
+    }
+    equal
+}
+
+/// Whether these indications are put out.
+fn are_told(rt: &impl Abort, indications: &[Indication], want: &[Told]) -> bool {
+    let mut equal = indications.len() == want.len();
+    for (got, told) in indications.iter().zip(want) {
+        equal = equal && *got == indication(rt, *told);
+    }
+    equal
+}
+
+/// Makes the calls of a case from this state, and compares the whole output and the view.
+fn expect_case<G: OnGround>(
+    rt: &impl Abort,
+    fop: &mut G,
+    case: &Case,
+    start: Start,
+) -> Result<(), Refusal> {
+    all_done(rt, fop, calls_to(start))?;
+    all_done(rt, fop, case.then)?;
+    let out = done(rt, fop, case.call)?;
+    let (sent, told) = (
+        are_sent(rt, out.sent(), case.frames),
+        are_told(rt, out.told(), case.told),
+    );
+    assert!(rt; sent && told, "{} in {start:?}: {sent} {told}", case.row);
+    expect_view(rt, fop, &case.view, case.row);
+    Ok(())
+}
+
+/// Checks these cases, each from a new FOP.
+fn expect_cases(rt: &impl Abort, alloc: Global, cases: &[Case]) -> Result<(), Refusal> {
+    for case in cases {
+        for start in case.starts {
+            let mut fop = fop(alloc, 2, 10, 3)?;
+            expect_case(rt, &mut fop, case, *start)?;
+        }
+    }
+    Ok(())
+}
+
+#[test]
+fn gives_what_the_cell_says(rt: HostRuntime) -> Result<(), Fail> {
+    for cases in [BEGINS, ACKNOWLEDGES, LEFT, ALL_AGAIN, NO_MORE, LIMITS] {
+        expect_cases(&rt, rt.alloc(), cases)?;
+    }
+    Ok(())
+}
+
+/// Checks that a call stops the service in each of its states.
+fn expect_stop(rt: &impl Abort, alloc: Global, stop: &Stop) -> Result<(), Refusal> {
+    let (row, starts, call, told) = *stop;
+    for start in starts {
+        let case = Case {
+            row,
+            starts,
+            then: &[],
+            call,
+            frames: &[],
+            told,
+            view: FopView {
+                count: count_in(*start),
+                ..STOPPED
+            },
+        };
+        let mut fop = fop(alloc, 2, 10, 3)?;
+        expect_case(rt, &mut fop, &case, *start)?;
+    }
+    Ok(())
+}
+
+/// Transmission_Count in this state before the call.
+fn count_in(start: Start) -> u8 {
+    match start {
+        Start::S2 => 2,
+        Start::S1 | Start::S3 | Start::S4 | Start::S5 => 1,
+    }
+}
+
+#[test]
+fn stops(rt: HostRuntime) -> Result<(), Fail> {
+    for stop in STOPS {
+        expect_stop(&rt, rt.alloc(), stop)?;
+    }
+    Ok(())
+}

@@ -1,0 +1,167 @@
+//! Where memory is refused nothing changes, and what was reserved is there.
+use super::calls::{Call, all_done, done, expect_output, expect_view};
+use super::ends::{OnGround, fop, refusal_to_make};
+use super::{ad, number};
+use linked_list_allocator::LocalHeap;
+use std::alloc::Global;
+use std::process::Abort;
+use std::test::Fail;
+use tc_fop::signals::{Directive, Indication};
+use tc_fop::views::FopView;
+use tc_types::refusals::Refusal;
+
+/// More than a FOP and an output take.
+const HEAP: usize = 131_072;
+
+/// The service starts without check.
+const START: Call = Call::Tell(Directive::InitiateNone);
+
+/// How many sizes are tried of what something else takes of the heap.
+const SIZES: usize = 256;
+
+/// The sizes by 512 bytes, from the largest down to nothing: the one at this place.
+fn size_at(place: usize) -> usize {
+    HEAP.saturating_sub(512)
+        .saturating_sub(place.saturating_mul(512))
+}
+
+/// Checks that this refusal is one of memory, and that nothing changed.
+fn expect_unchanged<G: OnGround>(rt: &impl Abort, fop: &G, before: &FopView, refusal: Refusal) {
+    assert!(rt; refusal == Refusal::Memory, "{refusal:?}");
+    expect_view(rt, fop, before, "a call that was refused memory");
+}
+
+/// Makes the call while ever less of the heap is taken by something else: until it succeeds it is refused memory, and
+/// nothing changes. It is refused more than four times.
+fn squeezed<G: OnGround>(
+    rt: &impl Abort,
+    heap: &LocalHeap,
+    fop: &mut G,
+    call: Call,
+) -> Result<G::Out, Refusal> {
+    let before = fop.variables();
+    let mut refused = 0u32;
+    for place in 0..SIZES {
+        let Ok(_taken) = Vec::<u8, &LocalHeap>::with_capacity(heap, size_at(place)) else {
+            continue;
+        };
+        match done(rt, fop, call) {
+            Ok(out) => {
+                assert!(rt; refused > 4);
+                return Ok(out);
+            }
+            Err(refusal) => {
+                expect_unchanged(rt, fop, &before, refusal);
+                refused = refused.saturating_add(1);
+            }
+        }
+    }
+    Err(Refusal::Memory)
+}
+
+/// An offer that waits, a word of P6 and a retransmission are refused memory, and go on.
+fn goes_on<G: OnGround>(rt: &impl Abort, heap: &LocalHeap, fop: &mut G) -> Result<(), Refusal> {
+    all_done(rt, fop, &[START, Call::Offer(1), Call::Offer(2)])?;
+    let out = squeezed(rt, heap, fop, Call::Offer(3))?;
+    expect_output(rt, &out, &[], &[], "an offer that waits");
+    let out = squeezed(rt, heap, fop, Call::Report(1))?;
+    let told = [
+        Indication::Confirmed(number(rt, 1)),
+        Indication::Sent(number(rt, 3)),
+    ];
+    expect_output(rt, &out, &[ad(rt, 2, 3)], &told, "P6");
+    let out = squeezed(rt, heap, fop, Call::Again(1))?;
+    let again = [ad(rt, 1, 2), ad(rt, 2, 3)];
+    expect_output(rt, &out, &again, &[], "a retransmission");
+    Ok(())
+}
+
+#[test]
+fn is_refused_memory_and_goes_on(rt: HostRuntime) -> Result<(), Fail> {
+    let heap = LocalHeap::new(rt.alloc(), HEAP)?;
+    let mut fop = fop(&heap, 2, 10, 3)?;
+    goes_on(&rt, &heap, &mut fop)?;
+    Ok(())
+}
+
+/// Takes what is left of the heap, or nothing where nothing is left.
+fn fill<'a>(heap: &'a LocalHeap) -> Vec<u8, &'a LocalHeap> {
+    for place in 1..2_049usize {
+        let size = HEAP.saturating_sub(place.saturating_mul(64));
+        if let Ok(taken) = Vec::with_capacity(heap, size) {
+            return taken;
+        }
+    }
+    Vec::new(heap)
+}
+
+/// Checks that a call is not refused the memory that was reserved for it, where the heap is full.
+fn expect_reserved<G: OnGround>(
+    rt: &impl Abort,
+    heap: &LocalHeap,
+    fop: &mut G,
+    call: Call,
+) -> Result<(), Refusal> {
+    fop.reserves()?;
+    let taken = fill(heap);
+    let out = done(rt, fop, call);
+    assert!(rt; out.is_ok(), "{call:?}");
+    assert!(rt; fop.reserves() == Err(Refusal::Memory), "{call:?}");
+    drop(taken);
+    Ok(())
+}
+
+/// Calls that send, that wait, that send again, that confirm, and that stop the service.
+const CALLS: &[Call] = &[
+    START,
+    Call::Offer(1),
+    Call::Offer(2),
+    Call::Again(0),
+    Call::Report(1),
+    Call::Ticks(1),
+    Call::Invalid,
+];
+
+/// Checks the same of these calls, one after the other.
+fn expect_all_reserved<G: OnGround>(
+    rt: &impl Abort,
+    heap: &LocalHeap,
+    fop: &mut G,
+    calls: &[Call],
+) -> Result<(), Refusal> {
+    for call in calls {
+        expect_reserved(rt, heap, fop, *call)?;
+    }
+    Ok(())
+}
+
+#[test]
+fn is_not_refused_what_was_reserved(rt: HostRuntime) -> Result<(), Fail> {
+    let heap = LocalHeap::new(rt.alloc(), HEAP)?;
+    let mut fop = fop(&heap, 1, 10, 3)?;
+    expect_all_reserved(&rt, &heap, &mut fop, CALLS)?;
+    Ok(())
+}
+
+/// How the making of a FOP over a heap of this size is refused.
+fn refusal_in(alloc: Global, size: usize) -> Result<Option<Refusal>, Fail> {
+    let heap = LocalHeap::new(alloc, size)?;
+    Ok(refusal_to_make(&heap, 1, 10, 3))
+}
+
+#[test]
+fn is_made_where_there_is_room(rt: HostRuntime) -> Result<(), Fail> {
+    let (mut refused, mut made) = (0u32, 0u32);
+    for size in (1_024..32_768).step_by(1_024) {
+        match refusal_in(rt.alloc(), size)? {
+            None => made = made.saturating_add(1),
+            Some(refusal) => {
+                assert!(rt; refusal == Refusal::Memory);
+                assert!(rt; made == 0, "{size} bytes refuse what fewer gave");
+                refused = refused.saturating_add(1);
+            }
+        }
+    }
+    assert!(rt; refused > 4 && made > 4, "{refused} refuse, {made} do not");
+    Ok(())
+}

@@ -1,0 +1,164 @@
+//! Runs of a FOP with whole outputs, what it refuses, and numbers that go around.
+use super::calls::{Call, all_done, done, expect_call, expect_offer, expect_refused, expect_view};
+use super::ends::{OnGround, fop, refusal_to_make};
+use super::{ad, number};
+use std::process::Abort;
+use std::test::Fail;
+use tc_fop::signals::{AlertKind, Directive, FopState, Indication};
+use tc_fop::views::FopView;
+use tc_types::refusals::Refusal;
+
+/// The service starts without check.
+const START: Call = Call::Tell(Directive::InitiateNone);
+
+/// Where the window is one: one request is out under the number 1, after another was confirmed.
+const SECOND_OUT: FopView = FopView {
+    state: FopState::Active,
+    vs: 2,
+    nn: 1,
+    sent: 1,
+    waiting: 0,
+    count: 1,
+    timer: 10,
+    k: 1,
+    t1: 10,
+    limit: 3,
+};
+
+/// The first request is sent, the second waits, and the third is refused.
+fn fills<G: OnGround>(rt: &impl Abort, fop: &mut G) -> Result<(), Refusal> {
+    expect_call(rt, fop, START, &[], &[Indication::Started], "the start")?;
+    let sent = [Indication::Sent(number(rt, 1))];
+    expect_call(rt, fop, Call::Offer(1), &[ad(rt, 0, 1)], &sent, "request 1")?;
+    expect_call(rt, fop, Call::Offer(2), &[], &[], "request 2")?;
+    expect_offer(rt, fop, Some(Refusal::WaitQueueFull));
+    expect_refused(rt, fop, Call::Offer(3), Refusal::WaitQueueFull);
+    Ok(())
+}
+
+/// The first request is confirmed and the second sent, which is in doubt when the service stops.
+fn empties<G: OnGround>(rt: &impl Abort, fop: &mut G) -> Result<(), Refusal> {
+    let told = [
+        Indication::Confirmed(number(rt, 1)),
+        Indication::Sent(number(rt, 2)),
+    ];
+    expect_call(rt, fop, Call::Report(1), &[ad(rt, 1, 2)], &told, "report 1")?;
+    expect_view(rt, fop, &SECOND_OUT, "report 1");
+    let told = [
+        Indication::InDoubt(number(rt, 2)),
+        Indication::Alert(AlertKind::Clcw),
+    ];
+    expect_call(
+        rt,
+        fop,
+        Call::Invalid,
+        &[],
+        &told,
+        "a word that is not valid",
+    )?;
+    expect_call(rt, fop, Call::Invalid, &[], &[], "another in S6")?;
+    expect_offer(rt, fop, Some(Refusal::ServiceNotActive));
+    Ok(())
+}
+
+#[test]
+fn confirms_and_transmits(rt: HostRuntime) -> Result<(), Fail> {
+    let mut fop = fop(rt.alloc(), 1, 10, 3)?;
+    fills(&rt, &mut fop)?;
+    empties(&rt, &mut fop)?;
+    Ok(())
+}
+
+/// Settings with which no FOP is made: K, T1_Initial and the limit.
+const BAD: &[(u8, u16, u8)] = &[(0, 10, 3), (1, 0, 3), (1, 10, 0)];
+
+/// Directives that are never carried out.
+const ZEROS: [Directive; 3] = [
+    Directive::SetK(0),
+    Directive::SetT1(0),
+    Directive::SetLimit(0),
+];
+
+/// Directives that are not carried out once the service is started.
+const LATE: [Directive; 5] = [
+    Directive::InitiateNone,
+    Directive::InitiateCheck,
+    Directive::InitiateUnlock,
+    Directive::InitiateSetVr(7),
+    Directive::SetVs(7),
+];
+
+/// Checks that these directives are refused now.
+fn expect_bad<G: OnGround>(rt: &impl Abort, fop: &mut G, directives: &[Directive]) {
+    for directive in directives {
+        expect_refused(rt, fop, Call::Tell(*directive), Refusal::BadDirective);
+    }
+}
+
+/// Checks what is refused before and after the start.
+fn expect_refusals<G: OnGround>(rt: &impl Abort, fop: &mut G) -> Result<(), Refusal> {
+    expect_refused(rt, fop, Call::Offer(1), Refusal::ServiceNotActive);
+    expect_bad(rt, fop, &ZEROS);
+    done(rt, fop, START)?;
+    expect_bad(rt, fop, &LATE);
+    expect_offer(rt, fop, None);
+    Ok(())
+}
+
+#[test]
+fn refuses(rt: HostRuntime) -> Result<(), Fail> {
+    for (k, t1, limit) in BAD {
+        let refusal = refusal_to_make(rt.alloc(), *k, *t1, *limit);
+        assert!(rt; refusal == Some(Refusal::BadDirective), "{k} {t1} {limit}");
+    }
+    let mut fop = fop(rt.alloc(), 1, 10, 3)?;
+    expect_refusals(&rt, &mut fop)?;
+    Ok(())
+}
+
+/// This report confirms the request before the last, and request `n` is sent in its place.
+fn moves_on<G: OnGround>(rt: &impl Abort, fop: &mut G, report: u8, n: u32) -> Result<(), Refusal> {
+    let told = [Indication::Confirmed(number(rt, n.wrapping_sub(2)))];
+    expect_call(rt, fop, Call::Report(report), &[], &told, "a report")?;
+    done(rt, fop, Call::Offer(n))?;
+    Ok(())
+}
+
+/// From the number 5 on, 256 requests one after the other, each confirmed but for the last two.
+fn passes_the_end<G: OnGround>(rt: &impl Abort, fop: &mut G) -> Result<(), Refusal> {
+    let set = Call::Tell(Directive::SetVs(5));
+    all_done(rt, fop, &[set, START, Call::Offer(1), Call::Offer(2)])?;
+    let mut report = 6u8;
+    for n in 3..257u32 {
+        moves_on(rt, fop, report, n)?;
+        report = report.wrapping_add(1);
+    }
+    Ok(())
+}
+
+/// The last two are sent again, and are in doubt when the service stops.
+fn sends_the_last_again<G: OnGround>(rt: &impl Abort, fop: &mut G) -> Result<(), Refusal> {
+    let again = [ad(rt, 3, 255), ad(rt, 4, 256)];
+    expect_call(rt, fop, Call::Again(3), &again, &[], "a retransmission")?;
+    let told = [
+        Indication::InDoubt(number(rt, 255)),
+        Indication::InDoubt(number(rt, 256)),
+        Indication::Alert(AlertKind::Clcw),
+    ];
+    expect_call(
+        rt,
+        fop,
+        Call::Invalid,
+        &[],
+        &told,
+        "a word that is not valid",
+    )
+}
+
+#[test]
+fn goes_around(rt: HostRuntime) -> Result<(), Fail> {
+    let mut fop = fop(rt.alloc(), 2, 10, 3)?;
+    passes_the_end(&rt, &mut fop)?;
+    sends_the_last_again(&rt, &mut fop)?;
+    Ok(())
+}

@@ -1,0 +1,409 @@
+//! The cases of the table's cells as data.
+use super::calls::Call;
+use tc_fop::signals::{AlertKind, Directive, FopState};
+use tc_fop::views::FopView;
+
+/// The state before a call. In S1 to S3 requests 1 and 2 are out under the numbers 0 and 1, and 3 waits.
+#[derive(Clone, Copy, Debug)]
+pub enum Start {
+    /// S1, as first transmitted.
+    S1,
+    /// S2, after Retransmit.
+    S2,
+    /// S3, after Retransmit and Wait.
+    S3,
+    /// S4.
+    S4,
+    /// S5, after Unlock.
+    S5,
+}
+
+/// S1 to S3.
+pub const TAKING: &[Start] = &[Start::S1, Start::S2, Start::S3];
+
+/// An indication by the number of its request.
+#[derive(Clone, Copy)]
+pub enum Told {
+    /// Sent for the first time.
+    Sent(u32),
+    /// Confirmed.
+    Confirmed(u32),
+    /// Given back.
+    Back(u32),
+    /// In doubt.
+    Doubt(u32),
+    /// An alert.
+    Alert(AlertKind),
+    /// The service began.
+    Started,
+}
+
+/// A frame by the number of its request.
+#[derive(Clone, Copy)]
+pub enum Flown {
+    /// The frame of a request under a number.
+    Ad(u8, u32),
+    /// Unlock.
+    Unlock,
+}
+
+/// Calls and what the last of them gives, from each of these states.
+#[derive(Clone, Copy)]
+pub struct Case {
+    /// The row.
+    pub row: &'static str,
+    /// The states before the calls.
+    pub starts: &'static [Start],
+    /// The calls before the last.
+    pub then: &'static [Call],
+    /// The last call.
+    pub call: Call,
+    /// The frames that it puts out.
+    pub frames: &'static [Flown],
+    /// The indications that it puts out.
+    pub told: &'static [Told],
+    /// The variables after it.
+    pub view: FopView,
+}
+
+/// In S1 to S3 before the call, but for the state.
+pub const OUT: FopView = FopView {
+    state: FopState::Active,
+    vs: 2,
+    nn: 0,
+    sent: 2,
+    waiting: 1,
+    count: 1,
+    timer: 10,
+    k: 2,
+    t1: 10,
+    limit: 3,
+};
+
+/// In S4 before the call, but for the state.
+pub const NONE_OUT: FopView = FopView {
+    vs: 0,
+    sent: 0,
+    waiting: 0,
+    ..OUT
+};
+
+/// After the service stopped in S1 or S3.
+pub const STOPPED: FopView = FopView {
+    state: FopState::Initial,
+    sent: 0,
+    waiting: 0,
+    timer: 0,
+    ..OUT
+};
+
+/// A word that opens the service.
+pub const BEGINS: &[Case] = &[Case {
+    row: "P1",
+    starts: &[Start::S4, Start::S5],
+    then: &[],
+    call: Call::Report(0),
+    frames: &[],
+    told: &[Told::Started],
+    view: FopView {
+        timer: 0,
+        ..NONE_OUT
+    },
+}];
+
+/// Words that acknowledge what is out, and all of it later, and some of it.
+pub const ACKNOWLEDGES: &[Case] = &[
+    Case {
+        row: "P2",
+        starts: TAKING,
+        then: &[],
+        call: Call::Report(2),
+        frames: &[Flown::Ad(2, 3)],
+        told: &[Told::Confirmed(1), Told::Confirmed(2), Told::Sent(3)],
+        view: FopView {
+            vs: 3,
+            nn: 2,
+            sent: 1,
+            waiting: 0,
+            ..OUT
+        },
+    },
+    Case {
+        row: "P2, later",
+        starts: TAKING,
+        then: &[Call::Report(2)],
+        call: Call::Report(3),
+        frames: &[],
+        told: &[Told::Confirmed(3)],
+        view: FopView {
+            vs: 3,
+            nn: 3,
+            sent: 0,
+            waiting: 0,
+            timer: 0,
+            ..OUT
+        },
+    },
+    Case {
+        row: "P6",
+        starts: TAKING,
+        then: &[],
+        call: Call::Report(1),
+        frames: &[Flown::Ad(2, 3)],
+        told: &[Told::Confirmed(1), Told::Sent(3)],
+        view: FopView {
+            vs: 3,
+            nn: 1,
+            waiting: 0,
+            ..OUT
+        },
+    },
+];
+
+/// Words that acknowledge some of what is out, and ask for the rest again.
+pub const LEFT: &[Case] = &[
+    Case {
+        row: "P8",
+        starts: TAKING,
+        then: &[Call::Tell(Directive::SetLimit(1))],
+        call: Call::Again(1),
+        frames: &[],
+        told: &[
+            Told::Confirmed(1),
+            Told::Doubt(2),
+            Told::Back(3),
+            Told::Alert(AlertKind::Limit),
+        ],
+        view: FopView {
+            nn: 1,
+            limit: 1,
+            ..STOPPED
+        },
+    },
+    Case {
+        row: "P9",
+        starts: TAKING,
+        then: &[],
+        call: Call::Again(1),
+        frames: &[Flown::Ad(1, 2), Flown::Ad(2, 3)],
+        told: &[Told::Confirmed(1), Told::Sent(3)],
+        view: FopView {
+            state: FopState::RetransmitWithoutWait,
+            vs: 3,
+            nn: 1,
+            waiting: 0,
+            count: 2,
+            ..OUT
+        },
+    },
+    Case {
+        row: "P10",
+        starts: TAKING,
+        then: &[],
+        call: Call::AgainWait(1),
+        frames: &[],
+        told: &[Told::Confirmed(1)],
+        view: FopView {
+            state: FopState::RetransmitWithWait,
+            nn: 1,
+            sent: 1,
+            ..OUT
+        },
+    },
+];
+
+/// Words that acknowledge nothing and ask for all again, and the end of the timer.
+pub const ALL_AGAIN: &[Case] = &[
+    Case {
+        row: "P11",
+        starts: &[Start::S1, Start::S3],
+        then: &[],
+        call: Call::Again(0),
+        frames: &[Flown::Ad(0, 1), Flown::Ad(1, 2)],
+        told: &[],
+        view: FopView {
+            state: FopState::RetransmitWithoutWait,
+            count: 2,
+            ..OUT
+        },
+    },
+    Case {
+        row: "P12",
+        starts: &[Start::S1],
+        then: &[],
+        call: Call::AgainWait(0),
+        frames: &[],
+        told: &[],
+        view: FopView {
+            state: FopState::RetransmitWithWait,
+            ..OUT
+        },
+    },
+    Case {
+        row: "P12",
+        starts: &[Start::S2],
+        then: &[],
+        call: Call::AgainWait(0),
+        frames: &[],
+        told: &[],
+        view: FopView {
+            state: FopState::RetransmitWithWait,
+            count: 2,
+            ..OUT
+        },
+    },
+    Case {
+        row: "P17",
+        starts: &[Start::S1],
+        then: &[],
+        call: Call::Ticks(10),
+        frames: &[Flown::Ad(0, 1), Flown::Ad(1, 2)],
+        told: &[],
+        view: FopView { count: 2, ..OUT },
+    },
+    Case {
+        row: "P17",
+        starts: &[Start::S2],
+        then: &[],
+        call: Call::Ticks(10),
+        frames: &[Flown::Ad(0, 1), Flown::Ad(1, 2)],
+        told: &[],
+        view: FopView {
+            state: FopState::RetransmitWithoutWait,
+            count: 3,
+            ..OUT
+        },
+    },
+    Case {
+        row: "P17",
+        starts: &[Start::S5],
+        then: &[],
+        call: Call::Ticks(10),
+        frames: &[Flown::Unlock],
+        told: &[],
+        view: FopView {
+            state: FopState::InitialisingWithBc,
+            count: 2,
+            ..NONE_OUT
+        },
+    },
+];
+
+/// Words that ask for all again, where all was sent as often as it may be.
+pub const NO_MORE: &[Case] = &[
+    Case {
+        row: "P13",
+        starts: &[Start::S1],
+        then: &[Call::Tell(Directive::SetLimit(2)), Call::Ticks(10)],
+        call: Call::Again(0),
+        frames: &[],
+        told: &[],
+        view: FopView {
+            state: FopState::RetransmitWithoutWait,
+            count: 2,
+            limit: 2,
+            ..OUT
+        },
+    },
+    Case {
+        row: "P13, after P12",
+        starts: &[Start::S1],
+        then: &[
+            Call::Tell(Directive::SetLimit(2)),
+            Call::Ticks(10),
+            Call::AgainWait(0),
+        ],
+        call: Call::Again(0),
+        frames: &[],
+        told: &[],
+        view: FopView {
+            state: FopState::RetransmitWithoutWait,
+            count: 2,
+            limit: 2,
+            ..OUT
+        },
+    },
+];
+
+/// All requests are given back with the alert Clcw.
+const CLCW: &[Told] = &[
+    Told::Doubt(1),
+    Told::Doubt(2),
+    Told::Back(3),
+    Told::Alert(AlertKind::Clcw),
+];
+
+/// All requests are given back with the alert Synch.
+const SYNCH: &[Told] = &[
+    Told::Doubt(1),
+    Told::Doubt(2),
+    Told::Back(3),
+    Told::Alert(AlertKind::Synch),
+];
+
+/// All requests are given back with the alert NnR.
+const NN_R: &[Told] = &[
+    Told::Doubt(1),
+    Told::Doubt(2),
+    Told::Back(3),
+    Told::Alert(AlertKind::NnR),
+];
+
+/// All requests are given back with the alert Lockout.
+const LOCKOUT: &[Told] = &[
+    Told::Doubt(1),
+    Told::Doubt(2),
+    Told::Back(3),
+    Told::Alert(AlertKind::Lockout),
+];
+
+/// All requests are given back with the alert T1.
+const T1: &[Told] = &[
+    Told::Doubt(1),
+    Told::Doubt(2),
+    Told::Back(3),
+    Told::Alert(AlertKind::T1),
+];
+
+/// A row, the states before a call, the call, and what it tells.
+pub type Stop = (&'static str, &'static [Start], Call, &'static [Told]);
+
+/// What stops the service in S1 to S3.
+pub const STOPS: &[Stop] = &[
+    ("P3", TAKING, Call::Wait(2), CLCW),
+    ("P4", TAKING, Call::Again(2), SYNCH),
+    ("P5", &[Start::S2, Start::S3], Call::Report(0), SYNCH),
+    ("P7", TAKING, Call::Wait(1), CLCW),
+    ("P14", TAKING, Call::Report(3), NN_R),
+    ("P15", TAKING, Call::Lockout(1), LOCKOUT),
+    ("P16", TAKING, Call::Invalid, CLCW),
+];
+
+/// The end of the timer, where all was sent as often as it may be.
+pub const LIMITS: &[Case] = &[
+    Case {
+        row: "P18",
+        starts: &[Start::S1, Start::S3],
+        then: &[Call::Tell(Directive::SetLimit(1))],
+        call: Call::Ticks(10),
+        frames: &[],
+        told: T1,
+        view: FopView {
+            limit: 1,
+            ..STOPPED
+        },
+    },
+    Case {
+        row: "P18",
+        starts: &[Start::S2],
+        then: &[Call::Tell(Directive::SetLimit(1))],
+        call: Call::Ticks(10),
+        frames: &[],
+        told: T1,
+        view: FopView {
+            count: 2,
+            limit: 1,
+            ..STOPPED
+        },
+    },
+];

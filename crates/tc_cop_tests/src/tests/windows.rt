@@ -1,0 +1,110 @@
+//! The edges of the FARM's windows, and what control commands do to its control word.
+use super::ad;
+use super::ends::OnBoard;
+use std::process::Abort;
+use tc_farm::farms::{Farm, FarmState};
+use tc_types::frames::Frame;
+
+/// A FARM of this width.
+fn farm(rt: &impl Abort, w: u16) -> Farm {
+    Farm::new(w).expect(rt, "a width")
+}
+
+/// A type-AD frame with this number comes: whether it is accepted.
+pub fn takes<F: OnBoard>(rt: &impl Abort, farm: &mut F, ns: u8, room: bool) -> bool {
+    farm.accepts(ad(rt, ns, 1), room)
+}
+
+/// Brings a new FARM into this state, where it expects this number.
+pub fn comes_to<F: OnBoard>(rt: &impl Abort, farm: &mut F, state: FarmState, vr: u8) {
+    farm.accepts(Frame::SetVr(vr), true);
+    match state {
+        FarmState::Open => {}
+        FarmState::Wait => {
+            takes(rt, farm, vr, false);
+        }
+        FarmState::Lockout => {
+            takes(rt, farm, vr.wrapping_add(128), true);
+        }
+    }
+}
+
+/// Whether a frame with this number is discarded in Open, and leaves this state and flag.
+fn is_discarded<F: OnBoard>(
+    rt: &impl Abort,
+    farm: &mut F,
+    vr: u8,
+    ns: u8,
+    locks: bool,
+    retransmit: bool,
+) -> bool {
+    comes_to(rt, farm, FarmState::Open, vr);
+    let accepted = takes(rt, farm, ns, true);
+    let clcw = farm.control_word();
+    !accepted
+        && farm.variables().state == state_of(locks)
+        && clcw.retransmit == retransmit
+        && clcw.lockout == locks
+        && clcw.report == vr
+}
+
+/// Lockout, or else Open.
+fn state_of(locks: bool) -> FarmState {
+    if locks {
+        FarmState::Lockout
+    } else {
+        FarmState::Open
+    }
+}
+
+#[test]
+fn windows(rt: HostRuntime) {
+    for (w, vr, ns, locks, retransmit) in [
+        (20, 250, 3, false, true),
+        (20, 250, 4, true, false),
+        (20, 250, 240, false, false),
+        (20, 250, 239, true, false),
+        (254, 0, 126, false, true),
+        (254, 0, 127, true, false),
+        (254, 0, 128, true, false),
+        (254, 0, 129, false, false),
+    ] {
+        let discarded = is_discarded(&rt, &mut farm(&rt, w), vr, ns, locks, retransmit);
+        assert!(rt; discarded, "{ns} at {vr} of {w}");
+    }
+}
+
+/// Checks the control word on channel 3.
+fn expect_bits<F: OnBoard>(rt: &impl Abort, farm: &F, bits: u32, what: &str) {
+    assert_eq!(rt; farm.bits(), bits, "{what}");
+}
+
+/// Checks the word of a FARM that waits for a buffer.
+fn expect_waiting<F: OnBoard>(rt: &impl Abort, farm: &mut F) {
+    comes_to(rt, farm, FarmState::Wait, 9);
+    expect_bits(rt, farm, 0x010c_1a09, "one command, waiting");
+    farm.frees();
+    assert!(rt; farm.variables().state == FarmState::Open);
+    expect_bits(rt, farm, 0x010c_0a09, "Retransmit stays");
+    assert!(rt; takes(rt, farm, 9, true));
+    expect_bits(rt, farm, 0x010c_020a, "10 is expected");
+}
+
+/// Checks the word of a FARM that is locked out.
+fn expect_locked<F: OnBoard>(rt: &impl Abort, farm: &mut F) {
+    comes_to(rt, farm, FarmState::Lockout, 9);
+    farm.accepts(Frame::SetVr(77), true);
+    farm.frees();
+    expect_bits(rt, farm, 0x010c_2409, "two commands, locked out");
+    assert!(rt; !farm.accepts(Frame::Unlock, false));
+    expect_bits(rt, farm, 0x010c_0609, "three commands, open");
+}
+
+#[test]
+fn control_commands(rt: HostRuntime) {
+    expect_waiting(&rt, &mut farm(&rt, 20));
+    expect_locked(&rt, &mut farm(&rt, 20));
+    for odd in [0, 1, 3, 255, 256] {
+        assert!(rt; Farm::new(odd).is_none(), "{odd}");
+    }
+}

@@ -1,0 +1,53 @@
+//! Control words with their bits written out.
+use std::process::Abort;
+use tc_farm::clcws::Clcw;
+
+/// A control word on channel 3 that reports 5.
+fn told(lockout: bool, wait: bool, retransmit: bool) -> Clcw {
+    Clcw {
+        vc: 3,
+        lockout,
+        wait,
+        retransmit,
+        farm_b: 0,
+        report: 5,
+    }
+}
+
+/// The control word that these bits are on this channel.
+fn read(bits: u32, vc: u8) -> Option<Clcw> {
+    Clcw::read(bits, vc)
+}
+
+/// Checks that this control word is these bits, and that they are read back on its channel alone.
+fn expect_bits(rt: &impl Abort, clcw: Clcw, bits: u32) {
+    assert_eq!(rt; clcw.word(), bits);
+    assert!(rt; read(bits, 3) == Some(clcw), "{bits}");
+    assert!(rt; read(bits, 4).is_none(), "another channel");
+}
+
+/// The control word with the flags Lockout and Retransmit on this channel, as 32 bits; 0 where there is no such channel.
+fn bits_on(vc: u8) -> u32 {
+    match told(true, false, true).on(vc) {
+        Some(clcw) => clcw.word(),
+        None => 0,
+    }
+}
+
+#[test]
+fn control_words(rt: HostRuntime) {
+    for (lockout, wait, retransmit, bits) in [
+        (false, false, false, 0x010c_0005),
+        (true, false, false, 0x010c_2005),
+        (false, true, false, 0x010c_1005),
+        (false, false, true, 0x010c_0805),
+    ] {
+        expect_bits(&rt, told(lockout, wait, retransmit), bits);
+    }
+    assert!(rt; read(0x020c_0005, 3).is_none(), "another COP");
+    assert!(rt; read(0x5d0f_c105, 3).is_none(), "another version");
+    let ignored = read(0x1d0f_c105, 3);
+    assert!(rt; ignored == Some(told(false, false, false)), "ignored bits");
+    assert_eq!(rt; bits_on(63), 0x01fc_2805);
+    assert_eq!(rt; bits_on(64), 0);
+}

@@ -1,0 +1,100 @@
+//! A room, line by line and call by call.
+use super::{entered, moment, name};
+use crate::seen::SeenRoom;
+use std::alloc::Global;
+use std::process::Abort;
+use std::test::Fail;
+use tc_room::replies::{MOST_SHOWN, history_reply};
+use tc_room::rooms::{Config, Room};
+use tc_types::places::Place;
+use tc_types::refusals::Refusal;
+
+/// A line, what it is answered, and whether that is a refusal.
+type Case = (&'static [u8], &'static str, bool);
+
+const CASES: [Case; 8] = [
+    (
+        b"100 ann enter 5 a--c no 8 1 - - ok",
+        "ok request 1 5/0\nmove 1 100 ann 1 - Entered enter\n",
+        false,
+    ),
+    (
+        b"120 bob withdraw 1",
+        "ok\nmove 2 120 bob 1 Entered Withdrawn withdraw\n",
+        false,
+    ),
+    (b"121 bob withdraw 1", "refused 3 WrongPlace\n", true),
+    (b"122 bob withdraw 2", "refused 2 UnknownRequest\n", true),
+    (
+        b"130 ann places",
+        "places 1: 0 0 0 0 0 0 0 0 0 0 0 0 1 0 0\n",
+        false,
+    ),
+    (
+        b"130 ann history 1 1",
+        "history 1: 1\nmove 2 120 bob 1 Entered Withdrawn withdraw\n",
+        false,
+    ),
+    (b"130 ann history 2 0", "refused 2 UnknownRequest\n", true),
+    (b"places", "refused 1 BadText\n", true),
+];
+
+fn answers_cases<R: SeenRoom>(rt: &impl Abort, alloc: Global, room: &mut R) -> Result<(), Fail> {
+    for (line, text, refused) in CASES {
+        let answer = room.answers(alloc, line)?;
+        assert_eq!(rt; answer.text.as_str(), text);
+        assert_eq!(rt; answer.refused, refused);
+    }
+    let last = room.answers_places(alloc)?;
+    assert_eq!(rt;
+        last.text.as_str(),
+        "places 1: 0 0 0 0 0 0 0 0 0 0 0 0 1 0 0\n"
+    );
+    assert!(rt; !last.refused);
+    Ok(())
+}
+
+#[test]
+fn answers_each_line(rt: HostRuntime) -> Result<(), Fail> {
+    let mut room = Room::open(rt.alloc(), Config {})?;
+    answers_cases(&rt, rt.alloc(), &mut room)
+}
+
+/// Withdraws request 1: how many moves that made, or why it was refused.
+fn withdrawn<R: SeenRoom>(rt: &impl Abort, room: &mut R) -> Result<usize, Refusal> {
+    room.withdraws(name(rt, b"bob"), moment(rt, 120), 1)
+}
+
+fn tells_of_one<R: SeenRoom>(rt: &impl Abort, alloc: Global, room: &mut R) -> Result<(), Fail> {
+    room.answers(alloc, b"100 ann enter 5 a--c no 8 1 - - ok")?;
+    assert_eq!(rt; withdrawn(rt, room), Ok(1));
+    assert_eq!(rt; withdrawn(rt, room), Err(Refusal::WrongPlace));
+    let counts = room.counted()?;
+    assert_eq!(rt; counts.entered, 1);
+    assert_eq!(rt;
+        counts.places,
+        [0, 0, 0, 0, 0, 0, 0, 0, 0, 0, 0, 0, 1, 0, 0]
+    );
+    let rows = room.told(1, 0)?;
+    assert_eq!(rt; rows.len(), 2);
+    assert_eq!(rt; rows[1].to, Place::Withdrawn);
+    assert!(rt; matches!(room.told(2, 0), Err(Refusal::UnknownRequest)));
+    Ok(())
+}
+
+#[test]
+fn tells_what_the_tables_hold(rt: HostRuntime) -> Result<(), Fail> {
+    let mut room = Room::open(rt.alloc(), Config {})?;
+    tells_of_one(&rt, rt.alloc(), &mut room)
+}
+
+#[test]
+fn shows_fifty_rows_of_a_history(rt: HostRuntime) -> Result<(), Fail> {
+    for (count, first) in [(50usize, "history 1: 50\n"), (51, "history 1: 50 more\n")] {
+        let rows = vec![in rt.alloc(); entered(&rt, 1, 1); count]?;
+        let reply = history_reply(rt.alloc(), 1, &rows)?;
+        assert!(rt; reply.starts_with(first));
+        assert_eq!(rt; reply.matches("\n").count(), MOST_SHOWN.saturating_add(1));
+    }
+    Ok(())
+}

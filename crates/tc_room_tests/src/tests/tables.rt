@@ -1,0 +1,208 @@
+//! What the tables hold, over memory: written rows come back, faults leave the tables, and what lies in the columns.
+use super::{entered, moved, name, number};
+use crate::seen::{SeenDatabase, SeenTables};
+use sqlite::{Connection, MemStore};
+use std::alloc::Global;
+use std::process::Abort;
+use std::test::Fail;
+use tc_store::faults::StoreFault;
+use tc_store::tables::Tables;
+use tc_types::causes::Cause;
+use tc_types::numbers::{Apid, FailureCode, Offset, SequenceCount, Steps};
+use tc_types::places::Place;
+use tc_types::requests::{Ack, Body, Command, Identity, Outcome, Request};
+use tc_types::rows::Row;
+
+/// Makes the tables of an empty desk in a database, which comes back with a fault.
+fn made_in(
+    alloc: Global,
+    conn: Connection<MemStore>,
+) -> Result<Tables<MemStore>, (StoreFault, Connection<MemStore>)> {
+    Tables::create(alloc, conn)
+}
+
+/// Tables of an empty desk in memory.
+fn made(rt: &impl Abort, alloc: Global) -> Tables<MemStore> {
+    let conn = Connection::open_in_memory(alloc).expect(rt, "a database");
+    match made_in(alloc, conn) {
+        Ok(tables) => tables,
+        Err(_) => panic!(rt; "no tables"),
+    }
+}
+
+/// What a request is named on board.
+fn identity(rt: &impl Abort) -> Identity {
+    Identity {
+        apid: Apid::new(2047).expect(rt, "an application process"),
+        count: SequenceCount::new(16383).expect(rt, "a count"),
+    }
+}
+
+/// What a request commands.
+fn command(rt: &impl Abort) -> Command {
+    Command::ShiftActivity {
+        target: 4_294_967_295,
+        offset: Offset::new(-4_102_444_799).expect(rt, "an offset"),
+    }
+}
+
+/// What comes of a request.
+fn outcome(rt: &impl Abort) -> Outcome {
+    let steps = Steps::new(2).expect(rt, "a number of steps");
+    Outcome::Halts(steps, FailureCode::new(17).expect(rt, "a code"))
+}
+
+/// The part of a request that flies.
+fn body(rt: &impl Abort) -> Body {
+    Body {
+        identity: identity(rt),
+        ack: Ack {
+            acceptance: true,
+            start: false,
+            progress: true,
+            completion: true,
+        },
+        command: command(rt),
+        outcome: outcome(rt),
+    }
+}
+
+/// The row of a request.
+fn request(rt: &impl Abort, n: u32) -> Row {
+    Row::Entered(Request {
+        number: number(rt, n),
+        body: body(rt),
+        critical: true,
+        author: name(rt, b"bob"),
+    })
+}
+
+/// The counts where so many requests stand at Entered and at Approved, and none elsewhere.
+fn counts(entered: u32, approved: u32) -> [u32; 15] {
+    [entered, approved, 0, 0, 0, 0, 0, 0, 0, 0, 0, 0, 0, 0, 0]
+}
+
+fn writes_and_reads<T: SeenTables>(rt: &impl Abort, tables: &mut T) -> Result<(), Fail> {
+    assert!(rt; tables.stand(counts(0, 0))?);
+    assert!(rt; tables.tells(1, 0, &[])?);
+    let first = entered(rt, 1, 1);
+    let other = entered(rt, 2, 2);
+    let second = moved(
+        rt,
+        3,
+        1,
+        Some(Place::Entered),
+        Place::Approved,
+        Cause::Approve,
+    );
+    tables.writes(&[request(rt, 1), Row::Moved(first)])?;
+    tables.writes(&[request(rt, 2), Row::Moved(other), Row::Moved(second)])?;
+    tables.writes(&[])?;
+    assert!(rt; tables.tells(1, 0, &[first, second])?);
+    assert!(rt; tables.tells(1, 1, &[second])?);
+    assert!(rt; tables.tells(2, 0, &[other])?);
+    assert!(rt; tables.tells(3, 0, &[])?);
+    assert!(rt; tables.stand(counts(1, 1))?);
+    Ok(())
+}
+
+#[test]
+fn what_is_written_is_read(rt: HostRuntime) -> Result<(), Fail> {
+    let mut tables = made(&rt, rt.alloc());
+    writes_and_reads(&rt, &mut tables)
+}
+
+/// The rows of requests 1 to 100, each before the move by which it is entered.
+fn two_hundred_rows(rt: &impl Abort, alloc: Global) -> Result<Vec<Row>, Fail> {
+    let mut batch = Vec::new(alloc);
+    for n in 1..=100u32 {
+        batch.push(request(rt, n))?;
+        batch.push(Row::Moved(entered(rt, n, n)))?;
+    }
+    Ok(batch)
+}
+
+fn writes_all<T: SeenTables>(rt: &impl Abort, tables: &mut T, batch: &[Row]) -> Result<(), Fail> {
+    tables.writes(batch)?;
+    assert!(rt; tables.tells(100, 0, &[entered(rt, 100, 100)])?);
+    assert!(rt; tables.stand(counts(100, 0))?);
+    Ok(())
+}
+
+#[test]
+fn a_batch_of_two_hundred_rows(rt: HostRuntime) -> Result<(), Fail> {
+    let batch = two_hundred_rows(&rt, rt.alloc())?;
+    let mut tables = made(&rt, rt.alloc());
+    writes_all(&rt, &mut tables, &batch)
+}
+
+fn fails_in_mid_batch<T: SeenTables>(rt: &impl Abort, tables: &mut T) -> Result<(), Fail> {
+    let first = entered(rt, 1, 1);
+    tables.writes(&[request(rt, 1), Row::Moved(first)])?;
+    let entered = Some(Place::Entered);
+    let second = moved(rt, 2, 1, entered, Place::Withdrawn, Cause::Withdraw);
+    let taken = moved(rt, 1, 1, entered, Place::Approved, Cause::Approve);
+    let fault = tables.writes(&[Row::Moved(second), Row::Moved(taken), request(rt, 2)]);
+    assert!(rt; matches!(fault, Err(StoreFault::Before(_))));
+    assert!(rt; tables.tells(1, 0, &[first])?);
+    assert!(rt; tables.stand(counts(1, 0))?);
+    tables.writes(&[Row::Moved(second)])?;
+    assert!(rt; tables.tells(1, 0, &[first, second])?);
+    Ok(())
+}
+
+#[test]
+fn a_fault_in_mid_batch_leaves_the_tables(rt: HostRuntime) -> Result<(), Fail> {
+    let mut tables = made(&rt, rt.alloc());
+    fails_in_mid_batch(&rt, &mut tables)
+}
+
+/// Checks that a query answers this number.
+fn answers<D: SeenDatabase>(
+    rt: &impl Abort,
+    database: &mut D,
+    query: &str,
+    number: u32,
+) -> Result<(), Fail> {
+    assert_eq!(rt; database.number(query)?, number, "{query}");
+    Ok(())
+}
+
+#[test]
+fn tables_are_made_once(rt: HostRuntime) -> Result<(), Fail> {
+    let mut tables = made(&rt, rt.alloc());
+    tables.writes(&[Row::Moved(entered(&rt, 1, 1))])?;
+    match made_in(rt.alloc(), tables.into_connection()) {
+        Ok(_) => panic!(&rt; "made twice"),
+        Err((fault, mut conn)) => {
+            assert!(rt; fault == StoreFault::NotEmpty);
+            answers(&rt, &mut conn, "SELECT count(*) FROM move", 1)
+        }
+    }
+}
+
+/// What finds request 5, what finds row 9, and what tells the schema's version: each answers 1.
+const QUERIES: [&str; 3] = [
+    "SELECT count(*) FROM request WHERE num = 5 AND apid = 2047 AND cnt = 16383 AND ack = 11 AND critical = 1 AND service = 11 AND subtype = 7 AND target = 4294967295 AND at_time = -4102444799 AND outcome = 'halt/2/17' AND author = 'bob' AND stack = '' AND line = 0 AND prior = 0",
+    "SELECT count(*) FROM move WHERE seq = 9 AND request = 4 AND from_place = 6 AND to_place = 14 AND cause = 11 AND person = 'ann7' AND moment = 4102444799",
+    "SELECT value FROM meta WHERE name = 'schema'",
+];
+
+#[test]
+fn what_lies_in_the_columns(rt: HostRuntime) -> Result<(), Fail> {
+    let mut tables = made(&rt, rt.alloc());
+    let row = moved(
+        &rt,
+        9,
+        4,
+        Some(Place::Riding),
+        Place::Deleted,
+        Cause::Delete,
+    );
+    tables.writes(&[request(&rt, 5), Row::Moved(row)])?;
+    let mut conn = tables.into_connection();
+    for query in QUERIES {
+        answers(&rt, &mut conn, query, 1)?;
+    }
+    Ok(())
+}

@@ -1,0 +1,165 @@
+-- The definitions carried out on values whose texts were written by hand: acts, a script line, and the lines that are
+-- printed. (`negsuc n` is the number below zero by n + 1.)
+use Rattle.std.proofs.Common.{◌≡◌, pos, negsuc, Bool, true, false, Some, None, [], ◌∷◌, map, refl}
+use Rattle.std.specs.Prelude.{codes}
+use Rattle.std.specs.Fmt.{digits}
+use Rattle.tc_types.specs.declared.places.Place.TheVariants.{Entered, Withdrawn}
+use Rattle.tc_types.specs.declared.causes.Cause.TheVariants as cause
+use Rattle.tc_types.specs.declared.refusals.Refusal.TheVariants as refusal
+use Rattle.tc_types.specs.declared.moves.Move.{Move}
+use Rattle.tc_types.specs.declared.requests.Ack.{Ack}
+use Rattle.tc_types.specs.declared.requests.Identity.{Identity}
+use Rattle.tc_types.specs.declared.requests.Outcome.{Outcome}
+use Rattle.tc_types.specs.declared.requests.Outcome.TheVariants as outcome
+use Rattle.tc_types.specs.declared.requests.Command.{Command}
+use Rattle.tc_types.specs.declared.requests.Command.TheVariants as command
+use Rattle.tc_types.specs.declared.acts.Act.{Act}
+use Rattle.tc_types.specs.declared.acts.Act.TheVariants as act
+use Rattle.tc_types.specs.declared.acts.Query.TheVariants as query
+use Rattle.tc_types.specs.Grammar.{outcome_word, act_text, line_text}
+use Rattle.tc_types.specs.Lines.{move_line, refusal_line, identity_word, entered_line, history_line, places_line}
+
+-- every report is asked for
+abbrev all : Ack
+all = record { acceptance = true; start = true; progress = true; completion = true }
+
+-- completion alone is asked for
+abbrev completion : Ack
+completion = record { acceptance = false; start = false; progress = false; completion = true }
+
+-- no report is asked for
+abbrev none : Ack
+none = record { acceptance = false; start = false; progress = false; completion = false }
+
+-- the entry of a plain request
+abbrev plain : Ack → Bool → Outcome → Act
+plain ack critical behaviour = act.Enter (record { apid = 2047; ack = ack; critical = critical; command = command.Plain 8 255; outcome = behaviour })
+
+-- the entry of a command of the on-board schedule
+abbrev scheduling : Command → Act
+scheduling given = act.Enter (record { apid = 5; ack = completion; critical = false; command = given; outcome = outcome.Completes })
+
+pub plain_entries-spelled : map act_text (
+    plain none false outcome.Completes
+    ∷ plain all true (outcome.CompletesInSteps 9)
+    ∷ plain completion false (outcome.Refuses 16)
+    ∷ plain none true (outcome.StartFails 255)
+    ∷ plain all false (outcome.Halts 9 16)
+    ∷ plain all false (outcome.Fails 255)
+    ∷ []) ≡
+    codes "enter 2047 ---- no 8 255 - - ok"
+    ∷ codes "enter 2047 aspc yes 8 255 - - ok/9"
+    ∷ codes "enter 2047 ---c no 8 255 - - refuse/16"
+    ∷ codes "enter 2047 ---- yes 8 255 - - nostart/255"
+    ∷ codes "enter 2047 aspc no 8 255 - - halt/9/16"
+    ∷ codes "enter 2047 aspc no 8 255 - - fail/255"
+    ∷ []
+unfolding digits
+plain_entries-spelled = refl
+
+pub schedule_entries-spelled : map (λ given. act_text (scheduling given)) (
+    command.EnableSchedule
+    ∷ command.DisableSchedule
+    ∷ command.ResetSchedule
+    ∷ command.InsertActivity 1 1060
+    ∷ command.DeleteActivity 4294967295
+    ∷ command.ShiftActivity 0 (negsuc 59)
+    ∷ command.ShiftAll (negsuc 4102444798)
+    ∷ command.ShiftAll (pos 0)
+    ∷ command.SummarizeAll
+    ∷ []) ≡
+    codes "enter 5 ---c no 11 1 - - ok"
+    ∷ codes "enter 5 ---c no 11 2 - - ok"
+    ∷ codes "enter 5 ---c no 11 3 - - ok"
+    ∷ codes "enter 5 ---c no 11 4 1 1060 ok"
+    ∷ codes "enter 5 ---c no 11 5 4294967295 - ok"
+    ∷ codes "enter 5 ---c no 11 7 0 -60 ok"
+    ∷ codes "enter 5 ---c no 11 15 - -4102444799 ok"
+    ∷ codes "enter 5 ---c no 11 15 - 0 ok"
+    ∷ codes "enter 5 ---c no 11 17 - - ok"
+    ∷ []
+unfolding digits
+schedule_entries-spelled = refl
+
+pub short_acts-spelled : map act_text (
+    act.Withdraw 1
+    ∷ act.Withdraw 0
+    ∷ act.Withdraw 4294967295
+    ∷ act.Ask query.Places
+    ∷ act.Ask (query.History 12 0)
+    ∷ []) ≡
+    codes "withdraw 1"
+    ∷ codes "withdraw 0"
+    ∷ codes "withdraw 4294967295"
+    ∷ codes "places"
+    ∷ codes "history 12 0"
+    ∷ []
+unfolding digits
+short_acts-spelled = refl
+
+pub line-spelled : line_text (record { moment = 4102444799; by = codes "abcdefghij012345"; act = act.Withdraw 7 }) ≡
+    codes "4102444799 abcdefghij012345 withdraw 7"
+unfolding digits
+line-spelled = refl
+
+pub outcomes-spelled : map outcome_word (
+    outcome.Completes
+    ∷ outcome.CompletesInSteps 3
+    ∷ outcome.Refuses 17
+    ∷ outcome.StartFails 17
+    ∷ outcome.Halts 3 17
+    ∷ outcome.Fails 17
+    ∷ []) ≡
+    codes "ok" ∷ codes "ok/3" ∷ codes "refuse/17" ∷ codes "nostart/17" ∷ codes "halt/3/17" ∷ codes "fail/17" ∷ []
+unfolding digits
+outcomes-spelled = refl
+
+-- request 1 was withdrawn by ann
+abbrev withdrawal : Move
+withdrawal = record {
+  seq = 3;
+  request = 1;
+  from = Some Entered;
+  to = Withdrawn;
+  cause = cause.Withdraw;
+  by = codes "ann";
+  moment = 120;
+}
+
+pub withdrawal-printed : move_line withdrawal ≡ codes "move 3 120 ann 1 Entered Withdrawn withdraw"
+unfolding digits
+withdrawal-printed = refl
+
+pub entry-printed : move_line (record withdrawal { seq = 1; from = None; to = Entered; cause = cause.Enter }) ≡
+    codes "move 1 120 ann 1 - Entered enter"
+unfolding digits
+entry-printed = refl
+
+pub refusal-printed : refusal_line refusal.WrongPlace ≡ codes "refused 3 WrongPlace"
+unfolding digits
+refusal-printed = refl
+
+-- the last identity of an application process
+abbrev last_identity : Identity
+last_identity = record { apid = 5; count = 16383 }
+
+pub identity-printed : identity_word last_identity ≡ codes "5/16383"
+unfolding digits
+identity-printed = refl
+
+pub entered-printed : entered_line 2 last_identity ≡ codes "ok request 2 5/16383"
+unfolding digits
+entered-printed = refl
+
+pub whole_history-printed : history_line 1 2 false ≡ codes "history 1: 2"
+unfolding digits
+whole_history-printed = refl
+
+pub page_of_history-printed : history_line 1 50 true ≡ codes "history 1: 50 more"
+unfolding digits
+page_of_history-printed = refl
+
+pub places-printed : places_line 2 (1 ∷ 0 ∷ 0 ∷ 0 ∷ 0 ∷ 0 ∷ 0 ∷ 0 ∷ 0 ∷ 0 ∷ 0 ∷ 0 ∷ 1 ∷ 0 ∷ 0 ∷ []) ≡
+    codes "places 2: 1 0 0 0 0 0 0 0 0 0 0 0 1 0 0"
+unfolding digits
+places-printed = refl

@@ -1,0 +1,173 @@
+#!/usr/bin/env python3
+"""Tries the edits that must fail, many in one check: tools/edits.py [CRATE ..], at the top of the repository.
+
+An edit is a file crates/CRATE/wrong/NAME.edit that makes a crate wrong, in the format of `rt must-fail`. Edits of the
+bodies of different functions go into one copy of the crate, and the prover is asked for those functions alone. An edit
+is refused where its own function, or a closure in it, has a goal of its own that is not proved: not because of what the
+function calls, and not because a proof file names what is gone. What is not clear from a group is tried alone, by a
+whole check, and judged as `rt must-fail` does.
+
+The libraries below a crate must be built (crates/*/out/rlib), by `rt ci` or `rt all check`. For each edit there is a
+line with the goal that refuses it; the last line is 'N passed, M failed', and the status is 1 where one failed.
+"""
+import argparse
+import os
+import re
+import shutil
+import tempfile
+import threading
+import time
+from concurrent.futures import ThreadPoolExecutor
+
+from edit_checks import Crate, Kit, check, crates_of, fault_of, path_of, told
+from edit_files import edits_in, joined
+
+
+def say(text):
+    print(text, flush=True)
+
+
+class Trial:
+    """The edits of one crate, tried."""
+
+    def __init__(self, crate, asked, cores):
+        self.crate, self.asked, self.cores = crate, asked, cores
+        self.edits = edits_in(f"{crate.folder}/{asked.folder}", crate.folder)
+        # What was found of each edit, what each check took, and how many edits met an answer by hand.
+        self.verdicts, self.reports, self.by_hand = [], [], 0
+        self.names = set()
+
+    def check(self, label, texts, only=()):
+        with self.cores:
+            report = check(self.crate, texts, self.kept, only, self.asked.logs)
+        self.reports.append(report)
+        took = f"{report.seconds:.0f} s, of a processor {report.processor:.0f}"
+        say(f"     {self.crate.name}: {label}: {took}; {report.last[:60]}")
+        return report
+
+    def tell(self, edit, is_refused, why):
+        self.verdicts.append(is_refused)
+        say(f"{'ok  ' if is_refused else 'FAIL'} {self.crate.name}/{edit.name}: {why[:240]}")
+
+    def alone(self, edit):
+        """Tries an edit by a whole check, and judges it as `rt must-fail` does, or harder: where only a proof file names
+        what the edit took away, that is no refusal."""
+        report = self.check(f"alone, {edit.name}", edit.texts)
+        unread = report.unread(edit.texts)
+        line, is_more = told(report)
+        if unread:
+            self.tell(edit, False, f"BAD EDIT: the prover cannot read the edited text: {unread[0]}")
+        elif report.is_refused and is_more:
+            self.tell(edit, True, f"refused, tried alone: {line}")
+        elif report.is_refused:
+            self.tell(edit, False, f"refused only because a proof file names what the edit took away: {line}")
+        elif report.status == 0:
+            self.tell(edit, False, "NOT REFUSED: the crate is still proved with this edit")
+        else:
+            self.tell(edit, False, f"BAD EDIT: it did not reach the prover: {' / '.join(report.lines[:4])}")
+
+    def group(self, edits):
+        """Tries edits of different functions in one check, and returns those of which it says nothing clear."""
+        only = sorted({self.path(it) for edit in edits for it in edit.functions})
+        report = self.check(f"{len(edits)} edits", joined(edits, self.crate.folder), only)
+        if report.unread({it.file for edit in edits for it in edit.splices}) or not report.last.startswith("only="):
+            return self.without_unread(edits, report)
+        unclear = []
+        for edit in edits:
+            faults = [fault_of(it, self.path(it), report) for it in edit.functions]
+            fault = next((it for it in faults if it), None)
+            if fault:
+                self.by_hand += not fault.is_searched
+                self.tell(edit, True, f"refused{'' if fault.is_searched else ', at an answer by hand'}: {fault.text}")
+            else:
+                unclear.append(edit)
+        return unclear
+
+    def without_unread(self, edits, report):
+        """Where a text of a group does not read: goes on without the edits at fault, or in halves."""
+        if len(edits) == 1:
+            return edits
+        errors = [re.match(r"(?:\./)?(src/[^:]+):(\d+):\d+: error", it) for it in report.lines]
+        places = [(it[1], int(it[2])) for it in errors if it]
+        at_fault = [it for it in edits if any(of.spans(*place) for of in it.functions for place in places)]
+        rest = [it for it in edits if it not in at_fault]
+        if at_fault:
+            return at_fault + (self.group(rest) if rest else [])
+        half = len(edits) // 2
+        return self.group(edits[:half]) + self.group(edits[half:])
+
+    def path(self, function):
+        return path_of(function, self.crate.name, self.names)
+
+    def groups(self, edits):
+        """As few groups as the function with most edits needs, of like sizes; no two edits of a group change one."""
+        made = []
+        for edit in sorted(edits, key=lambda it: -self.rivals(it, edits)):
+            fits = [it for it in made if len(it) < self.asked.most and not any(edit.functions & of.functions for of in it)]
+            if fits:
+                min(fits, key=len).append(edit)
+            else:
+                made.append([edit])
+        return made
+
+    def rivals(self, edit, edits):
+        return sum(bool(edit.functions & it.functions) for it in edits)
+
+    def run(self):
+        for edit in self.edits:
+            if edit.fault:
+                self.tell(edit, False, f"BAD EDIT: {edit.fault}")
+        edits = [it for it in self.edits if not it.fault]
+        if not edits:
+            return
+        with tempfile.TemporaryDirectory(prefix="edits-kept-") as self.kept:
+            if self.asked.trust and os.path.isdir(f"{self.crate.folder}/out/incremental"):
+                shutil.copytree(f"{self.crate.folder}/out/incremental", self.kept, dirs_exist_ok=True)
+            base = self.check("as it stands", {})
+            if not base.is_proved:
+                for edit in edits:
+                    self.tell(edit, False, f"the crate itself is not proved: {base.last}")
+                return
+            self.names = {*base.proved()}
+            plain = [it for it in edits if it.functions and all(map(self.path, it.functions))]
+            with ThreadPoolExecutor(self.asked.cores) as pool:
+                unclear = [it for group in pool.map(self.group, self.groups(plain)) for it in group]
+                unclear += [it for it in edits if it not in plain]
+                list(pool.map(self.alone, unclear))
+
+
+def asked():
+    to = argparse.ArgumentParser(description=__doc__, formatter_class=argparse.RawDescriptionHelpFormatter)
+    to.add_argument("--folder", default="wrong", help="of each crate, that holds its edits (wrong)")
+    to.add_argument("--cores", type=int, default=os.cpu_count() or 1, help="checks side by side (the processors)")
+    to.add_argument("--trust", action="store_true", help="begin over what rt check kept in out/incremental (not in a gate)")
+    to.add_argument("--most", type=int, default=1000, help="edits in one check (1000)")
+    to.add_argument("--logs", help="a folder for what each check says")
+    to.add_argument("crates", nargs="*", metavar="CRATE", help="the crates to try (all)")
+    return to.parse_args()
+
+
+def main():
+    given, began, kit, crates = asked(), time.time(), Kit(), crates_of()
+    unknown = [it for it in given.crates if it not in crates]
+    if unknown:
+        raise SystemExit(f"edits: crates.txt has no crate {unknown[0]}")
+    if given.logs:
+        os.makedirs(given.logs, exist_ok=True)
+    cores = threading.Semaphore(given.cores)
+    trials = [Trial(Crate(it, crates, kit), given, cores) for it in given.crates or crates]
+    with ThreadPoolExecutor(given.cores) as pool:
+        # The crates that stand highest have most to load, and those with most edits most to try: these first.
+        weight = lambda it: len(it.edits) * (1 + len(it.crate.below()))
+        list(pool.map(Trial.run, sorted(trials, key=weight, reverse=True)))
+    reports = [it for trial in trials for it in trial.reports]
+    verdicts = [it for trial in trials for it in trial.verdicts]
+    used = sum(it.processor for it in reports)
+    say(f"{len(reports)} checks, {(time.time() - began) / 60:.1f} minutes, of processors {used / 60:.1f}")
+    say(f"{sum(it.by_hand for it in trials)} of the edits are refused at an answer by hand")
+    say(f"{sum(verdicts)} passed, {len(verdicts) - sum(verdicts)} failed")
+    return 0 if all(verdicts) else 1
+
+
+if __name__ == "__main__":
+    raise SystemExit(main())
