@@ -1,12 +1,12 @@
 -- A plain INSERT of one row of VALUES.
-use Rattle.std.proofs.Common.{◌≡◌, ℕ, List, [], ◌∷◌, ◌++◌, append-nil, take, length, true, None, Ok, Err, Result, OnOk, sym, ap, subst, ◌∙◌}
+use Rattle.std.proofs.Common.{◌≡◌, ℕ, List, [], ◌∷◌, ◌++◌, append-nil, take, length, Bool, true, false, not, ◌&&◌, true≢false, None, Ok, Err, Result, OnOk, refl, sym, ap, subst, ◌∙◌}
 use Rattle.sqlite.specs.Order.{Row}
 use Rattle.sqlite.specs.Term.{Term, eval_all}
 use Rattle.sqlite.specs.Schema.{Schema}
 use Rattle.sqlite.specs.Source.TheVariants.{Values}
 use Rattle.sqlite.specs.Command.TheVariants.{Insert}
 use Rattle.sqlite_schema.specs.declared.schema.Keys.TheVariants.{Enforced}
-use Rattle.sqlite.specs.Edit.{edit_of, edited, taken_by, with_rowid, IsNoIndex}
+use Rattle.sqlite.specs.Edit.{edit_of, edited, left_by, taken_by, with_rowid, is_taken, are_fresh, IsNoIndex}
 use Rattle.sqlite.specs.Rowids.TheVariants.{Chosen}
 use Rattle.sqlite.specs.Does.{Tally, Does, AtPlace, OnRows}
 use Rattle.sqlite.specs.Rows.{Written}
@@ -17,14 +17,18 @@ use Rattle.sqlite.specs.Effect.{Database, value_rows}
 use Rattle.sqlite.specs.State.{State, mode_of, Executes}
 use Rattle.sqlite.proofs.Callers.{statement_of, runs_as, one_step}
 use Rattle.tc_sql.specs.Forms.{Form, table_of, row_fits}
-use Rattle.tc_sql.specs.Puts.{PutsInto, HasPut, IsKeyed}
+use Rattle.tc_sql.specs.Puts.{PutsInto, HasInserted, IsKeyed}
 use Rattle.tc_sql.proofs.Keys.{keyed_rowid}
 use Rattle.tc_sql.proofs.Parts.{went, same_value}
 use Rattle.tc_sql.proofs.Casts.{cast_row_fits}
 
+free : (b : Bool) → (not b && true) ≡ true → b ≡ false
+free true h = absurd (true≢false (sym h))
+free false h = refl
+
 module _ {schema : Schema} {form : Form} {tree : ℕ} {text : List ℕ} {terms : List Term} (it : PutsInto schema form tree text terms) where
   pub inserts : (params values : Row) (old new : State) (r : Result ℕ Error) → old.now.schema ≡ schema → eval_all (take (length terms) terms) (params ∷ []) ≡ values → row_fits form values ≡ true
-      → Executes text params old new r → OnOk r (HasPut tree (with_rowid Chosen (old.now.trees tree) values) old.now new.now)
+      → Executes text params old new r → OnOk r (HasInserted tree (with_rowid Chosen (old.now.trees tree) values) old.now new.now)
   inserts params values old new (Err e) has evaluated fit h = tt
   inserts params values old new (Ok count) has evaluated fit h =
       let width = length terms in
@@ -48,16 +52,22 @@ module _ {schema : Schema} {form : Form} {tree : ℕ} {text : List ℕ} {terms :
       let now : new.now ≡ record { schema = schema; trees = whole.0.trees } = ap (λ (p : Tally × Database). p.1) (same_value (went (went whole.2).2).2) in
       let trees : whole.0.trees ≡ put.0 = ap (λ (it : Written). it.trees) (same_value counted.2) ∙ same_value counted.1 in
       let seen : new.now.trees ≡ put.0 = ap (λ (d : Database). d.trees) now ∙ trees in
+      let only = edit_of db table [] Chosen 0 (values ∷ []) in
+      let clear : are_fresh (left_by db only) only.news ≡ true = subst (λ all. are_fresh (left_by db (edit_of db table [] Chosen 0 all)) (edit_of db table [] Chosen 0 all).news ≡ true) given step.fresh in
       record {
-        schema = ap (λ (d : Database). d.schema) now ∙ sym has;
-        rows = ap (λ (t : Trees). t tree) seen ∙ step.rows ∙ edit_is;
-        others = λ t apart none. ap (λ (all : Trees). all t) seen ∙ step.others t apart (subst (λ s. IsNoIndex s t) has none);
-        sound = w.sound;
+        put = record {
+          schema = ap (λ (d : Database). d.schema) now ∙ sym has;
+          rows = ap (λ (t : Trees). t tree) seen ∙ step.rows ∙ edit_is;
+          others = λ t apart none. ap (λ (all : Trees). all t) seen ∙ step.others t apart (subst (λ s. IsNoIndex s t) has none);
+          sound = w.sound;
+        };
+        fresh = free (is_taken (db tree) (with_rowid Chosen (db tree) values))
+            (subst (λ v. (not (is_taken (db tree) (with_rowid Chosen (db tree) v)) && true) ≡ true) (cast_row_fits form tree values fit) clear);
       }
 
   -- the same of a row that has its key
   pub puts : {X : Type 0} (key : X → ℕ) (row : X → Row) → IsKeyed key row → (x : X) (params : Row) (old new : State) (r : Result ℕ Error) → old.now.schema ≡ schema
-      → eval_all (take (length terms) terms) (params ∷ []) ≡ row x → row_fits form (row x) ≡ true → Executes text params old new r → OnOk r (HasPut tree (row x) old.now new.now)
+      → eval_all (take (length terms) terms) (params ∷ []) ≡ row x → row_fits form (row x) ≡ true → Executes text params old new r → OnOk r (HasInserted tree (row x) old.now new.now)
   puts key row keyed x params old new (Err e) has evaluated fit h = tt
   puts key row keyed x params old new (Ok count) has evaluated fit h =
-      subst (λ v. HasPut tree v old.now new.now) (keyed_rowid key row keyed (old.now.trees tree) x) (inserts params (row x) old new (Ok count) has evaluated fit h)
+      subst (λ v. HasInserted tree v old.now new.now) (keyed_rowid key row keyed (old.now.trees tree) x) (inserts params (row x) old new (Ok count) has evaluated fit h)

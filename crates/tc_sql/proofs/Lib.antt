@@ -2,7 +2,9 @@ pub mod Casts
 pub mod Keys
 pub mod Parts
 pub mod Inserts
+pub mod Appends
 pub mod Changes
 pub mod Creates
 pub mod Selects
 pub mod Replaces
+pub mod Worked

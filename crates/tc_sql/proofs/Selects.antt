@@ -25,16 +25,13 @@ use Rattle.sqlite.specs.declared.error.Error.{Error}
 use Rattle.sqlite.proofs.StateLemmas.{survives_weaker}
 use Rattle.sqlite.proofs.Callers.{IsPlain, reads_as, never_commits}
 use Rattle.tc_sql.specs.Lists.{listing, passes, ListsFrom}
-use Rattle.tc_sql.proofs.Keys.{int_cmp-pos}
+use Rattle.tc_sql.proofs.Keys.{int_cmp-pos, eq_of}
 
 -- ---- how numbers compare
 
 truth_of : (b : Bool) → is_true (from_truth (Some b)) ≡ b
 truth_of true = refl
 truth_of false = refl
-
-eq_of : (m n : ℕ) → is_eq (nat_cmp m n) ≡ (m == n)
-eq_of m n = grind (arith, nat_tests)
 
 gt_of : (m n : ℕ) → is_gt (nat_cmp m n) ≡ nat_lt n m
 gt_of m n = grind (arith, nat_tests)

@@ -3,3 +3,4 @@ pub mod Contents
 pub mod Puts
 pub mod Builds
 pub mod Lists
+pub mod Numbered

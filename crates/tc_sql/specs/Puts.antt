@@ -12,7 +12,7 @@ use Rattle.sqlite_rules.specs.Keys.{shares}
 use Rattle.std.specs.List.{list_any}
 use Rattle.sqlite_schema.specs.declared.command.Source.TheVariants.{Values}
 use Rattle.sqlite_rules.specs.Action.{works}
-use Rattle.sqlite_rules.specs.Edit.{IsNoIndex}
+use Rattle.sqlite_rules.specs.Edit.{IsNoIndex, is_taken}
 use Rattle.sqlite.specs.Effect.{Database, IsDatabase}
 use Rattle.sqlite.specs.Given.{IsPlain}
 use Rattle.sqlite.specs.Listing.{understood}
@@ -34,6 +34,11 @@ pub record HasPut (tree : ℕ) (row : Row) (old new : Database) : Type 0 where
   pub rows : new.trees tree ≡ put_row row (old.trees tree)
   pub others : (t : ℕ) → t ≢ tree → IsNoIndex old.schema t → new.trees t ≡ old.trees t
   pub sound : IsDatabase new
+
+-- the same of a plain INSERT, which went well since no row had this rowid
+pub record HasInserted (tree : ℕ) (row : Row) (old new : Database) : Type 0 where
+  pub put : HasPut tree row old new
+  pub fresh : is_taken (old.trees tree) row ≡ false
 
 -- a value's row begins with its key
 abbrev pub IsKeyed : {X : Type 0} → (X → ℕ) → (X → Row) → Type 0

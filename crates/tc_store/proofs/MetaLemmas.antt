@@ -49,7 +49,7 @@ versioned_from old new to put =
 pub versioned : {S : Type 0} (g : Ghosts S) (old new : Held S) (r : Result ℕ Error) → IfOk r (λ count. Ran g meta_put [] count old new) → OnOk r (Versioned g old new)
 versioned g old new (Err e) h = tt
 versioned g old new (Ok count) h =
-    record { holds = λ to. versioned_from (state g old).now (state g new).now to (inserts meta_puts [] given (state g old) (state g new) (Ok count) to.builds refl refl h.executes); goes = h.goes }
+    record { holds = λ to. versioned_from (state g old).now (state g new).now to (inserts meta_puts [] given (state g old) (state g new) (Ok count) to.builds refl refl h.executes).put; goes = h.goes }
 
 -- the texts that were run so far
 pub defined_none : {S : Type 0} (g : Ghosts S) (a : Held S) → Defined g [] a a

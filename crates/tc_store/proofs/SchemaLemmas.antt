@@ -1,20 +1,29 @@
 -- The texts of CREATE lead to the schema, and an INSERT of a row leads from one image to the next.
-use Rattle.std.proofs.Common.{◌≡◌, ℕ, List, map, inl, inr, true, refl, ap, subst, ◌∙◌}
-use Rattle.sqlite_value.specs.Order.{Row}
-use Rattle.sqlite.specs.Effect.{Database}
+use Rattle.std.proofs.Common.{◌≡◌, ℕ, ◌==◌, List, [], ◌∷◌, ◌++◌, map, inl, inr, Bool, true, false, refl, sym, ap, subst, ◌∙◌}
+use Rattle.std.specs.List.{list_any}
+use Rattle.sqlite_value.specs.Order.{Row as Values}
+use Rattle.sqlite_trees.specs.declared.store.Store.{Ghosts}
+use Rattle.sqlite_rules.specs.Edit.{is_taken}
+use Rattle.sqlite.specs.Held.{Held, state}
+use Rattle.sqlite.specs.Effect.{Database, IsDatabase}
 use Rattle.sqlite_tied.specs.Compute.{everything}
 use Rattle.sqlite.specs.Listing.{understood}
 use Rattle.tc_types.specs.Tables as tables
-use Rattle.tc_types.specs.Tables.{Image}
+use Rattle.tc_types.specs.Tables.{Image, with_row}
+use Rattle.tc_types.specs.declared.rows.Row.{Row}
 use Rattle.tc_sql.specs.Forms.{table_of}
 use Rattle.tc_sql.specs.Builds.{no_schema, Builds}
 use Rattle.tc_sql.specs.Contents.{Matches, has_tree, rows_in, with_rows, are_tables}
-use Rattle.tc_sql.specs.Puts.{HasPut, IsKeyed}
-use Rattle.tc_sql.proofs.Changes.{matches_keyed}
+use Rattle.tc_sql.specs.Puts.{HasInserted, IsKeyed}
+use Rattle.tc_sql.proofs.Keys.{taken_keyed}
+use Rattle.tc_sql.specs.Numbered.{numbered, HasAppended}
+use Rattle.tc_sql.proofs.Changes.{matches_at, matches_keyed}
+use Rattle.tc_sql.proofs.Appends.{matches_appended}
 use Rattle.tc_store.specs.Meta.{meta_form}
 use Rattle.tc_store.specs.Requests.{request_form}
 use Rattle.tc_store.specs.Moves.{move_tree, move_form, move_index}
 use Rattle.tc_store.specs.Schema.{create_texts, with_meta, with_request, with_move, schema_1, contents, Holds}
+use Rattle.tc_store.specs.Steps.{Goes, IsNewIn, Step}
 use Rattle.tc_store.proofs.Rows.{same_put}
 
 pub built : Builds no_schema create_texts schema_1
@@ -41,11 +50,56 @@ built = (
 pub clear : (image : Image) → are_tables schema_1 (contents image) ≡ true
 clear image = refl
 
--- one row more in a table that is keyed: its tree changes, and the image with it
-pub holds_put : {X : Type 0} (key : X → ℕ) (row : X → Row) → IsKeyed key row → (x : X) (xs : List X) (tree : ℕ) (image after : Image) (old new : Database) → HasPut tree (row x) old new
-    → has_tree tree (contents image) ≡ true → rows_in tree (contents image) ≡ map row xs → with_rows tree (map row (tables.put_by key x xs)) (contents image) ≡ contents after → Holds old image → Holds new after
-holds_put key row keyed x xs tree image after old new put named is becomes held =
-    let there : are_tables old.schema (contents image) ≡ true = ap (λ s. are_tables s (contents image)) held.schema ∙ clear image in
-    let rows : Matches new.trees (with_rows tree (map row (tables.put_by key x xs)) (contents image)) =
-    subst (λ ys. Matches new.trees (with_rows tree (map row ys) (contents image))) (same_put key x xs) (matches_keyed key row keyed x xs tree old new (contents image) put there named is held.rows) in
-    record { schema = put.schema ∙ held.schema; rows = subst (Matches new.trees) becomes rows; sound = put.sound }
+-- where one tree changed, and the image with it
+holds_after : (old new : Database) (tree : ℕ) (rows : List Values) (image after : Image) → new.schema ≡ old.schema → IsDatabase new → Matches new.trees (with_rows tree rows (contents image))
+    → with_rows tree rows (contents image) ≡ contents after → Holds old image → Holds new after
+holds_after old new tree rows image after same sound has becomes held = record { schema = same ∙ held.schema; rows = subst (Matches new.trees) becomes has; sound = sound }
+
+unindexed : (db : Database) (image : Image) → Holds db image → are_tables db.schema (contents image) ≡ true
+unindexed db image held = ap (λ s. are_tables s (contents image)) held.schema ∙ clear image
+
+-- one row more in a table that is keyed by a number, where no row had its key
+module _ {S : Type 0} (g : Ghosts S) {X : Type 0} (key : X → ℕ) (row : X → Values) (keyed : IsKeyed key row) (x : X) (list : Image → List X) (tree : ℕ) (entry : Row) (old new : Held S)
+    (named : (image : Image) → has_tree tree (contents image) ≡ true) (is : (image : Image) → rows_in tree (contents image) ≡ map row (list image))
+    (becomes : (image : Image) → with_rows tree (map row (tables.put_by key x (list image))) (contents image) ≡ contents (with_row image entry))
+    (alone : (image : Image) → list_any (λ y. key y == key x) (list image) ≡ false → IsNewIn image entry)
+    (inserted : old.schema ≡ schema_1 → HasInserted tree (row x) (state g old).now (state g new).now) where
+  abbrev before : Database
+  before = (state g old).now
+
+  abbrev after : Database
+  after = (state g new).now
+
+  is_new : (image : Image) → Holds before image → IsNewIn image entry
+  is_new image held =
+      alone image (sym (taken_keyed key row keyed x (list image)) ∙ ap (λ rows. is_taken rows (row x)) (sym ((matches_at before.trees tree (contents image) held.rows (named image)).0 ∙ is image))
+      ∙ (inserted held.schema).fresh)
+
+  holds_put : (image : Image) → Holds before image → Holds after (with_row image entry)
+  holds_put image held =
+      let put = (inserted held.schema).put in
+      holds_after before after tree (map row (tables.put_by key x (list image))) image (with_row image entry) put.schema put.sound
+      (subst (λ ys. Matches after.trees (with_rows tree (map row ys) (contents image))) (same_put key x (list image))
+      (matches_keyed key row keyed x (list image) tree before after (contents image) put (unindexed before image held) (named image) (is image) held.rows)) (becomes image) held
+
+  pub stepped : Goes g old new → Step g (entry ∷ []) old new
+  stepped goes = record { fresh = λ image held. (is_new image held, tt); holds = holds_put; goes = goes }
+
+-- the same of a table whose key is a text or several columns
+module _ {S : Type 0} (g : Ghosts S) {X : Type 0} (values : X → Values) (same : X → X → Bool) (x : X) (list : Image → List X) (tree : ℕ) (entry : Row) (old new : Held S)
+    (named : (image : Image) → has_tree tree (contents image) ≡ true) (is : (image : Image) → rows_in tree (contents image) ≡ numbered (map values (list image)))
+    (becomes : (image : Image) → with_rows tree (numbered (map values (list image ++ x ∷ []))) (contents image) ≡ contents (with_row image entry))
+    (alone : (image : Image) → list_any (λ y. same y x) (list image) ≡ false → IsNewIn image entry)
+    (appended : (xs : List X) → old.schema ≡ schema_1 → (state g old).now.trees tree ≡ numbered (map values xs) → HasAppended tree values same x xs (state g old).now (state g new).now) where
+  has_appended : (image : Image) → Holds (state g old).now image → HasAppended tree values same x (list image) (state g old).now (state g new).now
+  has_appended image held = appended (list image) held.schema ((matches_at (state g old).now.trees tree (contents image) held.rows (named image)).0 ∙ is image)
+
+  pub stepped_last : Goes g old new → Step g (entry ∷ []) old new
+  stepped_last goes = record {
+    fresh = λ image held. (alone image (has_appended image held).alone, tt);
+    holds = λ image held. holds_after (state g old).now (state g new).now tree (numbered (map values (list image ++ x ∷ []))) image (with_row image entry)
+        (has_appended image held).put.schema (has_appended image held).put.sound
+        (matches_appended values same x (list image) tree (state g old).now (state g new).now (contents image) (has_appended image held) (unindexed (state g old).now image held) (named image) (is image) held.rows)
+        (becomes image) held;
+    goes = goes;
+  }

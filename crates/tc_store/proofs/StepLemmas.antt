@@ -1,5 +1,6 @@
 -- How the steps of a transaction follow one another.
-use Rattle.std.proofs.Common.{inl, ℕ, ◌+◌, ◌<◌, ◌≤◌, arith, length, take, get_or, List, refl, subst, sym, ◌∙◌, take_all}
+use Rattle.std.proofs.Common.{inl, ℕ, ◌+◌, ◌<◌, ◌≤◌, arith, length, take, get_or, List, [], ◌∷◌, ◌++◌, refl, subst, sym, ◌∙◌, take_all}
+use Rattle.std.proofs.lemmas.List.{take_more}
 use Rattle.std.proofs.lemmas.List.Sums.{fold_more}
 use Rattle.sqlite_trees.specs.Tree.{Trees}
 use Rattle.sqlite_trees.specs.declared.store.Store.{Ghosts}
@@ -9,7 +10,7 @@ use Rattle.sqlite.proofs.StateLemmas.{survives_then}
 use Rattle.tc_types.specs.declared.rows.Row.{Row}
 use Rattle.tc_types.specs.Tables.{Image, with_row, applied}
 use Rattle.tc_store.specs.Schema.{Holds}
-use Rattle.tc_store.specs.Steps.{Goes, Step}
+use Rattle.tc_store.specs.Steps.{Goes, IsNewIn, AreNew, Step}
 
 pub survives_same : (a : State) (P : Trees → Type 0) → Survives a a P
 survives_same a P = record { clean = omega arith; shield = λ h. h; counts = omega arith; limit = refl; closes = λ clean stays. inl stays; crash = λ clean db left. inl left }
@@ -24,6 +25,11 @@ keeps_same a = record { was_open = λ h. h; committed = λ _. refl }
 pub keeps_then : (a b c : State) → KeepsCommit a b → KeepsCommit b c → KeepsCommit a c
 keeps_then a b c one two = record { was_open = λ h. one.was_open (two.was_open h); committed = λ h. two.committed h ∙ one.committed (two.was_open h) }
 
+-- one row more that is new
+new_more : (image : Image) (rows : List Row) (row : Row) → AreNew image rows → IsNewIn (applied rows image) row → AreNew image (rows ++ row ∷ [])
+new_more image [] row all one = (one, tt)
+new_more image (first ∷ rows) row all one = (all.0, new_more (with_row image first) rows row all.1 one)
+
 module _ {S : Type 0} (g : Ghosts S) where
   pub goes_same : (a : Held S) → Goes g a a
   goes_same a = record { committed = refl; mode = refl; is_open = refl }
@@ -31,15 +37,17 @@ module _ {S : Type 0} (g : Ghosts S) where
   pub goes_then : (a b c : Held S) → Goes g a b → Goes g b c → Goes g a c
   goes_then a b c one two = record { committed = two.committed ∙ one.committed; mode = two.mode ∙ one.mode; is_open = two.is_open ∙ one.is_open }
 
-  pub step_none : (a : Held S) (rows : List Row) → Step g (applied (take 0 rows)) a a
-  step_none a rows = record { holds = λ image held. held; goes = goes_same a }
+  pub step_none : (a : Held S) (rows : List Row) → Step g (take 0 rows) a a
+  step_none a rows = record { fresh = λ image held. tt; holds = λ image held. held; goes = goes_same a }
 
-  pub step_more : (a b c : Held S) (rows : List Row) (k : ℕ) (d : Row) → k < length rows → Step g (applied (take k rows)) a b → Step g (λ image. with_row image (get_or rows k d)) b c
-      → Step g (applied (take (k + 1) rows)) a c
+  pub step_more : (a b c : Held S) (rows : List Row) (k : ℕ) (d : Row) → k < length rows → Step g (take k rows) a b → Step g (get_or rows k d ∷ []) b c
+      → Step g (take (k + 1) rows) a c
   step_more a b c rows k d within one two = record {
+    fresh = λ image held. subst (λ (done : List Row). AreNew image done) (sym (take_more rows k d within))
+        (new_more image (take k rows) (get_or rows k d) (one.fresh image held) (two.fresh (applied (take k rows) image) (one.holds image held)).0);
     holds = λ image held. subst (λ (it : Image). Holds (state g c).now it) (sym (fold_more with_row image rows k d within)) (two.holds (applied (take k rows) image) (one.holds image held));
     goes = goes_then a b c one.goes two.goes;
   }
 
-  pub step_all : (a b : Held S) (rows : List Row) (k : ℕ) → length rows ≤ k → Step g (applied (take k rows)) a b → Step g (applied rows) a b
-  step_all a b rows k all one = subst (λ (done : List Row). Step g (applied done) a b) (take_all k rows all) one
+  pub step_all : (a b : Held S) (rows : List Row) (k : ℕ) → length rows ≤ k → Step g (take k rows) a b → Step g rows a b
+  step_all a b rows k all one = subst (λ (done : List Row). Step g done a b) (take_all k rows all) one

@@ -1,5 +1,6 @@
 -- What a statement or a batch does to the tables inside a transaction, and what it leaves after a crash.
-use Rattle.std.specs.Prelude.{◌≡◌, ℕ, List, [], Ok}
+use Rattle.std.specs.Prelude.{◌≡◌, ℕ, ◌==◌, true, false, List, [], ◌∷◌, Ok, ⊤}
+use Rattle.std.specs.List.{list_any}
 use Rattle.sqlite_value.specs.Order.{Row as Values}
 use Rattle.sqlite_schema.specs.declared.schema.Schema.{Schema}
 use Rattle.sqlite_trees.specs.Tree.{Trees}
@@ -8,11 +9,18 @@ use Rattle.sqlite_catalog.specs.Listing.{IsSound}
 use Rattle.sqlite.specs.Effect.{Database}
 use Rattle.sqlite.specs.State.{State, Executes}
 use Rattle.sqlite.specs.Held.{Held, state}
+use Rattle.sqlite.specs.Steps.{FailsToCommit}
+use Rattle.sqlite.specs.declared.error.Error.{Error}
+use Rattle.tc_types.specs.declared.requests.Request.{Request}
+use Rattle.tc_types.specs.declared.moves.Move.{Move}
 use Rattle.tc_types.specs.declared.rows.Row.{Row}
-use Rattle.tc_types.specs.Tables.{Image, empty_image, applied}
+use Rattle.tc_types.specs.declared.rows.Row.TheVariants.{Entered, Moved}
+use Rattle.tc_types.specs.Tables.{Image, empty_image, with_row, applied}
 use Rattle.tc_sql.specs.Builds.{BuildsTo, no_schema}
 use Rattle.tc_sql.specs.Contents.{Matches}
 use Rattle.tc_store.specs.Schema.{schema_1, contents, Holds}
+use Rattle.tc_store.specs.declared.faults.StoreFault.{StoreFault}
+use Rattle.tc_store.specs.declared.faults.StoreFault.TheVariants.{Commit}
 
 -- the transaction goes on, and nothing was committed
 pub record Goes {S : Type 0} (g : Ghosts S) (old new : Held S) : Type 0 where
@@ -23,11 +31,6 @@ pub record Goes {S : Type 0} (g : Ghosts S) (old new : Held S) : Type 0 where
 -- one statement was run
 pub record Ran {S : Type 0} (g : Ghosts S) (text : List ℕ) (params : Values) (count : ℕ) (old new : Held S) : Type 0 where
   pub executes : Executes text params (state g old) (state g new) (Ok count)
-  pub goes : Goes g old new
-
--- each image that the tables held was changed in this way
-pub record Step {S : Type 0} (g : Ghosts S) (change : Image → Image) (old new : Held S) : Type 0 where
-  pub holds : (image : Image) → Holds (state g old).now image → Holds (state g new).now (change image)
   pub goes : Goes g old new
 
 -- whatever these texts led to, the database has it now, with no row in any table
@@ -44,6 +47,33 @@ pub record Versioned {S : Type 0} (g : Ghosts S) (old new : Held S) : Type 0 whe
 pub record Filled {S : Type 0} (g : Ghosts S) (old new : Held S) : Type 0 where
   pub holds : old.schema ≡ no_schema → Holds (state g new).now empty_image
   pub goes : Goes g old new
+
+-- no row with its key stands
+abbrev pub IsNewIn : Image → Row → Type 0
+IsNewIn image (Entered request) = list_any (λ (r : Request). r.number == request.number) image.requests ≡ false
+IsNewIn image (Moved move) = list_any (λ (m : Move). m.seq == move.seq) image.moves ≡ false
+
+-- so it is of each row of a batch, where those before it stand too
+abbrev pub AreNew : Image → List Row → Type 0
+AreNew image [] = ⊤
+AreNew image (row ∷ rows) = IsNewIn image row × AreNew (with_row image row) rows
+
+-- each image that the tables held had no row with these keys, and has these rows now
+pub record Step {S : Type 0} (g : Ghosts S) (rows : List Row) (old new : Held S) : Type 0 where
+  pub fresh : (image : Image) → Holds (state g old).now image → AreNew image rows
+  pub holds : (image : Image) → Holds (state g old).now image → Holds (state g new).now (applied rows image)
+  pub goes : Goes g old new
+
+-- a transaction in which all of it was done came to its commit, and the commit failed
+pub record FailsAtCommit {S : Type 0} (g : Ghosts S) (Done : Held S → Held S → Type 0) (old new : Held S) (error : Error) : Type 0 where
+  pub last : Held S
+  pub done : Done (record old { in_transaction = true }) last
+  pub fails : FailsToCommit (state g last) (state g new) error
+
+-- only such a failure is told as one at the commit
+abbrev pub TellsCommit : {S : Type 0} → Ghosts S → (Held S → Held S → Type 0) → Held S → Held S → StoreFault → Type 0
+TellsCommit g Done old new (Commit error) = FailsAtCommit g Done old new error
+TellsCommit g Done old new _ = ⊤
 
 -- the trees of an empty desk
 abbrev pub IsNewDesk : Trees → Type 0

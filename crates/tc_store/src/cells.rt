@@ -1,11 +1,12 @@
 //! The values of a row that is read. Each function fails where the value is not one that the desk writes.
-ghost use Rattle.std.specs.Prelude.{◌≡◌, ℕ, pos, List, Option, IfOk};
+ghost use Rattle.std.specs.Prelude.{◌≡◌, ℕ, pos, true, List, Option, IfOk, IfErr};
 ghost use Rattle.sqlite_value.specs.declared.value.Value.TheVariants.{Int, Text};
 ghost use Rattle.sqlite_value.specs.Order.{column};
 ghost use Rattle.tc_types.specs.declared.places.Place.{Place as SomePlace};
 ghost use Rattle.tc_types.specs.declared.causes.Cause.{Cause as SomeCause};
 ghost use Rattle.tc_types.specs.Lawful.{place_number, cause_number};
 ghost use Rattle.tc_store.specs.Moves.{from_number};
+ghost use Rattle.tc_store.specs.Faults.{is_of_read};
 
 use crate::faults::StoreFault;
 use sqlite::Row;
@@ -16,7 +17,8 @@ use tc_types::places::Place;
 
 /// A number.
 pub(crate) fn number_at(row: &Row, at: usize) -> Result<u32, StoreFault>
-    ensures { IfOk result (λ n. column row.now at ≡ Int (pos n)) }
+    ensures reads { IfOk result (λ n. column row.now at ≡ Int (pos n)) }
+    ensures kind { IfErr result (λ e. is_of_read e ≡ true) }
 {
     match row.get(at) {
         Ok(number) => Ok(number),
@@ -26,7 +28,8 @@ pub(crate) fn number_at(row: &Row, at: usize) -> Result<u32, StoreFault>
 
 /// A number of one byte.
 fn byte_at(row: &Row, at: usize) -> Result<u8, StoreFault>
-    ensures { IfOk result (λ n. column row.now at ≡ Int (pos n)) }
+    ensures reads { IfOk result (λ n. column row.now at ≡ Int (pos n)) }
+    ensures kind { IfErr result (λ e. is_of_read e ≡ true) }
 {
     let number = number_at(row, at)?;
     match u8::try_from(number) {
@@ -37,7 +40,8 @@ fn byte_at(row: &Row, at: usize) -> Result<u8, StoreFault>
 
 /// The number of a request.
 pub(crate) fn request_at(row: &Row, at: usize) -> Result<RequestNumber, StoreFault>
-    ensures { IfOk result (λ n. column row.now at ≡ Int (pos n)) }
+    ensures reads { IfOk result (λ n. column row.now at ≡ Int (pos n)) }
+    ensures kind { IfErr result (λ e. is_of_read e ≡ true) }
 {
     let number = number_at(row, at)?;
     match RequestNumber::new(number) {
@@ -48,7 +52,8 @@ pub(crate) fn request_at(row: &Row, at: usize) -> Result<RequestNumber, StoreFau
 
 /// A moment.
 pub(crate) fn moment_at(row: &Row, at: usize) -> Result<Moment, StoreFault>
-    ensures { IfOk result (λ n. column row.now at ≡ Int (pos n)) }
+    ensures reads { IfOk result (λ n. column row.now at ≡ Int (pos n)) }
+    ensures kind { IfErr result (λ e. is_of_read e ≡ true) }
 {
     let seconds = number_at(row, at)?;
     match Moment::new(seconds) {
@@ -59,7 +64,9 @@ pub(crate) fn moment_at(row: &Row, at: usize) -> Result<Moment, StoreFault>
 
 /// A place by its number.
 pub(crate) fn place_at(row: &Row, at: usize) -> Result<Place, StoreFault>
-    ensures { IfOk result (λ place. (was : SomePlace) → column row.now at ≡ Int (pos (place_number was)) → place ≡ was) }
+    ensures same { IfOk result (λ place. (was : SomePlace) → column row.now at ≡ Int (pos (place_number was)) → place ≡ was) }
+    ensures reads { IfOk result (λ place. column row.now at ≡ Int (pos (place_number place))) }
+    ensures kind { IfErr result (λ e. is_of_read e ≡ true) }
 {
     let number = byte_at(row, at)?;
     match Place::from_number(number) {
@@ -70,7 +77,9 @@ pub(crate) fn place_at(row: &Row, at: usize) -> Result<Place, StoreFault>
 
 /// A place by its number, or nowhere by 0.
 pub(crate) fn from_at(row: &Row, at: usize) -> Result<Option<Place>, StoreFault>
-    ensures { IfOk result (λ place. (was : Option SomePlace) → column row.now at ≡ Int (pos (from_number was)) → place ≡ was) }
+    ensures same { IfOk result (λ place. (was : Option SomePlace) → column row.now at ≡ Int (pos (from_number was)) → place ≡ was) }
+    ensures reads { IfOk result (λ place. column row.now at ≡ Int (pos (from_number place))) }
+    ensures kind { IfErr result (λ e. is_of_read e ≡ true) }
 {
     let number = byte_at(row, at)?;
     if number == 0 {
@@ -84,7 +93,9 @@ pub(crate) fn from_at(row: &Row, at: usize) -> Result<Option<Place>, StoreFault>
 
 /// A cause by its number.
 pub(crate) fn cause_at(row: &Row, at: usize) -> Result<Cause, StoreFault>
-    ensures { IfOk result (λ cause. (was : SomeCause) → column row.now at ≡ Int (pos (cause_number was)) → cause ≡ was) }
+    ensures same { IfOk result (λ cause. (was : SomeCause) → column row.now at ≡ Int (pos (cause_number was)) → cause ≡ was) }
+    ensures reads { IfOk result (λ cause. column row.now at ≡ Int (pos (cause_number cause))) }
+    ensures kind { IfErr result (λ e. is_of_read e ≡ true) }
 {
     let number = byte_at(row, at)?;
     match Cause::from_number(number) {
@@ -95,7 +106,8 @@ pub(crate) fn cause_at(row: &Row, at: usize) -> Result<Cause, StoreFault>
 
 /// A name.
 pub(crate) fn name_at(row: &Row, at: usize) -> Result<Name, StoreFault>
-    ensures { IfOk result (λ name. column row.now at ≡ Text name) }
+    ensures reads { IfOk result (λ name. column row.now at ≡ Text name) }
+    ensures kind { IfErr result (λ e. is_of_read e ≡ true) }
 {
     let text: String = match row.get(at) {
         Ok(text) => text,

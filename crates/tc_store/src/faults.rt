@@ -11,7 +11,7 @@ pub enum StoreFault {
     /// Before the commit: nothing was written.
     #[error("before the commit: {0}")]
     Before(sqlite::Error),
-    /// At the commit.
+    /// At the commit, where all that was to be written stood in the transaction.
     #[error("at the commit: {0}")]
     Commit(sqlite::Error),
     /// A read failed: nothing was to be written.

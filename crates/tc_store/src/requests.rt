@@ -1,9 +1,8 @@
 //! The table `request`.
-ghost use Rattle.std.specs.Prelude.{◌≡◌, IsTrue, OnOk};
+ghost use Rattle.std.specs.Prelude.{◌≡◌, [], ◌∷◌, IsTrue, OnOk};
 ghost use Rattle.sqlite.specs.State.{HasCleanDisk, KeepsCommit, Survives};
 ghost use Rattle.sqlite.specs.Held.{state};
 ghost use Rattle.tc_types.specs.declared.rows.Row.TheVariants.{Entered};
-ghost use Rattle.tc_types.specs.Tables.{with_row};
 ghost use Rattle.tc_store.specs.Requests.{ack_number, service_of, subtype_of, target_of, time_of};
 ghost use Rattle.tc_store.specs.Steps.{Step};
 
@@ -78,7 +77,7 @@ pub(crate) fn put_request<S: Alter>(
     row: Request,
 ) -> Result<usize, Error>
     ensures same_reference { tx.new.conn.ghost_name ≡ tx.old.conn.ghost_name }
-    ensures put { HasCleanDisk (state S.Store tx.new.conn.now) → IsTrue tx.old.conn.now.in_transaction → OnOk result (Step S.Store (λ image. with_row image (Entered row)) tx.old.conn.now tx.new.conn.now) }
+    ensures put { HasCleanDisk (state S.Store tx.new.conn.now) → IsTrue tx.old.conn.now.in_transaction → OnOk result (Step S.Store (Entered row ∷ []) tx.old.conn.now tx.new.conn.now) }
     ensures kept { HasCleanDisk (state S.Store tx.new.conn.now) → IsTrue tx.old.conn.now.in_transaction → KeepsCommit (state S.Store tx.old.conn.now) (state S.Store tx.new.conn.now) }
     ensures survives { Survives (state S.Store tx.old.conn.now) (state S.Store tx.new.conn.now) (λ _. ⊥) }
 {
