@@ -19,15 +19,15 @@ IsWindowWidth w = (w % 2 ≡ 0) × (2 ≤ w) × (w ≤ 254)
 
 -- what a type-AD frame is, by its distance d from V(R)
 pub data Case : Type 0 where
-  ExpectedWithRoom : Case  -- d = 0, a buffer is free
-  ExpectedWithoutRoom : Case  -- d = 0, no buffer
+  ExpectedWithBuffer : Case  -- d = 0, a buffer is free
+  ExpectedWithoutBuffer : Case  -- d = 0, no buffer
   AheadInWindow : Case  -- 1 <= d <= PW - 1
   BehindInWindow : Case  -- 256 - NW <= d <= 255
   OutsideWindow : Case  -- else
 
 abbrev pub case_of : ℕ → ℕ → Bool → Case
-case_of half d room =
-    if d == 0 then (if room then ExpectedWithRoom else ExpectedWithoutRoom)
+case_of half d free_buffer =
+    if d == 0 then (if free_buffer then ExpectedWithBuffer else ExpectedWithoutBuffer)
     else if nat_lt d half then AheadInWindow
     else if nat_le (256 - half) d then BehindInWindow
     else OutsideWindow
@@ -41,12 +41,12 @@ pub data Cell : Type 0 where
   LockOut : Cell  -- discard, Lockout 1, to Lockout
 
 abbrev pub farm_cell : Case → FarmState → Cell
-farm_cell ExpectedWithRoom Open = Accept
-farm_cell ExpectedWithRoom Wait = Discard
-farm_cell ExpectedWithRoom Lockout = Discard
-farm_cell ExpectedWithoutRoom Open = StartWaiting
-farm_cell ExpectedWithoutRoom Wait = Discard
-farm_cell ExpectedWithoutRoom Lockout = Discard
+farm_cell ExpectedWithBuffer Open = Accept
+farm_cell ExpectedWithBuffer Wait = Discard
+farm_cell ExpectedWithBuffer Lockout = Discard
+farm_cell ExpectedWithoutBuffer Open = StartWaiting
+farm_cell ExpectedWithoutBuffer Wait = Discard
+farm_cell ExpectedWithoutBuffer Lockout = Discard
 farm_cell AheadInWindow Open = AskAgain
 farm_cell AheadInWindow Wait = Discard
 farm_cell AheadInWindow Lockout = Discard
@@ -73,7 +73,7 @@ changed StartWaiting farm = record farm { state = Wait; wait = true; retransmit 
 changed LockOut farm = record farm { state = Lockout; lockout = true }
 
 abbrev pub cell_of : FarmView → ℕ → Bool → Cell
-cell_of farm ns room = farm_cell (case_of (farm.window / 2) (distance ns farm.vr) room) farm.state
+cell_of farm ns free_buffer = farm_cell (case_of (farm.window / 2) (distance ns farm.vr) free_buffer) farm.state
 
 -- Unlock: FARM-B + 1, all flags 0, to Open
 abbrev pub unlocked : FarmView → FarmView
@@ -88,15 +88,15 @@ with_vr v Lockout farm = record farm { farm_b = (farm.farm_b + 1) % 4 }
 
 -- the FARM after a frame
 abbrev pub farm_after : FarmView → Frame → Bool → FarmView
-farm_after farm (Ad ns request body) room = changed (cell_of farm ns room) farm
-farm_after farm Unlock room = unlocked farm
-farm_after farm (SetVr v) room = with_vr v farm.state farm
+farm_after farm (Ad ns request body) free_buffer = changed (cell_of farm ns free_buffer) farm
+farm_after farm Unlock free_buffer = unlocked farm
+farm_after farm (SetVr v) free_buffer = with_vr v farm.state farm
 
 -- what is answered to a frame
 abbrev pub verdict_of : FarmView → Frame → Bool → Verdict
-verdict_of farm (Ad ns request body) room = if is_accept (cell_of farm ns room) then Accepted request body else Discarded
-verdict_of farm Unlock room = Control
-verdict_of farm (SetVr v) room = Control
+verdict_of farm (Ad ns request body) free_buffer = if is_accept (cell_of farm ns free_buffer) then Accepted request body else Discarded
+verdict_of farm Unlock free_buffer = Control
+verdict_of farm (SetVr v) free_buffer = Control
 
 -- a buffer became free: Wait 0, and Wait goes to Open; Lockout stays
 abbrev pub state_released : FarmState → FarmState

@@ -11,10 +11,10 @@ use Rattle.tc_farm.specs.declared.farms.Verdict.TheVariants.{Accepted, Discarded
 
 -- A frame that is accepted: it has the number that is expected, the FARM is open and a buffer is free; the answer has
 -- its own request and body, and the next number is expected.
-pub record IsInOrder (before : FarmView) (frame : Frame) (room : Bool) (request : ℕ) (body : Body) (after : FarmView) : Type 0 where
+pub record IsInOrder (before : FarmView) (frame : Frame) (free_buffer : Bool) (request : ℕ) (body : Body) (after : FarmView) : Type 0 where
   pub expected : frame ≡ Ad before.vr request body
   pub open_state : before.state ≡ Open
-  pub with_room : room ≡ true
+  pub with_buffer : free_buffer ≡ true
   pub next_expected : after.vr ≡ (before.vr + 1) % 256
 
 -- a type-AD frame whose number is below 256, or a control command
@@ -31,12 +31,12 @@ IsControl before (SetVr v) after = Unit {0}
 
 -- what each verdict says of the frame and of V(R): V(R) moves only by an acceptance or a Set V(R)
 abbrev pub Says : Verdict → FarmView → Frame → Bool → FarmView → Type 0
-Says (Accepted request body) before frame room after = IsInOrder before frame room request body after
-Says Discarded before frame room after = after.vr ≡ before.vr
-Says Control before frame room after = IsControl before frame after
+Says (Accepted request body) before frame free_buffer after = IsInOrder before frame free_buffer request body after
+Says Discarded before frame free_buffer after = after.vr ≡ before.vr
+Says Control before frame free_buffer after = IsControl before frame after
 
--- what a control word tells of the FARM; the channel is the caller's
-pub record Tells (farm : FarmView) (word : Clcw) : Type 0 where
+-- what a control word reports of the FARM; the channel is the caller's
+pub record Reports (farm : FarmView) (word : Clcw) : Type 0 where
   pub channel : word.vc ≡ 0
   pub lockout : word.lockout ≡ farm.lockout
   pub wait : word.wait ≡ farm.wait

@@ -1,7 +1,7 @@
 //! The communications link control word.
 ghost use Rattle.std.specs.Prelude.{◌≤◌};
 
-/// A control word (CCSDS 232.0-B, 4.2): what the FARM tells the ground.
+/// A control word (CCSDS 232.0-B, 4.2): what the FARM reports to the ground.
 #[derive(Clone, Copy, Debug, PartialEq, Eq)]
 pub struct Clcw {
     /// The virtual channel, 0 to 63.
@@ -46,7 +46,7 @@ impl Clcw {
     pub fn word(&self) -> u32
         ensures { result ≡ word_of self.now }
     {
-        let report = self.report;
+        let report = self.report; // read first: what stands of the fields is known once one is read
         let cop_in_effect = 1;
         cop_in_effect << 24
             | u32::from(self.vc) << 18

@@ -68,7 +68,7 @@ impl Model for Farm {
 impl Farm {
     ghost use Rattle.std.specs.Prelude.{◌≡◌, ◌≢◌, ◌↔◌, IsSome, IfSome, true};
     ghost use Rattle.tc_farm.specs.Farm.{IsWindowWidth, IsFarm, new_farm, farm_after, verdict_of, released, changed, cell_of, is_accept, unlocked, with_vr};
-    ghost use Rattle.tc_farm.specs.FarmLaws.{Says, Tells};
+    ghost use Rattle.tc_farm.specs.FarmLaws.{Says, Reports};
 
     /// A FARM with window width W = `w`, open, that expects the number 0; `None` unless W is even and 2 to 254.
     pub fn new(w: u16) -> Option<Farm>
@@ -91,12 +91,12 @@ impl Farm {
         })
     }
 
-    /// A frame came; `room` says whether a buffer is free for it. What is answered to it.
-    pub fn frame(&mut self, frame: Frame, room: bool) -> Verdict
-        ensures after { self.new ≡ farm_after self.old frame room }
-        ensures answered { result ≡ verdict_of self.old frame room }
-        // accepted only in order, in Open and with room; V(R) moves only by an acceptance or a Set V(R)
-        ensures in_order { Says result self.old frame room self.new }
+    /// A frame came; `free_buffer` says whether a buffer of the spacecraft is free for it. What is answered to it.
+    pub fn frame(&mut self, frame: Frame, free_buffer: bool) -> Verdict
+        ensures after { self.new ≡ farm_after self.old frame free_buffer }
+        ensures answered { result ≡ verdict_of self.old frame free_buffer }
+        // accepted only in order, in Open and with a free buffer; V(R) moves only by an acceptance or a Set V(R)
+        ensures in_order { Says result self.old frame free_buffer self.new }
         // Lockout is left only by an Unlock
         ensures locked_out { self.old.state ≡ FarmState.Lockout → frame ≢ Frame.Unlock → self.new.state ≡ FarmState.Lockout }
         ensures wait_implies_retransmit { self.new.wait ≡ true → self.new.retransmit ≡ true }
@@ -104,7 +104,7 @@ impl Farm {
     {
         match frame {
             Frame::Ad { ns, request, body } => {
-                if self.take(ns, room) {
+                if self.take(ns, free_buffer) {
                     Verdict::Accepted { request, body }
                 } else {
                     Verdict::Discarded
@@ -115,7 +115,7 @@ impl Farm {
                 Verdict::Control
             }
             Frame::SetVr(vr) => {
-                self.expect(vr);
+                self.set_vr(vr);
                 Verdict::Control
             }
         }
@@ -133,9 +133,9 @@ impl Farm {
         }
     }
 
-    /// The control word that tells the variables, on virtual channel 0.
+    /// The control word that reports the variables, on virtual channel 0.
     pub fn clcw(&self) -> Clcw
-        ensures tells { Tells self.now result }
+        ensures reports { Reports self.now result }
         ensures wait_implies_retransmit { result.wait ≡ true → result.retransmit ≡ true }
     {
         let farm = self.variables;
@@ -159,9 +159,9 @@ impl Farm {
     }
 
     /// A type-AD frame with this number came: whether it is accepted.
-    fn take(&mut self, ns: u8, room: bool) -> bool
-        ensures after { self.new ≡ changed (cell_of self.old ns room) self.old }
-        ensures accepted { result ≡ is_accept (cell_of self.old ns room) }
+    fn take(&mut self, ns: u8, free_buffer: bool) -> bool
+        ensures after { self.new ≡ changed (cell_of self.old ns free_buffer) self.old }
+        ensures accepted { result ≡ is_accept (cell_of self.old ns free_buffer) }
         ensures in_order { result ≡ true → ns ≡ self.old.vr }
         ensures kept { IsFarm self.new }
     {
@@ -180,7 +180,7 @@ impl Farm {
         if farm.state != FarmState::Open {
             return false;
         }
-        if ahead == 0 && room {
+        if ahead == 0 && free_buffer {
             farm.vr = ns.wrapping_add(1);
             farm.retransmit = false;
             return true;
@@ -208,8 +208,8 @@ impl Farm {
         farm.state = FarmState::Open;
     }
 
-    /// A Set V(R) came: this number is expected next, unless the FARM is in Lockout.
-    fn expect(&mut self, vr: u8)
+    /// A Set V(R) came: the number `vr` is expected next, unless the FARM is in Lockout.
+    fn set_vr(&mut self, vr: u8)
         ensures after { self.new ≡ with_vr vr self.old.state self.old }
         ensures kept { IsFarm self.new }
     {

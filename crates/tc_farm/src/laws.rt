@@ -5,8 +5,8 @@ ghost use Rattle.tc_farm.specs.declared.farms.FarmView.{FarmView};
 ghost use Rattle.tc_farm.specs.Farm.{IsFarm, farm_after, verdict_of};
 ghost use Rattle.tc_farm.specs.FarmLaws.{IsNumbered, Says};
 
-/// What the verdict says of a frame and of V(R): accepted only in order, in Open and with room; V(R) moves only by an
-/// acceptance or a Set V(R).
+/// What the verdict says of a frame and of V(R): accepted only in order, in Open and with a free buffer; V(R) moves only
+/// by an acceptance or a Set V(R).
 pub fn frames_in_order()
-    ensures { (farm : FarmView) (frame : Frame) (room : Bool) → IsFarm farm → IsNumbered frame → Says (verdict_of farm frame room) farm frame room (farm_after farm frame room) }
+    ensures { (farm : FarmView) (frame : Frame) (free_buffer : Bool) → IsFarm farm → IsNumbered frame → Says (verdict_of farm frame free_buffer) farm frame free_buffer (farm_after farm frame free_buffer) }
 {}

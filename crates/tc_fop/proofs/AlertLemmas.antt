@@ -14,10 +14,10 @@ use Rattle.tc_fop.specs.declared.signals.Directive.TheVariants as directive
 use Rattle.tc_fop.specs.declared.signals.FopState.{FopState}
 use Rattle.tc_fop.specs.declared.signals.FopState.TheVariants.{Active, RetransmitWithoutWait, RetransmitWithWait, InitialisingWithoutBc, InitialisingWithBc}
 use Rattle.tc_fop.specs.declared.signals.Indication.TheVariants as indication
-use Rattle.tc_fop.specs.Machine.{Machine, Held, Waiting, Out, Action, Remove, InitiateRetransmission, Transmit, Alert, StartTimer, CancelTimer, LowerTimer, CountOne, SendControl, DropControl, Begin, To, Wait, Initiate, SetVsAlone, SetVsAndNn, SetKTo, SetT1To, SetLimitTo, change, after, ready, transmitted, given_back}
+use Rattle.tc_fop.specs.Machine.{Machine, Held, Waiting, Out, Action, Remove, InitiateRetransmission, Transmit, Alert, StartTimer, CancelTimer, LowerTimer, CountOne, SendControl, DropControl, Begin, To, Wait, Initiate, SetVsAlone, SetVsAndNn, SetKTo, SetT1To, SetLimitTo, change, after, due, transmitted, given_back}
 use Rattle.tc_fop.specs.Rows.{row_of}
 use Rattle.tc_fop.specs.Cells.{cell, look, alerts, remove_some, timer_ended, timer_ended_at_limit}
-use Rattle.tc_fop.specs.Calls.{Answers, is_taking, is_initial, look_in, offered, directed, told, ticked}
+use Rattle.tc_fop.specs.Calls.{Answers, is_taking, is_initial, look_in, offered, directed, reported, ticked}
 use Rattle.tc_fop.specs.Standing.{IsFop}
 use Rattle.tc_fop.specs.Requests.{GivesBack}
 use Rattle.tc_fop.proofs.RequestLemmas.{both}
@@ -40,7 +40,7 @@ transmitted_state (Some w) m = refl
 step_stays : (a : Action) (m : Machine) → stays a ≡ true → is_initial m.state ≡ false → is_initial (change a m).state ≡ false
 step_stays (Alert kind) m s h = absurd (false≢true s)
 step_stays (To state) m s h = not_true (is_initial state) s
-step_stays Transmit m s h = ap (λ t. is_initial t) (transmitted_state (ready m) m) ∙ h
+step_stays Transmit m s h = ap (λ t. is_initial t) (transmitted_state (due m) m) ∙ h
 step_stays a m s h = h
 
 run_stays : (todo : List Action) (m : Machine) → list_all stays todo ≡ true → is_initial m.state ≡ false → is_initial (after todo m).state ≡ false
@@ -96,7 +96,7 @@ of_limit P s go stop = by_state (λ t. P (timer_ended_at_limit t)) (stop alert.T
 look_stays : (s : FopState) → list_all stays (look_in s) ≡ true
 look_stays s = by_state (λ t. list_all stays (look_in t) ≡ true) refl refl refl refl refl refl s
 
-pub words_back : (m : Machine) (word : Option Clcw) (new : Machine) (out : Out) → IsFop m → IsFop new → Answers (told m word) m new (Ok out) → GivesBack m new out
+pub words_back : (m : Machine) (word : Option Clcw) (new : Machine) (out : Out) → IsFop m → IsFop new → Answers (reported m word) m new (Ok out) → GivesBack m new out
 words_back m word new out h n =
     of_cell (λ todo. Answers (Ok todo) m new (Ok out) → GivesBack m new out) (row_of m word) m.state
     (λ todo s e. goes_on todo m new out s e)

@@ -1,8 +1,7 @@
 -- What one call makes of the service: by row and state, then by call.
-use Rattle.std.proofs.Common.{◌≡◌, ℕ, ◌+◌, ◌-◌, ◌%◌, ◌<◌, ◌≤◌, ◌==◌, Bool, true, false, if◌then◌else◌, is_some, inl, inr, Option, Some, None, Ok, Err, List, [], ◌∷◌, ◌++◌, length, refl, sym, ◌∙◌, ap, arith}
+use Rattle.std.proofs.Common.{◌≡◌, ℕ, ◌+◌, ◌-◌, ◌%◌, ◌<◌, ◌≤◌, ◌==◌, Bool, true, false, if◌then◌else◌, is_some, inl, inr, Option, Some, None, Ok, Err, List, [], ◌∷◌, ◌++◌, length, refl, ◌∙◌, ap, arith}
 use Rattle.std.proofs.lemmas.Bool.{true≢false, false≢true}
 use Rattle.std.proofs.lemmas.List.{append-nil}
-use Rattle.tc_types.specs.declared.frames.Frame.TheVariants as frame
 use Rattle.tc_types.specs.declared.refusals.Refusal.TheVariants.{WaitQueueFull, ServiceNotActive}
 use Rattle.tc_farm.specs.declared.clcws.Clcw.{Clcw}
 use Rattle.tc_farm.specs.Farm.{distance}
@@ -14,16 +13,16 @@ use Rattle.tc_fop.specs.declared.signals.Directive.{Directive}
 use Rattle.tc_fop.specs.declared.signals.Directive.TheVariants as directive
 use Rattle.tc_fop.specs.declared.signals.FopState.{FopState}
 use Rattle.tc_fop.specs.declared.signals.FopState.TheVariants.{Active, RetransmitWithoutWait, RetransmitWithWait, InitialisingWithoutBc, InitialisingWithBc, Initial}
-use Rattle.tc_fop.specs.Machine.{Machine, Waiting, Out, Action, Remove, InitiateRetransmission, Alert, StartTimer, CancelTimer, LowerTimer, CountOne, SendControl, DropControl, Begin, To, Wait, SetVsAndNn, SetKTo, SetT1To, SetLimitTo, nothing, change, after, option_list, given_back}
+use Rattle.tc_fop.specs.Machine.{Machine, Waiting, Out, Action, Remove, InitiateRetransmission, StartTimer, CancelTimer, LowerTimer, CountOne, SendControl, DropControl, Begin, To, Wait, SetVsAndNn, SetKTo, SetT1To, SetLimitTo, nothing, change, after, option_list, given_back}
 use Rattle.tc_fop.specs.Rows.{Seen, row_seen, seen_in, row_of}
-use Rattle.tc_fop.specs.Cells.{look, alerts, remove_some, cell, timer_ended, timer_ended_at_limit}
-use Rattle.tc_fop.specs.Calls.{Given, Answers, is_taking, is_initial, look_in, offered, directed, told, ticked}
+use Rattle.tc_fop.specs.Cells.{look, alerts, cell, timer_ended, timer_ended_at_limit}
+use Rattle.tc_fop.specs.Calls.{Given, Answers, is_taking, is_initial, look_in, offered, directed, reported, ticked}
 use Rattle.tc_fop.specs.Standing.{IsFop, is_starting}
 use Rattle.tc_fop.specs.Requests.{acknowledged}
 use Rattle.tc_fop.specs.Moves.{Advances, Opens, MovesIn, is_initiation}
-use Rattle.tc_fop.proofs.TableLemmas.{by_state, of_tick, of_offer, of_initial, of_setting}
-use Rattle.tc_fop.proofs.MoveLemmas.{Confirmable, none_confirmable, Remains, removed_remains, removed_looks, flagged_looks, front_of, looked, unlooked, stopped}
-use Rattle.tc_fop.proofs.OpenLemmas.{Starts, IsLevel, starts_on, given_up, begun, rested}
+use Rattle.tc_fop.proofs.TableLemmas.{by_state, of_tick, of_initial, of_setting}
+use Rattle.tc_fop.proofs.MoveLemmas.{Confirmable, none_confirmable, removed_remains, removed_looks, flagged_looks, front_of, looked, unlooked, stopped}
+use Rattle.tc_fop.proofs.OpenLemmas.{IsLevel, starts_on, given_up, begun, rested}
 
 -- a call: what it heard, the machine before and after, and the output
 pub record Call : Type 0 where
@@ -293,7 +292,7 @@ offer_moves c w s =
     (λ t. absurd (false≢true t))
     (λ t. absurd (false≢true t)) s
 
-pub words_move : (m : Machine) (word : Option Clcw) (new : Machine) (out : Out) → IsFop m → IsFop new → Answers (told m word) m new (Ok out) → MovesIn m.state word m new out
+pub words_move : (m : Machine) (word : Option Clcw) (new : Machine) (out : Out) → IsFop m → IsFop new → Answers (reported m word) m new (Ok out) → MovesIn m.state word m new out
 words_move m word new out h n e =
     cell_moves (record { heard = word; machine = m; next = new; out = out; fop = h }) (row_of m word) (row_allows m word) m.state refl e
 

@@ -6,10 +6,10 @@ use Rattle.std.proofs.lemmas.List.{append_assoc, append-nil, map-append}
 use Rattle.tc_types.specs.declared.frames.Frame.{Frame}
 use Rattle.tc_types.specs.declared.frames.Frame.TheVariants.{Ad}
 use Rattle.tc_farm.specs.declared.clcws.Clcw.{Clcw}
-use Rattle.tc_fop.specs.Machine.{Machine, Held, Waiting, Out, Action, Remove, InitiateRetransmission, Resend, Transmit, Alert, SendControl, DropControl, LowerTimer, Wait, Initiate, SetVsAlone, SetVsAndNn, change, said, output, frame_of, flagged, cleared, flagged_of, is_window_open, ready_from, transmitted, transmits, option_list}
+use Rattle.tc_fop.specs.Machine.{Machine, Held, Waiting, Out, Action, Remove, InitiateRetransmission, Resend, Transmit, Alert, SendControl, DropControl, LowerTimer, Wait, Initiate, SetVsAlone, SetVsAndNn, change, said, output, frame_of, flagged, cleared, flagged_of, is_window_open, due_from, transmitted, transmits, option_list}
 use Rattle.tc_fop.specs.Rows.{row_of}
 use Rattle.tc_fop.specs.Cells.{cell, timer_ended, timer_ended_at_limit}
-use Rattle.tc_fop.specs.Calls.{Answers, is_taking, look_in, offered, told, ticked}
+use Rattle.tc_fop.specs.Calls.{Answers, is_taking, look_in, offered, reported, ticked}
 use Rattle.tc_fop.specs.Standing.{IsFop}
 use Rattle.tc_fop.specs.Requests.{frames_of, IsAmong, AreAmong}
 use Rattle.tc_fop.proofs.RequestLemmas.{is_inner, both}
@@ -76,7 +76,7 @@ middle control sent less waits h =
     (λ f r. among_left (control ++ sent) waits f (among_right control sent f (h f r))))
     (among_right (control ++ sent) waits)
 
-transmit_within : (opened : Bool) (w : Option Waiting) (m : Machine) → m.waiting ≡ w → Within (frames_of (transmitted (ready_from opened w) m)) (frames_of m)
+transmit_within : (opened : Bool) (w : Option Waiting) (m : Machine) → m.waiting ≡ w → Within (frames_of (transmitted (due_from opened w) m)) (frames_of m)
 transmit_within false w m e f r = r
 transmit_within true None m e f r = r
 transmit_within true (Some w) m e f r =
@@ -107,7 +107,7 @@ step_within (SetVsAlone v) m h = absurd (false≢true h)
 step_within (SetVsAndNn v) m h = absurd (false≢true h)
 step_within a m h = λ f r. r
 
-transmit_among : (opened : Bool) (w : Option Waiting) (m : Machine) → m.waiting ≡ w → AreAmong (frames_of m) (transmits (ready_from opened w) m.vs).frames
+transmit_among : (opened : Bool) (w : Option Waiting) (m : Machine) → m.waiting ≡ w → AreAmong (frames_of m) (transmits (due_from opened w) m.vs).frames
 transmit_among false w m e = tt
 transmit_among true None m e = tt
 transmit_among true (Some w) m e =
@@ -137,7 +137,7 @@ run_frames (a ∷ todo) m h =
 carried_frames : (todo : List Action) (m new : Machine) (out : Out) → list_all is_inner todo ≡ true → Answers (Ok todo) m new (Ok out) → AreAmong (frames_of m) out.frames
 carried_frames todo m new out h e = subst (λ (o : Out). AreAmong (frames_of m) o.frames) (sym e.1) (run_frames todo m h)
 
-pub words_frames : (m : Machine) (word : Option Clcw) (new : Machine) (out : Out) → IsFop m → IsFop new → Answers (told m word) m new (Ok out) → AreAmong (frames_of m) out.frames
+pub words_frames : (m : Machine) (word : Option Clcw) (new : Machine) (out : Out) → IsFop m → IsFop new → Answers (reported m word) m new (Ok out) → AreAmong (frames_of m) out.frames
 words_frames m word new out h n e = carried_frames (cell (row_of m word) m.state) m new out (cell_inner (row_of m word) m.state) e
 
 pub ticks_frames : (m new : Machine) (out : Out) → IsFop m → IsFop new → Answers (ticked m) m new (Ok out) → AreAmong (frames_of m) out.frames

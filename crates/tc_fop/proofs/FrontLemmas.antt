@@ -18,10 +18,10 @@ use Rattle.tc_fop.specs.declared.signals.Directive.TheVariants as directive
 use Rattle.tc_fop.specs.declared.signals.FopState.{FopState}
 use Rattle.tc_fop.specs.declared.signals.FopState.TheVariants.{Active, RetransmitWithoutWait, RetransmitWithWait, InitialisingWithoutBc, InitialisingWithBc}
 use Rattle.tc_fop.specs.declared.signals.Indication.TheVariants as indication
-use Rattle.tc_fop.specs.Machine.{Machine, Held, Waiting, Out, Action, Remove, InitiateRetransmission, Transmit, Alert, StartTimer, CancelTimer, LowerTimer, SendControl, DropControl, Begin, To, Wait, Initiate, SetVsAlone, SetVsAndNn, SetKTo, SetT1To, SetLimitTo, change, said, after, output, is_window_open, ready_from, transmitted, transmits, option_list, given_back}
+use Rattle.tc_fop.specs.Machine.{Machine, Held, Waiting, Out, Action, Remove, InitiateRetransmission, Transmit, Alert, StartTimer, CancelTimer, LowerTimer, SendControl, DropControl, Begin, To, Wait, Initiate, SetVsAlone, SetVsAndNn, SetKTo, SetT1To, SetLimitTo, change, said, after, output, is_window_open, due_from, transmitted, transmits, option_list, given_back}
 use Rattle.tc_fop.specs.Rows.{Seen, row_seen, seen_in, row_of}
 use Rattle.tc_fop.specs.Cells.{cell, look, alerts, timer_ended, timer_ended_at_limit}
-use Rattle.tc_fop.specs.Calls.{Answers, is_taking, is_initial, look_in, offered, directed, told, ticked}
+use Rattle.tc_fop.specs.Calls.{Answers, is_taking, is_initial, look_in, offered, directed, reported, ticked}
 use Rattle.tc_fop.specs.Standing.{IsFop}
 use Rattle.tc_fop.specs.Requests.{confirms, is_first, is_transmitting, acknowledged, ConfirmsFront, KeepsWindow}
 use Rattle.tc_fop.proofs.RequestLemmas.{both, alerted, confirmed_confirm, doubted_unconfirmed, back_unconfirmed}
@@ -32,7 +32,7 @@ abbrev pub is_unremoving : Action → Bool
 is_unremoving (Remove d) = false
 is_unremoving a = true
 
-transmit_unconfirmed : (opened : Bool) (w : Option Waiting) (vs : ℕ) → flat_map confirms (transmits (ready_from opened w) vs).indications ≡ []
+transmit_unconfirmed : (opened : Bool) (w : Option Waiting) (vs : ℕ) → flat_map confirms (transmits (due_from opened w) vs).indications ≡ []
 transmit_unconfirmed false w vs = refl
 transmit_unconfirmed true None vs = refl
 transmit_unconfirmed true (Some w) vs = refl
@@ -127,7 +127,7 @@ front_confirmed d todo most m new out le h e =
           ∙ sym (take-map (λ (held : Held). held.request) d m.sent),
     )
 
-pub words_front : (m : Machine) (word : Option Clcw) (new : Machine) (out : Out) → IsFop m → IsFop new → Answers (told m word) m new (Ok out) → ConfirmsFront (acknowledged m word) m out
+pub words_front : (m : Machine) (word : Option Clcw) (new : Machine) (out : Out) → IsFop m → IsFop new → Answers (reported m word) m new (Ok out) → ConfirmsFront (acknowledged m word) m out
 words_front m word new out h n =
     of_cell (λ todo. Answers (Ok todo) m new (Ok out) → ConfirmsFront (acknowledged m word) m out) (row_of m word) m.state
     (λ todo quiet e. none_confirmed todo (acknowledged m word) m new out quiet e)
@@ -207,7 +207,7 @@ step_quiet a m h = refl
 abbrev pub WasOpen : Machine → Type 0
 WasOpen new = (v : ℕ) × (new.vs ≡ (v + 1) % 256) × (distance v new.nn < new.k)
 
-open_before : (opened : Bool) (w : Option Waiting) (m : Machine) → (opened ≡ true → distance m.vs m.nn < m.k) → list_any is_first ((transmits (ready_from opened w) m.vs).indications ++ []) ≡ true → WasOpen (transmitted (ready_from opened w) m)
+open_before : (opened : Bool) (w : Option Waiting) (m : Machine) → (opened ≡ true → distance m.vs m.nn < m.k) → list_any is_first ((transmits (due_from opened w) m.vs).indications ++ []) ≡ true → WasOpen (transmitted (due_from opened w) m)
 open_before false w m h e = absurd (false≢true e)
 open_before true None m h e = absurd (false≢true e)
 open_before true (Some w) m h e = (m.vs, refl, h refl)
@@ -293,7 +293,7 @@ look_window s = by_state (λ t. ends_well (look_in t) ≡ true) refl refl refl r
 lowered : (todo : List Action) → ends_well todo ≡ true → ends_well (LowerTimer ∷ todo) ≡ true
 lowered todo h = ap (λ b. b || false) h
 
-pub words_window : (m : Machine) (word : Option Clcw) (new : Machine) (out : Out) → IsFop m → IsFop new → Answers (told m word) m new (Ok out) → KeepsWindow new out
+pub words_window : (m : Machine) (word : Option Clcw) (new : Machine) (out : Out) → IsFop m → IsFop new → Answers (reported m word) m new (Ok out) → KeepsWindow new out
 words_window m word new out h n e = carried_window (cell (row_of m word) m.state) m new out n (cell_window (row_of m word) m.state) e
 
 pub ticks_window : (m new : Machine) (out : Out) → IsFop m → IsFop new → Answers (ticked m) m new (Ok out) → KeepsWindow new out

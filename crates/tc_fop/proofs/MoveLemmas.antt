@@ -1,23 +1,21 @@
 -- In S1 to S3: what a list of actions confirms, sends again and sends for the first time, for each kind of list that the
 -- table has there.
-use Rattle.std.proofs.Common.{◌≡◌, ℕ, zero, suc, ◌+◌, ◌-◌, ◌%◌, ◌<◌, ◌≤◌, ◌==◌, nat_lt, Bool, true, false, if◌then◌else◌, is_some, ◌⊎◌, inl, inr, Option, Some, None, Ok, List, [], ◌∷◌, ◌++◌, map, take, drop, length, refl, sym, ◌∙◌, ap, subst, arith}
+use Rattle.std.proofs.Common.{◌≡◌, ℕ, zero, suc, ◌+◌, ◌-◌, ◌%◌, ◌<◌, ◌≤◌, Bool, true, false, if◌then◌else◌, is_some, ◌⊎◌, inl, Option, Some, None, List, [], ◌∷◌, ◌++◌, map, take, drop, length, refl, sym, ◌∙◌, ap, subst, arith}
 use Rattle.std.specs.List.{flat_map}
 use Rattle.std.proofs.lemmas.Bool.{true≢false, false≢true}
 use Rattle.std.proofs.lemmas.Bool.Decides.{nat_tests}
 use Rattle.std.proofs.lemmas.Grind.{flat_map-append}
-use Rattle.std.proofs.lemmas.List.{append-nil, length-drop, length-map, map-append, drop-map, take-map}
-use Rattle.tc_farm.specs.Farm.{distance}
+use Rattle.std.proofs.lemmas.List.{append-nil, length-drop, map-append, drop-map, take-map}
 use Rattle.tc_fop.specs.declared.signals.AlertKind.{AlertKind}
-use Rattle.tc_fop.specs.declared.signals.AlertKind.TheVariants as alert
 use Rattle.tc_fop.specs.declared.signals.FopState.TheVariants.{Initial}
 use Rattle.tc_fop.specs.declared.signals.Indication.{Indication}
 use Rattle.tc_fop.specs.declared.signals.Indication.TheVariants as indication
-use Rattle.tc_fop.specs.Machine.{Machine, Held, Waiting, Out, Action, Remove, Resend, Alert, joined, nothing, frame_of, flagged, flagged_of, cleared, change, said, after, output, is_window_open, ready_from, ready, transmitted, transmits, option_list, given_back}
-use Rattle.tc_fop.specs.Cells.{look, alerts, remove_some}
-use Rattle.tc_fop.specs.Calls.{Answers, is_taking}
+use Rattle.tc_fop.specs.Machine.{Machine, Held, Waiting, Out, Resend, Alert, joined, frame_of, flagged, flagged_of, change, after, output, is_window_open, due_from, due, transmitted, transmits, option_list, given_back}
+use Rattle.tc_fop.specs.Cells.{look}
+use Rattle.tc_fop.specs.Calls.{is_taking}
 use Rattle.tc_fop.specs.Standing.{IsFop}
 use Rattle.tc_fop.specs.Requests.{sent_requests, confirms}
-use Rattle.tc_fop.specs.Moves.{transmitted_by, is_start, confirmed_in, transmitted_in, starts_in, first_frame, GoesOn, Advances}
+use Rattle.tc_fop.specs.Moves.{transmitted_by, is_start, first_frame, GoesOn, Advances}
 use Rattle.tc_fop.proofs.RequestLemmas.{confirmed_confirm, flagged_requests, cleared_requests}
 use Rattle.tc_fop.proofs.FrameLemmas.{flagged_frames}
 
@@ -118,8 +116,8 @@ advance : (most d : ℕ) (again : Bool) (fresh : Option Waiting) (m x new : Mach
     → out.frames ≡ (if again then map frame_of (drop d m.sent) else []) ++ (transmits fresh m.vs).frames
     → out.indications ≡ front_of d m ++ (transmits fresh m.vs).indications
     → Advances most m new out
-advance most d again fresh m x new out which small r room e f i =
-    let told = (transmits fresh m.vs).indications in
+advance most d again fresh m x new out which small r few_out e f i =
+    let indicated = (transmits fresh m.vs).indications in
     let taking : is_taking new.state ≡ true =
     ap (λ (n : Machine). is_taking n.state) e ∙ ap (λ s. is_taking s) (fresh_state fresh x) ∙ r.taking
     in
@@ -129,11 +127,11 @@ advance most d again fresh m x new out which small r room e f i =
       fresh = fresh;
       few = which.few;
       which = which.which;
-      confirms = ap (λ l. flat_map confirms l) i ∙ front_confirms d m told (fresh_confirms fresh m.vs);
-      transmits = ap (λ l. flat_map transmitted_by l) i ∙ front_first transmitted_by (λ n. refl) d m told ∙ fresh_transmits fresh m.vs;
+      confirms = ap (λ l. flat_map confirms l) i ∙ front_confirms d m indicated (fresh_confirms fresh m.vs);
+      transmits = ap (λ l. flat_map transmitted_by l) i ∙ front_first transmitted_by (λ n. refl) d m indicated ∙ fresh_transmits fresh m.vs;
       frames = f ∙ ap (λ l. (if again then map frame_of (drop d m.sent) else []) ++ l) (fresh_frames fresh m.vs);
-      room = room;
-      no_start = ap (λ l. flat_map start_of l) i ∙ front_first start_of (λ n. refl) d m told ∙ fresh_starts fresh m.vs;
+      few_out = few_out;
+      no_start = ap (λ l. flat_map start_of l) i ∙ front_first start_of (λ n. refl) d m indicated ∙ fresh_starts fresh m.vs;
       goes_on = λ t. subst (λ n. GoesOn d fresh m n) (sym e) (fresh_on d fresh m x small r);
       stops = λ t. absurd (true≢false (sym taking ∙ t));
     }
@@ -189,8 +187,8 @@ flagged_looks d m y vs nn k sent taking = record {
   frames = ap (λ l. map frame_of (flagged_of l)) sent ∙ ap (λ l. map frame_of l) (flagged_all (drop d m.sent)) ∙ flagged_frames (drop d m.sent);
 }
 
--- where a request is ready, the window is open, so that fewer than 255 are out
-ready_room : (opened : Bool) (w : Option Waiting) (out k : ℕ) → k ≤ 255 → (opened ≡ true → out < k) → is_some (ready_from opened w) ≡ true → out < 255
+-- where a request is due, the window is open, so that fewer than 255 are out
+ready_room : (opened : Bool) (w : Option Waiting) (out k : ℕ) → k ≤ 255 → (opened ≡ true → out < k) → is_some (due_from opened w) ≡ true → out < 255
 ready_room true w out k most h e = let few : out < k = h refl in omega (arith, few, most)
 ready_room false w out k most h e = absurd (false≢true e)
 
@@ -209,18 +207,18 @@ open_room d again m y h t few l o =
 pub looked : (most d : ℕ) (again : Bool) (m y new : Machine) (out : Out) → IsFop m → is_taking m.state ≡ true → Confirmable most d m → Looks d again m y → new ≡ after look y → out ≡ joined (record { frames = []; indications = front_of d m }) (output look y) → Advances most m new out
 looked most d again m y new out h t which l e o =
     let x = change Resend y in
-    let same : (transmits (ready x) x.vs).frames ≡ (transmits (ready x) m.vs).frames = ap (λ v. (transmits (ready x) v).frames) l.remains.vs in
-    let told : (transmits (ready x) x.vs).indications ≡ (transmits (ready x) m.vs).indications = ap (λ v. (transmits (ready x) v).indications) l.remains.vs in
+    let same : (transmits (due x) x.vs).frames ≡ (transmits (due x) m.vs).frames = ap (λ v. (transmits (due x) v).frames) l.remains.vs in
+    let indicated : (transmits (due x) x.vs).indications ≡ (transmits (due x) m.vs).indications = ap (λ v. (transmits (due x) v).indications) l.remains.vs in
     let most_k : y.k ≤ 255 = subst (λ k. k ≤ 255) (sym l.k) h.k_most in
     let repeated = map frame_of (flagged_of y.sent) in
-    advance most d again (ready x) m x new out which h.vs
+    advance most d again (due x) m x new out which h.vs
     (record { vs = l.remains.vs; nn = l.remains.nn; sent = cleared_requests y.sent ∙ l.remains.sent; taking = l.remains.taking })
     (ready_room (is_window_open y) y.waiting (length (drop d m.sent)) y.k most_k (open_room d again m y h t which.few l))
     e
     (ap (λ (q : Out). q.frames) o
-    ∙ ap (λ s. repeated ++ s) (append-nil (transmits (ready x) x.vs).frames ∙ same)
-    ∙ ap (λ s. s ++ (transmits (ready x) m.vs).frames) l.frames)
-    (ap (λ (q : Out). q.indications) o ∙ ap (λ s. front_of d m ++ s) (append-nil (transmits (ready x) x.vs).indications ∙ told))
+    ∙ ap (λ s. repeated ++ s) (append-nil (transmits (due x) x.vs).frames ∙ same)
+    ∙ ap (λ s. s ++ (transmits (due x) m.vs).frames) l.frames)
+    (ap (λ (q : Out). q.indications) o ∙ ap (λ s. front_of d m ++ s) (append-nil (transmits (due x) x.vs).indications ∙ indicated))
 
 -- confirmed are so many, and nothing is sent
 pub unlooked : (most d : ℕ) (m y new : Machine) (out : Out) → IsFop m → Confirmable most d m → Remains d m y → new ≡ y → out ≡ record { frames = []; indications = front_of d m } → Advances most m new out
@@ -232,7 +230,7 @@ unlooked most d m y new out h which l e o =
 -- confirmed are so many, and the service stops
 pub stopped : (most d : ℕ) (kind : AlertKind) (m y new : Machine) (out : Out) → Confirmable most d m → new ≡ change (Alert kind) y → out ≡ record { frames = []; indications = front_of d m ++ given_back kind y } → Advances most m new out
 stopped most d kind m y new out which e o =
-    let told = given_back kind y in
+    let indicated = given_back kind y in
     let state : new.state ≡ Initial = ap (λ (n : Machine). n.state) e in
     record {
       confirmed = d;
@@ -240,11 +238,11 @@ stopped most d kind m y new out which e o =
       fresh = None;
       few = which.few;
       which = which.which;
-      confirms = ap (λ (q : Out). flat_map confirms q.indications) o ∙ front_confirms d m told (silent_alert confirms (λ n. refl) (λ n. refl) kind refl y);
-      transmits = ap (λ (q : Out). flat_map transmitted_by q.indications) o ∙ front_first transmitted_by (λ n. refl) d m told ∙ silent_alert transmitted_by (λ n. refl) (λ n. refl) kind refl y;
+      confirms = ap (λ (q : Out). flat_map confirms q.indications) o ∙ front_confirms d m indicated (silent_alert confirms (λ n. refl) (λ n. refl) kind refl y);
+      transmits = ap (λ (q : Out). flat_map transmitted_by q.indications) o ∙ front_first transmitted_by (λ n. refl) d m indicated ∙ silent_alert transmitted_by (λ n. refl) (λ n. refl) kind refl y;
       frames = ap (λ (q : Out). q.frames) o;
-      room = λ n. absurd (false≢true n);
-      no_start = ap (λ (q : Out). flat_map start_of q.indications) o ∙ front_first start_of (λ n. refl) d m told ∙ silent_alert start_of (λ n. refl) (λ n. refl) kind refl y;
+      few_out = λ n. absurd (false≢true n);
+      no_start = ap (λ (q : Out). flat_map start_of q.indications) o ∙ front_first start_of (λ n. refl) d m indicated ∙ silent_alert start_of (λ n. refl) (λ n. refl) kind refl y;
       goes_on = λ t. absurd (false≢true (sym (ap (λ s. is_taking s) state) ∙ t));
       stops = λ t. (state, ap (λ (q : Out). q.frames) o, refl);
     }

@@ -1,5 +1,5 @@
 -- In S4, S5 and S6: the start goes on, the service begins, or it is given up; in S6 nothing is put out.
-use Rattle.std.proofs.Common.{◌≡◌, ℕ, Bool, true, false, ◌⊎◌, inl, inr, ⊎_elim, Option, Some, None, List, [], ◌∷◌, refl, sym, ◌∙◌, ap}
+use Rattle.std.proofs.Common.{◌≡◌, true, false, ◌⊎◌, inl, inr, ⊎_elim, Option, Some, List, [], ◌∷◌, refl, sym, ◌∙◌, ap}
 use Rattle.std.specs.List.{flat_map}
 use Rattle.std.proofs.lemmas.Bool.{true≢false, false≢true}
 use Rattle.tc_types.specs.declared.frames.Frame.{Frame}
@@ -13,7 +13,7 @@ use Rattle.tc_fop.specs.Machine.{Machine, Out, Alert, nothing, change, option_li
 use Rattle.tc_fop.specs.Calls.{is_taking, is_initial}
 use Rattle.tc_fop.specs.Standing.{is_starting}
 use Rattle.tc_fop.specs.Requests.{confirms}
-use Rattle.tc_fop.specs.Moves.{transmitted_by, StartsOn, BeginsBy, Opens, Rests}
+use Rattle.tc_fop.specs.Moves.{transmitted_by, Opens, Rests}
 use Rattle.tc_fop.proofs.MoveLemmas.{start_of, silent_alert}
 
 -- S4 and S5 are none of the others

@@ -7,7 +7,7 @@ use Rattle.std.proofs.lemmas.List.{append_assoc, append-nil, map-append, take-ap
 use Rattle.tc_fop.specs.declared.signals.AlertKind.{AlertKind}
 use Rattle.tc_fop.specs.declared.signals.Indication.{Indication}
 use Rattle.tc_fop.specs.declared.signals.Indication.TheVariants as indication
-use Rattle.tc_fop.specs.Machine.{Machine, Held, Waiting, Action, Remove, InitiateRetransmission, Resend, Transmit, Alert, StartTimer, CancelTimer, LowerTimer, CountOne, SendControl, DropControl, Begin, To, Wait, Initiate, SetVsAlone, SetVsAndNn, SetKTo, SetT1To, SetLimitTo, change, said, after, output, flagged, cleared, is_window_open, ready_from, transmitted, transmits, option_list, given_back}
+use Rattle.tc_fop.specs.Machine.{Machine, Held, Waiting, Action, Remove, InitiateRetransmission, Resend, Transmit, Alert, StartTimer, CancelTimer, LowerTimer, CountOne, SendControl, DropControl, Begin, To, Wait, Initiate, SetVsAlone, SetVsAndNn, SetKTo, SetT1To, SetLimitTo, change, said, after, output, flagged, cleared, is_window_open, due_from, transmitted, transmits, option_list, given_back}
 use Rattle.tc_fop.specs.Requests.{sent_requests, waiting_requests, queued, ends, leaves, confirms}
 
 request_of : Held → ℕ
@@ -96,7 +96,7 @@ cleared_requests [] = refl
 cleared_requests (first ∷ others) = ap (λ l. first.request ∷ l) (cleared_requests others)
 
 -- a transmission moves the request from one queue to the other
-transmit_requests : (opened : Bool) (w : Option Waiting) (m : Machine) → m.waiting ≡ w → queued m ≡ flat_map ends (transmits (ready_from opened w) m.vs).indications ++ queued (transmitted (ready_from opened w) m)
+transmit_requests : (opened : Bool) (w : Option Waiting) (m : Machine) → m.waiting ≡ w → queued m ≡ flat_map ends (transmits (due_from opened w) m.vs).indications ++ queued (transmitted (due_from opened w) m)
 transmit_requests false w m e = refl
 transmit_requests true None m e = refl
 transmit_requests true (Some w) m e =
@@ -104,7 +104,7 @@ transmit_requests true (Some w) m e =
     ap (λ o. sent_requests m ++ map (λ (x : Waiting). x.request) (option_list o)) e
     ∙ sym (append-nil (map (λ (held : Held). held.request) (m.sent ++ one ∷ [])) ∙ map-append (λ (held : Held). held.request) m.sent (one ∷ []))
 
-transmit_order : (opened : Bool) (w : Option Waiting) (m : Machine) → m.waiting ≡ w → waiting_requests m ≡ flat_map leaves (transmits (ready_from opened w) m.vs).indications ++ waiting_requests (transmitted (ready_from opened w) m)
+transmit_order : (opened : Bool) (w : Option Waiting) (m : Machine) → m.waiting ≡ w → waiting_requests m ≡ flat_map leaves (transmits (due_from opened w) m.vs).indications ++ waiting_requests (transmitted (due_from opened w) m)
 transmit_order false w m e = refl
 transmit_order true None m e = refl
 transmit_order true (Some w) m e = ap (λ o. map (λ (x : Waiting). x.request) (option_list o)) e

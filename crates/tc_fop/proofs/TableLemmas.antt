@@ -18,7 +18,7 @@ use Rattle.tc_fop.specs.declared.signals.FopState.TheVariants.{Active, Retransmi
 use Rattle.tc_fop.specs.Machine.{Machine, Held, Waiting, Out, Action, Remove, Alert, LowerTimer, Wait, StartTimer, SendControl, Begin, To, Initiate, SetVsAlone, SetVsAndNn, SetKTo, SetT1To, SetLimitTo, change, after, output, option_list}
 use Rattle.tc_fop.specs.Rows.{row_of}
 use Rattle.tc_fop.specs.Cells.{cell, timer_ended, timer_ended_at_limit}
-use Rattle.tc_fop.specs.Calls.{Given, Answers, is_taking, is_initial, look_in, offered, directed, told, ticked, at_last_tick}
+use Rattle.tc_fop.specs.Calls.{Given, Answers, is_taking, is_initial, look_in, offered, directed, reported, ticked, at_last_tick}
 use Rattle.tc_fop.specs.Standing.{IsFop}
 use Rattle.tc_fop.specs.Requests.{sent_requests, waiting_requests, queued, ends, leaves, KeepsRequests, KeepsOrder}
 use Rattle.tc_fop.proofs.RequestLemmas.{is_inner, run_requests, run_order}
@@ -98,10 +98,10 @@ carried l todo m new out h e = moved l todo (l.q m ++ []) m new out (append-nil 
 
 -- where nothing is queued before and after
 fresh : (l : Law) (todo : List Action) (m new : Machine) (out : Out) → l.q m ≡ [] → l.q (after todo m) ≡ [] → flat_map l.f (output todo m).indications ≡ [] → Answers (Ok todo) m new (Ok out) → Holds l [] m new out
-fresh l todo m new out none left told e =
-    moved l todo (l.q m ++ []) m new out (ap (λ x. x ++ []) none ∙ sym (ap (λ x. x ++ l.q (after todo m)) told ∙ left)) e
+fresh l todo m new out none left silent e =
+    moved l todo (l.q m ++ []) m new out (ap (λ x. x ++ []) none ∙ sym (ap (λ x. x ++ l.q (after todo m)) silent ∙ left)) e
 
-pub at_words : (l : Law) (m : Machine) (word : Option Clcw) (new : Machine) (out : Out) → IsFop m → IsFop new → Answers (told m word) m new (Ok out) → Holds l [] m new out
+pub at_words : (l : Law) (m : Machine) (word : Option Clcw) (new : Machine) (out : Out) → IsFop m → IsFop new → Answers (reported m word) m new (Ok out) → Holds l [] m new out
 at_words l m word new out h n e = carried l (cell (row_of m word) m.state) m new out (cell_inner (row_of m word) m.state) e
 
 pub at_ticks : (l : Law) (m new : Machine) (out : Out) → IsFop m → IsFop new → Answers (ticked m) m new (Ok out) → Holds l [] m new out
@@ -189,7 +189,7 @@ waits_order m w e = ap (λ o. map (λ (x : Waiting). x.request) (option_list o) 
 pub order : Law
 order = record { q = waiting_requests; f = leaves; go = run_order; wait = waits_order; empty = λ m s w. ap (λ o. map (λ (x : Waiting). x.request) (option_list o)) w; started = refl }
 
-pub words_requests : (m : Machine) (word : Option Clcw) (new : Machine) (out : Out) → IsFop m → IsFop new → Answers (told m word) m new (Ok out) → KeepsRequests [] m new out
+pub words_requests : (m : Machine) (word : Option Clcw) (new : Machine) (out : Out) → IsFop m → IsFop new → Answers (reported m word) m new (Ok out) → KeepsRequests [] m new out
 unfolding requests
 words_requests m word new out h n e = at_words requests m word new out h n e
 
@@ -205,7 +205,7 @@ pub directives_requests : (m : Machine) (directive : Directive) (new : Machine) 
 unfolding requests
 directives_requests m directive new out h n e = at_directives requests m directive new out h n e
 
-pub words_order : (m : Machine) (word : Option Clcw) (new : Machine) (out : Out) → IsFop m → IsFop new → Answers (told m word) m new (Ok out) → KeepsOrder [] m new out
+pub words_order : (m : Machine) (word : Option Clcw) (new : Machine) (out : Out) → IsFop m → IsFop new → Answers (reported m word) m new (Ok out) → KeepsOrder [] m new out
 unfolding order
 words_order m word new out h n e = at_words order m word new out h n e
 

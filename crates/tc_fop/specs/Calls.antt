@@ -85,8 +85,9 @@ directed m (directive.SetK k) = setting k (SetKTo k)
 directed m (directive.SetT1 t1) = setting t1 (SetT1To t1)
 directed m (directive.SetLimit limit) = setting limit (SetLimitTo limit)
 
-abbrev pub told : Machine → Option Clcw → Given
-told m word = Ok (cell (row_of m word) m.state)
+-- at a control word, or at one that is not valid
+abbrev pub reported : Machine → Option Clcw → Given
+reported m word = Ok (cell (row_of m word) m.state)
 
 -- what follows where the timer is at its last tick
 abbrev pub at_last_tick : Machine → List Action

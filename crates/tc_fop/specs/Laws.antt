@@ -3,13 +3,13 @@ use Rattle.std.specs.Prelude.{ℕ, Option, Ok, List, [], ◌∷◌}
 use Rattle.tc_farm.specs.declared.clcws.Clcw.{Clcw}
 use Rattle.tc_fop.specs.declared.signals.Directive.{Directive}
 use Rattle.tc_fop.specs.Machine.{Machine, Waiting, Out}
-use Rattle.tc_fop.specs.Calls.{offered, directed, told, ticked, Answers}
+use Rattle.tc_fop.specs.Calls.{offered, directed, reported, ticked, Answers}
 use Rattle.tc_fop.specs.Standing.{IsFop}
 
 abbrev pub AtWords : (List ℕ → Machine → Machine → Out → Type 0) → Type 0
 AtWords P =
     (m : Machine) (word : Option Clcw) (new : Machine) (out : Out)
-    → IsFop m → IsFop new → Answers (told m word) m new (Ok out) → P [] m new out
+    → IsFop m → IsFop new → Answers (reported m word) m new (Ok out) → P [] m new out
 
 abbrev pub AtTicks : (List ℕ → Machine → Machine → Out → Type 0) → Type 0
 AtTicks P =

@@ -87,12 +87,12 @@ abbrev pub is_window_open : Machine → Bool
 is_window_open m = nat_lt (distance m.vs m.nn) m.k
 
 -- the waiting request that may be transmitted now
-abbrev pub ready_from : Bool → Option Waiting → Option Waiting
-ready_from true waiting = waiting
-ready_from false waiting = None
+abbrev pub due_from : Bool → Option Waiting → Option Waiting
+due_from true waiting = waiting
+due_from false waiting = None
 
-abbrev pub ready : Machine → Option Waiting
-ready m = ready_from (is_window_open m) m.waiting
+abbrev pub due : Machine → Option Waiting
+due m = due_from (is_window_open m) m.waiting
 
 abbrev pub is_empty : List Held → Bool
 is_empty [] = true
@@ -118,7 +118,7 @@ abbrev pub change : Action → Machine → Machine
 change (Remove d) m = record m { sent = drop d m.sent; nn = (m.nn + d) % 256; count = 1 }
 change InitiateRetransmission m = record m { count = m.count + 1; timer = m.t1; sent = map flagged m.sent }
 change Resend m = record m { sent = map cleared m.sent }
-change Transmit m = transmitted (ready m) m
+change Transmit m = transmitted (due m) m
 change (Alert kind) m = record m { state = Initial; sent = []; waiting = None; control = None; timer = 0 }
 change StartTimer m = record m { timer = m.t1 }
 change CancelTimer m = record m { timer = 0 }
@@ -152,7 +152,7 @@ abbrev pub said : Action → Machine → Out
 said (Remove d) m = record { frames = []; indications = map (λ (held : Held). indication.Confirmed held.request) (take d m.sent) }
 said InitiateRetransmission m = nothing
 said Resend m = record { frames = map frame_of (flagged_of m.sent); indications = [] }
-said Transmit m = transmits (ready m) m.vs
+said Transmit m = transmits (due m) m.vs
 said (Alert kind) m = record { frames = []; indications = given_back kind m }
 said StartTimer m = nothing
 said CancelTimer m = nothing

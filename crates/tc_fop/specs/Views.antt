@@ -1,15 +1,26 @@
 -- What callers see of a FOP.
-use Rattle.std.specs.Prelude.{◌≡◌, ◌<◌, ◌≤◌, Bool, IfOk, List, length}
+use Rattle.std.specs.Prelude.{◌≡◌, ◌≢◌, ◌<◌, ◌≤◌, Bool, true, IfOk, IfErr, Result, List, length}
+use Rattle.tc_types.specs.declared.refusals.Refusal.{Refusal}
+use Rattle.tc_types.specs.declared.refusals.Refusal.TheVariants.{Memory}
 use Rattle.tc_fop.specs.declared.views.FopView.{FopView}
 use Rattle.tc_fop.specs.declared.rows.Row.{Row}
 use Rattle.tc_fop.specs.declared.rows.Row.TheVariants.{P1, P2, P3, P4, P5, P6, P7, P8, P9, P10, P11, P12, P13, P14, P15, P16}
 use Rattle.tc_fop.specs.Machine.{Machine, Out, Action, after, output, option_list}
-use Rattle.tc_fop.specs.Calls.{Given}
+use Rattle.tc_fop.specs.Calls.{Given, Answers}
+use Rattle.tc_fop.specs.Standing.{IsFop}
 
--- a FOP: its machine, and whether the memory of the next call was taken
-pub record Link : Type 0 where
+-- a FOP as contracts see it: its machine, and whether the memory of the next call was taken
+pub record FopModel : Type 0 where
   pub machine : Machine
   pub ready : Bool
+
+-- How a call responds: it answers as given; where the memory of the call was taken it is not refused memory; an error leaves
+-- that memory as it was; and the machine is one that calls can reach.
+pub record Responds (given : Given) (old new : FopModel) (result : Result Out Refusal) : Type 0 where
+  pub answers : Answers given old.machine new.machine result
+  pub ready : old.ready ≡ true → IfErr result (λ (e : Refusal). e ≢ Memory)
+  pub kept : IfErr result (λ (e : Refusal). new.ready ≡ old.ready)
+  pub fop : IsFop new.machine
 
 -- what a status line prints
 abbrev pub view_of : Machine → FopView
@@ -25,6 +36,11 @@ view_of m = record {
   t1 = m.t1;
   limit = m.limit;
 }
+
+-- the machine after these actions, which is one that calls can reach
+pub record Becomes (actions : List Action) (old new : Machine) : Type 0 where
+  pub machine : new ≡ after actions old
+  pub fop : IsFop new
 
 -- what was given is carried out
 abbrev pub Carried : Given → Machine → Machine → Out → Type 0

@@ -1,5 +1,5 @@
 //! What is done at an offer and at a directive (CCSDS 232.1-B, 5.2.2).
-ghost use Rattle.std.specs.Prelude.{◌≡◌, [], ◌∷◌, IsTrue, IsOk, ◌↔◌};
+ghost use Rattle.std.specs.Prelude.{◌≡◌, IsTrue, IsOk, ◌↔◌};
 ghost use Rattle.tc_fop.specs.Machine.{nothing};
 ghost use Rattle.tc_fop.specs.Calls.{offered, directed, is_initial};
 ghost use Rattle.tc_fop.specs.Queued.{waiting_of};

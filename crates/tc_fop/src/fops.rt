@@ -1,11 +1,11 @@
 //! The FOP of one virtual channel.
-ghost use Rattle.std.specs.Prelude.{◌≡◌, ◌≢◌, ◌↔◌, ◌⊎◌, ◌==◌, ℕ, true, is_some, IfSome, IfNone, IfOk, IfErr, IsOk, OnOk, Some, Err};
+ghost use Rattle.std.specs.Prelude.{◌≡◌, ◌≢◌, ◌↔◌, ◌⊎◌, ◌==◌, true, is_some, IfSome, IfNone, IfOk, IfErr, IsOk, OnOk, Some, Ok, Err};
 ghost use Rattle.std.specs.List.{list_any};
 ghost use Rattle.tc_fop.specs.Machine.{Waiting, nothing};
-ghost use Rattle.tc_fop.specs.Calls.{new_machine, offered, directed, told, ticked, Answers};
+ghost use Rattle.tc_fop.specs.Calls.{new_machine, offered, directed, reported, ticked, Answers};
 ghost use Rattle.tc_fop.specs.Standing.{IsFop};
 ghost use Rattle.tc_fop.specs.Requests.{waiting_requests};
-ghost use Rattle.tc_fop.specs.Views.{Link, view_of};
+ghost use Rattle.tc_fop.specs.Views.{FopModel, Responds, view_of};
 
 use crate::outputs::Output;
 use crate::queues::Offer;
@@ -28,7 +28,7 @@ pub struct Fop<A: Allocator + Copy + Drop> {
 }
 
 impl<A: Allocator + Copy + Drop> Model for Fop<A> {
-    ghost Value = { Link };
+    ghost Value = { FopModel };
 
     ghost view = { λ f. record { machine = f.variables; ready = is_some f.spare } };
 
@@ -58,7 +58,10 @@ impl<A: Allocator + Copy + Drop> Fop<A> {
     pub fn reserve(&mut self) -> Result<(), Refusal>
         ensures machine { self.new.machine ≡ self.old.machine }
         ensures ready { OnOk result (self.new.ready ≡ true) }
+        ensures kept { IfErr result (λ e. self.new.ready ≡ self.old.ready) }
+        ensures already { self.old.ready ≡ true → IsOk result }
         ensures memory { IfErr result (λ e. e ≡ Refusal.Memory) }
+        ensures fop { IsFop self.new.machine }
     {
         if self.spare.is_none() {
             self.spare = Some(Output::new(self.alloc)?);
@@ -66,17 +69,16 @@ impl<A: Allocator + Copy + Drop> Fop<A> {
         Ok(())
     }
 
-    /// The memory of this call.
-    fn room(&mut self) -> Result<Output<A>, Refusal>
+    /// The empty output that `reserve` took.
+    fn take_spare(&mut self) -> Output<A>
+        requires ready { self.old.ready ≡ true }
         ensures machine { self.new.machine ≡ self.old.machine }
         ensures fop { IsFop self.old.machine }
-        ensures ok { IfOk result (λ out. out ≡ nothing) }
-        ensures memory { IfErr result (λ e. e ≡ Refusal.Memory) }
-        ensures ready { self.old.ready ≡ true → IsOk result }
+        ensures empty { result ≡ nothing }
     {
         match self.spare.take() {
-            Some(out) => Ok(out),
-            None => Output::new(self.alloc),
+            Some(out) => out,
+            None => unreachable!(), // `ready` says that there is one
         }
     }
 
@@ -126,53 +128,87 @@ impl<A: Allocator + Copy + Drop> Fop<A> {
     /// Offers a request. `ServiceNotActive` but in S1 to S3, else `WaitQueueFull` where one waits, else `Memory`; an
     /// error changes nothing.
     pub fn offer(&mut self, request: RequestNumber, body: Body) -> Result<Output<A>, Refusal>
-        ensures answers { Answers (offered self.old.machine (record { request = request; body = body })) self.old.machine self.new.machine result }
-        ensures ready { self.old.ready ≡ true → IfErr result (λ e. e ≢ Refusal.Memory) }
-        ensures fop { IsFop self.new.machine }
+        ensures { Responds (offered self.old.machine (record { request = request; body = body })) self.old self.new result }
     {
         if let Some(refusal) = self.offer_refusal() {
             return Err(refusal);
         }
-        let mut out = self.room()?;
+        self.reserve()?;
+        Ok(self.offer_reserved(request, body))
+    }
+
+    /// The same where it is known that the offer is not refused, and its memory was taken by `reserve`.
+    pub fn offer_reserved(&mut self, request: RequestNumber, body: Body) -> Output<A>
+        requires taken { IsOk (offered self.old.machine (record { request = request; body = body })) }
+        requires ready { self.old.ready ≡ true }
+        ensures answers { Answers (offered self.old.machine (record { request = request; body = body })) self.old.machine self.new.machine (Ok result) }
+        ensures fop { IsFop self.new.machine }
+    {
+        let mut out = self.take_spare();
         self.variables.offer(Offer { request, body }, &mut out);
-        Ok(out)
+        out
     }
 
     /// Carries out a directive. `BadDirective` where it cannot be carried out now or its number is 0, else `Memory`;
     /// an error changes nothing.
     pub fn directive(&mut self, directive: Directive) -> Result<Output<A>, Refusal>
-        ensures answers { Answers (directed self.old.machine directive) self.old.machine self.new.machine result }
-        ensures ready { self.old.ready ≡ true → IfErr result (λ e. e ≢ Refusal.Memory) }
+        ensures { Responds (directed self.old.machine directive) self.old self.new result }
+    {
+        if let Some(refusal) = self.directive_refusal(&directive) {
+            return Err(refusal);
+        }
+        self.reserve()?;
+        Ok(self.directive_reserved(&directive))
+    }
+
+    /// The same where it is known that the directive is not refused, and its memory was taken by `reserve`.
+    pub fn directive_reserved(&mut self, directive: &Directive) -> Output<A>
+        requires taken { IsOk (directed self.old.machine directive.now) }
+        requires ready { self.old.ready ≡ true }
+        ensures answers { Answers (directed self.old.machine directive.now) self.old.machine self.new.machine (Ok result) }
         ensures fop { IsFop self.new.machine }
     {
-        if !self.variables.allows(&directive) {
-            return Err(Refusal::BadDirective);
-        }
-        let mut out = self.room()?;
-        self.variables.carry_out(&directive, &mut out);
-        Ok(out)
+        let mut out = self.take_spare();
+        self.variables.carry_out(directive, &mut out);
+        out
     }
 
     /// A control word, or `None` for one that is not valid. `Memory` changes nothing.
     pub fn clcw(&mut self, word: Option<Clcw>) -> Result<Output<A>, Refusal>
-        ensures answers { Answers (told self.old.machine word) self.old.machine self.new.machine result }
-        ensures ready { self.old.ready ≡ true → IfErr result (λ e. e ≢ Refusal.Memory) }
+        ensures { Responds (reported self.old.machine word) self.old self.new result }
+    {
+        self.reserve()?;
+        Ok(self.clcw_reserved(word))
+    }
+
+    /// The same where its memory was taken by `reserve`.
+    pub fn clcw_reserved(&mut self, word: Option<Clcw>) -> Output<A>
+        requires ready { self.old.ready ≡ true }
+        ensures answers { Answers (reported self.old.machine word) self.old.machine self.new.machine (Ok result) }
         ensures fop { IsFop self.new.machine }
     {
-        let mut out = self.room()?;
-        self.variables.hear(word, &mut out);
-        Ok(out)
+        let mut out = self.take_spare();
+        self.variables.clcw(word, &mut out);
+        out
     }
 
     /// One tick of the timer. `Memory` changes nothing.
     pub fn tick(&mut self) -> Result<Output<A>, Refusal>
-        ensures answers { Answers (ticked self.old.machine) self.old.machine self.new.machine result }
-        ensures ready { self.old.ready ≡ true → IfErr result (λ e. e ≢ Refusal.Memory) }
+        ensures { Responds (ticked self.old.machine) self.old self.new result }
+    {
+        self.reserve()?;
+        Ok(self.tick_reserved())
+    }
+
+    /// The same where its memory was taken by `reserve`.
+    pub fn tick_reserved(&mut self) -> Output<A>
+        requires ready { self.old.ready ≡ true }
+        ensures answers { Answers (ticked self.old.machine) self.old.machine self.new.machine (Ok result) }
         ensures fop { IsFop self.new.machine }
     {
-        let mut out = self.room()?;
+        let mut out = self.take_spare();
         self.variables.tick(&mut out);
-        Ok(out)
+        out
     }
 
     /// What a status line prints. It takes no memory.

@@ -1,12 +1,12 @@
 //! What the table keeps, in the words of requests and frames. These functions do nothing: their clauses are the laws.
-ghost use Rattle.std.specs.Prelude.{◌≡◌, ℕ, ◌≤◌, Option, Some, None, List, Ok, true, false};
+ghost use Rattle.std.specs.Prelude.{◌≡◌, ◌≤◌, Option, None, Ok, true, false};
 ghost use Rattle.tc_farm.specs.declared.clcws.Clcw.{Clcw};
 ghost use Rattle.tc_fop.specs.declared.rows.Row.{Row};
 ghost use Rattle.tc_fop.specs.Machine.{Machine, Waiting, Out, Wait, change};
 ghost use Rattle.tc_fop.specs.Rows.{Seen, When, row_seen};
 ghost use Rattle.tc_fop.specs.Laws.{AtWords, AtTicks, AtOffers, AtDirectives};
 ghost use Rattle.tc_fop.specs.Requests.{KeepsRequests, KeepsOrder, KeepsWindow, ConfirmsFront, AreAmong, GivesBack, acknowledged, frames_of};
-ghost use Rattle.tc_fop.specs.Calls.{offered, directed, told, Answers};
+ghost use Rattle.tc_fop.specs.Calls.{offered, directed, reported, Answers};
 ghost use Rattle.tc_fop.specs.Moves.{MovesIn, Initiates, is_initiation};
 ghost use Rattle.tc_fop.specs.declared.signals.Directive.{Directive};
 ghost use Rattle.tc_fop.specs.Standing.{IsFop};
@@ -43,7 +43,7 @@ pub fn keeps_window()
 
 /// Requests are confirmed from the front of the Sent_Queue alone, and no more than the report value acknowledges.
 pub fn confirms_front()
-    ensures words { (m : Machine) (word : Option Clcw) (new : Machine) (out : Out) → IsFop m → IsFop new → Answers (told m word) m new (Ok out) → ConfirmsFront (acknowledged m word) m out }
+    ensures words { (m : Machine) (word : Option Clcw) (new : Machine) (out : Out) → IsFop m → IsFop new → Answers (reported m word) m new (Ok out) → ConfirmsFront (acknowledged m word) m out }
     ensures ticks { AtTicks (λ offered old new out. ConfirmsFront 0 old out) }
     ensures offers { AtOffers (λ offered old new out. ConfirmsFront 0 old out) }
     ensures directives { AtDirectives (λ offered old new out. ConfirmsFront 0 old out) }
@@ -68,7 +68,7 @@ pub fn alerts_give_back()
 
 /// What a call that is no initiation makes of the service, by the state in which it comes.
 pub fn moves()
-    ensures words { (m : Machine) (word : Option Clcw) (new : Machine) (out : Out) → IsFop m → IsFop new → Answers (told m word) m new (Ok out) → MovesIn m.state word m new out }
+    ensures words { (m : Machine) (word : Option Clcw) (new : Machine) (out : Out) → IsFop m → IsFop new → Answers (reported m word) m new (Ok out) → MovesIn m.state word m new out }
     ensures ticks { AtTicks (λ offered old new out. MovesIn old.state None old new out) }
     ensures offers { AtOffers (λ offered old new out. MovesIn old.state None old new out) }
     ensures directives { (m : Machine) (directive : Directive) (new : Machine) (out : Out) → is_initiation directive ≡ false → IsFop m → IsFop new → Answers (directed m directive) m new (Ok out) → MovesIn m.state None m new out }

@@ -12,7 +12,7 @@ use tc_types::refusals::Refusal;
 pub const MOST_FRAMES: usize = 256;
 
 /// The most indications that one call puts out: 255 in doubt, one given back, and the alert.
-pub const MOST_INDICATIONS: usize = 257;
+pub const MOST_INDICATIONS_A_CALL: usize = 257;
 
 /// What a call puts out: frames for the uplink and indications, each in order.
 #[derive(Drop)]
@@ -38,7 +38,7 @@ impl<A: Allocator + Copy + Drop> Output<A> {
         let Ok(frames) = Vec::with_capacity(alloc, MOST_FRAMES) else {
             return Err(Refusal::Memory);
         };
-        let Ok(indications) = Vec::with_capacity(alloc, MOST_INDICATIONS) else {
+        let Ok(indications) = Vec::with_capacity(alloc, MOST_INDICATIONS_A_CALL) else {
             return Err(Refusal::Memory);
         };
         Ok(Output {
@@ -72,7 +72,7 @@ impl<A: Allocator + Copy + Drop> Output<A> {
     }
 
     /// One more indication.
-    pub(crate) fn tell(&mut self, indication: Indication)
+    pub(crate) fn indicate(&mut self, indication: Indication)
         requires room { length self.old.indications < 257 }
         ensures { self.new ≡ joined self.old (record { frames = []; indications = indication ∷ [] }) }
     {

@@ -1,5 +1,5 @@
 //! The Sent_Queue: what is done with many requests at once.
-ghost use Rattle.std.specs.Prelude.{◌≡◌, ◌+◌, ◌<◌, ◌≤◌, [], ◌∷◌, length, map, take, drop};
+ghost use Rattle.std.specs.Prelude.{◌≡◌, ◌+◌, ◌<◌, ◌≤◌, [], length, map, take, drop};
 ghost use Rattle.std.specs.VecDeque.{deque_capacity};
 ghost use Rattle.tc_fop.specs.Machine.{joined};
 
@@ -44,9 +44,10 @@ pub(crate) fn confirm_front<A: Allocator + Copy + Drop>(
     ensures capacity { deque_capacity sent.old ≤ deque_capacity sent.new }
 {
     for _ in 0..count {
-        if let Some(first) = sent.pop_front() {
-            out.tell(Indication::Confirmed(first.request));
-        }
+        let Some(first) = sent.pop_front() else {
+            unreachable!() // there are `count` of them
+        };
+        out.indicate(Indication::Confirmed(first.request));
     }
 }
 
@@ -64,12 +65,12 @@ pub(crate) fn send_again<A: Allocator + Copy + Drop>(sent: &[Outstanding], out: 
     }
 }
 
-/// Tells of each request, from the front, that it is in doubt.
+/// Indicates of each request, from the front, that it is in doubt.
 pub(crate) fn doubt_all<A: Allocator + Copy + Drop>(sent: &[Outstanding], out: &mut Output<A>)
     requires room { length out.old.indications + length sent.now ≤ 257 }
     ensures out { out.new ≡ joined out.old (record { frames = []; indications = map (λ held. Indication.InDoubt held.request) sent.now }) }
 {
     for held in sent {
-        out.tell(Indication::InDoubt(held.request));
+        out.indicate(Indication::InDoubt(held.request));
     }
 }

@@ -1,4 +1,4 @@
-//! What the FOP is told and what it tells.
+//! The states of the FOP, its directives, and its indications.
 use tc_types::numbers::RequestNumber;
 
 /// The states of FOP-1 (CCSDS 232.1-B, 5.1.2).
@@ -60,7 +60,7 @@ pub enum AlertKind {
     Term,
 }
 
-/// What the FOP tells of a request, or of itself.
+/// What the FOP indicates of a request, or of itself.
 #[derive(Clone, Copy, Debug, PartialEq, Eq)]
 pub enum Indication {
     /// The request was transmitted for the first time.

@@ -3,14 +3,14 @@
 ghost use Rattle.std.specs.Prelude.{◌≡◌, ◌+◌, ◌<◌, ◌≤◌, ◌==◌, nat_lt, [], ◌∷◌, length, map, option_map, true, false, None, Some, IfOk, IfErr, is_some, IsTrue, ◌↔◌, if◌then◌else◌};
 ghost use Rattle.std.specs.List.{list_any};
 ghost use Rattle.std.specs.VecDeque.{deque_capacity};
-ghost use Rattle.tc_fop.specs.Machine.{Machine, CancelTimer, InitiateRetransmission, Resend, Transmit, Remove, Alert, StartTimer, LowerTimer, CountOne, SendControl, DropControl, Begin, To, Wait, Initiate, SetVsAlone, SetVsAndNn, SetKTo, SetT1To, SetLimitTo, joined, change, said, after, transmitted, transmits};
+ghost use Rattle.tc_fop.specs.Machine.{Machine, CancelTimer, InitiateRetransmission, Resend, Transmit, Remove, Alert, StartTimer, LowerTimer, CountOne, SendControl, DropControl, Begin, To, Wait, Initiate, SetVsAlone, SetVsAndNn, SetKTo, SetT1To, SetLimitTo, joined, change, said, transmitted, transmits};
 ghost use Rattle.tc_fop.specs.Rows.{row_of};
 ghost use Rattle.tc_fop.specs.Calls.{new_machine, is_taking, is_initial};
 ghost use Rattle.tc_fop.specs.Cells.{look};
 ghost use Rattle.tc_fop.specs.Standing.{IsFop, is_starting, has_control};
 ghost use Rattle.tc_fop.specs.Queued.{held_of, waiting_of};
 ghost use Rattle.tc_fop.specs.Requests.{waiting_requests};
-ghost use Rattle.tc_fop.specs.Views.{Fits, view_of};
+ghost use Rattle.tc_fop.specs.Views.{Becomes, Fits, view_of};
 
 use crate::outputs::Output;
 use crate::queues::{Offer, Outstanding, confirm_front, doubt_all, send_again};
@@ -167,7 +167,7 @@ impl<A: Allocator + Copy + Drop> Variables<A> {
         ensures row { result ≡ row_of self.now word }
         ensures fits { is_taking self.now.state ≡ true → Fits result self.now }
     {
-        let nn = self.nn;
+        let nn = self.nn; // read here: both returns that follow need what stands between calls
         let Some(word) = word else {
             return Row::P16;
         };
@@ -223,16 +223,14 @@ impl<A: Allocator + Copy + Drop> Variables<A> {
     pub(crate) fn enter(&mut self, state: FopState)
         requires from { is_taking self.old.state ≡ true }
         requires to { is_taking state ≡ true }
-        ensures machine { self.new ≡ change (To state) self.old }
-        ensures fop { IsFop self.new }
+        ensures machine { Becomes (To state ∷ []) self.old self.new }
     {
         self.state = state;
     }
 
     /// The timer stops.
     pub(crate) fn cancel_timer(&mut self)
-        ensures machine { self.new ≡ change CancelTimer self.old }
-        ensures fop { IsFop self.new }
+        ensures machine { Becomes (CancelTimer ∷ []) self.old self.new }
     {
         self.timer = 0;
     }
@@ -240,8 +238,7 @@ impl<A: Allocator + Copy + Drop> Variables<A> {
     /// One tick less.
     pub(crate) fn lower_timer(&mut self)
         requires { 0 < self.old.timer }
-        ensures machine { self.new ≡ change LowerTimer self.old }
-        ensures fop { IsFop self.new }
+        ensures machine { Becomes (LowerTimer ∷ []) self.old self.new }
     {
         self.timer -= 1;
     }
@@ -252,8 +249,7 @@ impl<A: Allocator + Copy + Drop> Variables<A> {
         requires taking { is_taking self.old.state ≡ true }
         requires there { acknowledged ≤ length self.old.sent }
         requires room { length out.old.indications + acknowledged ≤ 257 }
-        ensures machine { self.new ≡ change (Remove acknowledged) self.old }
-        ensures fop { IsFop self.new }
+        ensures machine { Becomes (Remove acknowledged ∷ []) self.old self.new }
         ensures out { out.new ≡ joined out.old (said (Remove acknowledged) self.old) }
     {
         confirm_front(&mut self.sent, acknowledged, out);
@@ -267,8 +263,7 @@ impl<A: Allocator + Copy + Drop> Variables<A> {
         requires taking { is_taking self.old.state ≡ true }
         requires counted { self.old.count < 255 }
         requires room { length out.old.frames + length self.old.sent ≤ 256 }
-        ensures machine { self.new ≡ after (InitiateRetransmission ∷ Resend ∷ []) self.old }
-        ensures fop { IsFop self.new }
+        ensures machine { Becomes (InitiateRetransmission ∷ Resend ∷ []) self.old self.new }
         ensures out { out.new ≡ joined out.old (said Resend (change InitiateRetransmission self.old)) }
         ensures frames { length out.new.frames ≡ length out.old.frames + length self.old.sent }
     {
@@ -307,15 +302,14 @@ impl<A: Allocator + Copy + Drop> Variables<A> {
             request: offer.request,
             body: offer.body,
         });
-        out.tell(Indication::Sent(offer.request));
+        out.indicate(Indication::Sent(offer.request));
     }
 
     /// Transmits the waiting request, if there is one and the window is open.
     pub(crate) fn transmit(&mut self, out: &mut Output<A>)
         requires frame { length out.old.frames < 256 }
         requires indication { length out.old.indications < 257 }
-        ensures machine { self.new ≡ change Transmit self.old }
-        ensures fop { IsFop self.new }
+        ensures machine { Becomes (Transmit ∷ []) self.old self.new }
         ensures out { out.new ≡ joined out.old (said Transmit self.old) }
     {
         let outstanding = self.vs.wrapping_sub(self.nn);
@@ -331,11 +325,10 @@ impl<A: Allocator + Copy + Drop> Variables<A> {
     pub(crate) fn look(&mut self, out: &mut Output<A>)
         requires frame { length out.old.frames < 256 }
         requires indication { length out.old.indications < 257 }
-        ensures machine { self.new ≡ after look self.old }
-        ensures fop { IsFop self.new }
+        ensures machine { Becomes look self.old self.new }
         ensures out { out.new ≡ joined out.old (said Transmit self.old) }
     {
-        let _ns = self.vs;
+        let _ns = self.vs; // read for what it tells the prover alone
         self.transmit(out);
     }
 
@@ -343,17 +336,16 @@ impl<A: Allocator + Copy + Drop> Variables<A> {
     #[tactic(auto, using(crate::proofs::QueueLemmas::queues))]
     pub(crate) fn alert(&mut self, kind: AlertKind, out: &mut Output<A>)
         requires room { length out.old.indications + length self.old.sent ≤ 255 }
-        ensures machine { self.new ≡ change (Alert kind) self.old }
-        ensures fop { IsFop self.new }
+        ensures machine { Becomes (Alert kind ∷ []) self.old self.new }
         ensures out { out.new ≡ joined out.old (said (Alert kind) self.old) }
     {
         let (front, back) = self.sent.as_slices();
         doubt_all(front, out);
         doubt_all(back, out);
         if let Some(offer) = self.waiting.take() {
-            out.tell(Indication::GivenBack(offer.request));
+            out.indicate(Indication::GivenBack(offer.request));
         }
-        out.tell(Indication::Alert(kind));
+        out.indicate(Indication::Alert(kind));
         self.sent.clear();
         self.control = None;
         self.timer = 0;
@@ -364,14 +356,13 @@ impl<A: Allocator + Copy + Drop> Variables<A> {
     pub(crate) fn begin(&mut self, out: &mut Output<A>)
         requires starting { is_starting self.old.state ≡ true }
         requires room { length out.old.indications < 257 }
-        ensures machine { self.new ≡ after (CancelTimer ∷ DropControl ∷ To FopState.Active ∷ Begin ∷ []) self.old }
-        ensures fop { IsFop self.new }
+        ensures machine { Becomes (CancelTimer ∷ DropControl ∷ To FopState.Active ∷ Begin ∷ []) self.old self.new }
         ensures out { out.new ≡ joined out.old (said Begin self.old) }
     {
         self.timer = 0;
         self.control = None;
         self.state = FopState::Active;
-        out.tell(Indication::Started);
+        out.indicate(Indication::Started);
     }
 
     /// Sends the BC frame again, counts it, and starts the timer.
@@ -379,13 +370,13 @@ impl<A: Allocator + Copy + Drop> Variables<A> {
         requires state { has_control self.old.state ≡ true }
         requires counted { self.old.count < 255 }
         requires room { length out.old.frames < 256 }
-        ensures machine { self.new ≡ after (SendControl ∷ CountOne ∷ StartTimer ∷ []) self.old }
-        ensures fop { IsFop self.new }
+        ensures machine { Becomes (SendControl ∷ CountOne ∷ StartTimer ∷ []) self.old self.new }
         ensures out { out.new ≡ joined out.old (said SendControl self.old) }
     {
-        if let Some(frame) = self.control {
-            out.send(frame);
-        }
+        let Some(frame) = self.control else {
+            unreachable!() // in S5 the copy of the BC frame is there
+        };
+        out.send(frame);
         self.count += 1;
         self.timer = self.t1;
     }
@@ -393,8 +384,7 @@ impl<A: Allocator + Copy + Drop> Variables<A> {
     /// The request waits.
     pub(crate) fn accept(&mut self, offer: Offer)
         requires taking { is_taking self.old.state ≡ true }
-        ensures machine { self.new ≡ change (Wait (waiting_of offer)) self.old }
-        ensures fop { IsFop self.new }
+        ensures machine { Becomes (Wait (waiting_of offer) ∷ []) self.old self.new }
     {
         self.waiting = Some(offer);
     }
@@ -403,21 +393,19 @@ impl<A: Allocator + Copy + Drop> Variables<A> {
     pub(crate) fn begin_at_once(&mut self, out: &mut Output<A>)
         requires initial { is_initial self.old.state ≡ true }
         requires room { length out.old.indications < 257 }
-        ensures machine { self.new ≡ after (Initiate None ∷ To FopState.Active ∷ Begin ∷ []) self.old }
-        ensures fop { IsFop self.new }
+        ensures machine { Becomes (Initiate None ∷ To FopState.Active ∷ Begin ∷ []) self.old self.new }
         ensures out { out.new ≡ joined out.old (said Begin self.old) }
     {
         self.count = 1;
         self.nn = self.vs;
         self.state = FopState::Active;
-        out.tell(Indication::Started);
+        out.indicate(Indication::Started);
     }
 
     /// Waits for a control word before the service begins.
     pub(crate) fn await_check(&mut self)
         requires initial { is_initial self.old.state ≡ true }
-        ensures machine { self.new ≡ after (Initiate None ∷ StartTimer ∷ To FopState.InitialisingWithoutBc ∷ []) self.old }
-        ensures fop { IsFop self.new }
+        ensures machine { Becomes (Initiate None ∷ StartTimer ∷ To FopState.InitialisingWithoutBc ∷ []) self.old self.new }
     {
         self.count = 1;
         self.nn = self.vs;
@@ -429,8 +417,7 @@ impl<A: Allocator + Copy + Drop> Variables<A> {
     pub(crate) fn command(&mut self, frame: &Frame, out: &mut Output<A>)
         requires initial { is_initial self.old.state ≡ true }
         requires room { length out.old.frames < 256 }
-        ensures machine { self.new ≡ after (Initiate (Some frame.now) ∷ SendControl ∷ StartTimer ∷ To FopState.InitialisingWithBc ∷ []) self.old }
-        ensures fop { IsFop self.new }
+        ensures machine { Becomes (Initiate (Some frame.now) ∷ SendControl ∷ StartTimer ∷ To FopState.InitialisingWithBc ∷ []) self.old self.new }
         ensures out { out.new ≡ joined out.old (record { frames = frame.now ∷ []; indications = [] }) }
     {
         self.count = 1;
@@ -444,8 +431,7 @@ impl<A: Allocator + Copy + Drop> Variables<A> {
     /// V(S) alone.
     pub(crate) fn set_vs(&mut self, vs: u8)
         requires initial { is_initial self.old.state ≡ true }
-        ensures machine { self.new ≡ change (SetVsAlone vs) self.old }
-        ensures fop { IsFop self.new }
+        ensures machine { Becomes (SetVsAlone vs ∷ []) self.old self.new }
     {
         self.vs = vs;
     }
@@ -453,8 +439,7 @@ impl<A: Allocator + Copy + Drop> Variables<A> {
     /// V(S) and NN(R).
     pub(crate) fn set_both(&mut self, vs: u8)
         requires initial { is_initial self.old.state ≡ true }
-        ensures machine { self.new ≡ change (SetVsAndNn vs) self.old }
-        ensures fop { IsFop self.new }
+        ensures machine { Becomes (SetVsAndNn vs ∷ []) self.old self.new }
     {
         self.vs = vs;
         self.nn = vs;
@@ -463,8 +448,7 @@ impl<A: Allocator + Copy + Drop> Variables<A> {
     /// The FOP sliding window width.
     pub(crate) fn set_k(&mut self, k: u8)
         requires { 0 < k }
-        ensures machine { self.new ≡ change (SetKTo k) self.old }
-        ensures fop { IsFop self.new }
+        ensures machine { Becomes (SetKTo k ∷ []) self.old self.new }
     {
         self.k = k;
     }
@@ -472,8 +456,7 @@ impl<A: Allocator + Copy + Drop> Variables<A> {
     /// T1_Initial; the timer that runs stays.
     pub(crate) fn set_t1(&mut self, t1: u16)
         requires { 0 < t1 }
-        ensures machine { self.new ≡ change (SetT1To t1) self.old }
-        ensures fop { IsFop self.new }
+        ensures machine { Becomes (SetT1To t1 ∷ []) self.old self.new }
     {
         self.t1 = t1;
     }
@@ -481,8 +464,7 @@ impl<A: Allocator + Copy + Drop> Variables<A> {
     /// The Transmission_Limit.
     pub(crate) fn set_limit(&mut self, limit: u8)
         requires { 0 < limit }
-        ensures machine { self.new ≡ change (SetLimitTo limit) self.old }
-        ensures fop { IsFop self.new }
+        ensures machine { Becomes (SetLimitTo limit ∷ []) self.old self.new }
     {
         self.limit = limit;
     }

@@ -24,7 +24,7 @@ none_at test (first ∷ others) (suc n) x none stands =
     none_at test others n x (or_parts (test first) (list_any test others) none).1 stands
 
 -- a list of numbers of which none stands twice has each at one place
-position_at : (sent : List ℕ) (n request : ℕ) → Distinct sent → slice_get sent n ≡ Some request
+pub position_at : (sent : List ℕ) (n request : ℕ) → Distinct sent → slice_get sent n ≡ Some request
     → position_of request sent ≡ n
 position_at [] n request distinct stands = cc
 position_at (first ∷ others) zero request distinct stands =

@@ -13,7 +13,7 @@ use Rattle.tc_farm.specs.Farm.{IsFarm, released}
 use Rattle.tc_fop.specs.declared.signals.Directive.{Directive}
 use Rattle.tc_fop.specs.declared.signals.Indication.TheVariants as signal
 use Rattle.tc_fop.specs.Machine.{Machine, Waiting, Action, Out, after, output, option_list}
-use Rattle.tc_fop.specs.Calls.{Given, offered, directed, told, ticked, Answers, is_taking}
+use Rattle.tc_fop.specs.Calls.{Given, offered, directed, reported, ticked, Answers, is_taking}
 use Rattle.tc_fop.specs.Standing.{IsFop}
 use Rattle.tc_fop.specs.Requests.{KeepsOrder, waiting_requests}
 use Rattle.tc_fop.specs.Moves.{MovesIn, is_initiation, transmitted_in, transmitted_by}
@@ -59,7 +59,7 @@ goes_on w v kept fop farm past clean words distinct steps = record {
 }
 
 -- what was carried out, as a call of the FOP
-answers_of : (given : Given) (m n : Machine) (actions : List Action) → given ≡ Ok actions → n ≡ after actions m
+pub answers_of : (given : Given) (m n : Machine) (actions : List Action) → given ≡ Ok actions → n ≡ after actions m
     → Answers given m n (Ok (output actions m))
 answers_of given m n actions e after_is = subst (λ g. Answers g m n (Ok (output actions m))) (sym e) (after_is, refl)
 
@@ -192,7 +192,7 @@ releases w v kept farm whole =
 -- a control word of the FARM's came down
 hears : Laws → (w v : Bare) (word : ℕ) (lost left : List Report) (heard : Option Clcw) (actions : List Action) (answer : List Indication)
     → IsKept w → IsFop v.fop → IsFarm v.farm → w.down ≡ lost ++ Word word ∷ left → Reads word w.vc heard
-    → told w.fop heard ≡ Ok actions → Carries lossy actions (record w { down = left }) v answer → Goes w v
+    → reported w.fop heard ≡ Ok actions → Carries lossy actions (record w { down = left }) v answer → Goes w v
 hears laws w v word lost left heard actions answer kept fop farm down reads gives h =
     let own : AreOwnWords w.vc (Word word ∷ left) =
     own_behind w.vc lost (Word word ∷ left) (subst (λ l. AreOwnWords w.vc l) down kept.words) in
@@ -201,7 +201,7 @@ hears laws w v word lost left heard actions answer kept fop farm down reads give
     let small : clcw.report < 256 = own.0.3 in
     let is : heard ≡ Some clcw = reads.again clcw small written (sym own.0.2) in
     let before : Bare = record w { down = left } in
-    let answers = answers_of (told w.fop heard) w.fop v.fop actions gives (ap (λ x. x.fop) h.whole) in
+    let answers = answers_of (reported w.fop heard) w.fop v.fop actions gives (ap (λ x. x.fop) h.whole) in
     let moves : MovesIn w.fop.state (Some clcw) w.fop v.fop (output actions w.fop) =
     subst (λ o. MovesIn w.fop.state o w.fop v.fop (output actions w.fop)) is
     (laws.words w.fop heard v.fop (output actions w.fop) kept.fop fop answers) in

@@ -1,5 +1,5 @@
 -- A call of the FOP, carried out on the link.
-use Rattle.std.proofs.Common.{◌≡◌, ◌<◌, ◌⊎◌, ◌↔◌, inl, inr, ℕ, Bool, false, MatchBool, Option, Some, None, IsSome, IfSome, Ok, Err, List, [], ◌∷◌, ◌++◌, refl, sym, ◌∙◌, ap, subst}
+use Rattle.std.proofs.Common.{◌≡◌, ◌<◌, ◌⊎◌, ◌↔◌, inl, inr, ℕ, Bool, true, false, MatchBool, if◌then◌else◌, append-nil, Option, Some, None, IsSome, IfSome, Ok, Err, List, [], ◌∷◌, ◌++◌, refl, sym, ◌∙◌, ap, subst}
 use Rattle.tc_types.specs.declared.frames.Frame.{Frame}
 use Rattle.tc_types.specs.declared.refusals.Refusal.{Refusal}
 use Rattle.tc_types.specs.declared.refusals.Refusal.TheVariants.{Memory}
@@ -9,11 +9,12 @@ use Rattle.tc_farm.specs.ControlWord.{IsValid, word_of, without_ignored}
 use Rattle.tc_fop.specs.declared.signals.Directive.{Directive}
 use Rattle.tc_fop.specs.Moves.{is_initiation}
 use Rattle.tc_fop.specs.Machine.{Machine, Action, Out, after, output}
-use Rattle.tc_fop.specs.Calls.{Given, Answers, directed}
+use Rattle.tc_fop.specs.Calls.{Given, Answers, directed, ticked}
+use Rattle.tc_world.specs.declared.events.Event.TheVariants as event
 use Rattle.tc_world.specs.declared.events.Indication.{Indication}
 use Rattle.tc_world.specs.Links.{Kind, PutsAll, IsReadied}
 use Rattle.tc_world.specs.Logs.{Log, noted, blank}
-use Rattle.tc_world.specs.World.{Whole, Carries, Begins, Directs, IsAsBefore, Reads, refusal_in, clean_after, told_by_fop}
+use Rattle.tc_world.specs.World.{Whole, Happens, Carries, Begins, Directs, IsAsBefore, Reads, refusal_in, clean_after, told_by_fop}
 
 -- what was answered was given: the actions were carried out
 pub answered : (given : Given) (old new : Machine) (out : Out) → Answers given old new (Ok out) → (actions : List Action) × (given ≡ Ok actions) × (new ≡ after actions old) × (out ≡ output actions old)
@@ -76,3 +77,31 @@ begun uplink downlink given old fop out ready up past newest clean answer h read
 -- what is read from a word, on the channel of the world
 pub reads_from : (word vc : ℕ) (heard : Option Clcw) → (IsSome heard ↔ IsValid word vc) → IfSome heard (λ (c : Clcw). word_of c ≡ without_ignored word) → IfSome heard (λ (c : Clcw). c.vc ≡ vc) → ((c : Clcw) → c.report < 256 → word ≡ word_of c → vc ≡ c.vc → heard ≡ Some c) → Reads word vc heard
 reads_from word vc heard valid back channel again = record { valid = valid; back = back; channel = channel; again = again }
+
+-- where no timer runs a tick changes nothing
+started_stays : (before : Bool) → before ≡ (if before then true else false)
+started_stays true = refl
+started_stays false = refl
+
+ticked_none : (m : Machine) → m.timer ≡ 0 → ticked m ≡ Ok []
+ticked_none m none = ap (λ (n : ℕ). ticked (record m { timer = n })) none
+
+pub ticks_idly : {U D : Type 0} (uplink : Kind U Frame) (downlink : Kind D Report) (w : Whole U D) (answer : List Indication) → w.fop.timer ≡ 0 → answer ≡ []
+    → Happens uplink downlink event.Tick w w answer
+ticks_idly uplink downlink w answer none answered = (
+  [],
+  ticked_none w.fop none,
+  record {
+    ready = w.up;
+    readied = refl;
+    frames = refl;
+    whole = λ i. record w {
+      newest = record w.newest {
+        started = started_stays w.newest.started i;
+        sent = sym (append-nil w.newest.sent) i;
+        confirmed = sym (append-nil w.newest.confirmed) i;
+      };
+    };
+    answered = answered;
+  },
+)

@@ -11,7 +11,7 @@ use Rattle.tc_world.specs.declared.events.Event.{Event}
 use Rattle.tc_world.specs.declared.events.Indication.{Indication}
 use Rattle.tc_world.specs.Links.{Kind, lossy}
 use Rattle.tc_world.specs.Abstraction.{Bare, seen}
-use Rattle.tc_world.specs.Window.{Distinct, ArePrefixed, IsClaimed, Follows, FollowsThrough, FollowsOn}
+use Rattle.tc_world.specs.Window.{Distinct, ArePrefixed, IsClaimed, Follows, FollowsThrough}
 use Rattle.tc_world.specs.Kept.{IsKept}
 use Rattle.tc_world.specs.World.{Whole, Happens, IsAsBefore, IsRefused, all_sent}
 use Rattle.tc_world.proofs.Bridge.{OnlyLoses, happens_seen}
@@ -44,9 +44,6 @@ pub follows_push : (old mid : Bare) (worlds : List Bare) (new : Bare) → Follow
 follows_push old mid [] new h k = (subst (λ w. Follows w new) h k, refl)
 follows_push old mid (next ∷ others) new (first, rest) k = (first, follows_push next mid others new rest k)
 
-pub follows_on : (old mid new : Bare) → FollowsOn old mid → Follows mid new → FollowsOn old new
-follows_on old mid new (worlds, h) k = (worlds ++ new ∷ [], follows_push old mid worlds new h k)
-
 -- what stands between events stands after the call
 pub stays : {U D X : Type 0} (uplink : Kind U Frame) (downlink : Kind D Report) → OnlyLoses uplink → OnlyLoses downlink
     → ((given : Event) (w v : Bare) (answer : List Indication) → IsKept w → IsFop v.fop → IsFarm v.farm → Happens lossy lossy given w v answer → IsKept v)
@@ -76,3 +73,8 @@ follows uplink downlink ul dl law given old new items (Err refusal) happens fop 
 -- the claims speak of the sessions alone
 pub claimed : {U D : Type 0} (uplink : Kind U Frame) (downlink : Kind D Report) (w : Whole U D) → IsClaimed (seen uplink downlink w) → IsClaimed w
 claimed uplink downlink w h = record { prefixes = h.prefixes; sent_once = h.sent_once; accepted_once = h.accepted_once }
+
+-- what holds of each answer that has P
+pub if_ok : {X E : Type 0} (P Q : X → Type 0) (result : Result X E) → ((answer : X) → P answer → Q answer) → IfOk result P → IfOk result Q
+if_ok P Q (Ok answer) law h = law answer h
+if_ok P Q (Err refusal) law h = tt

@@ -23,3 +23,6 @@ pub mod Requests
 pub mod Abstracted
 pub mod SessionPlaces
 pub mod RunLemmas
+pub mod Flying
+pub mod Tells
+pub mod Stills

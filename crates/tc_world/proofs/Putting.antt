@@ -118,7 +118,7 @@ advance_puts base log ns rs acknowledged old new out is_fop stands window a =
     in
     let left = length-drop a.confirmed old.sent in
     let room : is_some a.fresh ≡ true → length log.sent < length s.confirmed + 255 =
-    λ t. let few_left = a.room t in omega (arith, few_left, left, size, many, within)
+    λ t. let few_left = a.few_out t in omega (arith, few_left, left, size, many, within)
     in
     let flies = all_fly base s a.again queue old.vs a.fresh numbers rest few stands.vs room in
     let sent = log.sent ++ requests_of a.fresh in

@@ -7,7 +7,7 @@ use Rattle.tc_farm.specs.Farm.{IsFarm, farm_after, verdict_of}
 use Rattle.tc_farm.specs.FarmLaws.{IsNumbered, Says}
 use Rattle.tc_fop.specs.declared.signals.Directive.{Directive}
 use Rattle.tc_fop.specs.Machine.{Machine, Out}
-use Rattle.tc_fop.specs.Calls.{directed, told, Answers}
+use Rattle.tc_fop.specs.Calls.{directed, reported, Answers}
 use Rattle.tc_fop.specs.Standing.{IsFop}
 use Rattle.tc_fop.specs.Laws.{AtWords, AtTicks, AtOffers, AtDirectives}
 use Rattle.tc_fop.specs.Requests.{KeepsOrder}
@@ -15,7 +15,7 @@ use Rattle.tc_fop.specs.Moves.{MovesIn, Initiates, is_initiation}
 
 pub record Laws : Type 0 where
   pub words : (m : Machine) (word : Option Clcw) (new : Machine) (out : Out)
-      → IsFop m → IsFop new → Answers (told m word) m new (Ok out) → MovesIn m.state word m new out
+      → IsFop m → IsFop new → Answers (reported m word) m new (Ok out) → MovesIn m.state word m new out
   pub ticks : AtTicks (λ (offered : List ℕ) (old new : Machine) (out : Out). MovesIn old.state None old new out)
   pub offers : AtOffers (λ (offered : List ℕ) (old new : Machine) (out : Out). MovesIn old.state None old new out)
   pub directives : (m : Machine) (directive : Directive) (new : Machine) (out : Out) → is_initiation directive ≡ false

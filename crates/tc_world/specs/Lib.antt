@@ -8,3 +8,7 @@ pub mod Session
 pub mod Abstraction
 pub mod Window
 pub mod Kept
+pub mod Flight
+pub mod Telling
+pub mod Runs
+pub mod Told

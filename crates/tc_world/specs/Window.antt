@@ -28,6 +28,10 @@ ArePrefixed (log ∷ logs) = IsPrefixed log × ArePrefixed logs
 abbrev pub all_accepted : {U D : Type 0} → Whole U D → List ℕ
 all_accepted w = flat_map (λ (log : Log). log.accepted) (w.past ++ w.newest ∷ [])
 
+-- the requests that were confirmed in some session
+abbrev pub all_confirmed : {U D : Type 0} → Whole U D → List ℕ
+all_confirmed w = flat_map (λ (log : Log). log.confirmed) (w.past ++ w.newest ∷ [])
+
 -- In each session what was confirmed was accepted, in order, and what was accepted was sent, in order; over all
 -- sessions no request was sent twice or accepted twice.
 pub record IsClaimed {U D : Type 0} (w : Whole U D) : Type 0 where
@@ -45,6 +49,3 @@ Follows old new =
 abbrev pub FollowsThrough : Bare → List Bare → Bare → Type 0
 FollowsThrough old [] new = new ≡ old
 FollowsThrough old (next ∷ others) new = Follows old next × FollowsThrough next others new
-
-abbrev pub FollowsOn : Bare → Bare → Type 0
-FollowsOn old new = (worlds : List Bare) × FollowsThrough old worlds new

@@ -1,6 +1,6 @@
 -- The link as one machine, and what one event makes of it: the tables of FOP-1 and FARM-1, and the carriers' own
 -- relations.
-use Rattle.std.specs.Prelude.{◌≡◌, ◌⊎◌, ◌↔◌, ◌<◌, IsSome, IfSome, ℕ, ◌==◌, Bool, true, false, not, if◌then◌else◌, MatchBool, Option, Some, None, Ok, Err, List, [], ◌∷◌, ◌++◌, map, take, drop, slice_get, length}
+use Rattle.std.specs.Prelude.{◌≡◌, ◌⊎◌, ◌↔◌, ◌<◌, ◌≤◌, ◌+◌, IsSome, IfSome, IsOk, IfOk, Result, ℕ, ◌==◌, Bool, true, false, not, if◌then◌else◌, MatchBool, Option, Some, None, Ok, Err, List, [], ◌∷◌, ◌++◌, map, drop, length}
 use Rattle.std.specs.List.{flat_map, list_any}
 use Rattle.tc_types.specs.declared.frames.Frame.{Frame}
 use Rattle.tc_types.specs.declared.reports.Report.{Report}
@@ -10,17 +10,19 @@ use Rattle.tc_types.specs.declared.refusals.Refusal.TheVariants.{WrongPlace, Mem
 use Rattle.tc_farm.specs.declared.clcws.Clcw.{Clcw}
 use Rattle.tc_farm.specs.declared.farms.FarmView.{FarmView}
 use Rattle.tc_farm.specs.ControlWord.{IsValid, word_of, without_ignored}
-use Rattle.tc_farm.specs.Farm.{farm_after, verdict_of, released}
+use Rattle.tc_farm.specs.Farm.{IsFarm, farm_after, verdict_of, released}
 use Rattle.tc_fop.specs.declared.signals.Directive.{Directive}
 use Rattle.tc_fop.specs.declared.signals.Directive.TheVariants as directive
+use Rattle.tc_fop.specs.declared.signals.Indication.TheVariants as signal
 use Rattle.tc_fop.specs.Machine.{Machine, Action, Out, after, output}
-use Rattle.tc_fop.specs.Calls.{Given, offered, directed, told, ticked}
+use Rattle.tc_fop.specs.Calls.{Given, offered, directed, reported, ticked}
+use Rattle.tc_fop.specs.Standing.{IsFop}
 use Rattle.tc_fop.specs.Requests.{waiting_requests}
 use Rattle.tc_fop.specs.Moves.{is_initiation}
 use Rattle.tc_world.specs.declared.events.Event.{Event}
 use Rattle.tc_world.specs.declared.events.Event.TheVariants as event
 use Rattle.tc_world.specs.declared.events.Indication.{Indication}
-use Rattle.tc_world.specs.declared.events.Indication.TheVariants.{Fop, Farm, Received}
+use Rattle.tc_world.specs.declared.events.Indication.TheVariants.{Fop, Farm, Received, Lost}
 use Rattle.tc_world.specs.Links.{Kind, PutsAll, IsReadied}
 use Rattle.tc_world.specs.Logs.{Log, blank, noted, boarded}
 
@@ -60,7 +62,7 @@ refusal_of (event.Offer request body) w =
     if is_known request w then Some WrongPlace else refusal_in (offered w.fop (record { request = request; body = body }))
 refusal_of (event.Directive given) w = refusal_in (directed w.fop given)
 refusal_of event.Tick w = None
-refusal_of (event.Uplink room) w = None
+refusal_of (event.Uplink free_buffer) w = None
 refusal_of (event.LoseUp place) w = None
 refusal_of event.Release w = None
 refusal_of event.Clcw w = None
@@ -112,6 +114,20 @@ is_good_start uplink downlink given w =
 abbrev pub clean_after : {U D : Type 0} → Kind U Frame → Kind D Report → Directive → Whole U D → Bool
 clean_after uplink downlink given w = if w.clean then is_good_start uplink downlink given w else false
 
+-- the same after any event that happens: an initiation is a start, and no other event is
+abbrev pub clean_by : {U D : Type 0} → Kind U Frame → Kind D Report → Event → Whole U D → Bool
+clean_by uplink downlink (event.Offer request body) w = w.clean
+clean_by uplink downlink (event.Directive given) w =
+    if is_initiation given then clean_after uplink downlink given w else w.clean
+clean_by uplink downlink event.Tick w = w.clean
+clean_by uplink downlink (event.Uplink free_buffer) w = w.clean
+clean_by uplink downlink (event.LoseUp place) w = w.clean
+clean_by uplink downlink event.Release w = w.clean
+clean_by uplink downlink event.Clcw w = w.clean
+clean_by uplink downlink (event.Put telemetry) w = w.clean
+clean_by uplink downlink event.Downlink w = w.clean
+clean_by uplink downlink (event.LoseDown place) w = w.clean
+
 -- ---- one event
 
 -- what the FOP tells, as the link tells it
@@ -147,15 +163,15 @@ pub record IsIdle {U D : Type 0} (uplink : Kind U Frame) (downlink : Kind D Repo
   pub answered : answer ≡ []
 
 -- the FARM got a frame
-pub record Boards {U D : Type 0} (uplink : Kind U Frame) (room : Bool) (old new : Whole U D) (answer : List Indication) : Type 0 where
+pub record Boards {U D : Type 0} (uplink : Kind U Frame) (free_buffer : Bool) (old new : Whole U D) (answer : List Indication) : Type 0 where
   pub frame : Frame
   pub taken : uplink.takes old.up frame new.up
   pub whole : new ≡ record old {
-    farm = farm_after old.farm frame room;
+    farm = farm_after old.farm frame free_buffer;
     up = new.up;
-    newest = boarded (verdict_of old.farm frame room) old.newest;
+    newest = boarded (verdict_of old.farm frame free_buffer) old.newest;
   }
-  pub answered : answer ≡ Farm (verdict_of old.farm frame room) ∷ []
+  pub answered : answer ≡ Farm (verdict_of old.farm frame free_buffer) ∷ []
 
 -- What is read from 32 bits on a channel: none where they are no valid word on it, else the word's fields; a word that
 -- was written is read as it was.
@@ -170,7 +186,7 @@ pub record Reads (word vc : ℕ) (heard : Option Clcw) : Type 0 where
 abbrev pub Hears : {U D : Type 0} → Kind U Frame → Report → Whole U D → Whole U D → List Indication → Type 0
 Hears uplink (report.Word word) old new answer =
     (heard : Option Clcw) × (actions : List Action) × (rest : List Indication)
-    × Reads word old.vc heard × (told old.fop heard ≡ Ok actions)
+    × Reads word old.vc heard × (reported old.fop heard ≡ Ok actions)
     × Carries uplink actions old new rest × (answer ≡ Received (report.Word word) ∷ rest)
 Hears uplink (report.Telemetry telemetry) old new answer =
     IsReadied uplink old.up new.up × (new ≡ record old { up = new.up })
@@ -200,19 +216,24 @@ pub record Descends {U D : Type 0} (downlink : Kind D Report) (item : Report) (o
   pub whole : new ≡ record old { down = new.down }
   pub answered : answer ≡ []
 
--- an item of the uplink was lost
+-- what is told of a loss: that something was lost
+abbrev pub told_of_loss : Bool → List Indication
+told_of_loss true = Lost ∷ []
+told_of_loss false = []
+
+-- an item of the uplink was lost, and it is told where there was one
 pub record LosesUp {U D : Type 0} (uplink : Kind U Frame) (place : ℕ) (old new : Whole U D) (answer : List Indication) : Type 0 where
   pub found : Bool
   pub lost : uplink.loses old.up place found new.up
   pub whole : new ≡ record old { up = new.up }
-  pub answered : answer ≡ []
+  pub answered : answer ≡ told_of_loss found
 
--- an item of the downlink was lost
+-- an item of the downlink was lost, and it is told where there was one
 pub record LosesDown {U D : Type 0} (downlink : Kind D Report) (place : ℕ) (old new : Whole U D) (answer : List Indication) : Type 0 where
   pub found : Bool
   pub lost : downlink.loses old.down place found new.down
   pub whole : new ≡ record old { down = new.down }
-  pub answered : answer ≡ []
+  pub answered : answer ≡ told_of_loss found
 
 -- a directive was carried out
 abbrev pub Directs : {U D : Type 0} → Kind U Frame → Kind D Report → Directive → List Action → Whole U D → Whole U D → List Indication → Type 0
@@ -229,8 +250,8 @@ Happens uplink downlink (event.Directive given) old new answer =
     (actions : List Action) × (directed old.fop given ≡ Ok actions) × Directs uplink downlink given actions old new answer
 Happens uplink downlink event.Tick old new answer =
     (actions : List Action) × (ticked old.fop ≡ Ok actions) × Carries uplink actions old new answer
-Happens uplink downlink (event.Uplink room) old new answer =
-    ((uplink.content old.up ≡ []) × IsIdle uplink downlink old new answer) ⊎ Boards uplink room old new answer
+Happens uplink downlink (event.Uplink free_buffer) old new answer =
+    ((uplink.content old.up ≡ []) × IsIdle uplink downlink old new answer) ⊎ Boards uplink free_buffer old new answer
 Happens uplink downlink (event.LoseUp place) old new answer = LosesUp uplink place old new answer
 Happens uplink downlink event.Release old new answer = (new ≡ record old { farm = released old.farm }) × (answer ≡ [])
 Happens uplink downlink event.Clcw old new answer =
@@ -240,32 +261,28 @@ Happens uplink downlink event.Downlink old new answer =
     ((downlink.content old.down ≡ []) × IsIdle uplink downlink old new answer) ⊎ Lands uplink downlink old new answer
 Happens uplink downlink (event.LoseDown place) old new answer = LosesDown downlink place old new answer
 
--- these events happen in turn
-abbrev pub Runs : {U D : Type 0} → Kind U Frame → Kind D Report → List Event → Whole U D → Whole U D → Type 0
-Runs uplink downlink [] old new = new ≡ old
-Runs {U} {D} uplink downlink (given ∷ others) old new =
-    (mid : Whole U D) × (answer : List Indication)
-    × Happens uplink downlink given old mid answer × Runs uplink downlink others mid new
+-- ---- what one event takes and gives at most
 
--- Where a run ends: after so many events, where the next one was refused or there was none, and as it stood then.
-abbrev pub EndsBy : {U D : Type 0} → List Event → ℕ → Option Refusal → Whole U D → Type 0
-EndsBy events done None w = done ≡ length events
-EndsBy events done (Some refusal) w = (next : Event) × (slice_get events done ≡ Some next) × IsRefused next w refusal
-
-pub record IsRun {U D : Type 0} (uplink : Kind U Frame) (downlink : Kind D Report) (events : List Event) (done : ℕ) (refusal : Option Refusal) (old new : Whole U D) : Type 0 where
-  pub last : Whole U D
-  pub runs : Runs uplink downlink (take done events) old last
-  pub ends : EndsBy events done refusal last
-  pub stands : IsAsBefore uplink downlink last new
-
--- ---- what one event gives at most
+-- Where memory is never refused: to a loss and a release; to a report and a control word where the downlink has the
+-- room of one put; and where nothing can happen, since no timer runs or nothing is in flight.
+abbrev pub IsSpared : {U D : Type 0} → Kind U Frame → Kind D Report → (D → ℕ) → Event → Whole U D → Type 0
+IsSpared uplink downlink covered (event.Offer request body) w = ⊥
+IsSpared uplink downlink covered (event.Directive given) w = ⊥
+IsSpared uplink downlink covered event.Tick w = w.fop.timer ≡ 0
+IsSpared uplink downlink covered (event.Uplink free_buffer) w = uplink.content w.up ≡ []
+IsSpared uplink downlink covered (event.LoseUp place) w = Unit {0}
+IsSpared uplink downlink covered event.Release w = Unit {0}
+IsSpared uplink downlink covered event.Clcw w = 0 < covered w.down
+IsSpared uplink downlink covered (event.Put telemetry) w = 0 < covered w.down
+IsSpared uplink downlink covered event.Downlink w = downlink.content w.down ≡ []
+IsSpared uplink downlink covered (event.LoseDown place) w = Unit {0}
 
 -- an event that puts something on the downlink
 abbrev pub puts_down : Event → Bool
 puts_down (event.Offer request body) = false
 puts_down (event.Directive given) = false
 puts_down event.Tick = false
-puts_down (event.Uplink room) = false
+puts_down (event.Uplink free_buffer) = false
 puts_down (event.LoseUp place) = false
 puts_down event.Release = false
 puts_down event.Clcw = true
@@ -273,33 +290,69 @@ puts_down (event.Put telemetry) = true
 puts_down event.Downlink = false
 puts_down (event.LoseDown place) = false
 
--- an event for which memory is never refused where the downlink has room for one put
-abbrev pub is_covered : Event → Bool
-is_covered (event.Offer request body) = false
-is_covered (event.Directive given) = false
-is_covered event.Tick = false
-is_covered (event.Uplink room) = false
-is_covered (event.LoseUp place) = true
-is_covered event.Release = true
-is_covered event.Clcw = true
-is_covered (event.Put telemetry) = true
-is_covered event.Downlink = false
-is_covered (event.LoseDown place) = true
+-- How a call ends, whatever the event: where memory is spared it is not refused; at most so much is told and put on the
+-- uplink; only a put takes of the downlink's room, and no more than its own; and both machines are sound.
+pub record EndsWithin {U D : Type 0} (uplink : Kind U Frame) (downlink : Kind D Report) (covered : D → ℕ) (given : Event) (old new : Whole U D) (result : Result (List Indication) Refusal) : Type 0 where
+  pub spared : IsSpared uplink downlink covered given old → IsOk result
+  pub indications : IfOk result (λ (answer : List Indication). length answer ≤ 258)
+  pub frames : length (uplink.content new.up) ≤ length (uplink.content old.up) + 256
+  pub kept_room : puts_down given ≡ false → covered old.down ≤ covered new.down
+  pub room : covered old.down ≤ covered new.down + 1
+  pub sound : IsFop new.fop × IsFarm new.farm
+
+-- ---- what is not told
 
 abbrev pub is_of_fop : Indication → Bool
 is_of_fop (Fop i) = true
 is_of_fop (Farm verdict) = false
 is_of_fop (Received item) = false
+is_of_fop Lost = false
 
 -- a frame that comes up tells nothing of the FOP's: no Sent, Confirmed, InDoubt or GivenBack
 abbrev pub IsQuietAboard : Event → List Indication → Type 0
 IsQuietAboard (event.Offer request body) answer = Unit {0}
 IsQuietAboard (event.Directive given) answer = Unit {0}
 IsQuietAboard event.Tick answer = Unit {0}
-IsQuietAboard (event.Uplink room) answer = list_any is_of_fop answer ≡ false
+IsQuietAboard (event.Uplink free_buffer) answer = list_any is_of_fop answer ≡ false
 IsQuietAboard (event.LoseUp place) answer = Unit {0}
 IsQuietAboard event.Release answer = Unit {0}
 IsQuietAboard event.Clcw answer = Unit {0}
 IsQuietAboard (event.Put telemetry) answer = Unit {0}
 IsQuietAboard event.Downlink answer = Unit {0}
 IsQuietAboard (event.LoseDown place) answer = Unit {0}
+
+-- what tells that a request moves
+abbrev pub tells_move : Indication → Bool
+tells_move (Fop (signal.Sent n)) = true
+tells_move (Fop (signal.Confirmed n)) = true
+tells_move (Fop (signal.GivenBack n)) = true
+tells_move (Fop (signal.InDoubt n)) = true
+tells_move (Fop (signal.Alert kind)) = false
+tells_move (Fop signal.Started) = false
+tells_move (Farm verdict) = false
+tells_move (Received item) = false
+tells_move Lost = false
+
+abbrev pub is_terminate : Directive → Bool
+is_terminate directive.InitiateNone = false
+is_terminate directive.InitiateCheck = false
+is_terminate directive.InitiateUnlock = false
+is_terminate (directive.InitiateSetVr v) = false
+is_terminate directive.Terminate = true
+is_terminate (directive.SetVs v) = false
+is_terminate (directive.SetK k) = false
+is_terminate (directive.SetT1 t1) = false
+is_terminate (directive.SetLimit limit) = false
+
+-- an event at which requests may move: an offer, the end of the service, a tick, and what comes down
+abbrev pub may_move : Event → Bool
+may_move (event.Offer request body) = true
+may_move (event.Directive given) = is_terminate given
+may_move event.Tick = true
+may_move (event.Uplink free_buffer) = false
+may_move (event.LoseUp place) = false
+may_move event.Release = false
+may_move event.Clcw = false
+may_move (event.Put telemetry) = false
+may_move event.Downlink = true
+may_move (event.LoseDown place) = false

@@ -14,8 +14,8 @@ pub enum Event {
     Directive(signals::Directive),
     /// One tick of the FOP's timer.
     Tick,
-    /// The FARM gets the first frame of the uplink; `room` says whether a buffer is free for it.
-    Uplink { room: bool },
+    /// The FARM gets the first frame of the uplink; `free_buffer` says whether a buffer is free for it.
+    Uplink { free_buffer: bool },
     /// The frame at this place of the uplink is lost, from 0 for the oldest.
     LoseUp(usize),
     /// A buffer became free on board.
@@ -39,4 +39,6 @@ pub enum Indication {
     Farm(Verdict),
     /// This came down.
     Received(Report),
+    /// Something in flight was lost: a loss where nothing stood tells nothing.
+    Lost,
 }

@@ -4,24 +4,24 @@
 //! the uplink, for its indications in a session, and for the answer. Only the room of the uplink is then visible.
 //!
 //! What gets items from the downlink calls `reserve_fop_side` with the FOP, the uplink and the newest session, then takes
-//! an item, and for a control word calls `hear` with the same three: its `heard` holds for each `before` that has their
+//! an item, and for a control word calls `pass_word` with the same three: its `heard` holds for each `before` that has their
 //! values.
-ghost use Rattle.std.specs.Prelude.{◌≡◌, ◌==◌, ◌+◌, ◌≤◌, ◌<◌, length, map, true, false, vec_len, vec_capacity, IfErr, IfOk, OnOk, Ok, [], ◌∷◌, ◌++◌, List};
+ghost use Rattle.std.specs.Prelude.{◌≡◌, ◌==◌, ◌+◌, ◌≤◌, ◌<◌, length, map, true, false, vec_len, vec_capacity, IfErr, IfOk, IsOk, OnOk, Ok, [], ◌∷◌, ◌++◌, List};
 ghost use Rattle.std.specs.List.{list_any, flat_map};
 ghost use Rattle.tc_types.specs.declared.refusals.Refusal.TheVariants.{Memory};
 ghost use Rattle.tc_fop.specs.Calls.{directed};
 ghost use Rattle.tc_fop.specs.Machine.{Action};
 ghost use Rattle.tc_fop.specs.Moves.{is_initiation};
-ghost use Rattle.tc_farm.specs.Farm.{IsFarm};
 ghost use Rattle.tc_world.specs.Links.{PutsAll, IsReadied};
 ghost use Rattle.tc_fop.specs.Standing.{IsFop};
 ghost use Rattle.tc_world.specs.Logs.{noted};
 ghost use Rattle.tc_world.specs.Pages.{Page};
-ghost use Rattle.tc_world.specs.World.{Whole, Happens, Hears, Begins, IsRefused, IsAsBefore, is_known, clean_after, told_by_fop};
+ghost use Rattle.tc_world.specs.World.{Whole, Happens, Hears, Begins, IsRefused, IsAsBefore, EndsWithin, is_known, clean_after, told_by_fop};
 
 use crate::carriers::Carrier;
 use crate::events::{Event, Indication};
-use crate::parts::{MOST_INDICATIONS, Parts};
+use crate::indications::Indications;
+use crate::parts::{MOST_INDICATIONS_AN_EVENT, Parts};
 use crate::sessions::Session;
 use std::alloc::Allocator;
 use std::mem;
@@ -48,14 +48,14 @@ fn put_all<U: Carrier<Frame>>(up: &mut U, frames: &[Frame])
 }
 
 /// Answers these indications, in order.
-fn tell_all<A: Allocator + Copy + Drop>(
-    told: &[signals::Indication],
+fn answer_all<A: Allocator + Copy + Drop>(
+    indications: &[signals::Indication],
     answer: &mut Vec<Indication, A>,
 )
-    requires { vec_len answer.old + length told.now ≤ vec_capacity answer.old }
-    ensures { answer.new.items ≡ answer.old.items ++ map Indication.Fop told.now }
+    requires { vec_len answer.old + length indications.now ≤ vec_capacity answer.old }
+    ensures { answer.new.items ≡ answer.old.items ++ map Indication.Fop indications.now }
 {
-    for indication in told {
+    for indication in indications {
         answer.push_reserved(Indication::Fop(*indication));
     }
 }
@@ -115,7 +115,7 @@ impl<U: Carrier<Frame> + Drop, D: Carrier<Report> + Drop, A: Allocator + Copy + 
         fop.reserve()?;
         up.reserve(MOST_FRAMES)?;
         session.reserve_notes()?;
-        match Vec::with_capacity(alloc, MOST_INDICATIONS) {
+        match Vec::with_capacity(alloc, MOST_INDICATIONS_AN_EVENT) {
             Ok(answer) => Ok(answer),
             Err(_) => Err(Refusal::Memory),
         }
@@ -140,13 +140,13 @@ impl<U: Carrier<Frame> + Drop, D: Carrier<Report> + Drop, A: Allocator + Copy + 
     {
         let mut answer = answer;
         put_all(up, out.frames());
-        tell_all(out.indications(), &mut answer);
+        answer_all(out.indications(), &mut answer);
         session.note(out);
         answer
     }
 
-    /// The FOP hears a control word; everything was reserved.
-    pub(crate) fn hear(
+    /// Passes a control word to the FOP; everything was reserved.
+    pub(crate) fn pass_word(
         fop: &mut Fop<A>,
         up: &mut U,
         newest: &mut Session<A>,
@@ -166,10 +166,8 @@ impl<U: Carrier<Frame> + Drop, D: Carrier<Report> + Drop, A: Allocator + Copy + 
     {
         let mut answer = answer;
         answer.push_reserved(Indication::Received(Report::Word(word)));
-        match fop.clcw(Clcw::read(word, vc)) {
-            Ok(out) => Self::carry(up, newest, &out, answer),
-            Err(_) => answer,
-        }
+        let out = fop.clcw_reserved(Clcw::read(word, vc));
+        Self::carry(up, newest, &out, answer)
     }
 
     /// Whether a request waits, or was sent in some session.
@@ -191,13 +189,10 @@ impl<U: Carrier<Frame> + Drop, D: Carrier<Report> + Drop, A: Allocator + Copy + 
         &mut self,
         request: RequestNumber,
         body: Body,
-    ) -> Result<Vec<Indication, A>, Refusal>
-        ensures happens { IfOk result (λ answer. Happens U.kind D.kind (Event.Offer request body) self.old self.new answer.items) }
+    ) -> Result<Indications<A>, Refusal>
+        ensures happens { IfOk result (λ answer. Happens U.kind D.kind (Event.Offer request body) self.old self.new answer) }
         ensures refused { IfErr result (λ refusal. IsRefused (Event.Offer request body) self.old refusal × IsAsBefore U.kind D.kind self.old self.new) }
-        ensures indications { IfOk result (λ answer. length answer.items ≤ 257) }
-        ensures frames { length (U.kind.content self.new.up) ≤ length (U.kind.content self.old.up) + 256 }
-        ensures down { D.covered self.old.down ≤ D.covered self.new.down }
-        ensures sound { IsFop self.new.fop × IsFarm self.new.farm }
+        ensures limits { EndsWithin U.kind D.kind D.covered (Event.Offer request body) self.old self.new result }
     {
         if self.knows(request) {
             return Err(Refusal::WrongPlace);
@@ -211,37 +206,34 @@ impl<U: Carrier<Frame> + Drop, D: Carrier<Report> + Drop, A: Allocator + Copy + 
             &mut self.up,
             &mut self.newest,
         )?;
-        let out = self.fop.offer(request, body)?;
-        Ok(Self::carry(&mut self.up, &mut self.newest, &out, answer))
+        let out = self.fop.offer_reserved(request, body);
+        Ok(Indications::many(Self::carry(&mut self.up, &mut self.newest, &out, answer)))
     }
 
     /// One tick of the FOP's timer.
-    pub(crate) fn tick(&mut self) -> Result<Vec<Indication, A>, Refusal>
-        ensures happens { IfOk result (λ answer. Happens U.kind D.kind Event.Tick self.old self.new answer.items) }
+    pub(crate) fn tick(&mut self) -> Result<Indications<A>, Refusal>
+        ensures happens { IfOk result (λ answer. Happens U.kind D.kind Event.Tick self.old self.new answer) }
         ensures refused { IfErr result (λ refusal. IsRefused Event.Tick self.old refusal × IsAsBefore U.kind D.kind self.old self.new) }
-        ensures indications { IfOk result (λ answer. length answer.items ≤ 257) }
-        ensures frames { length (U.kind.content self.new.up) ≤ length (U.kind.content self.old.up) + 256 }
-        ensures down { D.covered self.old.down ≤ D.covered self.new.down }
-        ensures sound { IsFop self.new.fop × IsFarm self.new.farm }
+        ensures limits { EndsWithin U.kind D.kind D.covered Event.Tick self.old self.new result }
     {
+        if self.fop.view().timer == 0 {
+            return Ok(Indications::none(self.alloc));
+        }
         let answer = Self::reserve_fop_side(
             self.alloc,
             &mut self.fop,
             &mut self.up,
             &mut self.newest,
         )?;
-        let out = self.fop.tick()?;
-        Ok(Self::carry(&mut self.up, &mut self.newest, &out, answer))
+        let out = self.fop.tick_reserved();
+        Ok(Indications::many(Self::carry(&mut self.up, &mut self.newest, &out, answer)))
     }
 
     /// Carries out a directive, as the FOP allows. An accepted initiation ends the newest session and begins another.
-    pub(crate) fn directive(&mut self, directive: Directive) -> Result<Vec<Indication, A>, Refusal>
-        ensures happens { IfOk result (λ answer. Happens U.kind D.kind (Event.Directive directive) self.old self.new answer.items) }
+    pub(crate) fn directive(&mut self, directive: Directive) -> Result<Indications<A>, Refusal>
+        ensures happens { IfOk result (λ answer. Happens U.kind D.kind (Event.Directive directive) self.old self.new answer) }
         ensures refused { IfErr result (λ refusal. IsRefused (Event.Directive directive) self.old refusal × IsAsBefore U.kind D.kind self.old self.new) }
-        ensures indications { IfOk result (λ answer. length answer.items ≤ 257) }
-        ensures frames { length (U.kind.content self.new.up) ≤ length (U.kind.content self.old.up) + 256 }
-        ensures down { D.covered self.old.down ≤ D.covered self.new.down }
-        ensures sound { IsFop self.new.fop × IsFarm self.new.farm }
+        ensures limits { EndsWithin U.kind D.kind D.covered (Event.Directive directive) self.old self.new result }
     {
         if let Some(refusal) = self.fop.directive_refusal(&directive) {
             return Err(refusal);
@@ -255,10 +247,8 @@ impl<U: Carrier<Frame> + Drop, D: Carrier<Report> + Drop, A: Allocator + Copy + 
             &mut self.up,
             &mut self.newest,
         )?;
-        match self.fop.directive(directive) {
-            Ok(out) => Ok(Self::carry(&mut self.up, &mut self.newest, &out, answer)),
-            Err(refusal) => Err(refusal),
-        }
+        let out = self.fop.directive_reserved(&directive);
+        Ok(Indications::many(Self::carry(&mut self.up, &mut self.newest, &out, answer)))
     }
 
     /// Whether every start so far was good, after this initiation: nothing is in flight, and without check both sides
@@ -277,30 +267,25 @@ impl<U: Carrier<Frame> + Drop, D: Carrier<Report> + Drop, A: Allocator + Copy + 
     }
 
     /// Begins a session.
-    fn initiate(&mut self, directive: &Directive) -> Result<Vec<Indication, A>, Refusal>
-        requires { is_initiation directive.now ≡ true }
-        ensures begins { IfOk result (λ answer. (actions : List Action) × (directed self.old.fop directive.now ≡ Ok actions) × Begins U.kind D.kind directive.now actions self.old self.new answer.items) }
+    fn initiate(&mut self, directive: &Directive) -> Result<Indications<A>, Refusal>
+        requires initiation { is_initiation directive.now ≡ true }
+        requires taken { IsOk (directed self.old.fop directive.now) }
+        ensures begins { IfOk result (λ answer. (actions : List Action) × (directed self.old.fop directive.now ≡ Ok actions) × Begins U.kind D.kind directive.now actions self.old self.new answer) }
         ensures refused { IfErr result (λ refusal. IsRefused (Event.Directive directive.now) self.old refusal × IsAsBefore U.kind D.kind self.old self.new) }
-        ensures indications { IfOk result (λ answer. length answer.items ≤ 257) }
-        ensures frames { length (U.kind.content self.new.up) ≤ length (U.kind.content self.old.up) + 256 }
-        ensures down { D.covered self.old.down ≤ D.covered self.new.down }
-        ensures sound { IsFop self.new.fop × IsFarm self.new.farm }
+        ensures limits { EndsWithin U.kind D.kind D.covered (Event.Directive directive.now) self.old self.new result }
     {
         let clean = self.stays_clean(directive);
-        if let Some(refusal) = self.fop.directive_refusal(directive) {
-            return Err(refusal);
-        }
         if self.past.reserve(1).is_err() {
             return Err(Refusal::Memory);
         }
         let mut session = Session::new(self.alloc, 0);
         let answer = Self::reserve_fop_side(self.alloc, &mut self.fop, &mut self.up, &mut session)?;
-        let out = self.fop.directive(*directive)?;
+        let out = self.fop.directive_reserved(directive);
         session.begin(self.fop.view().vs);
         let answer = Self::carry(&mut self.up, &mut session, &out, answer);
         let ended = mem::replace(&mut self.newest, session);
         self.past.push_reserved(ended);
         self.clean = clean;
-        Ok(answer)
+        Ok(Indications::many(answer))
     }
 }

@@ -5,6 +5,7 @@ pub mod carriers;
 pub mod events;
 mod farm_side;
 mod fop_side;
+pub mod indications;
 pub mod laws;
 pub mod list_carriers;
 mod parts;

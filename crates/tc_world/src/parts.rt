@@ -5,7 +5,7 @@ ghost use Rattle.tc_fop.specs.Standing.{IsFop};
 ghost use Rattle.tc_farm.specs.Farm.{IsFarm};
 ghost use Rattle.tc_world.specs.Logs.{blank};
 ghost use Rattle.tc_world.specs.Pages.{Page};
-ghost use Rattle.tc_world.specs.World.{Whole, Happens, IsRefused, IsAsBefore, is_covered, puts_down};
+ghost use Rattle.tc_world.specs.World.{Whole};
 
 use crate::carriers::Carrier;
 use crate::events::{Event, Indication};
@@ -18,8 +18,8 @@ use tc_types::frames::Frame;
 use tc_types::refusals::Refusal;
 use tc_types::reports::Report;
 
-/// The most indications that one event answers: what came down, 255 in doubt, one given back, and the alert.
-pub const MOST_INDICATIONS: usize = 258;
+/// The most that is told of one event: what came down, 255 in doubt, one given back, and the alert.
+pub const MOST_INDICATIONS_AN_EVENT: usize = 258;
 
 /// The FOP, the FARM, the carriers and the sessions. What holds of them together is the world's.
 #[derive(Drop)]

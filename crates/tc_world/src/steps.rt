@@ -1,11 +1,10 @@
 //! One event.
-ghost use Rattle.std.specs.Prelude.{◌≡◌, ◌+◌, ◌≤◌, ◌<◌, length, true, false, IfErr, IfOk, IsOk};
-ghost use Rattle.tc_farm.specs.Farm.{IsFarm};
-ghost use Rattle.tc_fop.specs.Standing.{IsFop};
-ghost use Rattle.tc_world.specs.World.{Happens, IsRefused, IsAsBefore, IsQuietAboard, is_covered, puts_down};
+ghost use Rattle.std.specs.Prelude.{IfErr, IfOk};
+ghost use Rattle.tc_world.specs.World.{Happens, IsRefused, IsAsBefore, EndsWithin};
 
 use crate::carriers::Carrier;
-use crate::events::{Event, Indication};
+use crate::events::Event;
+use crate::indications::Indications;
 use crate::parts::Parts;
 use std::alloc::Allocator;
 use tc_types::frames::Frame;
@@ -18,26 +17,19 @@ impl<U: Carrier<Frame> + Drop, D: Carrier<Report> + Drop, A: Allocator + Copy + 
     A,
 > {
     /// One event.
-    pub(crate) fn step(&mut self, event: Event) -> Result<Vec<Indication, A>, Refusal>
-        ensures happens { IfOk result (λ answer. Happens U.kind D.kind event self.old self.new answer.items) }
+    pub(crate) fn step(&mut self, event: Event) -> Result<Indications<A>, Refusal>
+        ensures happens { IfOk result (λ answer. Happens U.kind D.kind event self.old self.new answer) }
         ensures refused { IfErr result (λ refusal. IsRefused event self.old refusal × IsAsBefore U.kind D.kind self.old self.new) }
-        ensures indications { IfOk result (λ answer. length answer.items ≤ 258) }
-        ensures frames { length (U.kind.content self.new.up) ≤ length (U.kind.content self.old.up) + 256 }
-        ensures quiet { IfOk result (λ answer. IsQuietAboard event answer.items) }
-        ensures covered { is_covered event ≡ true → 0 < D.covered self.old.down → IsOk result }
-        ensures always { is_covered event ≡ true → puts_down event ≡ false → IsOk result }
-        ensures kept_room { puts_down event ≡ false → D.covered self.old.down ≤ D.covered self.new.down }
-        ensures room { D.covered self.old.down ≤ D.covered self.new.down + 1 }
-        ensures sound { IsFop self.new.fop × IsFarm self.new.farm }
+        ensures limits { EndsWithin U.kind D.kind D.covered event self.old self.new result }
     {
         match event {
             Event::Offer { request, body } => self.offer(request, body),
             Event::Directive(directive) => self.directive(directive),
             Event::Tick => self.tick(),
-            Event::Uplink { room } => self.uplink(room),
+            Event::Uplink { free_buffer } => self.uplink(free_buffer),
             Event::LoseUp(place) => self.lose_up(place),
             Event::Release => self.release(),
-            Event::Clcw => self.tell(),
+            Event::Clcw => self.clcw(),
             Event::Put(telemetry) => self.put(telemetry),
             Event::Downlink => self.downlink(),
             Event::LoseDown(place) => self.lose_down(place),

@@ -1,17 +1,22 @@
 //! The world: the link, and the sessions that were held over it.
 ghost use Rattle.std.specs.Prelude.{◌≡◌, ◌+◌, ◌≤◌, ◌<◌, ◌↔◌, ℕ, Bool, Some, None, Err, length, true, false, slice_get, IfErr, IfOk, IfSome, IfNone, IsOk, OnOk, [], ◌∷◌};
+ghost use Rattle.std.specs.List.{list_any};
 ghost use Rattle.tc_types.specs.declared.refusals.Refusal.TheVariants.{BadDirective, Memory};
 ghost use Rattle.tc_farm.specs.Farm.{new_farm};
 ghost use Rattle.tc_fop.specs.declared.signals.FopState.TheVariants.{Initial};
 ghost use Rattle.tc_fop.specs.Views.{view_of};
 ghost use Rattle.tc_world.specs.Logs.{blank};
 ghost use Rattle.tc_world.specs.Abstraction.{seen};
-ghost use Rattle.tc_world.specs.Window.{Follows, FollowsOn, IsClaimed};
+ghost use Rattle.tc_world.specs.Window.{Follows, IsClaimed};
 ghost use Rattle.tc_world.specs.Kept.{IsKept};
-ghost use Rattle.tc_world.specs.World.{Whole, Happens, IsRefused, IsRun, IsAsBefore, IsQuietAboard, sessions_of, is_covered, puts_down};
+ghost use Rattle.tc_world.specs.World.{Whole, Happens, IsRefused, IsAsBefore, IsSpared, IsQuietAboard, sessions_of, clean_by, puts_down, may_move, tells_move};
+ghost use Rattle.tc_world.specs.Runs.{IsRun};
+ghost use Rattle.tc_world.specs.Telling.{TellsRequests};
+ghost use Rattle.tc_world.specs.Flight.{FliesInOrder};
 
 use crate::carriers::Carrier;
-use crate::events::{Event, Indication};
+use crate::events::Event;
+use crate::indications::Indications;
 use crate::laws::window_is_kept;
 use crate::parts::Parts;
 use crate::runs::RunEnd;
@@ -76,21 +81,28 @@ impl<U: Carrier<Frame> + Drop, D: Carrier<Report> + Drop, A: Allocator + Copy + 
     /// the uplink. An offer of a request that waits or was sent in any session is refused `WrongPlace`; else an offer
     /// and a directive are refused as the FOP refuses them; `Memory` comes where none of these does. An error leaves
     /// the world as it was.
-    pub fn step(&mut self, event: Event) -> Result<Vec<Indication, A>, Refusal>
-        ensures happens { IfOk result (λ answer. Happens U.kind D.kind event self.old self.new answer.items) }
+    pub fn step(&mut self, event: Event) -> Result<Indications<A>, Refusal>
+        ensures happens { IfOk result (λ answer. Happens U.kind D.kind event self.old self.new answer) }
         ensures refused { IfErr result (λ refusal. IsRefused event self.old refusal × IsAsBefore U.kind D.kind self.old self.new) }
-        ensures indications { IfOk result (λ answer. length answer.items ≤ 258) }
+        ensures spared { IsSpared U.kind D.kind D.covered event self.old → IsOk result }
+        ensures indications { IfOk result (λ answer. length answer ≤ 258) }
         ensures frames { length (U.kind.content self.new.up) ≤ length (U.kind.content self.old.up) + 256 }
-        ensures quiet { IfOk result (λ answer. IsQuietAboard event answer.items) }
-        ensures covered { is_covered event ≡ true → 0 < D.covered self.old.down → IsOk result }
-        ensures always { is_covered event ≡ true → puts_down event ≡ false → IsOk result }
+        ensures quiet { IfOk result (λ answer. IsQuietAboard event answer) }
+        // but at an offer, the end of the service, a tick and what comes down, no request moves
+        ensures still { may_move event ≡ false → IfOk result (λ answer. list_any tells_move answer ≡ false) }
+        // what is told of requests is what becomes of them
+        ensures requests { IfOk result (λ answer. TellsRequests event self.old self.new answer) }
         ensures kept_room { puts_down event ≡ false → D.covered self.old.down ≤ D.covered self.new.down }
         ensures room { D.covered self.old.down ≤ D.covered self.new.down + 1 }
+        // an initiation is a good start or not, and no other event is a start
+        ensures clean { IfOk result (λ answer. self.new.clean ≡ clean_by U.kind D.kind event self.old) }
         // while every start was good, an event is a run of the session that is on, or another begins
         ensures window { IfOk result (λ answer. self.new.clean ≡ true → Follows (seen U.kind D.kind self.old) (seen U.kind D.kind self.new)) }
+        ensures flight { self.new.clean ≡ true → FliesInOrder (seen U.kind D.kind self.new) }
         ensures claims { self.new.clean ≡ true → IsClaimed self.new }
         ensures was_clean { self.new.clean ≡ true → self.old.clean ≡ true }
     {
+        tc_fop::laws::keeps_order();
         window_is_kept();
         self.parts.step(event)
     }
@@ -98,12 +110,11 @@ impl<U: Carrier<Frame> + Drop, D: Carrier<Report> + Drop, A: Allocator + Copy + 
     /// Makes these events happen in turn, and stops at the first that is refused: those before it stand, and nothing
     /// of it.
     pub fn run(&mut self, events: &[Event]) -> RunEnd
-        ensures run { IsRun U.kind D.kind events.now result.done result.refusal self.old self.new }
-        // while every start was good, the events are runs of one session after the other
-        ensures window { self.new.clean ≡ true → FollowsOn (seen U.kind D.kind self.old) (seen U.kind D.kind self.new) }
+        ensures run { IsRun U.kind D.kind D.covered events.now result.done result.refusal self.old self.new }
+        ensures flight { self.new.clean ≡ true → FliesInOrder (seen U.kind D.kind self.new) }
         ensures claims { self.new.clean ≡ true → IsClaimed self.new }
     {
-        // the claims of the start, where no event happens
+        // read for the proof alone: the claims of the start, where no event happens
         let _clean = self.clean();
         for (done, event) in events.iter().enumerate() {
             if let Err(refusal) = self.step(*event) {
@@ -134,6 +145,7 @@ impl<U: Carrier<Frame> + Drop, D: Carrier<Report> + Drop, A: Allocator + Copy + 
     /// check also V(S) was V(R) and the FARM had no flag.
     pub fn clean(&self) -> bool
         ensures value { result ≡ self.now.clean }
+        ensures flight { self.now.clean ≡ true → FliesInOrder (seen U.kind D.kind self.now) }
         ensures claims { self.now.clean ≡ true → IsClaimed self.now }
     {
         window_is_kept();

@@ -34,6 +34,9 @@ pub trait Link {
     /// Makes events happen, up to the first that is refused.
     fn does_all(&mut self, events: &[Event]) -> RunEnd;
 
+    /// Takes the room of so many puts on the downlink.
+    fn reserves(&mut self, puts: usize) -> Result<(), Refusal>;
+
     /// Whether each start so far was good.
     fn is_clean(&self) -> bool;
 
@@ -71,6 +74,10 @@ impl<U: Carrier<Frame> + Drop, D: Carrier<Report> + Drop, A: Allocator + Copy + 
 
     fn does_all(&mut self, events: &[Event]) -> RunEnd {
         self.run(events)
+    }
+
+    fn reserves(&mut self, puts: usize) -> Result<(), Refusal> {
+        self.reserve(puts)
     }
 
     fn is_clean(&self) -> bool {

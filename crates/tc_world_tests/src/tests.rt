@@ -46,7 +46,7 @@ const UNLOCK: Act = Act::Directive(Directive::InitiateUnlock);
 const STOP: Act = Act::Directive(Directive::Terminate);
 
 /// A frame comes up, and a buffer is free for it.
-const UP: Event = Event::Uplink { room: true };
+const UP: Event = Event::Uplink { free_buffer: true };
 
 /// A world over links that lose what they are told to lose.
 type Lists<A> = World<ListCarrier<Frame, A>, ListCarrier<Report, A>, A>;
@@ -65,6 +65,8 @@ enum Act {
     Up,
     /// The frame at this place of the uplink is lost, from 0 for the oldest.
     LoseUp(usize),
+    /// A buffer becomes free on board.
+    Release,
     /// A control word is sent.
     Clcw,
     /// A control word or a report comes down.
@@ -78,6 +80,8 @@ enum Scenario {
     Round,
     /// A lock-out, and how the service comes back.
     Lockout,
+    /// Room for control words, with memory for it and without.
+    Room,
     /// Offers and starts, some of which are refused.
     Refusals,
     /// The first start.
@@ -137,6 +141,7 @@ fn event(rt: &impl Abort, act: &Act) -> Event {
         Act::Directive(directive) => Event::Directive(directive),
         Act::Up => UP,
         Act::LoseUp(place) => Event::LoseUp(place),
+        Act::Release => Event::Release,
         Act::Clcw => Event::Clcw,
         Act::Downlink => Event::Downlink,
     }
@@ -229,6 +234,7 @@ fn plays<L: Link>(
     match scenario {
         Scenario::Round => rounds::confirms(rt, alloc, link)?,
         Scenario::Lockout => lockouts::comes_back(rt, alloc, link)?,
+        Scenario::Room => rooms::reserves(rt, link),
         Scenario::Refusals => refusing::refuses(rt, link),
         Scenario::FirstSession => refusing::begins_with_none(rt, link),
         Scenario::OverFrame => starts::starts_over_a_frame(rt, link),
@@ -286,22 +292,16 @@ fn flies<L: Link>(link: &L, frames: usize) -> bool {
 
 /// Checks the session at this place: the requests from one number on, as many as these were sent, accepted and
 /// confirmed.
-fn expect_session<L: Link>(
-    rt: &impl Abort,
-    link: &L,
-    place: usize,
-    first: u32,
-    counts: [usize; 3],
-) {
+fn check_session<L: Link>(rt: &impl Abort, link: &L, place: usize, first: u32, counts: [usize; 3]) {
     let session = link.written(place).expect(rt, "a session");
     let [sent, accepted, confirmed] = counts;
-    expect_from(rt, session.sent, first, sent, "sent");
-    expect_from(rt, session.accepted, first, accepted, "accepted");
-    expect_from(rt, session.confirmed, first, confirmed, "confirmed");
+    check_from(rt, session.sent, first, sent, "sent");
+    check_from(rt, session.accepted, first, accepted, "accepted");
+    check_from(rt, session.confirmed, first, confirmed, "confirmed");
 }
 
 /// Checks that these are the requests from one number on.
-fn expect_from(rt: &impl Abort, requests: &[RequestNumber], first: u32, count: usize, what: &str) {
+fn check_from(rt: &impl Abort, requests: &[RequestNumber], first: u32, count: usize, what: &str) {
     assert!(rt; requests.len() == count, "{what}");
     let mut next = first;
     for request in requests {

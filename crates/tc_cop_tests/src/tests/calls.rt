@@ -1,5 +1,5 @@
 //! The calls of a FOP as data.
-use super::ends::{OnGround, Said};
+use super::ends::{OnGround, PutsOut};
 use super::{body, number};
 use std::process::Abort;
 use tc_farm::clcws::Clcw;
@@ -14,7 +14,7 @@ pub enum Call {
     /// Offers the request of this number.
     Offer(u32),
     /// A directive.
-    Tell(Directive),
+    Direct(Directive),
     /// A control word with this report value and no flag.
     Report(u8),
     /// The same with Wait.
@@ -47,7 +47,7 @@ fn word(report: u8, lockout: bool, retransmit: bool, wait: bool) -> Option<Clcw>
 pub fn done<G: OnGround>(rt: &impl Abort, fop: &mut G, call: Call) -> Result<G::Out, Refusal> {
     match call {
         Call::Offer(n) => fop.offers(number(rt, n), body(rt, n)),
-        Call::Tell(directive) => fop.carries_out(directive),
+        Call::Direct(directive) => fop.carries_out(directive),
         Call::Report(report) => fop.hears(word(report, false, false, false)),
         Call::Wait(report) => fop.hears(word(report, false, false, true)),
         Call::Again(report) => fop.hears(word(report, false, true, false)),
@@ -64,18 +64,18 @@ pub fn done<G: OnGround>(rt: &impl Abort, fop: &mut G, call: Call) -> Result<G::
 }
 
 /// Checks that a call is refused so.
-pub fn expect_refused<G: OnGround>(rt: &impl Abort, fop: &mut G, call: Call, refusal: Refusal) {
+pub fn check_refused<G: OnGround>(rt: &impl Abort, fop: &mut G, call: Call, refusal: Refusal) {
     let answer = done(rt, fop, call).err();
     assert!(rt; answer == Some(refusal), "{call:?} answers {answer:?}");
 }
 
 /// Checks how an offer would be refused now.
-pub fn expect_offer<G: OnGround>(rt: &impl Abort, fop: &G, refusal: Option<Refusal>) {
+pub fn check_offer<G: OnGround>(rt: &impl Abort, fop: &G, refusal: Option<Refusal>) {
     assert_eq!(rt; fop.would_refuse(), refusal);
 }
 
 /// Checks the variables.
-pub fn expect_view<G: OnGround>(rt: &impl Abort, fop: &G, view: &FopView, what: &str) {
+pub fn check_view<G: OnGround>(rt: &impl Abort, fop: &G, view: &FopView, what: &str) {
     assert_eq!(rt; fop.variables(), *view, "{what}");
 }
 
@@ -88,7 +88,7 @@ pub fn all_done<G: OnGround>(rt: &impl Abort, fop: &mut G, calls: &[Call]) -> Re
 }
 
 /// Checks a whole output.
-pub fn expect_output<S: Said>(
+pub fn check_output<S: PutsOut>(
     rt: &impl Abort,
     out: &S,
     frames: &[Frame],
@@ -96,11 +96,11 @@ pub fn expect_output<S: Said>(
     what: &str,
 ) {
     assert!(rt; out.sent() == frames, "frames at {what}");
-    assert!(rt; out.told() == indications, "indications at {what}");
+    assert!(rt; out.indicated() == indications, "indications at {what}");
 }
 
 /// Makes a call, and checks its whole output.
-pub fn expect_call<G: OnGround>(
+pub fn check_call<G: OnGround>(
     rt: &impl Abort,
     fop: &mut G,
     call: Call,
@@ -109,6 +109,6 @@ pub fn expect_call<G: OnGround>(
     what: &str,
 ) -> Result<(), Refusal> {
     let out = done(rt, fop, call)?;
-    expect_output(rt, &out, frames, indications, what);
+    check_output(rt, &out, frames, indications, what);
     Ok(())
 }

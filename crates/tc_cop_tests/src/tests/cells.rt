@@ -1,9 +1,9 @@
-//! A case for each cell of the table that is not empty and that calls can reach.
-use super::calls::{Call, all_done, done, expect_view};
-use super::ends::{OnGround, Said, fop};
+//! A case for each cell of the table that calls can reach in S1 to S5: those that act, and those that ignore.
+use super::calls::{Call, all_done, check_view, done};
+use super::ends::{OnGround, PutsOut, fop};
 use super::tables::{
-    ACKNOWLEDGES, ALL_AGAIN, BEGINS, Case, Flown, LEFT, LIMITS, NO_MORE, STOPPED, STOPS, Start,
-    Stop, Told,
+    ACKNOWLEDGES, ALL_AGAIN, BEGINS, Case, Flown, IGNORED, IGNORED_IN_S5, IN_S5, Indicated, LEFT,
+    LIMITS, NO_MORE, STOPPED, STOPS, Start, Stop,
 };
 use super::{ad, number};
 use std::alloc::Global;
@@ -15,14 +15,14 @@ use tc_types::frames::Frame;
 use tc_types::refusals::Refusal;
 
 /// The indication.
-fn indication(rt: &impl Abort, told: Told) -> Indication {
-    match told {
-        Told::Sent(n) => Indication::Sent(number(rt, n)),
-        Told::Confirmed(n) => Indication::Confirmed(number(rt, n)),
-        Told::Back(n) => Indication::GivenBack(number(rt, n)),
-        Told::Doubt(n) => Indication::InDoubt(number(rt, n)),
-        Told::Alert(kind) => Indication::Alert(kind),
-        Told::Started => Indication::Started,
+fn indication(rt: &impl Abort, indicated: Indicated) -> Indication {
+    match indicated {
+        Indicated::Sent(n) => Indication::Sent(number(rt, n)),
+        Indicated::Confirmed(n) => Indication::Confirmed(number(rt, n)),
+        Indicated::Back(n) => Indication::GivenBack(number(rt, n)),
+        Indicated::Doubt(n) => Indication::InDoubt(number(rt, n)),
+        Indicated::Alert(kind) => Indication::Alert(kind),
+        Indicated::Started => Indication::Started,
     }
 }
 
@@ -36,7 +36,7 @@ fn frame(rt: &impl Abort, flown: Flown) -> Frame {
 
 /// How a new FOP comes to stand so.
 fn calls_to(start: Start) -> &'static [Call] {
-    const FIRST: Call = Call::Tell(Directive::InitiateNone);
+    const FIRST: Call = Call::Direct(Directive::InitiateNone);
     const ONE: Call = Call::Offer(1);
     const TWO: Call = Call::Offer(2);
     const THREE: Call = Call::Offer(3);
@@ -44,8 +44,8 @@ fn calls_to(start: Start) -> &'static [Call] {
         Start::S1 => &[FIRST, ONE, TWO, THREE],
         Start::S2 => &[FIRST, ONE, TWO, THREE, Call::Again(0)],
         Start::S3 => &[FIRST, ONE, TWO, THREE, Call::AgainWait(0)],
-        Start::S4 => &[Call::Tell(Directive::InitiateCheck)],
-        Start::S5 => &[Call::Tell(Directive::InitiateUnlock)],
+        Start::S4 => &[Call::Direct(Directive::InitiateCheck)],
+        Start::S5 => &[Call::Direct(Directive::InitiateUnlock)],
     }
 }
 
@@ -59,16 +59,16 @@ fn are_sent(rt: &impl Abort, frames: &[Frame], want: &[Flown]) -> bool {
 }
 
 /// Whether these indications are put out.
-fn are_told(rt: &impl Abort, indications: &[Indication], want: &[Told]) -> bool {
+fn are_indicated(rt: &impl Abort, indications: &[Indication], want: &[Indicated]) -> bool {
     let mut equal = indications.len() == want.len();
-    for (got, told) in indications.iter().zip(want) {
-        equal = equal && *got == indication(rt, *told);
+    for (got, indicated) in indications.iter().zip(want) {
+        equal = equal && *got == indication(rt, *indicated);
     }
     equal
 }
 
 /// Makes the calls of a case from this state, and compares the whole output and the view.
-fn expect_case<G: OnGround>(
+fn check_case<G: OnGround>(
     rt: &impl Abort,
     fop: &mut G,
     case: &Case,
@@ -77,21 +77,25 @@ fn expect_case<G: OnGround>(
     all_done(rt, fop, calls_to(start))?;
     all_done(rt, fop, case.then)?;
     let out = done(rt, fop, case.call)?;
-    let (sent, told) = (
+    let (sent, indicated) = (
         are_sent(rt, out.sent(), case.frames),
-        are_told(rt, out.told(), case.told),
+        are_indicated(rt, out.indicated(), case.indicated),
     );
-    assert!(rt; sent && told, "{} in {start:?}: {sent} {told}", case.row);
-    expect_view(rt, fop, &case.view, case.row);
+    assert!(rt;
+        sent && indicated,
+        "{} in {start:?}: {sent} {indicated}",
+        case.row
+    );
+    check_view(rt, fop, &case.view, case.row);
     Ok(())
 }
 
 /// Checks these cases, each from a new FOP.
-fn expect_cases(rt: &impl Abort, alloc: Global, cases: &[Case]) -> Result<(), Refusal> {
+fn check_cases(rt: &impl Abort, alloc: Global, cases: &[Case]) -> Result<(), Refusal> {
     for case in cases {
         for start in case.starts {
             let mut fop = fop(alloc, 2, 10, 3)?;
-            expect_case(rt, &mut fop, case, *start)?;
+            check_case(rt, &mut fop, case, *start)?;
         }
     }
     Ok(())
@@ -100,14 +104,43 @@ fn expect_cases(rt: &impl Abort, alloc: Global, cases: &[Case]) -> Result<(), Re
 #[test]
 fn gives_what_the_cell_says(rt: HostRuntime) -> Result<(), Fail> {
     for cases in [BEGINS, ACKNOWLEDGES, LEFT, ALL_AGAIN, NO_MORE, LIMITS] {
-        expect_cases(&rt, rt.alloc(), cases)?;
+        check_cases(&rt, rt.alloc(), cases)?;
+    }
+    Ok(())
+}
+
+/// Checks that a word of this row is ignored in S5.
+fn check_ignored(
+    rt: &impl Abort,
+    alloc: Global,
+    row: &'static str,
+    call: Call,
+) -> Result<(), Refusal> {
+    let case = Case {
+        row,
+        starts: &[Start::S5],
+        then: &[],
+        call,
+        frames: &[],
+        indicated: &[],
+        view: IN_S5,
+    };
+    let mut fop = fop(alloc, 2, 10, 3)?;
+    check_case(rt, &mut fop, &case, Start::S5)
+}
+
+#[test]
+fn ignores_what_the_cell_ignores(rt: HostRuntime) -> Result<(), Fail> {
+    check_cases(&rt, rt.alloc(), IGNORED)?;
+    for (row, call) in IGNORED_IN_S5 {
+        check_ignored(&rt, rt.alloc(), row, *call)?;
     }
     Ok(())
 }
 
 /// Checks that a call stops the service in each of its states.
-fn expect_stop(rt: &impl Abort, alloc: Global, stop: &Stop) -> Result<(), Refusal> {
-    let (row, starts, call, told) = *stop;
+fn check_stop(rt: &impl Abort, alloc: Global, stop: &Stop) -> Result<(), Refusal> {
+    let (row, starts, call, indicated) = *stop;
     for start in starts {
         let case = Case {
             row,
@@ -115,14 +148,14 @@ fn expect_stop(rt: &impl Abort, alloc: Global, stop: &Stop) -> Result<(), Refusa
             then: &[],
             call,
             frames: &[],
-            told,
+            indicated,
             view: FopView {
                 count: count_in(*start),
                 ..STOPPED
             },
         };
         let mut fop = fop(alloc, 2, 10, 3)?;
-        expect_case(rt, &mut fop, &case, *start)?;
+        check_case(rt, &mut fop, &case, *start)?;
     }
     Ok(())
 }
@@ -138,7 +171,7 @@ fn count_in(start: Start) -> u8 {
 #[test]
 fn stops(rt: HostRuntime) -> Result<(), Fail> {
     for stop in STOPS {
-        expect_stop(&rt, rt.alloc(), stop)?;
+        check_stop(&rt, rt.alloc(), stop)?;
     }
     Ok(())
 }

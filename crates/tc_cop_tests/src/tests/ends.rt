@@ -15,7 +15,7 @@ use tc_types::requests::Body;
 /// The end on board.
 pub trait OnBoard {
     /// A frame came: whether it is accepted as data.
-    fn accepts(&mut self, frame: Frame, room: bool) -> bool;
+    fn accepts(&mut self, frame: Frame, free_buffer: bool) -> bool;
 
     /// A buffer became free.
     fn frees(&mut self);
@@ -31,8 +31,8 @@ pub trait OnBoard {
 }
 
 impl OnBoard for Farm {
-    fn accepts(&mut self, frame: Frame, room: bool) -> bool {
-        match self.frame(frame, room) {
+    fn accepts(&mut self, frame: Frame, free_buffer: bool) -> bool {
+        match self.frame(frame, free_buffer) {
             Verdict::Accepted { .. } => true,
             Verdict::Discarded | Verdict::Control => false,
         }
@@ -59,20 +59,20 @@ impl OnBoard for Farm {
 }
 
 /// What a call put out.
-pub trait Said {
+pub trait PutsOut {
     /// The frames, in order.
     fn sent(&self) -> &[Frame];
 
     /// The indications, in order.
-    fn told(&self) -> &[Indication];
+    fn indicated(&self) -> &[Indication];
 }
 
-impl<A: Allocator + Copy + Drop> Said for Output<A> {
+impl<A: Allocator + Copy + Drop> PutsOut for Output<A> {
     fn sent(&self) -> &[Frame] {
         self.frames()
     }
 
-    fn told(&self) -> &[Indication] {
+    fn indicated(&self) -> &[Indication] {
         self.indications()
     }
 }
@@ -80,7 +80,7 @@ impl<A: Allocator + Copy + Drop> Said for Output<A> {
 /// The end on the ground.
 pub trait OnGround {
     /// What a call puts out.
-    type Out: Said + Drop;
+    type Out: PutsOut + Drop;
 
     /// Offers a request.
     fn offers(&mut self, request: RequestNumber, body: Body) -> Result<Self::Out, Refusal>;

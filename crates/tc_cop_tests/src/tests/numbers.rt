@@ -5,12 +5,12 @@ use std::process::Abort;
 use tc_farm::farms::{Farm, FarmState, FarmView};
 
 /// The table as a plain program: what a type-AD frame with this number does, and whether it is accepted.
-fn by_table(farm: FarmView, ns: u8, room: bool) -> (FarmView, bool) {
+fn by_table(farm: FarmView, ns: u8, free_buffer: bool) -> (FarmView, bool) {
     let half = u32::from(farm.window) / 2;
     let distance = (u32::from(ns) + 256 - u32::from(farm.vr)) % 256;
     let mut after = farm;
     match farm.state {
-        FarmState::Open if distance == 0 && room => {
+        FarmState::Open if distance == 0 && free_buffer => {
             after.vr = ((u32::from(farm.vr) + 1) % 256) as u8;
             after.retransmit = false;
             return (after, true);
@@ -37,34 +37,37 @@ fn agrees<F: OnBoard>(
     state: FarmState,
     vr: u8,
     ns: u8,
-    room: bool,
+    free_buffer: bool,
 ) -> bool {
     comes_to(rt, farm, state, vr);
     let before = farm.variables();
-    let (after, accepted) = by_table(before, ns, room);
+    let (after, accepted) = by_table(before, ns, free_buffer);
     before.state == state
         && before.vr == vr
-        && takes(rt, farm, ns, room) == accepted
+        && takes(rt, farm, ns, free_buffer) == accepted
         && farm.variables() == after
 }
 
 /// Checks FARMs of this width in this state at every number and every V(R), with and without a free buffer.
-fn expect_agreement(rt: &impl Abort, w: u16, state: FarmState) {
+fn check_agreement(rt: &impl Abort, w: u16, state: FarmState) {
     for place in 0..131_072_u32 {
-        let room = place >= 65_536;
+        let free_buffer = place >= 65_536;
         let ns = (place % 256) as u8;
         let vr = (place / 256 % 256) as u8;
         let mut farm = Farm::new(w).expect(rt, "a width");
-        let agreed = agrees(rt, &mut farm, state, vr, ns, room);
-        assert!(rt; agreed, "{w} in {state:?}: {ns} at {vr}, room {room}");
+        let agreed = agrees(rt, &mut farm, state, vr, ns, free_buffer);
+        assert!(rt;
+            agreed,
+            "{w} in {state:?}: {ns} at {vr}, buffer {free_buffer}"
+        );
     }
 }
 
 #[test]
 fn every_number(rt: HostRuntime) {
     for w in [2, 4, 20, 128, 252, 254] {
-        expect_agreement(&rt, w, FarmState::Open);
-        expect_agreement(&rt, w, FarmState::Wait);
-        expect_agreement(&rt, w, FarmState::Lockout);
+        check_agreement(&rt, w, FarmState::Open);
+        check_agreement(&rt, w, FarmState::Wait);
+        check_agreement(&rt, w, FarmState::Lockout);
     }
 }

@@ -1,5 +1,5 @@
 //! Where memory is refused nothing changes, and what was reserved is there.
-use super::calls::{Call, all_done, done, expect_output, expect_view};
+use super::calls::{Call, all_done, check_output, check_refused, check_view, done};
 use super::ends::{OnGround, fop, refusal_to_make};
 use super::{ad, number};
 use linked_list_allocator::LocalHeap;
@@ -14,7 +14,7 @@ use tc_types::refusals::Refusal;
 const HEAP: usize = 131_072;
 
 /// The service starts without check.
-const START: Call = Call::Tell(Directive::InitiateNone);
+const START: Call = Call::Direct(Directive::InitiateNone);
 
 /// How many sizes are tried of what something else takes of the heap.
 const SIZES: usize = 256;
@@ -26,9 +26,9 @@ fn size_at(place: usize) -> usize {
 }
 
 /// Checks that this refusal is one of memory, and that nothing changed.
-fn expect_unchanged<G: OnGround>(rt: &impl Abort, fop: &G, before: &FopView, refusal: Refusal) {
+fn check_unchanged<G: OnGround>(rt: &impl Abort, fop: &G, before: &FopView, refusal: Refusal) {
     assert!(rt; refusal == Refusal::Memory, "{refusal:?}");
-    expect_view(rt, fop, before, "a call that was refused memory");
+    check_view(rt, fop, before, "a call that was refused memory");
 }
 
 /// Makes the call while ever less of the heap is taken by something else: until it succeeds it is refused memory, and
@@ -51,7 +51,7 @@ fn squeezed<G: OnGround>(
                 return Ok(out);
             }
             Err(refusal) => {
-                expect_unchanged(rt, fop, &before, refusal);
+                check_unchanged(rt, fop, &before, refusal);
                 refused = refused.saturating_add(1);
             }
         }
@@ -63,16 +63,16 @@ fn squeezed<G: OnGround>(
 fn goes_on<G: OnGround>(rt: &impl Abort, heap: &LocalHeap, fop: &mut G) -> Result<(), Refusal> {
     all_done(rt, fop, &[START, Call::Offer(1), Call::Offer(2)])?;
     let out = squeezed(rt, heap, fop, Call::Offer(3))?;
-    expect_output(rt, &out, &[], &[], "an offer that waits");
+    check_output(rt, &out, &[], &[], "an offer that waits");
     let out = squeezed(rt, heap, fop, Call::Report(1))?;
-    let told = [
+    let indicated = [
         Indication::Confirmed(number(rt, 1)),
         Indication::Sent(number(rt, 3)),
     ];
-    expect_output(rt, &out, &[ad(rt, 2, 3)], &told, "P6");
+    check_output(rt, &out, &[ad(rt, 2, 3)], &indicated, "P6");
     let out = squeezed(rt, heap, fop, Call::Again(1))?;
     let again = [ad(rt, 1, 2), ad(rt, 2, 3)];
-    expect_output(rt, &out, &again, &[], "a retransmission");
+    check_output(rt, &out, &again, &[], "a retransmission");
     Ok(())
 }
 
@@ -96,7 +96,7 @@ fn fill<'a>(heap: &'a LocalHeap) -> Vec<u8, &'a LocalHeap> {
 }
 
 /// Checks that a call is not refused the memory that was reserved for it, where the heap is full.
-fn expect_reserved<G: OnGround>(
+fn check_reserved<G: OnGround>(
     rt: &impl Abort,
     heap: &LocalHeap,
     fop: &mut G,
@@ -123,14 +123,14 @@ const CALLS: &[Call] = &[
 ];
 
 /// Checks the same of these calls, one after the other.
-fn expect_all_reserved<G: OnGround>(
+fn check_all_reserved<G: OnGround>(
     rt: &impl Abort,
     heap: &LocalHeap,
     fop: &mut G,
     calls: &[Call],
 ) -> Result<(), Refusal> {
     for call in calls {
-        expect_reserved(rt, heap, fop, *call)?;
+        check_reserved(rt, heap, fop, *call)?;
     }
     Ok(())
 }
@@ -139,7 +139,29 @@ fn expect_all_reserved<G: OnGround>(
 fn is_not_refused_what_was_reserved(rt: HostRuntime) -> Result<(), Fail> {
     let heap = LocalHeap::new(rt.alloc(), HEAP)?;
     let mut fop = fop(&heap, 1, 10, 3)?;
-    expect_all_reserved(&rt, &heap, &mut fop, CALLS)?;
+    check_all_reserved(&rt, &heap, &mut fop, CALLS)?;
+    Ok(())
+}
+
+/// Checks that an offer and a directive that are refused leave what was reserved: the next call has it, where the heap
+/// is full.
+fn check_kept<G: OnGround>(rt: &impl Abort, heap: &LocalHeap, fop: &mut G) -> Result<(), Refusal> {
+    all_done(rt, fop, &[START, Call::Offer(1), Call::Offer(2)])?;
+    fop.reserves()?;
+    let taken = fill(heap);
+    check_refused(rt, fop, Call::Offer(3), Refusal::WaitQueueFull);
+    check_refused(rt, fop, START, Refusal::BadDirective);
+    let out = done(rt, fop, Call::Invalid);
+    assert!(rt; out.is_ok(), "a call after refusals");
+    drop(taken);
+    Ok(())
+}
+
+#[test]
+fn refusals_leave_what_was_reserved(rt: HostRuntime) -> Result<(), Fail> {
+    let heap = LocalHeap::new(rt.alloc(), HEAP)?;
+    let mut fop = fop(&heap, 1, 10, 3)?;
+    check_kept(&rt, &heap, &mut fop)?;
     Ok(())
 }
 

@@ -1,5 +1,5 @@
 //! Runs of a FOP with whole outputs, what it refuses, and numbers that go around.
-use super::calls::{Call, all_done, done, expect_call, expect_offer, expect_refused, expect_view};
+use super::calls::{Call, all_done, check_call, check_offer, check_refused, check_view, done};
 use super::ends::{OnGround, fop, refusal_to_make};
 use super::{ad, number};
 use std::process::Abort;
@@ -9,7 +9,7 @@ use tc_fop::views::FopView;
 use tc_types::refusals::Refusal;
 
 /// The service starts without check.
-const START: Call = Call::Tell(Directive::InitiateNone);
+const START: Call = Call::Direct(Directive::InitiateNone);
 
 /// Where the window is one: one request is out under the number 1, after another was confirmed.
 const SECOND_OUT: FopView = FopView {
@@ -27,37 +27,44 @@ const SECOND_OUT: FopView = FopView {
 
 /// The first request is sent, the second waits, and the third is refused.
 fn fills<G: OnGround>(rt: &impl Abort, fop: &mut G) -> Result<(), Refusal> {
-    expect_call(rt, fop, START, &[], &[Indication::Started], "the start")?;
+    check_call(rt, fop, START, &[], &[Indication::Started], "the start")?;
     let sent = [Indication::Sent(number(rt, 1))];
-    expect_call(rt, fop, Call::Offer(1), &[ad(rt, 0, 1)], &sent, "request 1")?;
-    expect_call(rt, fop, Call::Offer(2), &[], &[], "request 2")?;
-    expect_offer(rt, fop, Some(Refusal::WaitQueueFull));
-    expect_refused(rt, fop, Call::Offer(3), Refusal::WaitQueueFull);
+    check_call(rt, fop, Call::Offer(1), &[ad(rt, 0, 1)], &sent, "request 1")?;
+    check_call(rt, fop, Call::Offer(2), &[], &[], "request 2")?;
+    check_offer(rt, fop, Some(Refusal::WaitQueueFull));
+    check_refused(rt, fop, Call::Offer(3), Refusal::WaitQueueFull);
     Ok(())
 }
 
 /// The first request is confirmed and the second sent, which is in doubt when the service stops.
 fn empties<G: OnGround>(rt: &impl Abort, fop: &mut G) -> Result<(), Refusal> {
-    let told = [
+    let indicated = [
         Indication::Confirmed(number(rt, 1)),
         Indication::Sent(number(rt, 2)),
     ];
-    expect_call(rt, fop, Call::Report(1), &[ad(rt, 1, 2)], &told, "report 1")?;
-    expect_view(rt, fop, &SECOND_OUT, "report 1");
-    let told = [
+    check_call(
+        rt,
+        fop,
+        Call::Report(1),
+        &[ad(rt, 1, 2)],
+        &indicated,
+        "report 1",
+    )?;
+    check_view(rt, fop, &SECOND_OUT, "report 1");
+    let indicated = [
         Indication::InDoubt(number(rt, 2)),
         Indication::Alert(AlertKind::Clcw),
     ];
-    expect_call(
+    check_call(
         rt,
         fop,
         Call::Invalid,
         &[],
-        &told,
+        &indicated,
         "a word that is not valid",
     )?;
-    expect_call(rt, fop, Call::Invalid, &[], &[], "another in S6")?;
-    expect_offer(rt, fop, Some(Refusal::ServiceNotActive));
+    check_call(rt, fop, Call::Invalid, &[], &[], "another in S6")?;
+    check_offer(rt, fop, Some(Refusal::ServiceNotActive));
     Ok(())
 }
 
@@ -89,19 +96,19 @@ const LATE: [Directive; 5] = [
 ];
 
 /// Checks that these directives are refused now.
-fn expect_bad<G: OnGround>(rt: &impl Abort, fop: &mut G, directives: &[Directive]) {
+fn check_bad<G: OnGround>(rt: &impl Abort, fop: &mut G, directives: &[Directive]) {
     for directive in directives {
-        expect_refused(rt, fop, Call::Tell(*directive), Refusal::BadDirective);
+        check_refused(rt, fop, Call::Direct(*directive), Refusal::BadDirective);
     }
 }
 
 /// Checks what is refused before and after the start.
-fn expect_refusals<G: OnGround>(rt: &impl Abort, fop: &mut G) -> Result<(), Refusal> {
-    expect_refused(rt, fop, Call::Offer(1), Refusal::ServiceNotActive);
-    expect_bad(rt, fop, &ZEROS);
+fn check_refusals<G: OnGround>(rt: &impl Abort, fop: &mut G) -> Result<(), Refusal> {
+    check_refused(rt, fop, Call::Offer(1), Refusal::ServiceNotActive);
+    check_bad(rt, fop, &ZEROS);
     done(rt, fop, START)?;
-    expect_bad(rt, fop, &LATE);
-    expect_offer(rt, fop, None);
+    check_bad(rt, fop, &LATE);
+    check_offer(rt, fop, None);
     Ok(())
 }
 
@@ -112,21 +119,21 @@ fn refuses(rt: HostRuntime) -> Result<(), Fail> {
         assert!(rt; refusal == Some(Refusal::BadDirective), "{k} {t1} {limit}");
     }
     let mut fop = fop(rt.alloc(), 1, 10, 3)?;
-    expect_refusals(&rt, &mut fop)?;
+    check_refusals(&rt, &mut fop)?;
     Ok(())
 }
 
 /// This report confirms the request before the last, and request `n` is sent in its place.
 fn moves_on<G: OnGround>(rt: &impl Abort, fop: &mut G, report: u8, n: u32) -> Result<(), Refusal> {
-    let told = [Indication::Confirmed(number(rt, n.wrapping_sub(2)))];
-    expect_call(rt, fop, Call::Report(report), &[], &told, "a report")?;
+    let indicated = [Indication::Confirmed(number(rt, n.wrapping_sub(2)))];
+    check_call(rt, fop, Call::Report(report), &[], &indicated, "a report")?;
     done(rt, fop, Call::Offer(n))?;
     Ok(())
 }
 
 /// From the number 5 on, 256 requests one after the other, each confirmed but for the last two.
 fn passes_the_end<G: OnGround>(rt: &impl Abort, fop: &mut G) -> Result<(), Refusal> {
-    let set = Call::Tell(Directive::SetVs(5));
+    let set = Call::Direct(Directive::SetVs(5));
     all_done(rt, fop, &[set, START, Call::Offer(1), Call::Offer(2)])?;
     let mut report = 6u8;
     for n in 3..257u32 {
@@ -139,18 +146,18 @@ fn passes_the_end<G: OnGround>(rt: &impl Abort, fop: &mut G) -> Result<(), Refus
 /// The last two are sent again, and are in doubt when the service stops.
 fn sends_the_last_again<G: OnGround>(rt: &impl Abort, fop: &mut G) -> Result<(), Refusal> {
     let again = [ad(rt, 3, 255), ad(rt, 4, 256)];
-    expect_call(rt, fop, Call::Again(3), &again, &[], "a retransmission")?;
-    let told = [
+    check_call(rt, fop, Call::Again(3), &again, &[], "a retransmission")?;
+    let indicated = [
         Indication::InDoubt(number(rt, 255)),
         Indication::InDoubt(number(rt, 256)),
         Indication::Alert(AlertKind::Clcw),
     ];
-    expect_call(
+    check_call(
         rt,
         fop,
         Call::Invalid,
         &[],
-        &told,
+        &indicated,
         "a word that is not valid",
     )
 }

@@ -1,5 +1,5 @@
 //! The alerts of S4 and S5, those at the limit, and the outputs of directives.
-use super::calls::{Call, done, expect_call, expect_view};
+use super::calls::{Call, check_call, check_view, done};
 use super::ends::{OnGround, fop};
 use std::process::Abort;
 use std::test::Fail;
@@ -61,16 +61,16 @@ const STOPPED: FopView = FopView {
 };
 
 /// Checks that the service stops so, before it begins.
-fn expect_early<G: OnGround>(rt: &impl Abort, fop: &mut G, early: &Early) -> Result<(), Refusal> {
+fn check_early<G: OnGround>(rt: &impl Abort, fop: &mut G, early: &Early) -> Result<(), Refusal> {
     let (what, directive, limit, call, kind, count) = *early;
-    done(rt, fop, Call::Tell(directive))?;
-    expect_call(rt, fop, call, &[], &[Indication::Alert(kind)], what)?;
+    done(rt, fop, Call::Direct(directive))?;
+    check_call(rt, fop, call, &[], &[Indication::Alert(kind)], what)?;
     let view = FopView {
         count,
         limit,
         ..STOPPED
     };
-    expect_view(rt, fop, &view, what);
+    check_view(rt, fop, &view, what);
     Ok(())
 }
 
@@ -78,7 +78,7 @@ fn expect_early<G: OnGround>(rt: &impl Abort, fop: &mut G, early: &Early) -> Res
 fn stops_before_it_begins(rt: HostRuntime) -> Result<(), Fail> {
     for early in EARLY {
         let mut fop = fop(rt.alloc(), 2, 10, early.2)?;
-        expect_early(&rt, &mut fop, early)?;
+        check_early(&rt, &mut fop, early)?;
     }
     Ok(())
 }
@@ -130,30 +130,30 @@ const INITIATIONS: [Initiation; 4] = [
 ];
 
 /// Checks what an initiation puts out: the BC frame, or that the service begins at once where the state is S1.
-fn expect_begin<G: OnGround>(
+fn check_begin<G: OnGround>(
     rt: &impl Abort,
     fop: &mut G,
     case: &Initiation,
 ) -> Result<(), Refusal> {
-    let call = Call::Tell(case.directive);
+    let call = Call::Direct(case.directive);
     let what = case.what;
     match case.frame {
-        Some(frame) => expect_call(rt, fop, call, &[frame], &[], what),
+        Some(frame) => check_call(rt, fop, call, &[frame], &[], what),
         None => match case.state {
-            FopState::Active => expect_call(rt, fop, call, &[], &[Indication::Started], what),
-            _ => expect_call(rt, fop, call, &[], &[], what),
+            FopState::Active => check_call(rt, fop, call, &[], &[Indication::Started], what),
+            _ => check_call(rt, fop, call, &[], &[], what),
         },
     }
 }
 
 /// Checks an initiation and two terminations after it.
-fn expect_initiation<G: OnGround>(
+fn check_initiation<G: OnGround>(
     rt: &impl Abort,
     fop: &mut G,
     case: &Initiation,
 ) -> Result<(), Refusal> {
-    done(rt, fop, Call::Tell(Directive::SetVs(5)))?;
-    expect_begin(rt, fop, case)?;
+    done(rt, fop, Call::Direct(Directive::SetVs(5)))?;
+    check_begin(rt, fop, case)?;
     let view = FopView {
         state: case.state,
         vs: case.vs,
@@ -161,18 +161,18 @@ fn expect_initiation<G: OnGround>(
         timer: case.timer,
         ..STOPPED
     };
-    expect_view(rt, fop, &view, case.what);
-    let end = Call::Tell(Directive::Terminate);
+    check_view(rt, fop, &view, case.what);
+    let end = Call::Direct(Directive::Terminate);
     let stopped = [Indication::Alert(AlertKind::Term)];
-    expect_call(rt, fop, end, &[], &stopped, "a termination")?;
-    expect_call(rt, fop, end, &[], &[], "a termination in S6")
+    check_call(rt, fop, end, &[], &stopped, "a termination")?;
+    check_call(rt, fop, end, &[], &[], "a termination in S6")
 }
 
 #[test]
 fn initiates(rt: HostRuntime) -> Result<(), Fail> {
     for case in &INITIATIONS {
         let mut fop = fop(rt.alloc(), 2, 10, 3)?;
-        expect_initiation(&rt, &mut fop, case)?;
+        check_initiation(&rt, &mut fop, case)?;
     }
     Ok(())
 }

@@ -23,7 +23,7 @@ pub const TAKING: &[Start] = &[Start::S1, Start::S2, Start::S3];
 
 /// An indication by the number of its request.
 #[derive(Clone, Copy)]
-pub enum Told {
+pub enum Indicated {
     /// Sent for the first time.
     Sent(u32),
     /// Confirmed.
@@ -61,7 +61,7 @@ pub struct Case {
     /// The frames that it puts out.
     pub frames: &'static [Flown],
     /// The indications that it puts out.
-    pub told: &'static [Told],
+    pub indicated: &'static [Indicated],
     /// The variables after it.
     pub view: FopView,
 }
@@ -78,6 +78,19 @@ pub const OUT: FopView = FopView {
     k: 2,
     t1: 10,
     limit: 3,
+};
+
+/// In S2 before the call.
+const IN_S2: FopView = FopView {
+    state: FopState::RetransmitWithoutWait,
+    count: 2,
+    ..OUT
+};
+
+/// In S3 before the call.
+const IN_S3: FopView = FopView {
+    state: FopState::RetransmitWithWait,
+    ..OUT
 };
 
 /// In S4 before the call, but for the state.
@@ -104,7 +117,7 @@ pub const BEGINS: &[Case] = &[Case {
     then: &[],
     call: Call::Report(0),
     frames: &[],
-    told: &[Told::Started],
+    indicated: &[Indicated::Started],
     view: FopView {
         timer: 0,
         ..NONE_OUT
@@ -119,7 +132,11 @@ pub const ACKNOWLEDGES: &[Case] = &[
         then: &[],
         call: Call::Report(2),
         frames: &[Flown::Ad(2, 3)],
-        told: &[Told::Confirmed(1), Told::Confirmed(2), Told::Sent(3)],
+        indicated: &[
+            Indicated::Confirmed(1),
+            Indicated::Confirmed(2),
+            Indicated::Sent(3),
+        ],
         view: FopView {
             vs: 3,
             nn: 2,
@@ -134,7 +151,7 @@ pub const ACKNOWLEDGES: &[Case] = &[
         then: &[Call::Report(2)],
         call: Call::Report(3),
         frames: &[],
-        told: &[Told::Confirmed(3)],
+        indicated: &[Indicated::Confirmed(3)],
         view: FopView {
             vs: 3,
             nn: 3,
@@ -150,7 +167,7 @@ pub const ACKNOWLEDGES: &[Case] = &[
         then: &[],
         call: Call::Report(1),
         frames: &[Flown::Ad(2, 3)],
-        told: &[Told::Confirmed(1), Told::Sent(3)],
+        indicated: &[Indicated::Confirmed(1), Indicated::Sent(3)],
         view: FopView {
             vs: 3,
             nn: 1,
@@ -165,14 +182,14 @@ pub const LEFT: &[Case] = &[
     Case {
         row: "P8",
         starts: TAKING,
-        then: &[Call::Tell(Directive::SetLimit(1))],
+        then: &[Call::Direct(Directive::SetLimit(1))],
         call: Call::Again(1),
         frames: &[],
-        told: &[
-            Told::Confirmed(1),
-            Told::Doubt(2),
-            Told::Back(3),
-            Told::Alert(AlertKind::Limit),
+        indicated: &[
+            Indicated::Confirmed(1),
+            Indicated::Doubt(2),
+            Indicated::Back(3),
+            Indicated::Alert(AlertKind::Limit),
         ],
         view: FopView {
             nn: 1,
@@ -186,7 +203,7 @@ pub const LEFT: &[Case] = &[
         then: &[],
         call: Call::Again(1),
         frames: &[Flown::Ad(1, 2), Flown::Ad(2, 3)],
-        told: &[Told::Confirmed(1), Told::Sent(3)],
+        indicated: &[Indicated::Confirmed(1), Indicated::Sent(3)],
         view: FopView {
             state: FopState::RetransmitWithoutWait,
             vs: 3,
@@ -202,7 +219,7 @@ pub const LEFT: &[Case] = &[
         then: &[],
         call: Call::AgainWait(1),
         frames: &[],
-        told: &[Told::Confirmed(1)],
+        indicated: &[Indicated::Confirmed(1)],
         view: FopView {
             state: FopState::RetransmitWithWait,
             nn: 1,
@@ -220,7 +237,7 @@ pub const ALL_AGAIN: &[Case] = &[
         then: &[],
         call: Call::Again(0),
         frames: &[Flown::Ad(0, 1), Flown::Ad(1, 2)],
-        told: &[],
+        indicated: &[],
         view: FopView {
             state: FopState::RetransmitWithoutWait,
             count: 2,
@@ -233,7 +250,7 @@ pub const ALL_AGAIN: &[Case] = &[
         then: &[],
         call: Call::AgainWait(0),
         frames: &[],
-        told: &[],
+        indicated: &[],
         view: FopView {
             state: FopState::RetransmitWithWait,
             ..OUT
@@ -245,7 +262,7 @@ pub const ALL_AGAIN: &[Case] = &[
         then: &[],
         call: Call::AgainWait(0),
         frames: &[],
-        told: &[],
+        indicated: &[],
         view: FopView {
             state: FopState::RetransmitWithWait,
             count: 2,
@@ -258,7 +275,7 @@ pub const ALL_AGAIN: &[Case] = &[
         then: &[],
         call: Call::Ticks(10),
         frames: &[Flown::Ad(0, 1), Flown::Ad(1, 2)],
-        told: &[],
+        indicated: &[],
         view: FopView { count: 2, ..OUT },
     },
     Case {
@@ -267,7 +284,7 @@ pub const ALL_AGAIN: &[Case] = &[
         then: &[],
         call: Call::Ticks(10),
         frames: &[Flown::Ad(0, 1), Flown::Ad(1, 2)],
-        told: &[],
+        indicated: &[],
         view: FopView {
             state: FopState::RetransmitWithoutWait,
             count: 3,
@@ -280,7 +297,7 @@ pub const ALL_AGAIN: &[Case] = &[
         then: &[],
         call: Call::Ticks(10),
         frames: &[Flown::Unlock],
-        told: &[],
+        indicated: &[],
         view: FopView {
             state: FopState::InitialisingWithBc,
             count: 2,
@@ -294,10 +311,10 @@ pub const NO_MORE: &[Case] = &[
     Case {
         row: "P13",
         starts: &[Start::S1],
-        then: &[Call::Tell(Directive::SetLimit(2)), Call::Ticks(10)],
+        then: &[Call::Direct(Directive::SetLimit(2)), Call::Ticks(10)],
         call: Call::Again(0),
         frames: &[],
-        told: &[],
+        indicated: &[],
         view: FopView {
             state: FopState::RetransmitWithoutWait,
             count: 2,
@@ -309,13 +326,13 @@ pub const NO_MORE: &[Case] = &[
         row: "P13, after P12",
         starts: &[Start::S1],
         then: &[
-            Call::Tell(Directive::SetLimit(2)),
+            Call::Direct(Directive::SetLimit(2)),
             Call::Ticks(10),
             Call::AgainWait(0),
         ],
         call: Call::Again(0),
         frames: &[],
-        told: &[],
+        indicated: &[],
         view: FopView {
             state: FopState::RetransmitWithoutWait,
             count: 2,
@@ -325,48 +342,127 @@ pub const NO_MORE: &[Case] = &[
     },
 ];
 
+/// What is ignored in S1 to S3, where nothing is put out and the state stays.
+pub const IGNORED: &[Case] = &[
+    Case {
+        row: "P1",
+        starts: &[Start::S1],
+        then: &[Call::Report(2), Call::Report(3)],
+        call: Call::Report(3),
+        frames: &[],
+        indicated: &[],
+        view: FopView {
+            vs: 3,
+            nn: 3,
+            sent: 0,
+            waiting: 0,
+            timer: 0,
+            ..OUT
+        },
+    },
+    Case {
+        row: "P5",
+        starts: &[Start::S1],
+        then: &[],
+        call: Call::Report(0),
+        frames: &[],
+        indicated: &[],
+        view: OUT,
+    },
+    Case {
+        row: "P11",
+        starts: &[Start::S2],
+        then: &[],
+        call: Call::Again(0),
+        frames: &[],
+        indicated: &[],
+        view: IN_S2,
+    },
+    Case {
+        row: "P12",
+        starts: &[Start::S3],
+        then: &[],
+        call: Call::AgainWait(0),
+        frames: &[],
+        indicated: &[],
+        view: IN_S3,
+    },
+    Case {
+        row: "P13",
+        starts: &[Start::S2],
+        then: &[Call::Direct(Directive::SetLimit(2))],
+        call: Call::Again(0),
+        frames: &[],
+        indicated: &[],
+        view: FopView { limit: 2, ..IN_S2 },
+    },
+    Case {
+        row: "P17",
+        starts: &[Start::S3],
+        then: &[],
+        call: Call::Ticks(10),
+        frames: &[],
+        indicated: &[],
+        view: FopView { timer: 0, ..IN_S3 },
+    },
+];
+
+/// In S5 before the call.
+pub const IN_S5: FopView = FopView {
+    state: FopState::InitialisingWithBc,
+    ..NONE_OUT
+};
+
+/// What is ignored in S5, where the BC frame is not acknowledged yet: a row and a word of it.
+pub const IGNORED_IN_S5: &[(&'static str, Call)] = &[
+    ("P3", Call::Wait(0)),
+    ("P4", Call::Again(0)),
+    ("P14", Call::Report(1)),
+    ("P15", Call::Lockout(0)),
+];
+
 /// All requests are given back with the alert Clcw.
-const CLCW: &[Told] = &[
-    Told::Doubt(1),
-    Told::Doubt(2),
-    Told::Back(3),
-    Told::Alert(AlertKind::Clcw),
+const CLCW: &[Indicated] = &[
+    Indicated::Doubt(1),
+    Indicated::Doubt(2),
+    Indicated::Back(3),
+    Indicated::Alert(AlertKind::Clcw),
 ];
 
 /// All requests are given back with the alert Synch.
-const SYNCH: &[Told] = &[
-    Told::Doubt(1),
-    Told::Doubt(2),
-    Told::Back(3),
-    Told::Alert(AlertKind::Synch),
+const SYNCH: &[Indicated] = &[
+    Indicated::Doubt(1),
+    Indicated::Doubt(2),
+    Indicated::Back(3),
+    Indicated::Alert(AlertKind::Synch),
 ];
 
 /// All requests are given back with the alert NnR.
-const NN_R: &[Told] = &[
-    Told::Doubt(1),
-    Told::Doubt(2),
-    Told::Back(3),
-    Told::Alert(AlertKind::NnR),
+const NN_R: &[Indicated] = &[
+    Indicated::Doubt(1),
+    Indicated::Doubt(2),
+    Indicated::Back(3),
+    Indicated::Alert(AlertKind::NnR),
 ];
 
 /// All requests are given back with the alert Lockout.
-const LOCKOUT: &[Told] = &[
-    Told::Doubt(1),
-    Told::Doubt(2),
-    Told::Back(3),
-    Told::Alert(AlertKind::Lockout),
+const LOCKOUT: &[Indicated] = &[
+    Indicated::Doubt(1),
+    Indicated::Doubt(2),
+    Indicated::Back(3),
+    Indicated::Alert(AlertKind::Lockout),
 ];
 
 /// All requests are given back with the alert T1.
-const T1: &[Told] = &[
-    Told::Doubt(1),
-    Told::Doubt(2),
-    Told::Back(3),
-    Told::Alert(AlertKind::T1),
+const T1: &[Indicated] = &[
+    Indicated::Doubt(1),
+    Indicated::Doubt(2),
+    Indicated::Back(3),
+    Indicated::Alert(AlertKind::T1),
 ];
 
-/// A row, the states before a call, the call, and what it tells.
-pub type Stop = (&'static str, &'static [Start], Call, &'static [Told]);
+/// A row, the states before a call, the call, and its indications.
+pub type Stop = (&'static str, &'static [Start], Call, &'static [Indicated]);
 
 /// What stops the service in S1 to S3.
 pub const STOPS: &[Stop] = &[
@@ -384,10 +480,10 @@ pub const LIMITS: &[Case] = &[
     Case {
         row: "P18",
         starts: &[Start::S1, Start::S3],
-        then: &[Call::Tell(Directive::SetLimit(1))],
+        then: &[Call::Direct(Directive::SetLimit(1))],
         call: Call::Ticks(10),
         frames: &[],
-        told: T1,
+        indicated: T1,
         view: FopView {
             limit: 1,
             ..STOPPED
@@ -396,10 +492,10 @@ pub const LIMITS: &[Case] = &[
     Case {
         row: "P18",
         starts: &[Start::S2],
-        then: &[Call::Tell(Directive::SetLimit(1))],
+        then: &[Call::Direct(Directive::SetLimit(1))],
         call: Call::Ticks(10),
         frames: &[],
-        told: T1,
+        indicated: T1,
         view: FopView {
             count: 2,
             limit: 1,

@@ -11,8 +11,8 @@ fn farm(rt: &impl Abort, w: u16) -> Farm {
 }
 
 /// A type-AD frame with this number comes: whether it is accepted.
-pub fn takes<F: OnBoard>(rt: &impl Abort, farm: &mut F, ns: u8, room: bool) -> bool {
-    farm.accepts(ad(rt, ns, 1), room)
+pub fn takes<F: OnBoard>(rt: &impl Abort, farm: &mut F, ns: u8, free_buffer: bool) -> bool {
+    farm.accepts(ad(rt, ns, 1), free_buffer)
 }
 
 /// Brings a new FARM into this state, where it expects this number.
@@ -75,35 +75,35 @@ fn windows(rt: HostRuntime) {
 }
 
 /// Checks the control word on channel 3.
-fn expect_bits<F: OnBoard>(rt: &impl Abort, farm: &F, bits: u32, what: &str) {
+fn check_bits<F: OnBoard>(rt: &impl Abort, farm: &F, bits: u32, what: &str) {
     assert_eq!(rt; farm.bits(), bits, "{what}");
 }
 
 /// Checks the word of a FARM that waits for a buffer.
-fn expect_waiting<F: OnBoard>(rt: &impl Abort, farm: &mut F) {
+fn check_waiting<F: OnBoard>(rt: &impl Abort, farm: &mut F) {
     comes_to(rt, farm, FarmState::Wait, 9);
-    expect_bits(rt, farm, 0x010c_1a09, "one command, waiting");
+    check_bits(rt, farm, 0x010c_1a09, "one command, waiting");
     farm.frees();
     assert!(rt; farm.variables().state == FarmState::Open);
-    expect_bits(rt, farm, 0x010c_0a09, "Retransmit stays");
+    check_bits(rt, farm, 0x010c_0a09, "Retransmit stays");
     assert!(rt; takes(rt, farm, 9, true));
-    expect_bits(rt, farm, 0x010c_020a, "10 is expected");
+    check_bits(rt, farm, 0x010c_020a, "10 is expected");
 }
 
 /// Checks the word of a FARM that is locked out.
-fn expect_locked<F: OnBoard>(rt: &impl Abort, farm: &mut F) {
+fn check_locked<F: OnBoard>(rt: &impl Abort, farm: &mut F) {
     comes_to(rt, farm, FarmState::Lockout, 9);
     farm.accepts(Frame::SetVr(77), true);
     farm.frees();
-    expect_bits(rt, farm, 0x010c_2409, "two commands, locked out");
+    check_bits(rt, farm, 0x010c_2409, "two commands, locked out");
     assert!(rt; !farm.accepts(Frame::Unlock, false));
-    expect_bits(rt, farm, 0x010c_0609, "three commands, open");
+    check_bits(rt, farm, 0x010c_0609, "three commands, open");
 }
 
 #[test]
 fn control_commands(rt: HostRuntime) {
-    expect_waiting(&rt, &mut farm(&rt, 20));
-    expect_locked(&rt, &mut farm(&rt, 20));
+    check_waiting(&rt, &mut farm(&rt, 20));
+    check_locked(&rt, &mut farm(&rt, 20));
     for odd in [0, 1, 3, 255, 256] {
         assert!(rt; Farm::new(odd).is_none(), "{odd}");
     }

@@ -3,7 +3,7 @@ use std::process::Abort;
 use tc_farm::clcws::Clcw;
 
 /// A control word on channel 3 that reports 5.
-fn told(lockout: bool, wait: bool, retransmit: bool) -> Clcw {
+fn reported(lockout: bool, wait: bool, retransmit: bool) -> Clcw {
     Clcw {
         vc: 3,
         lockout,
@@ -20,7 +20,7 @@ fn read(bits: u32, vc: u8) -> Option<Clcw> {
 }
 
 /// Checks that this control word is these bits, and that they are read back on its channel alone.
-fn expect_bits(rt: &impl Abort, clcw: Clcw, bits: u32) {
+fn check_bits(rt: &impl Abort, clcw: Clcw, bits: u32) {
     assert_eq!(rt; clcw.word(), bits);
     assert!(rt; read(bits, 3) == Some(clcw), "{bits}");
     assert!(rt; read(bits, 4).is_none(), "another channel");
@@ -28,7 +28,7 @@ fn expect_bits(rt: &impl Abort, clcw: Clcw, bits: u32) {
 
 /// The control word with the flags Lockout and Retransmit on this channel, as 32 bits; 0 where there is no such channel.
 fn bits_on(vc: u8) -> u32 {
-    match told(true, false, true).on(vc) {
+    match reported(true, false, true).on(vc) {
         Some(clcw) => clcw.word(),
         None => 0,
     }
@@ -42,12 +42,15 @@ fn control_words(rt: HostRuntime) {
         (false, true, false, 0x010c_1005),
         (false, false, true, 0x010c_0805),
     ] {
-        expect_bits(&rt, told(lockout, wait, retransmit), bits);
+        check_bits(&rt, reported(lockout, wait, retransmit), bits);
     }
     assert!(rt; read(0x020c_0005, 3).is_none(), "another COP");
     assert!(rt; read(0x5d0f_c105, 3).is_none(), "another version");
     let ignored = read(0x1d0f_c105, 3);
-    assert!(rt; ignored == Some(told(false, false, false)), "ignored bits");
+    assert!(rt;
+        ignored == Some(reported(false, false, false)),
+        "ignored bits"
+    );
     assert_eq!(rt; bits_on(63), 0x01fc_2805);
     assert_eq!(rt; bits_on(64), 0);
 }

@@ -50,7 +50,7 @@ struct Course {
 }
 
 /// Checks the claims in a session, where the earlier sessions sent requests up to this one; answers the last.
-fn expect_claims(rt: &impl Abort, session: &Written<'_>, earlier: u32) -> u32 {
+fn check_claims(rt: &impl Abort, session: &Written<'_>, earlier: u32) -> u32 {
     assert!(rt; session.sent.starts_with(session.accepted));
     assert!(rt; session.accepted.starts_with(session.confirmed));
     let mut last = earlier;
@@ -62,13 +62,13 @@ fn expect_claims(rt: &impl Abort, session: &Written<'_>, earlier: u32) -> u32 {
 }
 
 /// Checks the claims in all sessions; answers how many requests were confirmed.
-fn expect_all<L: Link>(rt: &impl Abort, link: &L) -> usize {
+fn check_all<L: Link>(rt: &impl Abort, link: &L) -> usize {
     assert!(rt; link.is_clean());
     let mut last = 0;
     let mut confirmed = 0usize;
     for place in 0..link.sessions() {
         let session = link.written(place).expect(rt, "a session");
-        last = expect_claims(rt, &session, last);
+        last = check_claims(rt, &session, last);
         confirmed = confirmed.saturating_add(session.confirmed.len());
     }
     confirmed
@@ -77,7 +77,7 @@ fn expect_all<L: Link>(rt: &impl Abort, link: &L) -> usize {
 /// An event happens, and the claims stand after it.
 fn goes<L: Link>(rt: &impl Abort, link: &mut L, event: Event) -> Result<(), Fail> {
     link.does(event)?;
-    expect_all(rt, link);
+    check_all(rt, link);
     Ok(())
 }
 
@@ -89,7 +89,7 @@ fn offers_next<L: Link>(rt: &impl Abort, link: &mut L, course: &mut Course) {
         Some(Refusal::WaitQueueFull) => {}
         _ => assert!(rt; refusal == Some(Refusal::ServiceNotActive)),
     }
-    expect_all(rt, link);
+    check_all(rt, link);
 }
 
 /// A request that was sent in some session.
@@ -108,7 +108,7 @@ fn offers_again<L: Link>(rt: &impl Abort, link: &mut L, course: &mut Course) {
     let is_refused = answers(link, offer(rt, request.get()), Some(Refusal::WrongPlace));
     assert!(rt; is_refused, "{}", request.get());
     course.again = course.again.saturating_add(1);
-    expect_all(rt, link);
+    check_all(rt, link);
 }
 
 /// A report of the spacecraft.
@@ -123,7 +123,7 @@ fn report(rt: &impl Abort) -> Telemetry {
 /// An event that is neither an offer nor a directive.
 fn random_event(rt: &impl Abort, dice: &mut Dice) -> Event {
     match dice.roll(96) {
-        0 | 1 => Event::Uplink { room: false },
+        0 | 1 => Event::Uplink { free_buffer: false },
         2..=13 => Event::Clcw,
         14..=33 => Event::Downlink,
         34 | 35 => Event::Tick,
@@ -213,7 +213,7 @@ fn courses<L: Link>(
     }
     assert!(rt; link.sessions() > 5, "{} sessions", link.sessions());
     assert!(rt; course.again > 9, "{} again", course.again);
-    Ok((expect_all(rt, link), course.alerts))
+    Ok((check_all(rt, link), course.alerts))
 }
 
 #[test]

@@ -1,5 +1,5 @@
 //! A lock-out, and how the service comes back, with each control word bit by bit.
-use super::{Act, START, STOP, Scenario, UNLOCK, body, event, expect_session, number, over_lists};
+use super::{Act, START, STOP, Scenario, UNLOCK, body, check_session, event, number, over_lists};
 use crate::links::Link;
 use std::alloc::Global;
 use std::process::Abort;
@@ -22,6 +22,8 @@ enum Told {
     Alert(AlertKind),
     /// The service began.
     Started,
+    /// A frame was lost.
+    Lost,
     /// The FARM discarded a frame.
     Discarded,
     /// The FARM carried out a control command.
@@ -59,8 +61,12 @@ const LOSES: &[Step] = &[
         told: &[Told::Sent(3)],
     },
     Step {
-        act: Act::LoseUp(0),
+        act: Act::LoseUp(3),
         told: &[],
+    },
+    Step {
+        act: Act::LoseUp(0),
+        told: &[Told::Lost],
     },
     Step {
         act: Act::Up,
@@ -180,6 +186,7 @@ fn indication(rt: &impl Abort, told: &Told) -> Indication {
         Told::InDoubt(n) => fop(signals::Indication::InDoubt(number(rt, n))),
         Told::Alert(kind) => fop(signals::Indication::Alert(kind)),
         Told::Started => fop(signals::Indication::Started),
+        Told::Lost => Indication::Lost,
         Told::Discarded => Indication::Farm(Verdict::Discarded),
         Told::Control => Indication::Farm(Verdict::Control),
         Told::Accepted(n) => accepted(rt, n),
@@ -231,12 +238,12 @@ fn is_open<L: Link>(link: &L) -> bool {
 
 /// Three sessions: nothing of the first was accepted, nothing was sent in the second, and the third has the fourth
 /// request.
-fn expect_sessions<L: Link>(rt: &impl Abort, link: &L) {
+fn check_sessions<L: Link>(rt: &impl Abort, link: &L) {
     assert!(rt; link.is_clean());
     assert_eq!(rt; link.sessions(), 3);
-    expect_session(rt, link, 0, 1, [3, 0, 0]);
-    expect_session(rt, link, 1, 1, [0, 0, 0]);
-    expect_session(rt, link, 2, 4, [1, 1, 0]);
+    check_session(rt, link, 0, 1, [3, 0, 0]);
+    check_session(rt, link, 1, 1, [0, 0, 0]);
+    check_session(rt, link, 2, 4, [1, 1, 0]);
 }
 
 /// A lost frame locks the FARM, and the service comes back.
@@ -249,7 +256,7 @@ pub fn comes_back<L: Link>(rt: &impl Abort, alloc: Global, link: &mut L) -> Resu
     all_told(rt, alloc, link, IGNORES, "the word")?;
     assert!(rt; link.fop().state == FopState::InitialisingWithBc);
     all_told(rt, alloc, link, GOES_ON, "the Set V(R)")?;
-    expect_sessions(rt, link);
+    check_sessions(rt, link);
     Ok(())
 }
 

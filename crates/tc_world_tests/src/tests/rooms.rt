@@ -1,5 +1,5 @@
 //! Memory refused: an event that has no memory does not happen, and those before it stand.
-use super::{Act, START, add, add_offers, all_happen, lists};
+use super::{Act, START, Scenario, acts, add, add_offers, all_happen, flies, lists, over_lists};
 use crate::links::{Link, Written};
 use linked_list_allocator::LocalHeap;
 use std::alloc::Global;
@@ -16,6 +16,28 @@ fn first_events(rt: &impl Abort, events: &mut Vec<Event, Global>) -> Result<(), 
     add(rt, events, Act::Up, 43)?;
     assert_eq!(rt; events.len(), 300);
     Ok(())
+}
+
+/// Events that want no memory while nothing is on the downlink.
+const SPARED: &[Act] = &[Act::Release, Act::LoseUp(usize::MAX), Act::Downlink];
+
+/// More control words than fit into the memory of any test.
+const TOO_MANY: usize = 1_000_000;
+
+/// Room is taken, and control words use it up; where it is refused nothing changes.
+pub fn reserves<L: Link>(rt: &impl Abort, link: &mut L) {
+    let made = link.reserves(3);
+    assert!(rt; made.is_ok());
+    assert!(rt; flies(link, 0));
+    acts(
+        rt,
+        link,
+        &[Act::Release, Act::Clcw, Act::Clcw, Act::Release, Act::Clcw],
+    );
+    assert!(rt; link.in_flight() == (0, 3));
+    let refused = link.reserves(TOO_MANY);
+    assert!(rt; refused == Err(Refusal::Memory));
+    assert!(rt; link.in_flight() == (0, 3));
 }
 
 /// All that is seen of a link in its first session.
@@ -45,7 +67,7 @@ fn is_alike<L: Link, M: Link>(link: &L, ample: &M) -> bool {
 }
 
 /// Makes the events happen on a link that may be refused memory, and those that happened on one that is not: the two
-/// then stand alike. Answers whether one was refused.
+/// then stand alike. What wants no memory happens even then. Answers whether one was refused.
 fn is_refused<L: Link, M: Link>(
     rt: &impl Abort,
     link: &mut L,
@@ -59,6 +81,7 @@ fn is_refused<L: Link, M: Link>(
     match end.refusal {
         Some(refusal) => {
             assert!(rt; refusal == Refusal::Memory, "after {} events", end.done);
+            acts(rt, link, SPARED);
             true
         }
         None => {
@@ -111,4 +134,9 @@ fn is_refused_memory_and_stands(rt: HostRuntime) -> Result<(), Fail> {
     assert!(rt; refused > 4, "{refused}");
     assert!(rt; !is_last_refused);
     Ok(())
+}
+
+#[test]
+fn takes_room_or_is_refused_it(rt: HostRuntime) -> Result<(), Fail> {
+    over_lists(&rt, rt.alloc(), Scenario::Room, 1, 4, 0)
 }

@@ -1,6 +1,6 @@
 //! 300 requests, over the end of the frames' numbers.
 use super::{
-    Act, START, Scenario, acts, add, add_offers, all_happen, answers, expect_session, flies, offer,
+    Act, START, Scenario, acts, add, add_offers, all_happen, answers, check_session, flies, offer,
     over_lists, repeats, skips,
 };
 use crate::links::Link;
@@ -64,10 +64,10 @@ fn goes_on<L: Link>(rt: &impl Abort, link: &mut L) {
 }
 
 /// Each of the 300 was sent, accepted and confirmed once, in order, in one session.
-fn expect_all<L: Link>(rt: &impl Abort, link: &L) {
+fn check_all<L: Link>(rt: &impl Abort, link: &L) {
     assert!(rt; link.is_clean());
     assert_eq!(rt; link.sessions(), 1);
-    expect_session(rt, link, 0, 1, [300, 300, 300]);
+    check_session(rt, link, 0, 1, [300, 300, 300]);
 }
 
 /// 300 requests, each of which is confirmed.
@@ -77,7 +77,7 @@ pub fn confirms<L: Link>(rt: &impl Abort, alloc: Global, link: &mut L) -> Result
     fills_the_window(rt, link);
     offers(rt, alloc, link, 257, 300)?;
     goes_on(rt, link);
-    expect_all(rt, link);
+    check_all(rt, link);
     Ok(())
 }
 
@@ -103,7 +103,7 @@ fn stops<L: Link>(rt: &impl Abort, link: &mut L, events: &[Event]) {
     assert!(rt; end.refusal == Some(Refusal::ServiceNotActive));
     assert!(rt; link.is_clean());
     assert!(rt; link.farm().state == FarmState::Lockout);
-    expect_session(rt, link, 0, 1, [255, 0, 0]);
+    check_session(rt, link, 0, 1, [255, 0, 0]);
 }
 
 /// Those events on links that skip.

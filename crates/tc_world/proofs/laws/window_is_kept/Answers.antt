@@ -1,6 +1,7 @@
 use Rattle.tc_world.proofs.TableLaws.{Laws}
 use Rattle.tc_world.proofs.Assembly.{event_goes}
 use Rattle.tc_world.proofs.Claims.{claims}
+use Rattle.tc_world.proofs.Flying.{flies_in_order}
 use Rattle.tc_world.proofs.laws.window_is_kept.Goals as goal
 
 -- the laws of the two tables, from the calls
@@ -26,3 +27,6 @@ returns-clause-follows c = λ given w v answer kept fop farm h. (event_goes (law
 
 pub returns-clause-claims : goal.returns-clause-claims
 returns-clause-claims c = λ w kept clean. claims w kept clean
+
+pub returns-clause-flight : goal.returns-clause-flight
+returns-clause-flight c = λ w kept clean. flies_in_order w kept clean

@@ -1,9 +1,10 @@
 -- The rest of the Sent_Queue stands as the whole did.
-use Rattle.std.proofs.Common.{◌≡◌, ◌≤◌, true, map, length, refl, sym, subst, arith}
+use Rattle.std.proofs.Common.{rules, ◌≡◌, ◌≤◌, true, map, length, refl, sym, subst, arith}
 use Rattle.std.proofs.lemmas.List.{length-map}
 use Rattle.tc_fop.specs.Machine.{Machine}
 use Rattle.tc_fop.specs.Calls.{is_taking}
 use Rattle.tc_fop.specs.Queued.{held_of}
+use Rattle.tc_fop.proofs.QueueLemmas.{queues}
 use Rattle.tc_fop.proofs.Standing.{removed_stands}
 use Rattle.tc_fop.proofs.variables.Variables.remove.Goals as goal
 
@@ -14,5 +15,5 @@ invariant_of-self g c =
     let there : c.args.acknowledged ≤ length c.self.inside.sent.items = omega (arith, held, length-map c.self.inside.sent.items held_of) in
     (removed_stands _ c.self.inside.sent.items c.confirm_front.new.sent.items c.args.acknowledged _ refl c.confirm_front.ensures.sent there taking (omega (arith, c.self.invariant.0.count_least)) (omega (arith, c.self.invariant.0.count_most)) c.self.invariant.0, omega (arith, c.self.invariant.1, c.confirm_front.ensures.capacity))
 
-pub returns-clause-fop : goal.returns-clause-fop
-returns-clause-fop g c = (invariant_of-self g c).0
+pub returns-clause-machine : goal.returns-clause-machine
+returns-clause-machine g c = record { machine = search (rules, queues); fop = (invariant_of-self g c).0 }

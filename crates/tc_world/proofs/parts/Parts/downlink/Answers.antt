@@ -5,12 +5,12 @@ use Rattle.tc_world.proofs.parts.Parts.downlink.Goals as goal
 
 pub returns-in-Word-clause-happens : goal.returns-in-Word-clause-happens
 returns-in-Word-clause-happens g c =
-    rw (← c.self.view_is)
+    rw (← c.self.view_is, c.many.ensures)
     (inr (record {
       item = report.Word c.in-Word.word;
       left = c.take.new.self;
       taken = rw c.in-Word.is at c.in-Some.ensures.some;
-      heard = c.hear.ensures.heard _ (sym c.reserve_fop_side.ensures.machine) c.reserve_fop_side.ensures.readied (sym c.reserve_fop_side.ensures.log) refl;
+      heard = c.pass_word-answer.ensures.heard _ (sym c.reserve_fop_side.ensures.machine) c.reserve_fop_side.ensures.readied (sym c.reserve_fop_side.ensures.log) refl;
     }))
 
 pub returns-in-Telemetry-clause-happens : goal.returns-in-Telemetry-clause-happens
@@ -23,6 +23,6 @@ returns-in-Telemetry-clause-happens g c =
       heard = (
         c.reserve_fop_side.ensures.readied,
         rw (c.reserve_fop_side.ensures.machine, c.reserve_fop_side.ensures.log) refl,
-        rw c.in_ok-answer.ensures.answer.0 at c.push_reserved.ensures.items,
+        c.lone.ensures,
       );
     }))

@@ -16,4 +16,4 @@ returns-clause-begins g c =
     let based = c.begin.ensures.log ∙ ap (λ (v : FopView). blank v.vs) c.view.ensures.view in
     let written = ap (λ (page : Page). page.log) c.replace-ended.ensures.after ∙ rw based at c.carry-answer.ensures.log in
     rw (← c.self.view_is)
-    (begun g.U.Carrier.kind g.D.Carrier.kind _ _ _ _ _ _ _ _ _ _ (rw c.reserve_fop_side.ensures.machine at c.in_ok-out.ensures.answers) c.reserve_fop_side.ensures.readied c.carry-answer.ensures.frames earlier written good (rw c.in_ok-answer.ensures.answer.0 at c.carry-answer.ensures.answer))
+    (begun g.U.Carrier.kind g.D.Carrier.kind _ _ _ _ _ _ _ _ _ _ (rw c.reserve_fop_side.ensures.machine at c.directive_reserved-out.ensures.answers) c.reserve_fop_side.ensures.readied c.carry-answer.ensures.frames earlier written good (c.many.ensures ∙ rw c.in_ok-answer.ensures.answer.0 at c.carry-answer.ensures.answer))

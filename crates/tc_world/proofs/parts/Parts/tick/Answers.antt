@@ -1,8 +1,15 @@
--- The tick was carried out.
-use Rattle.tc_world.proofs.CarryLemmas.{carried}
+-- The tick was carried out, or no timer runs.
+use Rattle.std.proofs.Common.{sym, ap, ◌∙◌}
+use Rattle.tc_fop.specs.declared.views.FopView.{FopView}
+use Rattle.tc_world.proofs.CarryLemmas.{carried, ticks_idly}
 use Rattle.tc_world.proofs.parts.Parts.tick.Goals as goal
 
 pub returns-clause-happens : goal.returns-clause-happens
 returns-clause-happens g c =
     rw (← c.self.view_is)
-    (carried g.U.Carrier.kind _ _ _ _ _ _ _ _ (rw c.reserve_fop_side.ensures.machine at c.in_ok-out.ensures.answers) c.reserve_fop_side.ensures.readied c.carry.ensures.frames (rw c.reserve_fop_side.ensures.log at c.carry.ensures.log) (rw c.in_ok-answer.ensures.answer.0 at c.carry.ensures.answer))
+    (carried g.U.Carrier.kind _ _ _ _ _ _ _ _ (rw c.reserve_fop_side.ensures.machine at c.tick_reserved-out.ensures.answers) c.reserve_fop_side.ensures.readied c.carry.ensures.frames (rw c.reserve_fop_side.ensures.log at c.carry.ensures.log) (c.many.ensures ∙ rw c.in_ok-answer.ensures.answer.0 at c.carry.ensures.answer))
+
+pub returns-then-view-eq0-clause-happens : goal.returns-then-view-eq0-clause-happens
+returns-then-view-eq0-clause-happens g c =
+    rw (← c.self.view_is)
+    (ticks_idly g.U.Carrier.kind g.D.Carrier.kind _ _ (sym (ap (λ (v : FopView). v.timer) c.view.ensures.view) ∙ c.if-view-eq0.true) c.none.ensures)

@@ -6,3 +6,8 @@ pub returns-clause-claims : goal.returns-clause-claims
 returns-clause-claims g c =
     rw (← c.self.view_is)
     (λ clean. claimed g.U.Carrier.kind g.D.Carrier.kind c.self.inside.parts (c.window_is_kept.ensures.claims _ c.self.invariant clean))
+
+pub returns-clause-flight : goal.returns-clause-flight
+returns-clause-flight g c =
+    rw (← c.self.view_is)
+    (λ clean. c.window_is_kept.ensures.flight _ c.self.invariant clean)

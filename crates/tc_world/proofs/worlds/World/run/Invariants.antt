@@ -1,12 +1,13 @@
 -- The events so far happened in turn, and while every start was good they are runs of one session after the other.
 use Rattle.std.proofs.Common.{◌≡◌, true, take}
 use Rattle.tc_world.specs.Abstraction.{seen}
-use Rattle.tc_world.specs.Window.{FollowsOn, IsClaimed}
-use Rattle.tc_world.specs.World.{Runs}
+use Rattle.tc_world.specs.Window.{IsClaimed}
+use Rattle.tc_world.specs.Flight.{FliesInOrder}
+use Rattle.tc_world.specs.Runs.{RunsOn}
 use Rattle.tc_world.proofs.worlds.World.run.Given as goal
 
 abbrev pub invariant-loop-done : goal.invariant-loop-done
 invariant-loop-done g l =
-    Runs g.U.Carrier.kind g.D.Carrier.kind (take l.done l.events) l.fn.self l.self
-    × (l.self.clean ≡ true → FollowsOn (seen g.U.Carrier.kind g.D.Carrier.kind l.fn.self) (seen g.U.Carrier.kind g.D.Carrier.kind l.self))
+    RunsOn g.U.Carrier.kind g.D.Carrier.kind (take l.done l.events) l.fn.self l.self
     × (l.self.clean ≡ true → IsClaimed l.self)
+    × (l.self.clean ≡ true → FliesInOrder (seen g.U.Carrier.kind g.D.Carrier.kind l.self))

@@ -1,6 +1,8 @@
 -- What stands between events stands, and the claims with it.
 use Rattle.tc_world.proofs.Bridge.{OnlyLoses}
-use Rattle.tc_world.proofs.Claims.{stays, follows, claimed}
+use Rattle.tc_world.proofs.Claims.{stays, follows, claimed, if_ok}
+use Rattle.tc_world.proofs.Tells.{tells_requests}
+use Rattle.tc_world.proofs.Stills.{still, quiet_aboard, clean_is, was_clean}
 use Rattle.tc_world.proofs.worlds.World.step.Given as given
 use Rattle.tc_world.proofs.worlds.World.step.Goals as goal
 
@@ -21,17 +23,59 @@ downlink_loses g = record {
 pub invariant_of-self : goal.invariant_of-self
 invariant_of-self g c =
     stays g.U.Carrier.kind g.D.Carrier.kind (uplink_loses g) (downlink_loses g) c.window_is_kept.ensures.kept c.args.event
-    c.self.inside.parts c.step.new.self (λ answer. answer.items) c.step.result c.step.ensures.happens c.step.ensures.refused
-    c.step.ensures.sound.0 c.step.ensures.sound.1 c.self.invariant
+    c.self.inside.parts c.step.new.self (λ answer. answer) c.step.result c.step.ensures.happens c.step.ensures.refused
+    c.step.ensures.limits.sound.0 c.step.ensures.limits.sound.1 c.self.invariant
 
 pub returns-clause-window : goal.returns-clause-window
 returns-clause-window g c =
     rw (← c.self.view_is)
     (follows g.U.Carrier.kind g.D.Carrier.kind (uplink_loses g) (downlink_loses g) c.window_is_kept.ensures.follows c.args.event
-    c.self.inside.parts c.step.new.self (λ answer. answer.items) c.step.result c.step.ensures.happens
-    c.step.ensures.sound.0 c.step.ensures.sound.1 c.self.invariant)
+    c.self.inside.parts c.step.new.self (λ answer. answer) c.step.result c.step.ensures.happens
+    c.step.ensures.limits.sound.0 c.step.ensures.limits.sound.1 c.self.invariant)
 
 pub returns-clause-claims : goal.returns-clause-claims
 returns-clause-claims g c = λ clean.
     claimed g.U.Carrier.kind g.D.Carrier.kind c.step.new.self
     (c.window_is_kept.ensures.claims _ (invariant_of-self g c) clean)
+
+pub returns-clause-flight : goal.returns-clause-flight
+returns-clause-flight g c = λ clean. c.window_is_kept.ensures.flight _ (invariant_of-self g c) clean
+
+pub returns-clause-requests : goal.returns-clause-requests
+returns-clause-requests g c =
+    rw (← c.self.view_is)
+    (if_ok _ _ c.step.result
+    (λ answer h. tells_requests g.U.Carrier.kind g.D.Carrier.kind
+    (record {
+      words = c.keeps_order.ensures.words;
+      ticks = c.keeps_order.ensures.ticks;
+      offers = c.keeps_order.ensures.offers;
+      directives = c.keeps_order.ensures.directives;
+    })
+    c.args.event c.self.inside.parts c.step.new.self answer c.self.invariant.fop c.step.ensures.limits.sound.0 h)
+    c.step.ensures.happens)
+
+pub returns-clause-still : goal.returns-clause-still
+returns-clause-still g c = λ other.
+    if_ok _ _ c.step.result
+    (λ answer h. still g.U.Carrier.kind g.D.Carrier.kind c.args.event c.self.inside.parts c.step.new.self answer other h)
+    c.step.ensures.happens
+
+pub returns-clause-quiet : goal.returns-clause-quiet
+returns-clause-quiet g c =
+    if_ok _ _ c.step.result
+    (λ answer h. quiet_aboard g.U.Carrier.kind g.D.Carrier.kind c.args.event c.self.inside.parts c.step.new.self answer h)
+    c.step.ensures.happens
+
+pub returns-clause-clean : goal.returns-clause-clean
+returns-clause-clean g c =
+    rw (← c.self.view_is)
+    (if_ok _ _ c.step.result
+    (λ answer h. clean_is g.U.Carrier.kind g.D.Carrier.kind c.args.event c.self.inside.parts c.step.new.self answer h)
+    c.step.ensures.happens)
+
+pub returns-clause-was_clean : goal.returns-clause-was_clean
+returns-clause-was_clean g c =
+    rw (← c.self.view_is)
+    (was_clean g.U.Carrier.kind g.D.Carrier.kind c.args.event c.self.inside.parts c.step.new.self c.step.result
+    c.step.ensures.happens c.step.ensures.refused)

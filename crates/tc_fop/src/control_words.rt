@@ -1,11 +1,10 @@
-//! What is done at a control word and at a tick (CCSDS 232.1-B, 5.3).
-ghost use Rattle.std.specs.Prelude.{◌≡◌, ◌+◌, ◌<◌, ◌≤◌, [], ◌∷◌, length, true, IsTrue, ◌↔◌};
-ghost use Rattle.tc_fop.specs.Machine.{nothing, after, output};
-ghost use Rattle.tc_fop.specs.Rows.{row_of};
-ghost use Rattle.tc_fop.specs.Cells.{cell, timer_ended, timer_ended_at_limit};
-ghost use Rattle.tc_fop.specs.Calls.{is_taking, told, ticked};
-ghost use Rattle.tc_fop.specs.Standing.{IsFop, is_starting};
-ghost use Rattle.tc_fop.specs.Views.{Fits, Carried};
+//! What is done at a control word (CCSDS 232.1-B, 5.3).
+ghost use Rattle.std.specs.Prelude.{◌≡◌, ◌≤◌, length, true, IsTrue, ◌↔◌};
+ghost use Rattle.tc_fop.specs.Machine.{nothing, output};
+ghost use Rattle.tc_fop.specs.Cells.{cell};
+ghost use Rattle.tc_fop.specs.Calls.{is_taking, reported};
+ghost use Rattle.tc_fop.specs.Standing.{IsFop};
+ghost use Rattle.tc_fop.specs.Views.{Becomes, Fits, Carried};
 
 use crate::outputs::Output;
 use crate::rows::Row;
@@ -27,11 +26,10 @@ impl<A: Allocator + Copy + Drop> Variables<A> {
         requires taking { is_taking self.old.state ≡ true }
         requires there { acknowledged ≤ length self.old.sent }
         requires start { out.old ≡ nothing }
-        ensures machine { self.new ≡ after (cell (Row.P8 acknowledged) self.old.state) self.old }
-        ensures fop { IsFop self.new }
+        ensures machine { Becomes (cell (Row.P8 acknowledged) self.old.state) self.old self.new }
         ensures out { out.new ≡ output (cell (Row.P8 acknowledged) self.old.state) self.old }
     {
-        let _state = self.state();
+        let _state = self.state(); // read for what it tells the prover alone
         if acknowledged > 0 {
             self.remove(acknowledged, out);
         }
@@ -43,8 +41,7 @@ impl<A: Allocator + Copy + Drop> Variables<A> {
         requires taking { is_taking self.old.state ≡ true }
         requires fits { Fits row self.old }
         requires start { out.old ≡ nothing }
-        ensures machine { self.new ≡ after (cell row self.old.state) self.old }
-        ensures fop { IsFop self.new }
+        ensures machine { Becomes (cell row self.old.state) self.old self.new }
         ensures out { out.new ≡ output (cell row self.old.state) self.old }
     {
         let state = self.state();
@@ -96,17 +93,17 @@ impl<A: Allocator + Copy + Drop> Variables<A> {
     fn checking(&mut self, row: Row, out: &mut Output<A>)
         requires state { self.old.state ≡ FopState.InitialisingWithoutBc }
         requires start { out.old ≡ nothing }
-        ensures machine { self.new ≡ after (cell row self.old.state) self.old }
-        ensures fop { IsFop self.new }
+        ensures machine { Becomes (cell row self.old.state) self.old self.new }
         ensures out { out.new ≡ output (cell row self.old.state) self.old }
     {
-        let _state = self.state();
+        let _state = self.state(); // read for what it tells the prover alone
         match row {
             Row::P1 => self.begin(out),
             Row::P3 | Row::P16 => self.alert(AlertKind::Clcw, out),
             Row::P4 => self.alert(AlertKind::Synch, out),
             Row::P14 => self.alert(AlertKind::NnR, out),
             Row::P15 => self.alert(AlertKind::Lockout, out),
+            // these cannot come: V(S) is NN(R), so that nothing is out
             Row::P2(_)
             | Row::P5
             | Row::P6(_)
@@ -124,17 +121,16 @@ impl<A: Allocator + Copy + Drop> Variables<A> {
     fn commanding(&mut self, row: Row, out: &mut Output<A>)
         requires state { self.old.state ≡ FopState.InitialisingWithBc }
         requires start { out.old ≡ nothing }
-        ensures machine { self.new ≡ after (cell row self.old.state) self.old }
-        ensures fop { IsFop self.new }
+        ensures machine { Becomes (cell row self.old.state) self.old self.new }
         ensures out { out.new ≡ output (cell row self.old.state) self.old }
     {
-        let _state = self.state();
+        let _state = self.state(); // read for what it tells the prover alone
         match row {
             Row::P1 => self.begin(out),
             Row::P16 => self.alert(AlertKind::Clcw, out),
+            Row::P3 | Row::P4 | Row::P14 | Row::P15 => {}
+            // these cannot come: V(S) is NN(R), so that nothing is out
             Row::P2(_)
-            | Row::P3
-            | Row::P4
             | Row::P5
             | Row::P6(_)
             | Row::P7
@@ -143,16 +139,14 @@ impl<A: Allocator + Copy + Drop> Variables<A> {
             | Row::P10(_)
             | Row::P11
             | Row::P12
-            | Row::P13
-            | Row::P14
-            | Row::P15 => {}
+            | Row::P13 => {}
         }
     }
 
     /// A control word, or one that is not valid.
-    pub(crate) fn hear(&mut self, word: Option<Clcw>, out: &mut Output<A>)
+    pub(crate) fn clcw(&mut self, word: Option<Clcw>, out: &mut Output<A>)
         requires start { out.old ≡ nothing }
-        ensures machine { Carried (told self.old word) self.old self.new out.new }
+        ensures machine { Carried (reported self.old word) self.old self.new out.new }
         ensures fop { IsFop self.new }
     {
         let row = self.row(word);
@@ -163,63 +157,6 @@ impl<A: Allocator + Copy + Drop> Variables<A> {
             FopState::InitialisingWithoutBc => self.checking(row, out),
             FopState::InitialisingWithBc => self.commanding(row, out),
             FopState::Initial => {}
-        }
-    }
-
-    /// The timer ended, and once more may be counted: P17.
-    fn timer_ended(&mut self, out: &mut Output<A>)
-        requires below { self.old.count < self.old.limit }
-        requires start { out.old ≡ nothing }
-        ensures machine { self.new ≡ after (timer_ended self.old.state) self.old }
-        ensures fop { IsFop self.new }
-        ensures out { out.new ≡ output (timer_ended self.old.state) self.old }
-    {
-        match self.state() {
-            FopState::Active | FopState::RetransmitWithoutWait => {
-                self.retransmit(out);
-                self.transmit(out);
-            }
-            FopState::InitialisingWithoutBc => self.alert(AlertKind::T1, out),
-            FopState::InitialisingWithBc => self.repeat_control(out),
-            FopState::RetransmitWithWait | FopState::Initial => {}
-        }
-    }
-
-    /// The timer ended, and nothing more may be counted: P18.
-    fn timer_ended_at_limit(&mut self, out: &mut Output<A>)
-        requires start { out.old ≡ nothing }
-        ensures machine { self.new ≡ after (timer_ended_at_limit self.old.state) self.old }
-        ensures fop { IsFop self.new }
-        ensures out { out.new ≡ output (timer_ended_at_limit self.old.state) self.old }
-    {
-        match self.state() {
-            FopState::Initial => {}
-            FopState::Active
-            | FopState::RetransmitWithoutWait
-            | FopState::RetransmitWithWait
-            | FopState::InitialisingWithoutBc
-            | FopState::InitialisingWithBc => self.alert(AlertKind::T1, out),
-        }
-    }
-
-    /// One tick.
-    pub(crate) fn tick(&mut self, out: &mut Output<A>)
-        requires start { out.old ≡ nothing }
-        ensures machine { Carried (ticked self.old) self.old self.new out.new }
-        ensures fop { IsFop self.new }
-    {
-        let left = self.timer();
-        if left == 0 {
-            return;
-        }
-        let may_repeat = self.is_below_limit();
-        self.lower_timer();
-        if left == 1 {
-            if may_repeat {
-                self.timer_ended(out);
-            } else {
-                self.timer_ended_at_limit(out);
-            }
         }
     }
 }

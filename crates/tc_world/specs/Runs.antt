@@ -1,0 +1,41 @@
+-- Events in turn, and where a run of them ends.
+use Rattle.std.specs.Prelude.{◌≡◌, ℕ, true, Option, Some, None, List, [], ◌∷◌, map, take, slice_get, length}
+use Rattle.tc_types.specs.declared.frames.Frame.{Frame}
+use Rattle.tc_types.specs.declared.reports.Report.{Report}
+use Rattle.tc_types.specs.declared.refusals.Refusal.{Refusal}
+use Rattle.tc_world.specs.declared.events.Event.{Event}
+use Rattle.tc_world.specs.declared.events.Indication.{Indication}
+use Rattle.tc_world.specs.Links.{Kind}
+use Rattle.tc_world.specs.Abstraction.{seen}
+use Rattle.tc_world.specs.Window.{FollowsThrough}
+use Rattle.tc_world.specs.World.{Whole, Happens, IsRefused, IsAsBefore, IsSpared}
+
+-- these events happen in turn, each to the next of these worlds
+abbrev pub Runs : {U D : Type 0} → Kind U Frame → Kind D Report → List Event → Whole U D → List (Whole U D) → Whole U D → Type 0
+Runs uplink downlink [] old [] new = new ≡ old
+Runs uplink downlink [] old (next ∷ worlds) new = ⊥
+Runs uplink downlink (given ∷ others) old [] new = ⊥
+Runs uplink downlink (given ∷ others) old (next ∷ worlds) new =
+    (answer : List Indication) × Happens uplink downlink given old next answer × Runs uplink downlink others next worlds new
+
+-- Events happen in turn; and while every start was good each of them is, to the same worlds, a run of the session that
+-- is on, or another session begins.
+pub record RunsOn {U D : Type 0} (uplink : Kind U Frame) (downlink : Kind D Report) (events : List Event) (old new : Whole U D) : Type 0 where
+  pub worlds : List (Whole U D)
+  pub happen : Runs uplink downlink events old worlds new
+  pub window : new.clean ≡ true
+      → FollowsThrough (seen uplink downlink old) (map (λ (w : Whole U D). seen uplink downlink w) worlds) (seen uplink downlink new)
+
+-- Where a run ends: after so many events, where there is no other, or where the next one is refused, as it stood then;
+-- memory is not refused to one that is spared.
+abbrev pub EndsBy : {U D : Type 0} → Kind U Frame → Kind D Report → (D → ℕ) → List Event → ℕ → Option Refusal → Whole U D → Type 0
+EndsBy uplink downlink covered events done None w = done ≡ length events
+EndsBy uplink downlink covered events done (Some refusal) w =
+    (next : Event) × (slice_get events done ≡ Some next) × IsRefused next w refusal
+    × ¬ IsSpared uplink downlink covered next w
+
+pub record IsRun {U D : Type 0} (uplink : Kind U Frame) (downlink : Kind D Report) (covered : D → ℕ) (events : List Event) (done : ℕ) (refusal : Option Refusal) (old new : Whole U D) : Type 0 where
+  pub last : Whole U D
+  pub runs : RunsOn uplink downlink (take done events) old last
+  pub ends : EndsBy uplink downlink covered events done refusal last
+  pub stands : IsAsBefore uplink downlink last new
