@@ -1,6 +1,6 @@
 -- The loop over the lines of a script.
 use Rattle.std.proofs.Common.{◌≡◌, ◌∙◌, ◌+◌, ◌-◌, ◌<◌, ℕ, Bool, true, false, Option, Some, None, List, [], ◌∷◌, ◌++◌, refl, sym, ap, subst, ◌⊎◌, inl, inr, append_assoc, append-nil, arith, length, take, drop, take-append-drop}
-use Rattle.std.specs.Prelude.{◌≢◌, ◌||◌, IfSome, if◌then◌else◌}
+use Rattle.std.specs.Prelude.{◌≢◌, ◌||◌, IfErr, IfSome, IsErrAnd, MatchBool, Result, Ok, Err, if◌then◌else◌}
 use Rattle.std.proofs.Math.Seq.{take-add, take-length}
 use Rattle.std.proofs.lemmas.Bool.{ne_eqb}
 use Rattle.std.proofs.lemmas.List.{length-drop}
@@ -13,14 +13,19 @@ use Rattle.tc_types.specs.declared.acts.Act.TheVariants as act
 use Rattle.tc_types.specs.declared.acts.Query.TheVariants as query
 use Rattle.tc_types.specs.History.{counts_of, entered}
 use Rattle.tc_types.specs.Lines.{places_line}
-use Rattle.tc_desk.specs.declared.stamps.Stamp.{Stamp}
+use Rattle.tc_book.specs.declared.stamps.Stamp.{Stamp}
+use Rattle.tc_types.specs.declared.refusals.Refusal.TheVariants.{Stopped}
+use Rattle.tc_desk.specs.Replies.{Reply, refusal_reply}
 use Rattle.tc_room.specs.Answers.{AnswersLine, AsksPlaces}
 use Rattle.tc_room.specs.Joined.{IsKept}
-use Rattle.tc_room.specs.Replies.{Reply, ended, is_refused}
-use Rattle.tc_room.specs.Room.{Standing, StepsDesk, FailsStore, just_opened}
+use Rattle.tc_room.specs.Replies.{ended, is_refused}
+use Rattle.tc_room.specs.Room.{FailsStore, IsJustOpened, Standing, StepsDesk}
+use Rattle.tc_room.specs.declared.memory.OpenFault.{OpenFault}
+use Rattle.tc_room.specs.declared.memory.OpenFault.TheVariants as opening
 use Rattle.tc_cli.specs.declared.script.ScriptFault.{ScriptFault}
-use Rattle.tc_cli.specs.declared.script.ScriptFault.TheVariants.{Script, Output, Memory}
-use Rattle.tc_cli.specs.Run.{IsAnswered, IsCutShort, LeavesPart, StopsAfter, TakesFront, TakesLine, TakesLines, is_skipped, script_lines}
+use Rattle.tc_cli.specs.declared.script.ScriptFault.TheVariants.{Script, Output, Memory, Tables}
+use Rattle.tc_cli.specs.Script.{fault_of}
+use Rattle.tc_cli.specs.Run.{AnswersNext, IsAnswered, IsCutShort, LeavesPart, Stops, StopsAfter, StopsAtOnce, TakesFront, TakesLine, TakesLines, is_skipped, script_lines}
 
 -- What was written so far are the replies to the lines that were taken.
 pub record HasRun (start : Standing) (lines : List (List ℕ)) (old : Option (List ℕ)) (at : Standing) (left : List (List ℕ)) (new : Option (List ℕ)) (refused : Bool) : Type 0 where
@@ -108,12 +113,36 @@ pub stopped_in_question : (end after : Standing) (bytes text : List ℕ) (last :
 stopped_in_question end after bytes text last mid new fault (reply, asks, is_text, is_reply) are is_output (part, cut, written) =
     (part, rw is_output (reply, (after, asks), subst (λ (given : List ℕ). IsCutShort given part) (are ∙ is_text) cut), written)
 
+-- the reply to a line was cut short
+pub stopped_at_line : (at after : Standing) (line bytes text : List ℕ) (said : Bool) (mid new : Option (List ℕ)) (fault : ScriptFault)
+    → is_skipped line ≡ false → (reply : Reply) × AnswersLine at line reply after × (text ≡ ended reply) × (said ≡ is_refused reply)
+    → bytes ≡ text → fault ≡ Output → (part : List ℕ) × IsCutShort bytes part × Appends mid new part
+    → (part : List ℕ) × LeavesPart fault at (line ∷ []) part × Appends mid new part
+stopped_at_line at after line bytes text said mid new fault goes_on (reply, answers, is_text, is_reply) are is_output (part, cut, written) =
+    (part, rw is_output (reply, (after, goes_on, answers), subst (λ (given : List ℕ). IsCutShort given part) (are ∙ is_text) cut), written)
+
+-- what a fault leaves of the reply to a line, whatever stands behind that line
+leaves_more : (fault : ScriptFault) (at : Standing) (line : List ℕ) (left others : List (List ℕ)) (part : List ℕ) → left ≡ line ∷ others
+    → LeavesPart fault at (line ∷ []) part → LeavesPart fault at left part
+leaves_more Script at line left others part is leaves = leaves
+leaves_more Output at line left others part is (next, answers, cut) = (next, subst (λ (lines : List (List ℕ)). AnswersNext at lines next) (sym is) answers, cut)
+leaves_more Memory at line left others part is leaves = leaves
+leaves_more Tables at line left others part is leaves = leaves
+
+-- a run that stopped at one of its lines
+pub stopped_in_line : (start at : Standing) (lines left : List (List ℕ)) (line : List ℕ) (others : List (List ℕ)) (old mid new : Option (List ℕ)) (before : Bool) (fault : ScriptFault)
+    → HasRun start lines old at left mid before → left ≡ line ∷ others
+    → (part : List ℕ) × LeavesPart fault at (line ∷ []) part × Appends mid new part → StopsAfter fault start lines old new
+stopped_in_line start at lines left line others old mid new before fault h is (part, leaves, appends) =
+    (h.replies, at, left, part, h.taken, leaves_more fault at line left others part is leaves, Appends-trans _ _ _ _ _ h.written appends)
+
 -- memory was refused before anything of the reply was written
 pub stopped_before : (at : Standing) (left : List (List ℕ)) (w : Option (List ℕ)) (fault : ScriptFault)
     → fault ≢ Output → (part : List ℕ) × LeavesPart fault at left part × Appends w w part
 stopped_before at left w Script is_other = ([], refl, Appends-nil w)
 stopped_before at left w Output is_other = absurd (is_other refl)
 stopped_before at left w Memory is_other = ([], refl, Appends-nil w)
+stopped_before at left w Tables is_other = ([], refl, Appends-nil w)
 
 -- what the question at the end came to
 abbrev pub CameLast : Standing → Standing → Option (List ℕ) → Option (List ℕ) → Bool → Type 0
@@ -127,84 +156,69 @@ CameAll start lines end old new refused =
 true_false : true ≡ false → ⊥
 true_false e = cc
 
-truth : (b : Bool) → (b ≡ true) ⊎ (b ≡ false)
-truth true = inl refl
-truth false = inr refl
-
 -- what is answered to `places`, where it is no refusal
 places_told : (at after : Standing) (reply : Reply) → AsksPlaces at reply after → is_refused reply ≡ false
-    → reply ≡ places_line (length (entered at.book.history)) (counts_of at.book.history) ∷ []
-places_told at after reply asks granted =
-    let stamp : Stamp = record { by = []; moment = 0 } in
-    elim (truth at.stopped) [
-      | inl stopped ↦ let told = rw stopped at (asks stamp) in not_refused (rw told.0 refl)
-      | inr going ↦
-          let step : StepsDesk at stamp (act.Ask query.Places) reply after ⊎ FailsStore reply after = rw going at (asks stamp) in
-          elim step [
-            | inl (outcome, steps, is_reply, is_new) ↦ elim steps [
-              | inl same ↦ rw same at is_reply
-              | inr lacks ↦ not_refused (rw (is_reply, lacks.1) refl)
-            ]
-            | inr fails ↦ not_refused (rw fails.0 refl)
-          ]
-    ]
+    → reply ≡ places_line (length (entered at.desk.book.history)) (counts_of at.desk.book.history) ∷ []
+places_told at after reply asks granted = by_flag at.stopped (asks (record { by = []; moment = 0 }))
   where
-    not_refused : is_refused reply ≡ true → reply ≡ places_line (length (entered at.book.history)) (counts_of at.book.history) ∷ []
+    Told : Type 0
+    Told = reply ≡ places_line (length (entered at.desk.book.history)) (counts_of at.desk.book.history) ∷ []
+
+    not_refused : is_refused reply ≡ true → Told
     not_refused refused = absurd (true_false (sym refused ∙ granted))
+
+    by_flag : (stopped : Bool) → MatchBool stopped ((reply ≡ refusal_reply Stopped) × (after ≡ at))
+        (StepsDesk at (record { by = []; moment = 0 }) (act.Ask query.Places) reply after ⊎ FailsStore at (act.Ask query.Places) reply after) → Told
+    by_flag true told = not_refused (rw told.0 refl)
+    by_flag false (inl steps) = elim steps.desk [
+      | inl (free, same, _) ↦ same
+      | inr (refusal, _, is) ↦ not_refused (rw is refl)
+    ]
+    by_flag false (inr fails) = not_refused (rw fails.reply refl)
 
 -- the lines of a script, and the question at the end
 pub run_answered : (input : List ℕ) (start end after : Standing) (refused last : Bool) (old mid new : Option (List ℕ))
-    → start ≡ just_opened → CameAll start (script_lines input) end old mid refused → CameLast end after mid new last
-    → IsKept end.book → IsAnswered input (if refused || last then 1 else 0) old new
+    → IsJustOpened start → CameAll start (script_lines input) end old mid refused → CameLast end after mid new last
+    → IsKept end.desk.book → IsAnswered input (if refused || last then 1 else 0) old new
 run_answered input start end after refused last old mid new opened (replies, takes, written, refusals) (reply, asks, appends, is_reply) kept =
     let all : flat_map ended (replies ++ reply ∷ []) ≡ flat_map ended replies ++ ended reply =
     flat_map-append ended replies (reply ∷ []) ∙ ap (λ bytes. flat_map ended replies ++ bytes) (append-nil (ended reply)) in
     let any : list_any is_refused (replies ++ reply ∷ []) ≡ (refused || last) =
     list_any-append is_refused replies (reply ∷ []) ∙ rw (refusals, is_reply) (ap (λ b. list_any is_refused replies || b) (or_false (is_refused reply))) in
     let bytes : Appends old new (flat_map ended (replies ++ reply ∷ [])) = rw all (Appends-trans _ _ _ _ _ written appends) in
-    let from_open = subst (λ (s : Standing). TakesLines s (script_lines input) replies end) opened takes in
-    (replies, end, reply, after, from_open, asks, bytes, ap (λ (b : Bool). if b then 1 else 0) (sym any), record { kept = kept; told = places_told end after reply asks })
+    (start, replies, end, reply, after, opened, takes, asks, bytes, ap (λ (b : Bool). if b then 1 else 0) (sym any), record { kept = kept; told = places_told end after reply asks })
 
 -- a run that stopped at the question at the end
 pub run_stopped_at_end : (lines : List (List ℕ)) (start end : Standing) (refused : Bool) (old mid new : Option (List ℕ)) (fault : ScriptFault)
-    → start ≡ just_opened → CameAll start lines end old mid refused
+    → IsJustOpened start → CameAll start lines end old mid refused
     → (part : List ℕ) × LeavesPart fault end [] part × Appends mid new part
-    → StopsAfter fault just_opened lines old new
-run_stopped_at_end lines start end refused old mid new fault opened (replies, takes, written, refusals) (part, leaves, appends) = (
-  replies,
-  end,
-  [],
-  part,
-  (lines, sym (append-nil lines), subst (λ (s : Standing). TakesLines s lines replies end) opened takes),
-  leaves,
-  Appends-trans _ _ _ _ _ written appends,
-)
+    → Stops fault lines old new
+run_stopped_at_end lines start end refused old mid new fault opened (replies, takes, written, refusals) (part, leaves, appends) =
+    inr (start, opened, (replies, end, [], part, (lines, sym (append-nil lines), takes), leaves, Appends-trans _ _ _ _ _ written appends))
 
 -- a run that stopped at one of the lines
 pub run_stopped : (lines : List (List ℕ)) (start : Standing) (old new : Option (List ℕ)) (fault : ScriptFault)
-    → start ≡ just_opened → StopsAfter fault start lines old new → StopsAfter fault just_opened lines old new
-run_stopped lines start old new fault opened stops = subst (λ (s : Standing). StopsAfter fault s lines old new) opened stops
+    → IsJustOpened start → StopsAfter fault start lines old new → Stops fault lines old new
+run_stopped lines start old new fault opened stops = inr (start, opened, stops)
 
 -- a run that stopped before its first line
-pub stops_first : (lines : List (List ℕ)) (w : Option (List ℕ)) (start : Standing) (fault : ScriptFault) → fault ≢ Output
-    → StopsAfter fault start lines w w
-stops_first lines w start fault is_other =
-    let none = stopped_before start lines w fault is_other in
-    ([], start, lines, none.0, ([], refl, (refl, refl)), none.1, none.2)
+pub stops_first : (lines : List (List ℕ)) (w : Option (List ℕ)) (fault : ScriptFault) → fault ≢ Output → Stops fault lines w w
+stops_first lines w fault is_other = inl (is_other, Appends-nil w)
 
-memory_other : Memory ≢ Output
-memory_other e = cc
+not_output : (why : OpenFault) → fault_of why ≢ Output
+not_output opening.Memory e = cc
+not_output (opening.Tables why) e = cc
 
--- a run that found no memory before its first line
-pub stops_for_memory : (lines : List (List ℕ)) (w : Option (List ℕ)) (start : Standing) (fault : ScriptFault) → fault ≡ Memory
-    → StopsAfter fault start lines w w
-stops_for_memory lines w start fault is_memory = rw is_memory (stops_first lines w start Memory memory_other)
+-- a run whose room could not be opened
+pub stops_unopened : {X : Type 0} (lines : List (List ℕ)) (w : Option (List ℕ)) (why : OpenFault) (result : Result X ScriptFault)
+    → IsErrAnd result (λ fault. fault ≡ fault_of why) → IfErr result (λ fault. Stops fault lines w w)
+stops_unopened lines w why (Ok x) _ = tt
+stops_unopened lines w why (Err fault) is = rw is (stops_first lines w (fault_of why) (not_output why))
 
 -- a run whose script could not be read
-pub stops_at_once : (read w : Option (List ℕ)) (start : Standing) (fault : ScriptFault) → fault ≢ Output
-    → IfSome read (λ input. StopsAfter fault start (script_lines input) w w)
-stops_at_once None w start fault is_other = tt
-stops_at_once (Some input) w start fault is_other = stops_first (script_lines input) w start fault is_other
+pub stops_unread : (read w : Option (List ℕ)) (fault : ScriptFault) → fault ≢ Output → IfSome read (λ input. Stops fault (script_lines input) w w)
+stops_unread None w fault is_other = tt
+stops_unread (Some input) w fault is_other = stops_first (script_lines input) w fault is_other
 
 take_none : (xs : List ℕ) (n : ℕ) → n ≡ 0 → take n xs ≡ []
 take_none [] n is = rw is refl

@@ -1,17 +1,18 @@
 -- The run of a script: what is written for the lines that were read.
-use Rattle.std.specs.Prelude.{◌≡◌, ◌≢◌, ℕ, ◌==◌, Bool, true, false, if◌then◌else◌, MatchBool, Option, List, [], ◌∷◌, ◌++◌, length, map}
+use Rattle.std.specs.Prelude.{◌≡◌, ◌≢◌, ◌⊎◌, ℕ, ◌==◌, Bool, true, false, if◌then◌else◌, MatchBool, Option, List, [], ◌∷◌, ◌++◌, length, map}
 use Rattle.std.specs.List.{list_any, flat_map}
 use Rattle.std.specs.Io.KnownBytes.{Appends}
 use Rattle.bstr.specs.Text.{lines_of, without_terminator}
 use Rattle.tc_types.specs.History.{counts_of, entered}
 use Rattle.tc_types.specs.Lines.{places_line}
-use Rattle.tc_desk.specs.Book.{Book}
+use Rattle.tc_book.specs.Book.{Book}
+use Rattle.tc_desk.specs.Replies.{Reply}
 use Rattle.tc_room.specs.Answers.{AnswersLine, AsksPlaces}
 use Rattle.tc_room.specs.Joined.{IsKept}
-use Rattle.tc_room.specs.Replies.{Reply, ended, is_refused}
-use Rattle.tc_room.specs.Room.{Standing, just_opened}
+use Rattle.tc_room.specs.Replies.{ended, is_refused}
+use Rattle.tc_room.specs.Room.{IsJustOpened, Standing}
 use Rattle.tc_cli.specs.declared.script.ScriptFault.{ScriptFault}
-use Rattle.tc_cli.specs.declared.script.ScriptFault.TheVariants.{Script, Output, Memory}
+use Rattle.tc_cli.specs.declared.script.ScriptFault.TheVariants.{Script, Output, Memory, Tables}
 
 -- the lines of a script: LF ends a line, and one CR just before that LF is dropped; the last LF may be missing
 abbrev pub script_lines : List ℕ → List (List ℕ)
@@ -48,14 +49,15 @@ pub record LeavesBook (book : Book) (last : Reply) : Type 0 where
   pub kept : IsKept book
   pub told : is_refused last ≡ false → last ≡ places_line (length (entered book.history)) (counts_of book.history) ∷ []
 
--- These bytes were read, and the run wrote the replies to their lines, and then the reply to `places`.
+-- These bytes were read, and in a room that was just opened the run wrote the replies to their lines, and then the reply
+-- to `places`.
 abbrev pub IsAnswered : List ℕ → ℕ → Option (List ℕ) → Option (List ℕ) → Type 0
 IsAnswered input status old new =
-    (replies : List Reply) × (end : Standing) × (last : Reply) × (after : Standing)
-    × TakesLines just_opened (script_lines input) replies end × AsksPlaces end last after
+    (start : Standing) × (replies : List Reply) × (end : Standing) × (last : Reply) × (after : Standing)
+    × IsJustOpened start × TakesLines start (script_lines input) replies end × AsksPlaces end last after
     × Appends old new (flat_map ended (replies ++ last ∷ []))
     × (status ≡ status_of (replies ++ last ∷ []))
-    × LeavesBook end.book last
+    × LeavesBook end.desk.book last
 
 -- ---- a run that stops
 
@@ -78,6 +80,7 @@ abbrev pub LeavesPart : ScriptFault → Standing → List (List ℕ) → List �
 LeavesPart Script at left part = part ≡ []
 LeavesPart Output at left part = (next : Reply) × AnswersNext at left next × IsCutShort (ended next) part
 LeavesPart Memory at left part = part ≡ []
+LeavesPart Tables at left part = part ≡ []
 
 -- The run of these lines stopped after some of them: their replies are written, and of the next what the fault leaves.
 abbrev pub StopsAfter : ScriptFault → Standing → List (List ℕ) → Option (List ℕ) → Option (List ℕ) → Type 0
@@ -85,3 +88,12 @@ StopsAfter fault start lines old new =
     (replies : List Reply) × (at : Standing) × (left : List (List ℕ)) × (part : List ℕ)
     × TakesFront start lines replies at left × LeavesPart fault at left part
     × Appends old new (flat_map ended replies ++ part)
+
+-- The run stopped before its first line: nothing was written, and so no write failed.
+abbrev pub StopsAtOnce : ScriptFault → Option (List ℕ) → Option (List ℕ) → Type 0
+StopsAtOnce fault old new = (fault ≢ Output) × Appends old new []
+
+-- The run of these lines stopped: at once, or after some of them, in a room that was just opened.
+abbrev pub Stops : ScriptFault → List (List ℕ) → Option (List ℕ) → Option (List ℕ) → Type 0
+Stops fault lines old new =
+    StopsAtOnce fault old new ⊎ ((start : Standing) × IsJustOpened start × StopsAfter fault start lines old new)

@@ -58,10 +58,10 @@ fn run_words<R: Files + Input + Print + Eprint + AllocGlobal>(rt: &R, words: &[&
     match read_words(rt.alloc(), words) {
         Ok(Line::Run { script }) => run_path(rt, script),
         Err(UsageFault::Memory) => cannot_use(rt, "memory"),
-        Err(UsageFault::Words(error)) => {
-            let _ = error.print(rt);
-            error.exit_code() as u8
-        }
+        Err(UsageFault::Words(error)) => match error.print(rt) {
+            Ok(()) => error.exit_code() as u8,
+            Err(_) => cannot_use(rt, "output"),
+        },
     }
 }
 
@@ -71,6 +71,7 @@ fn run_path<R: Files + Input + Print + Eprint + AllocGlobal>(rt: &R, path: &str)
         Err(ScriptFault::Script) => cannot_use(rt, path),
         Err(ScriptFault::Output) => cannot_use(rt, "output"),
         Err(ScriptFault::Memory) => cannot_use(rt, "memory"),
+        Err(ScriptFault::Tables) => cannot_use(rt, "tables"),
     }
 }
 

@@ -5,10 +5,10 @@ ghost use Rattle.std.specs.Io.KnownBytes.{Appends};
 ghost use Rattle.tc_types.specs.Counts.{counts_of, inner_of, no_counts};
 ghost use Rattle.tc_room.specs.Answers.{AsksPlaces};
 ghost use Rattle.tc_room.specs.Joined.{IsKept};
-ghost use Rattle.tc_room.specs.Replies.{Reply, ended, is_refused};
-ghost use Rattle.tc_room.specs.Room.{just_opened};
+ghost use Rattle.tc_desk.specs.Replies.{Reply};
+ghost use Rattle.tc_room.specs.Replies.{ended, is_refused};
 ghost use Rattle.tc_cli.specs.Script.{IsUnreadable, written_counts};
-ghost use Rattle.tc_cli.specs.Run.{IsAnswered, IsCutShort, LeavesPart, StopsAfter, TakesLine, TakesLines};
+ghost use Rattle.tc_cli.specs.Run.{IsAnswered, IsCutShort, LeavesPart, Stops, StopsAfter, TakesLine, TakesLines};
 ghost use Rattle.tc_cli.specs.Run.{is_skipped, script_lines};
 
 use crate::script::{ScriptFault, read_script};
@@ -35,7 +35,7 @@ pub fn run_script<R: Read, W: Write>(
     ensures answered { IfOk result (λ status. IfSome (R.remaining (inner_of reader.old)) (λ input.
         IsAnswered input status (W.contents (inner_of writer.old)) (W.contents (inner_of writer.new)))) }
     ensures stopped { IfErr result (λ fault. IfSome (R.remaining (inner_of reader.old)) (λ input.
-        StopsAfter fault just_opened (script_lines input) (W.contents (inner_of writer.old)) (W.contents (inner_of writer.new)))) }
+        Stops fault (script_lines input) (W.contents (inner_of writer.old)) (W.contents (inner_of writer.new)))) }
     ensures script { result ≡ Err ScriptFault.Script →
         IsUnreadable (counts_of reader.new) (R.remaining (inner_of reader.old)) (R.remaining (inner_of reader.new))
         × (writer.new ≡ writer.old) }
@@ -46,7 +46,7 @@ pub fn run_script<R: Read, W: Write>(
     run_text(alloc, config, &text, writer)
 }
 
-/// Runs the lines of a script that was read. It fails with `Output` and `Memory` alone.
+/// Runs the lines of a script that was read. It never fails with `Script`.
 fn run_text<W: Write>(
     alloc: Global,
     config: Config,
@@ -56,7 +56,7 @@ fn run_text<W: Write>(
     requires { counts_of writer.old ≡ no_counts }
     ensures answered { IfOk result (λ status.
         IsAnswered text.now status (W.contents (inner_of writer.old)) (W.contents (inner_of writer.new))) }
-    ensures stopped { IfErr result (λ fault. StopsAfter fault just_opened (script_lines text.now)
+    ensures stopped { IfErr result (λ fault. Stops fault (script_lines text.now)
         (W.contents (inner_of writer.old)) (W.contents (inner_of writer.new))) }
     ensures fault { IfErr result (λ fault. fault ≢ ScriptFault.Script) }
     ensures counted { counts_of writer.new ≡ written_counts result }
@@ -168,7 +168,7 @@ fn run_places<W: Write>(
     ensures stopped { IfErr result (λ fault. (part : List ℕ) × LeavesPart fault room.old [] part
         × Appends (W.contents (inner_of writer.old)) (W.contents (inner_of writer.new)) part) }
     ensures fault { IfErr result (λ fault. fault ≢ ScriptFault.Script) }
-    ensures kept { IsKept room.old.book }
+    ensures kept { IsKept room.old.desk.book }
     ensures counted { counts_of writer.new ≡ written_counts result }
 {
     let last = answer_places(alloc, room)?;

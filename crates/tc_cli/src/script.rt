@@ -2,11 +2,12 @@
 ghost use Rattle.std.specs.Prelude.{◌≡◌, ◌≢◌, ◌≤◌, Err, IfErr, IfOk, OnOk, vec_len};
 ghost use Rattle.std.specs.Io.KnownBytes.{Consumes, IsAtEnd};
 ghost use Rattle.tc_types.specs.Counts.{counts_of, inner_of, no_counts};
-ghost use Rattle.tc_cli.specs.Script.{IsUnreadable};
+ghost use Rattle.tc_cli.specs.Script.{IsUnreadable, fault_of};
 ghost use Rattle.tc_cli.specs.declared.script.ScriptFault.TheVariants.{Memory};
 
 use std::alloc::{AllocError, AllocFailed, Global};
 use std::io::Read;
+use tc_room::memory::OpenFault;
 use tc_types::counted::Counted;
 use thiserror::Error;
 
@@ -29,6 +30,9 @@ pub enum ScriptFault {
     /// There was no memory to go on. What was written are the replies to the lines before.
     #[error("memory")]
     Memory,
+    /// The tables of the desk could not be made. No line was run.
+    #[error("tables")]
+    Tables,
 }
 
 impl From<AllocError> for ScriptFault {
@@ -44,6 +48,17 @@ impl<T: Drop> From<AllocFailed<T>> for ScriptFault {
 
     fn from(_error: AllocFailed<T>) -> ScriptFault {
         ScriptFault::Memory
+    }
+}
+
+impl From<OpenFault> for ScriptFault {
+    ghost from_gives = { λ given fault. fault ≡ fault_of given };
+
+    fn from(fault: OpenFault) -> ScriptFault {
+        match fault {
+            OpenFault::Memory => ScriptFault::Memory,
+            OpenFault::Tables(_) => ScriptFault::Tables,
+        }
     }
 }
 

@@ -1,5 +1,1 @@
-pub mod HistoryLemmas
-pub mod GoodLemmas
-pub mod BatchLemmas
-pub mod ConservedLemmas
 pub mod WorkedCases

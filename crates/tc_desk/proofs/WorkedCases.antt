@@ -1,20 +1,26 @@
 -- The definitions carried out on a case that was worked by hand: two requests are entered, one is withdrawn, and the
 -- counts and a history are asked for.
-use Rattle.std.proofs.Common.{◌≡◌, ℕ, true, false, List, [], ◌∷◌, ◌++◌, map, refl}
+use Rattle.std.proofs.Common.{◌≡◌, ℕ, true, false, Option, Some, None, List, [], ◌∷◌, ◌++◌, map, drop, length, refl}
 use Rattle.std.specs.Prelude.{codes}
 use Rattle.std.specs.Fmt.{digits}
-use Rattle.tc_types.specs.declared.requests.Entry.{Entry}
+use Rattle.tc_types.specs.declared.requests.Form.{Form}
 use Rattle.tc_types.specs.declared.requests.Command.TheVariants.{Plain}
 use Rattle.tc_types.specs.declared.requests.Outcome.TheVariants.{Completes}
+use Rattle.tc_types.specs.declared.refusals.Refusal.{Refusal}
 use Rattle.tc_types.specs.declared.acts.Line.{Line}
+use Rattle.tc_types.specs.declared.acts.BookAct.TheVariants.{Enter, Withdraw}
 use Rattle.tc_types.specs.declared.acts.Act.{Act}
 use Rattle.tc_types.specs.declared.acts.Act.TheVariants as act
 use Rattle.tc_types.specs.declared.acts.Query.TheVariants as query
 use Rattle.tc_types.specs.Grammar.{line_text}
-use Rattle.tc_desk.specs.Book.{Book, empty_book}
-use Rattle.tc_desk.specs.Machine.{outcome_of, stamp_of}
+use Rattle.tc_book.specs.declared.stamps.Stamp.{Stamp}
+use Rattle.tc_book.specs.Book.{Book, empty_book}
+use Rattle.tc_desk.specs.State.{State}
+use Rattle.tc_desk.specs.Acts.{refusal_of, acted, first_of}
+use Rattle.tc_desk.specs.Machine.{stamp_of}
+use Rattle.tc_desk.specs.Replies.{Reply, act_reply, query_reply, refusal_reply}
 
-abbrev first_entry : Entry
+abbrev first_entry : Form
 first_entry = record {
   apid = 5;
   ack = record { acceptance = true; start = false; progress = false; completion = true };
@@ -28,18 +34,30 @@ line moment by given = record { moment = moment; by = by; act = given }
 
 abbrev first_run : List Line
 first_run =
-    line 100 (codes "ann") (act.Enter first_entry)
-    ∷ line 110 (codes "bob") (act.Enter (record first_entry { command = Plain 8 2 }))
-    ∷ line 120 (codes "ann") (act.Withdraw 1)
+    line 100 (codes "ann") (act.Book (Enter first_entry))
+    ∷ line 110 (codes "bob") (act.Book (Enter (record first_entry { command = Plain 8 2 })))
+    ∷ line 120 (codes "ann") (act.Book (Withdraw 1))
     ∷ line 130 (codes "ann") (act.Ask query.Places)
     ∷ line 130 (codes "ann") (act.Ask (query.History 1 0))
     ∷ []
 
--- the lines of the replies, where memory is not refused
-abbrev replies_to : Book → List Line → List (List ℕ)
+-- the reply where no test holds
+abbrev served : Book → Stamp → Act → Reply
+served book stamp (act.Ask asked) = query_reply book asked
+served book stamp given = act_reply (first_of book given) (drop (length book.history) (acted stamp given book).history)
+
+-- a line's reply, and the book after it, where memory is not refused
+abbrev step : Option Refusal → Book → Stamp → Act → Reply × Book
+step (Some refusal) book stamp given = (refusal_reply refusal, book)
+step None book stamp given = (served book stamp given, acted stamp given book)
+
+abbrev step_of : Book → Line → Reply × Book
+step_of book given = step (refusal_of (record { book = book }) given.act) book (stamp_of given) given.act
+
+-- the lines of the replies
+abbrev replies_to : Book → List Line → Reply
 replies_to book [] = []
-replies_to book (given ∷ others) =
-    (outcome_of book (stamp_of given) given.act).reply ++ replies_to (outcome_of book (stamp_of given) given.act).book others
+replies_to book (given ∷ others) = (step_of book given).0 ++ replies_to (step_of book given).1 others
 
 pub first_run-spelled : map line_text first_run ≡
     codes "100 ann enter 5 a--c no 8 1 - - ok"

@@ -1,8 +1,4 @@
-pub mod Book
-pub mod Good
-pub mod Conserved
-pub mod Records
+pub mod State
 pub mod Acts
-pub mod Tables
+pub mod Replies
 pub mod Machine
-pub mod Batch

@@ -1,73 +1,56 @@
--- The desk machine: what is answered to whom, and what the book becomes.
-use Rattle.std.specs.Prelude.{◌≡◌, ℕ, ◌⊎◌, nat_lt, Option, Some, None, Ok, Err, Result, List, [], ◌∷◌, length, map, take, drop, codes}
+-- The desk machine: what is answered to whom, and what becomes of the desk. It is a relation: where memory is refused, and
+-- later what the link tells, is not decided by the book alone.
+use Rattle.std.specs.Prelude.{◌≡◌, ◌⊎◌, Option, Some, None, Ok, Err, Result, List, length, drop}
 use Rattle.tc_types.specs.declared.moves.Move.{Move}
 use Rattle.tc_types.specs.declared.refusals.Refusal.{Refusal}
 use Rattle.tc_types.specs.declared.refusals.Refusal.TheVariants.{Memory}
 use Rattle.tc_types.specs.declared.acts.Act.{Act}
 use Rattle.tc_types.specs.declared.acts.Act.TheVariants as act
-use Rattle.tc_types.specs.declared.acts.Query.{Query}
-use Rattle.tc_types.specs.declared.acts.Query.TheVariants as query
 use Rattle.tc_types.specs.declared.acts.Line.{Line}
-use Rattle.tc_types.specs.History.{entered, counts_of, rows_past}
-use Rattle.tc_types.specs.Lines.{entered_line, move_line, places_line, history_line, refusal_line}
-use Rattle.tc_desk.specs.declared.stamps.Stamp.{Stamp}
-use Rattle.tc_desk.specs.declared.dones.First.{First}
-use Rattle.tc_desk.specs.declared.dones.First.TheVariants as first
-use Rattle.tc_desk.specs.Book.{Book}
-use Rattle.tc_desk.specs.Acts.{tests_of, first_refusal, acted, first_of}
+use Rattle.tc_book.specs.declared.stamps.Stamp.{Stamp}
+use Rattle.tc_book.specs.declared.firsts.First.{First}
+use Rattle.tc_desk.specs.State.{State}
+use Rattle.tc_desk.specs.Acts.{refusal_of, acted, first_of}
+use Rattle.tc_desk.specs.Replies.{Reply, act_reply, query_reply, refusal_reply}
 
--- What an act answers: refused as the first test that holds says, or for want of memory where none holds, and then
--- nothing changed; else the book became what the act makes of it, and the reply begins as it should.
-abbrev pub Answers : {X : Type 0} → (X → First) → Book → Stamp → Act → Book → Result X Refusal → Type 0
-Answers first old stamp given new (Ok done) =
-    (first_refusal (tests_of old given) ≡ None) × (new ≡ acted stamp given old) × (first done ≡ first_of old given)
-Answers first old stamp given new (Err refused) =
-    ((first_refusal (tests_of old given) ≡ Some refused) ⊎ ((first_refusal (tests_of old given) ≡ None) × (refused ≡ Memory)))
-    × (new ≡ old)
+-- what an act makes that is carried out: the book has the act's own rows, and the reply begins as the act says
+pub record Does (stamp : Stamp) (given : Act) (old new : State) (first : First) : Type 0 where
+  pub book : new.book ≡ acted stamp given old.book
+  pub begins : first ≡ first_of old.book given
 
--- ok, or ok request N APID/COUNT
-abbrev pub first_line : First → List ℕ
-first_line first.Plain = codes "ok"
-first_line (first.Entered n identity) = entered_line n identity
+-- Why an act is refused: the first of its tests that holds says so, or memory was refused where none holds. Nothing
+-- changed.
+pub record Refuses (given : Act) (old new : State) (refused : Refusal) : Type 0 where
+  pub why : (refusal_of old given ≡ Some refused) ⊎ ((refusal_of old given ≡ None) × (refused ≡ Memory))
+  pub book : new.book ≡ old.book
 
--- the reply to an act: its first line, then a line for each row that it made
-abbrev pub act_reply : First → List Move → List (List ℕ)
-act_reply first rows = first_line first ∷ map move_line rows
+-- an act is refused, or no test of it holds and it is carried out
+abbrev pub Answers : {X : Type 0} → (X → First) → State → Stamp → Act → State → Result X Refusal → Type 0
+Answers first old stamp given new (Ok done) = (refusal_of old given ≡ None) × Does stamp given old new (first done)
+Answers first old stamp given new (Err refused) = Refuses given old new refused
 
--- the reply to a question
-abbrev pub query_reply : Book → Query → List (List ℕ)
-query_reply book query.Places = places_line (length (entered book.history)) (counts_of book.history) ∷ []
-query_reply book (query.History n after) =
-    history_line n (length (take 50 (rows_past n after book.history))) (nat_lt 50 (length (rows_past n after book.history)))
-    ∷ map move_line (take 50 (rows_past n after book.history))
+-- the rows of the history that came
+abbrev pub rows_new : State → State → List Move
+rows_new old new = drop (length old.book.history) new.book.history
 
--- the reply where no test holds
-abbrev pub reply_of : Book → Stamp → Act → List (List ℕ)
-reply_of book stamp (act.Ask asked) = query_reply book asked
-reply_of book stamp given =
-    act_reply (first_of book given) (drop (length book.history) (acted stamp given book).history)
+-- an act was carried out, and its reply tells how, and the rows that came
+pub record Carries (old : State) (stamp : Stamp) (given : Act) (told : Reply) (new : State) : Type 0 where
+  pub first : First
+  pub free : refusal_of old given ≡ None
+  pub does : Does stamp given old new first
+  pub reply : told ≡ act_reply first (rows_new old new)
 
--- the reply to a line, and the book after it
-pub record Outcome : Type 0 where
-  pub reply : List (List ℕ)
-  pub book : Book
+-- an act or a question that no test refuses, and its reply
+abbrev pub Serves : State → Stamp → Act → Reply → State → Type 0
+Serves old stamp (act.Ask asked) reply new =
+    (refusal_of old (act.Ask asked) ≡ None) × (reply ≡ query_reply old.book asked) × (new.book ≡ old.book)
+Serves old stamp given reply new = Carries old stamp given reply new
 
--- what a line makes where memory is not refused
-abbrev pub outcome_by : Option Refusal → Book → Stamp → Act → Outcome
-outcome_by (Some refusal) old stamp given = record { reply = refusal_line refusal ∷ []; book = old }
-outcome_by None old stamp given = record { reply = reply_of old stamp given; book = acted stamp given old }
-
-abbrev pub outcome_of : Book → Stamp → Act → Outcome
-outcome_of old stamp given = outcome_by (first_refusal (tests_of old given)) old stamp given
-
--- memory may be refused where no test holds, and that changes nothing
-abbrev pub LacksMemory : Book → Act → Outcome → Type 0
-LacksMemory old given outcome =
-    (first_refusal (tests_of old given) ≡ None) × (outcome ≡ record { reply = refusal_line Memory ∷ []; book = old })
-
--- One step: a line is answered as its outcome says, or memory is refused.
-abbrev pub DeskStep : Book → Stamp → Act → Outcome → Type 0
-DeskStep old stamp given outcome = (outcome ≡ outcome_of old stamp given) ⊎ LacksMemory old given outcome
+-- One step of the desk machine: an act or a question is served, or refused.
+abbrev pub DeskStep : State → Stamp → Act → Reply → State → Type 0
+DeskStep old stamp given reply new =
+    Serves old stamp given reply new
+    ⊎ ((refused : Refusal) × Refuses given old new refused × (reply ≡ refusal_reply refused))
 
 abbrev pub stamp_of : Line → Stamp
 stamp_of line = record { by = line.by; moment = line.moment }

@@ -1,21 +1,8 @@
 //! What an act answers.
 use std::alloc::Allocator;
+use tc_book::firsts::First;
 use tc_types::moves::Move;
-use tc_types::numbers::RequestNumber;
-use tc_types::requests::Identity;
 use tc_types::rows::Row;
-
-/// What the first line of a reply says.
-#[derive(Clone, Copy, Debug, PartialEq, Eq)]
-pub enum First {
-    /// `ok`.
-    Plain,
-    /// `ok request N APID/COUNT`: a request was entered.
-    Entered {
-        request: RequestNumber,
-        identity: Identity,
-    },
-}
 
 /// What an act that was carried out made.
 #[derive(Drop)]

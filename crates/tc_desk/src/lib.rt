@@ -1,13 +1,7 @@
-//! The book of the desk and the acts on it.
+//! The desk: every act of a person, on the book that `tc_book` keeps. The link and the spacecraft will join it here.
 //!
-//! A contract sees a `Desk` as its book: the requests in order of number, and the history.
+//! A contract sees a `Desk` as its `State`. What an act does is a relation between the state before and the one after.
 #![tactic(auto)]
 
-mod acts;
 pub mod desks;
 pub mod dones;
-mod drafts;
-mod marks;
-mod reading;
-mod records;
-pub mod stamps;

@@ -6,9 +6,9 @@ use Rattle.tc_types.specs.declared.acts.Act.TheVariants as act
 use Rattle.tc_types.specs.declared.acts.Query.TheVariants as query
 use Rattle.tc_types.specs.declared.acts.Line.{Line}
 use Rattle.tc_types.specs.Grammar.{HasLongAct, SpellsLine, act_text}
-use Rattle.tc_desk.specs.declared.stamps.Stamp.{Stamp}
+use Rattle.tc_book.specs.declared.stamps.Stamp.{Stamp}
 use Rattle.tc_desk.specs.Machine.{stamp_of}
-use Rattle.tc_room.specs.Replies.{Reply, refusal_reply}
+use Rattle.tc_desk.specs.Replies.{Reply, refusal_reply}
 use Rattle.tc_room.specs.Room.{Standing, RoomStep}
 
 -- A line that is refused as it is read: with TooLong exactly where its act is too long, and else with BadText, where no

@@ -4,10 +4,10 @@ use Rattle.sqlite_trees.specs.declared.memory.MemStore.{MemStore}
 use Rattle.sqlite.specs.Held.{Held, state}
 use Rattle.sqlite.specs.Steps.{over_memory}
 use Rattle.tc_types.specs.Tables.{Image}
-use Rattle.tc_desk.specs.Book.{Book}
-use Rattle.tc_desk.specs.Conserved.{IsConserved}
-use Rattle.tc_desk.specs.Good.{IsGoodBook}
-use Rattle.tc_desk.specs.Tables.{image_of}
+use Rattle.tc_book.specs.Book.{Book}
+use Rattle.tc_book.specs.Conserved.{IsConserved}
+use Rattle.tc_book.specs.Good.{IsGoodBook}
+use Rattle.tc_book.specs.Tables.{image_of}
 use Rattle.tc_store.specs.Schema.{Holds}
 
 -- tables in memory that hold these rows and no other
@@ -21,7 +21,7 @@ pub record IsKept (book : Book) : Type 0 where
   pub good : IsGoodBook book
   pub conserved : IsConserved book.history
 
--- the desk's book is kept; and while the room has not stopped, the tables hold it
+-- the desk's book is good; and while the room has not stopped, the tables hold it
 pub record IsJoined (book : Book) (tables : Held MemStore) (stopped : Bool) : Type 0 where
   pub held : stopped ≡ false → HasImage tables (image_of book)
-  pub kept : IsKept book
+  pub good : IsGoodBook book

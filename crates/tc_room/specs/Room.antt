@@ -1,38 +1,49 @@
 -- The room: a desk whose book stands in tables too, until the tables fail.
-use Rattle.std.specs.Prelude.{◌≡◌, ◌⊎◌, Bool, true, false, MatchBool, Result, Ok, Err}
+use Rattle.std.specs.Prelude.{◌≡◌, ◌⊎◌, Bool, true, false, None, MatchBool, Result, Ok, Err}
+use Rattle.sqlite_trees.specs.declared.memory.MemStore.{MemStore}
+use Rattle.sqlite.specs.Held.{Held}
 use Rattle.tc_types.specs.declared.refusals.Refusal.{Refusal}
 use Rattle.tc_types.specs.declared.refusals.Refusal.TheVariants.{Store, Stopped}
 use Rattle.tc_types.specs.declared.acts.Act.{Act}
-use Rattle.tc_desk.specs.declared.stamps.Stamp.{Stamp}
-use Rattle.tc_desk.specs.Book.{Book, empty_book}
-use Rattle.tc_desk.specs.Machine.{DeskStep, Outcome}
-use Rattle.tc_room.specs.Replies.{Reply, refusal_reply}
+use Rattle.tc_book.specs.declared.stamps.Stamp.{Stamp}
+use Rattle.tc_book.specs.Tables.{image_of}
+use Rattle.tc_desk.specs.State.{State, new_desk}
+use Rattle.tc_desk.specs.Acts.{refusal_of}
+use Rattle.tc_desk.specs.Machine.{DeskStep}
+use Rattle.tc_desk.specs.Replies.{Reply, refusal_reply}
+use Rattle.tc_room.specs.Joined.{HasImage}
 
--- where a room stands: its desk's book, and whether it has stopped
+-- where a room stands: its desk, its tables, and whether it has stopped
 pub record Standing : Type 0 where
-  pub book : Book
+  pub desk : State
+  pub tables : Held MemStore
   pub stopped : Bool
 
--- a room that was just opened
-abbrev pub just_opened : Standing
-just_opened = record { book = empty_book; stopped = false }
+-- a room that was just opened: nothing happened on its desk yet, and its tables hold nothing
+pub record IsJustOpened (room : Standing) : Type 0 where
+  pub desk : room.desk ≡ new_desk
+  pub tables : HasImage room.tables (image_of room.desk.book)
+  pub going : room.stopped ≡ false
 
--- the desk machine made a step
-abbrev pub StepsDesk : Standing → Stamp → Act → Reply → Standing → Type 0
-StepsDesk old stamp given reply new =
-    (outcome : Outcome) × DeskStep old.book stamp given outcome
-    × (reply ≡ outcome.reply) × (new ≡ record { book = outcome.book; stopped = false })
+-- the desk machine made a step, and the tables hold its book
+pub record StepsDesk (old : Standing) (stamp : Stamp) (given : Act) (reply : Reply) (new : Standing) : Type 0 where
+  pub desk : DeskStep old.desk stamp given reply new.desk
+  pub tables : HasImage new.tables (image_of new.desk.book)
+  pub going : new.stopped ≡ false
 
--- the database failed, and the room has stopped
-abbrev pub FailsStore : Reply → Standing → Type 0
-FailsStore reply new = (reply ≡ refusal_reply Store) × (new.stopped ≡ true)
+-- The database failed at what no test refused, and the room has stopped. Its tables hold the book as it was before.
+pub record FailsStore (old : Standing) (given : Act) (told : Reply) (new : Standing) : Type 0 where
+  pub free : refusal_of old.desk given ≡ None
+  pub reply : told ≡ refusal_reply Store
+  pub stopped : new.stopped ≡ true
+  pub tables : HasImage new.tables (image_of old.desk.book)
 
 -- One step: a room that has stopped says so and stays as it was; else an act or a question is answered as the desk
 -- machine answers it, or the database fails.
 abbrev pub RoomStep : Standing → Stamp → Act → Reply → Standing → Type 0
 RoomStep old stamp given reply new = MatchBool old.stopped
     ((reply ≡ refusal_reply Stopped) × (new ≡ old))
-    (StepsDesk old stamp given reply new ⊎ FailsStore reply new)
+    (StepsDesk old stamp given reply new ⊎ FailsStore old given reply new)
 
 -- the answer to a step, of which the lines of a reply are made
 abbrev pub AnswersStep : {X : Type 0} → (X → Reply) → Standing → Stamp → Act → Standing → Result X Refusal → Type 0

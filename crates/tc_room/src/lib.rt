@@ -3,6 +3,6 @@
 #![tactic(auto)]
 
 pub mod answers;
-mod memory;
+pub mod memory;
 pub mod replies;
 pub mod rooms;

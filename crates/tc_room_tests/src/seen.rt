@@ -6,7 +6,7 @@ use tc_room::answers::{Answer, answer_line, answer_places};
 use tc_room::rooms::{Counts, Room};
 use tc_store::faults::StoreFault;
 use tc_store::tables::Tables;
-use tc_types::acts::Act;
+use tc_types::acts::{Act, BookAct};
 use tc_types::moves::Move;
 use tc_types::names::Name;
 use tc_types::numbers::Moment;
@@ -82,7 +82,7 @@ impl SeenRoom for Room {
     }
 
     fn withdraws(&mut self, by: Name, moment: Moment, request: u32) -> Result<usize, Refusal> {
-        match self.act(by, moment, Act::Withdraw { request }) {
+        match self.act(by, moment, Act::Book(BookAct::Withdraw { request })) {
             Ok(done) => Ok(done.moves.len()),
             Err(refusal) => Err(refusal),
         }

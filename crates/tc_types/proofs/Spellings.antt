@@ -17,13 +17,15 @@ use Rattle.tc_types.specs.declared.requests.Outcome.TheVariants as outcome
 use Rattle.tc_types.specs.declared.requests.Ack.{Ack}
 use Rattle.tc_types.specs.declared.requests.Command.{Command}
 use Rattle.tc_types.specs.declared.requests.Command.TheVariants as command
-use Rattle.tc_types.specs.declared.requests.Entry.{Entry}
+use Rattle.tc_types.specs.declared.requests.Form.{Form}
+use Rattle.tc_types.specs.declared.acts.BookAct.{BookAct}
+use Rattle.tc_types.specs.declared.acts.BookAct.TheVariants as book_act
 use Rattle.tc_types.specs.declared.acts.Act.{Act}
 use Rattle.tc_types.specs.declared.acts.Act.TheVariants as act
 use Rattle.tc_types.specs.declared.acts.Query.TheVariants as query
 use Rattle.tc_types.specs.declared.acts.Line.{Line}
 use Rattle.tc_types.specs.Lines.{spaced}
-use Rattle.tc_types.specs.Grammar.{flag, ack_word, yes_no, outcome_words, outcome_word, IsOutcome, command_words, IsCommand, entry_words, IsEntry, act_words, IsAct, act_text, SpellsLine, after_two, act_part, HasLongAct}
+use Rattle.tc_types.specs.Grammar.{flag, ack_word, yes_no, outcome_words, outcome_word, IsOutcome, command_words, IsCommand, entry_words, IsEntry, book_act_words, IsBookAct, act_words, IsAct, act_text, SpellsLine, after_two, act_part, HasLongAct}
 use Rattle.tc_types.specs.Words.{words, words_left, line_words, IsLine}
 use Rattle.tc_types.proofs.WordLaws.{lacks, lacks_joined, words_joined, words_nonempty}
 use Rattle.tc_types.proofs.NumberLaws.{numeral, small_offset}
@@ -101,16 +103,20 @@ yes_no_lacks : (b : Bool) → lacks 32 (yes_no b) ≡ true
 yes_no_lacks true = refl
 yes_no_lacks false = refl
 
-entry_lacks : (entry : Entry) → IsEntry entry → list_all (lacks 32) (entry_words entry) ≡ true
+entry_lacks : (entry : Form) → IsEntry entry → list_all (lacks 32) (entry_words entry) ≡ true
 entry_lacks entry h =
     let outcome_word_lacks : lacks 32 (outcome_word entry.outcome) ≡ true = lacks_joined 47 32 (outcome_words entry.outcome) refl (outcome_lacks entry.outcome h.outcome) in
     let apid : entry.apid < 2048 = h.apid in
     rw (number_lacks entry.apid (omega arith), ack_lacks entry.ack, yes_no_lacks entry.critical, list_all-append (lacks 32) (command_words entry.command) (outcome_word entry.outcome ∷ []), command_lacks entry.command h.command, outcome_word_lacks) refl
 
--- the words of an act have no space
+-- the words of an act on the book have no space
+book_act_parted : (a : BookAct) → IsBookAct a → (list_all (lacks 32) (book_act_words a) ≡ true) × (0 < length (book_act_words a))
+book_act_parted (book_act.Enter entry) h = (rw (entry_lacks entry h) refl, omega arith)
+book_act_parted (book_act.Withdraw request) h = (rw (number_lacks request h) refl, omega arith)
+
+-- nor have those of any act
 pub act_parted : (a : Act) → IsAct a → (list_all (lacks 32) (act_words a) ≡ true) × (0 < length (act_words a))
-act_parted (act.Enter entry) h = (rw (entry_lacks entry h) refl, omega arith)
-act_parted (act.Withdraw request) h = (rw (number_lacks request h) refl, omega arith)
+act_parted (act.Book given) h = book_act_parted given h
 act_parted (act.Ask query.Places) h = (refl, omega arith)
 act_parted (act.Ask (query.History request after)) h = (rw (number_lacks request h.0, number_lacks after h.1) refl, omega arith)
 

@@ -13,6 +13,7 @@ use Rattle.tc_types.specs.declared.requests.Outcome.{Outcome}
 use Rattle.tc_types.specs.declared.requests.Outcome.TheVariants as outcome
 use Rattle.tc_types.specs.declared.requests.Command.{Command}
 use Rattle.tc_types.specs.declared.requests.Command.TheVariants as command
+use Rattle.tc_types.specs.declared.acts.BookAct.TheVariants.{Enter, Withdraw}
 use Rattle.tc_types.specs.declared.acts.Act.{Act}
 use Rattle.tc_types.specs.declared.acts.Act.TheVariants as act
 use Rattle.tc_types.specs.declared.acts.Query.TheVariants as query
@@ -33,11 +34,11 @@ none = record { acceptance = false; start = false; progress = false; completion 
 
 -- the entry of a plain request
 abbrev plain : Ack → Bool → Outcome → Act
-plain ack critical behaviour = act.Enter (record { apid = 2047; ack = ack; critical = critical; command = command.Plain 8 255; outcome = behaviour })
+plain ack critical behaviour = act.Book (Enter (record { apid = 2047; ack = ack; critical = critical; command = command.Plain 8 255; outcome = behaviour }))
 
 -- the entry of a command of the on-board schedule
 abbrev scheduling : Command → Act
-scheduling given = act.Enter (record { apid = 5; ack = completion; critical = false; command = given; outcome = outcome.Completes })
+scheduling given = act.Book (Enter (record { apid = 5; ack = completion; critical = false; command = given; outcome = outcome.Completes }))
 
 pub plain_entries-spelled : map act_text (
     plain none false outcome.Completes
@@ -82,9 +83,9 @@ unfolding digits
 schedule_entries-spelled = refl
 
 pub short_acts-spelled : map act_text (
-    act.Withdraw 1
-    ∷ act.Withdraw 0
-    ∷ act.Withdraw 4294967295
+    act.Book (Withdraw 1)
+    ∷ act.Book (Withdraw 0)
+    ∷ act.Book (Withdraw 4294967295)
     ∷ act.Ask query.Places
     ∷ act.Ask (query.History 12 0)
     ∷ []) ≡
@@ -97,7 +98,7 @@ pub short_acts-spelled : map act_text (
 unfolding digits
 short_acts-spelled = refl
 
-pub line-spelled : line_text (record { moment = 4102444799; by = codes "abcdefghij012345"; act = act.Withdraw 7 }) ≡
+pub line-spelled : line_text (record { moment = 4102444799; by = codes "abcdefghij012345"; act = act.Book (Withdraw 7) }) ≡
     codes "4102444799 abcdefghij012345 withdraw 7"
 unfolding digits
 line-spelled = refl

@@ -7,7 +7,9 @@ use Rattle.tc_types.specs.declared.requests.Outcome.{Outcome}
 use Rattle.tc_types.specs.declared.requests.Outcome.TheVariants as outcome
 use Rattle.tc_types.specs.declared.requests.Command.{Command}
 use Rattle.tc_types.specs.declared.requests.Command.TheVariants as command
-use Rattle.tc_types.specs.declared.requests.Entry.{Entry}
+use Rattle.tc_types.specs.declared.requests.Form.{Form}
+use Rattle.tc_types.specs.declared.acts.BookAct.{BookAct}
+use Rattle.tc_types.specs.declared.acts.BookAct.TheVariants as book_act
 use Rattle.tc_types.specs.declared.acts.Act.{Act}
 use Rattle.tc_types.specs.declared.acts.Act.TheVariants as act
 use Rattle.tc_types.specs.declared.acts.Query.{Query}
@@ -16,6 +18,7 @@ use Rattle.tc_types.specs.declared.acts.Line.{Line}
 use Rattle.tc_types.specs.Numbers.{IsMoment, IsOffset, IsApid, IsSteps, IsFailureCode, IsService, IsSubtype}
 use Rattle.tc_types.specs.Names.{IsPerson}
 use Rattle.tc_types.specs.Lines.{spaced}
+use Rattle.tc_types.specs.Schedule.{KeepsScheduleRule}
 
 -- What is read has this text, and what has this text is read.
 pub record Reads {X T : Type 0} (text : X → T) (In : X → Type 0) (given : T) (read : Option X) : Type 0 where
@@ -83,29 +86,12 @@ IsCommand (command.ShiftActivity target offset) = IsNumber target × IsOffset of
 IsCommand (command.ShiftAll offset) = IsOffset offset
 IsCommand command.SummarizeAll = Unit {0}
 
--- a command of the on-board schedule
-abbrev pub is_schedule : Command → Bool
-is_schedule (command.Plain service subtype) = false
-is_schedule command.EnableSchedule = true
-is_schedule command.DisableSchedule = true
-is_schedule command.ResetSchedule = true
-is_schedule (command.InsertActivity target time) = true
-is_schedule (command.DeleteActivity target) = true
-is_schedule (command.ShiftActivity target offset) = true
-is_schedule (command.ShiftAll offset) = true
-is_schedule command.SummarizeAll = true
-
--- a schedule command asks for its completion and completes
-pub record KeepsScheduleRule (entry : Entry) : Type 0 where
-  pub completion : is_schedule entry.command ≡ true → entry.ack.completion ≡ true
-  pub completes : is_schedule entry.command ≡ true → entry.outcome ≡ outcome.Completes
-
 -- APID ACK CRIT SERVICE SUBTYPE TARGET TIME OUTCOME
-abbrev pub entry_words : Entry → List (List ℕ)
+abbrev pub entry_words : Form → List (List ℕ)
 entry_words entry =
     (decimal entry.apid ∷ ack_word entry.ack ∷ yes_no entry.critical ∷ []) ++ command_words entry.command ++ outcome_word entry.outcome ∷ []
 
-pub record IsEntry (entry : Entry) : Type 0 where
+pub record IsEntry (entry : Form) : Type 0 where
   pub apid : IsApid entry.apid
   pub command : IsCommand entry.command
   pub outcome : IsOutcome entry.outcome
@@ -119,15 +105,23 @@ abbrev pub IsQuery : Query → Type 0
 IsQuery query.Places = Unit {0}
 IsQuery (query.History request after) = IsNumber request × IsNumber after
 
+-- the words of an act on the book: its verb, and what it takes
+abbrev pub book_act_words : BookAct → List (List ℕ)
+book_act_words (book_act.Enter entry) = codes "enter" ∷ entry_words entry
+book_act_words (book_act.Withdraw request) = codes "withdraw" ∷ decimal request ∷ []
+
+-- the limits that its numbers keep
+abbrev pub IsBookAct : BookAct → Type 0
+IsBookAct (book_act.Enter entry) = IsEntry entry
+IsBookAct (book_act.Withdraw request) = IsNumber request
+
 abbrev pub act_words : Act → List (List ℕ)
-act_words (act.Enter entry) = codes "enter" ∷ entry_words entry
-act_words (act.Withdraw request) = codes "withdraw" ∷ decimal request ∷ []
+act_words (act.Book given) = book_act_words given
 act_words (act.Ask asked) = query_words asked
 
 -- the limits that the numbers of an act keep
 abbrev pub IsAct : Act → Type 0
-IsAct (act.Enter entry) = IsEntry entry
-IsAct (act.Withdraw request) = IsNumber request
+IsAct (act.Book given) = IsBookAct given
 IsAct (act.Ask asked) = IsQuery asked
 
 -- the one spelling of an act

@@ -3,6 +3,7 @@ pub mod Names
 pub mod Lawful
 pub mod History
 pub mod Lines
+pub mod Schedule
 pub mod Grammar
 pub mod Words
 pub mod Tables

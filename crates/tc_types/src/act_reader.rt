@@ -2,9 +2,9 @@
 ghost use Rattle.std.specs.Prelude.{◌≡◌, ◌≢◌, ◌↔◌, ◌<◌, ◌≤◌, Ok, Err, IfOk, IfErr, ◌∷◌, codes, length};
 ghost use Rattle.tc_types.specs.declared.acts.Act.{Act};
 ghost use Rattle.tc_types.specs.declared.refusals.Refusal.TheVariants as refusal;
-ghost use Rattle.tc_types.specs.Grammar.{Reads, query_words, IsQuery, act_words, IsAct, act_text, SpellsAct};
+ghost use Rattle.tc_types.specs.Grammar.{Reads, query_words, IsQuery, book_act_words, IsBookAct, act_words, IsAct, act_text, SpellsAct};
 
-use crate::acts::{Act, Query};
+use crate::acts::{Act, BookAct, Query};
 use crate::entry_reader::entry;
 use crate::readers::{is, number};
 use crate::refusals::Refusal;
@@ -32,12 +32,12 @@ fn places(words: &mut Words<'_>) -> Option<Query>
 }
 
 /// What stands behind `withdraw`.
-fn withdraw(words: &mut Words<'_>) -> Option<Act>
-    ensures { Reads act_words IsAct (codes "withdraw" ∷ words.old) result }
+fn withdraw(words: &mut Words<'_>) -> Option<BookAct>
+    ensures { Reads book_act_words IsBookAct (codes "withdraw" ∷ words.old) result }
 {
     let request = number(words.next()?)?;
     words.end()?;
-    Some(Act::Withdraw { request })
+    Some(BookAct::Withdraw { request })
 }
 
 /// The words of an act, of which the first says which.
@@ -46,9 +46,9 @@ pub fn act_of(words: &mut Words<'_>) -> Option<Act>
 {
     let verb = words.next()?;
     if is(verb, b"enter") {
-        Some(Act::Enter(entry(words)?))
+        Some(Act::Book(BookAct::Enter(entry(words)?)))
     } else if is(verb, b"withdraw") {
-        withdraw(words)
+        Some(Act::Book(withdraw(words)?))
     } else if is(verb, b"places") {
         Some(Act::Ask(places(words)?))
     } else if is(verb, b"history") {

@@ -1,7 +1,7 @@
 //! What a person can ask of the desk.
+use crate::entries::Entry;
 use crate::names::Name;
 use crate::numbers::Moment;
-use crate::requests::Entry;
 
 /// A question, which changes nothing.
 #[derive(Clone, Copy, Debug, PartialEq, Eq)]
@@ -12,13 +12,20 @@ pub enum Query {
     History { request: u32, after: u32 },
 }
 
-/// An act of a person at the desk.
+/// An act on the book alone: it asks nothing of the link.
 #[derive(Clone, Copy, Debug, PartialEq, Eq)]
-pub enum Act {
+pub enum BookAct {
     /// A request is written down.
     Enter(Entry),
     /// A request is withdrawn before release.
     Withdraw { request: u32 },
+}
+
+/// An act of a person at the desk.
+#[derive(Clone, Copy, Debug, PartialEq, Eq)]
+pub enum Act {
+    /// An act on the book alone.
+    Book(BookAct),
     /// A question.
     Ask(Query),
 }

@@ -3,13 +3,15 @@ ghost use Rattle.std.specs.Prelude.{◌≡◌, ◌↔◌, IsTrue, true, false, L
 ghost use Rattle.std.specs.Fmt.{decimal};
 ghost use Rattle.tc_types.specs.declared.requests.Command.{Command};
 ghost use Rattle.tc_types.specs.Numbers.{IsFailureCode};
-ghost use Rattle.tc_types.specs.Grammar.{Reads, outcome_words, outcome_word, IsOutcome, command_words, IsCommand, is_schedule, KeepsScheduleRule, entry_words, IsEntry};
+ghost use Rattle.tc_types.specs.Grammar.{Reads, outcome_words, outcome_word, IsOutcome, command_words, IsCommand, entry_words, IsEntry};
+ghost use Rattle.tc_types.specs.Schedule.{is_schedule};
 
+use crate::entries::Entry;
 use crate::numbers::FailureCode;
 use crate::readers::{
     ack, apid, failure_code, is, moment, number, offset, service, steps, subtype, yes_or_no,
 };
-use crate::requests::{Command, Entry, Outcome};
+use crate::requests::{Command, Form, Outcome};
 use crate::words::Words;
 
 /// A failure code that is the last word.
@@ -149,14 +151,6 @@ fn next_command(words: &mut Words<'_>) -> Option<Command>
     command(service_word, subtype_word, target, time)
 }
 
-/// Whether a schedule command asks for its completion and completes.
-fn keeps_schedule_rule(entry: &Entry) -> bool
-    ensures { IsTrue result ↔ KeepsScheduleRule entry.now }
-{
-    let scheduled = !matches!(entry.command, Command::Plain { .. });
-    !scheduled || (entry.ack.completion && entry.outcome == Outcome::Completes)
-}
-
 /// What a person enters.
 pub fn entry(words: &mut Words<'_>) -> Option<Entry>
     ensures { Reads entry_words IsEntry words.old result }
@@ -167,16 +161,11 @@ pub fn entry(words: &mut Words<'_>) -> Option<Entry>
     let command = next_command(words)?;
     let outcome = outcome(words.next()?)?;
     words.end()?;
-    let entry = Entry {
+    Entry::new(Form {
         apid,
         ack,
         critical,
         command,
         outcome,
-    };
-    if keeps_schedule_rule(&entry) {
-        Some(entry)
-    } else {
-        None
-    }
+    })
 }

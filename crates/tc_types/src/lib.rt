@@ -9,6 +9,7 @@ pub mod act_reader;
 pub mod acts;
 pub mod causes;
 pub mod counted;
+pub mod entries;
 pub mod entry_reader;
 pub mod frames;
 pub mod line_reader;

@@ -3,6 +3,7 @@ ghost use Rattle.std.specs.Prelude.{◌≡◌, IfOk};
 ghost use Rattle.std.specs.String.{string_bytes};
 ghost use Rattle.tc_types.specs.Lines.{identity_word, entered_line};
 ghost use Rattle.tc_types.specs.Grammar.{outcome_word};
+ghost use Rattle.tc_types.specs.Schedule.{is_schedule};
 
 use crate::names::Name;
 use crate::numbers::{
@@ -72,9 +73,9 @@ pub struct Identity {
     pub count: SequenceCount,
 }
 
-/// What a person says of a request when it is entered.
+/// What a person writes down of a request: the form of an entry, whether or not it may be entered.
 #[derive(Clone, Copy, Debug, PartialEq, Eq)]
-pub struct Entry {
+pub struct Form {
     /// The application process.
     pub apid: Apid,
     /// The reports of success that it asks for.
@@ -111,6 +112,15 @@ pub struct Request {
     pub critical: bool,
     /// Who entered it.
     pub author: Name,
+}
+
+impl Command {
+    /// Whether it is one of the on-board schedule's.
+    pub fn is_schedule(self) -> bool
+        ensures { result ≡ is_schedule self }
+    {
+        !matches!(self, Command::Plain { .. })
+    }
 }
 
 impl Outcome {

@@ -8,6 +8,7 @@ use std::test::Fail;
 use tc_store::faults::StoreFault;
 use tc_store::tables::Tables;
 use tc_types::causes::Cause;
+use tc_types::moves::Move;
 use tc_types::numbers::{Apid, FailureCode, Offset, SequenceCount, Steps};
 use tc_types::places::Place;
 use tc_types::requests::{Ack, Body, Command, Identity, Outcome, Request};
@@ -112,10 +113,10 @@ fn what_is_written_is_read(rt: HostRuntime) -> Result<(), Fail> {
     writes_and_reads(&rt, &mut tables)
 }
 
-/// The rows of requests 1 to 100, each before the move by which it is entered.
-fn two_hundred_rows(rt: &impl Abort, alloc: Global) -> Result<Vec<Row>, Fail> {
+/// The rows of requests 1 to `count`, each before the move by which it is entered.
+fn entries(rt: &impl Abort, alloc: Global, count: u32) -> Result<Vec<Row>, Fail> {
     let mut batch = Vec::new(alloc);
-    for n in 1..=100u32 {
+    for n in 1..=count {
         batch.push(request(rt, n))?;
         batch.push(Row::Moved(entered(rt, n, n)))?;
     }
@@ -131,9 +132,59 @@ fn writes_all<T: SeenTables>(rt: &impl Abort, tables: &mut T, batch: &[Row]) -> 
 
 #[test]
 fn a_batch_of_two_hundred_rows(rt: HostRuntime) -> Result<(), Fail> {
-    let batch = two_hundred_rows(&rt, rt.alloc())?;
+    let batch = entries(&rt, rt.alloc(), 100)?;
     let mut tables = made(&rt, rt.alloc());
     writes_all(&rt, &mut tables, &batch)
+}
+
+/// Move `seq` of a long history of request 1.
+fn later(rt: &impl Abort, seq: u32) -> Move {
+    let from = Some(Place::Entered);
+    moved(rt, seq, 1, from, Place::Approved, Cause::Approve)
+}
+
+/// Moves 601 to 1,700, all of request 1.
+fn later_moves(rt: &impl Abort, alloc: Global) -> Result<Vec<Move>, Fail> {
+    let mut moves = Vec::new(alloc);
+    for seq in 601..=1_700u32 {
+        moves.push(later(rt, seq))?;
+    }
+    Ok(moves)
+}
+
+/// The same moves as a batch.
+fn later_rows(rt: &impl Abort, alloc: Global) -> Result<Vec<Row>, Fail> {
+    let mut batch = Vec::new(alloc);
+    for seq in 601..=1_700u32 {
+        batch.push(Row::Moved(later(rt, seq)))?;
+    }
+    Ok(batch)
+}
+
+/// Two batches of more than 1,000 rows: 600 requests, and then a long history of the first.
+fn writes_many<T: SeenTables>(
+    rt: &impl Abort,
+    tables: &mut T,
+    first: &[Row],
+    second: &[Row],
+    moves: &[Move],
+) -> Result<(), Fail> {
+    tables.writes(first)?;
+    assert!(rt; tables.stand(counts(600, 0))?);
+    tables.writes(second)?;
+    assert!(rt; tables.tells(1, 600, moves)?);
+    assert!(rt; tables.tells(600, 0, &[entered(rt, 600, 600)])?);
+    assert!(rt; tables.stand(counts(599, 1))?);
+    Ok(())
+}
+
+#[test]
+fn more_than_a_hundred_requests_and_a_thousand_rows(rt: HostRuntime) -> Result<(), Fail> {
+    let first = entries(&rt, rt.alloc(), 600)?;
+    let second = later_rows(&rt, rt.alloc())?;
+    let moves = later_moves(&rt, rt.alloc())?;
+    let mut tables = made(&rt, rt.alloc());
+    writes_many(&rt, &mut tables, &first, &second, &moves)
 }
 
 fn fails_in_mid_batch<T: SeenTables>(rt: &impl Abort, tables: &mut T) -> Result<(), Fail> {

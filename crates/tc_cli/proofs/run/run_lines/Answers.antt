@@ -1,4 +1,5 @@
-use Rattle.tc_cli.proofs.RunLemmas.{has_run-step, has_run-end}
+use Rattle.std.proofs.Common.{◌≡◌, Err, arith}
+use Rattle.tc_cli.proofs.RunLemmas.{has_run-step, has_run-end, stopped_in_line}
 use Rattle.tc_cli.proofs.run.run_lines.Goals as goal
 
 pub returns-clause-taken : goal.returns-clause-taken
@@ -9,3 +10,8 @@ loop-line-preserved g c = record {
   run = has_run-step _ _ _ _ _ _ _ _ _ _ _ _ c.loop-line.invariant.run c.in-Some.ensures.steps c.in_ok-refused.ensures.taken;
   counts = c.in_ok-refused.ensures.counted;
 }
+
+pub returns-in_err-refused-clause-stopped : goal.returns-in_err-refused-clause-stopped
+returns-in_err-refused-clause-stopped g c =
+    let gone : c.from_residual.result ≡ Err c.in_err-refused.field-0.0 = grind arith in
+    rw gone (stopped_in_line _ _ _ _ _ _ _ _ _ _ _ c.loop-line.invariant.run c.in-Some.ensures.steps c.in_err-refused.ensures.stopped)

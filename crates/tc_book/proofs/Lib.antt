@@ -1,0 +1,4 @@
+pub mod HistoryLemmas
+pub mod GoodLemmas
+pub mod BatchLemmas
+pub mod ConservedLemmas

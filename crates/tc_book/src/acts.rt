@@ -1,0 +1,50 @@
+//! The acts on the book, a file each: its tests in order, the room that it takes, and then what cannot fail.
+ghost use Rattle.std.specs.Prelude.{◌≡◌, IfOk, OnOk, IfSome};
+ghost use Rattle.tc_book.specs.Acts.{first_refusal, query_tests};
+ghost use Rattle.tc_book.specs.Answers.{Answers};
+ghost use Rattle.tc_book.specs.Batch.{GoesOn, HoldsRoom};
+
+pub mod enter;
+pub mod withdraw;
+
+use crate::acts::enter::enter;
+use crate::acts::withdraw::withdraw;
+use crate::drafts::Draft;
+use crate::records::Records;
+use crate::stamps::Stamp;
+use std::alloc::Allocator;
+use tc_types::acts::{BookAct, Query};
+use tc_types::refusals::Refusal;
+
+/// Carries an act on the book out, and says what its reply begins with. The draft has room for what came to the book.
+pub fn perform<A: Allocator + Copy + Drop>(
+    records: &mut Records<A>,
+    alloc: A,
+    stamp: Stamp,
+    act: BookAct,
+) -> Result<Draft<A>, Refusal>
+    ensures answers { Answers (λ draft. draft.first) records.old.book stamp act records.new.book result }
+    ensures room { IfOk result (λ draft. HoldsRoom records.old.book records.new.book draft.moves draft.batch) }
+    ensures goes_on { OnOk result (GoesOn records.old.book records.new.book) }
+{
+    match act {
+        BookAct::Enter(entry) => enter(records, alloc, stamp, entry),
+        BookAct::Withdraw { request } => withdraw(records, alloc, stamp, request),
+    }
+}
+
+/// Why a question is refused, if it is.
+pub fn refusal_of<A: Allocator + Copy + Drop>(records: &Records<A>, query: Query) -> Option<Refusal>
+    ensures { result ≡ first_refusal (query_tests records.now.book query) }
+{
+    match query {
+        Query::Places => None,
+        Query::History { request, .. } => {
+            if records.is_unknown(request) {
+                Some(Refusal::UnknownRequest)
+            } else {
+                None
+            }
+        }
+    }
+}

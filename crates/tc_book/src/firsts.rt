@@ -1,0 +1,15 @@
+//! The first line of a reply.
+use tc_types::numbers::RequestNumber;
+use tc_types::requests::Identity;
+
+/// What the first line of a reply says.
+#[derive(Clone, Copy, Debug, PartialEq, Eq)]
+pub enum First {
+    /// `ok`.
+    Plain,
+    /// `ok request N APID/COUNT`: a request was entered.
+    Entered {
+        request: RequestNumber,
+        identity: Identity,
+    },
+}

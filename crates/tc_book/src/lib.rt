@@ -1,0 +1,13 @@
+//! The book of the desk, and the acts on it: the requests in order of number, and the history of their moves.
+//!
+//! A contract sees `Records` as the `Book` that they keep. Nothing here knows of the link.
+#![tactic(auto)]
+
+pub mod acts;
+pub mod drafts;
+pub mod firsts;
+pub mod laws;
+pub mod marks;
+mod reading;
+pub mod records;
+pub mod stamps;
