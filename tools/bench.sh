@@ -1,15 +1,39 @@
-#!/bin/sh
-# Acts per second and peak memory of `tcdesk run`, beside the bare store that writes the same rows in the same
-# batches: tools/bench.sh
-# For each script: how many acts, wall seconds, acts a second, peak resident memory.
-set -eu
+#!/bin/bash
+# What acts cost: tools/bench.sh [RUNS] prints a table for docs/BENCH.md, of so many runs each (5): the least wall time, the
+# user and kernel time of the run with the least of both together, and the most memory.
+#
+# Scripts of short lines go through the built program, with the tables in memory. Beside it stand the bare store
+# (tc_bench), which writes the same rows in the same batches, and SQLite's own C library, which writes them by the same
+# texts in memory and in a file (tools/bench_sqlite.c), where its headers are installed (Debian's libsqlite3-dev). Each
+# has to tell as many requests at Entered as were entered. Times are given as multiples of the user time of the bare
+# store and of that of the C library in memory.
+set -eu -o pipefail
 top=$(cd "$(dirname "$(readlink -f "$0")")/.." && pwd)
-program=$top/crates/tc_cli/out/tc_cli
-[ -x "$program" ] || "$top/tcdesk" run - </dev/null >/dev/null
-bare=$top/crates/tc_bench/out/tc_bench
-[ -x "$bare" ] || (cd "$top/crates/tc_bench" && rt run >/dev/null)
+runs=${1:-5}
+began="$(date -u +%F), $(nproc) cores, a load of $(cut -d ' ' -f 1 /proc/loadavg) before it began"
 work=$(mktemp -d)
 trap 'rm -rf "$work"' EXIT
+
+# The two programs are built where they are missing or older than a source.
+program=$top/crates/tc_cli/out/tc_cli
+"$top/tcdesk" run - </dev/null >/dev/null
+bare=$top/crates/tc_bench/out/tc_bench
+newer=$(find "$top/crates.txt" "$top"/crates/*/src "$top"/crates/*/specs "$top"/crates/*/proofs -type f -newer "$bare" 2>&1 | head -n 1)
+if [[ -n $newer ]]; then
+    (cd "$top/crates/tc_bench" && rt run) >"$work/log" 2>&1 || { cat "$work/log" >&2; exit 1; }
+    touch "$bare"
+fi
+
+# The texts by which the store makes its tables, writes its rows and reads its moves.
+mapfile -t texts < <(grep -ohE '"(CREATE|INSERT|SELECT) [^"]*"' "$top"/crates/tc_store/src/*.rt | tr -d '"')
+library=$work/bench_sqlite
+if ! echo '#include <sqlite3.h>' | "${CC:-cc}" -E - >/dev/null 2>&1; then
+    echo "bench: sqlite3.h is not installed (Debian's libsqlite3-dev): the C library is not measured" >&2
+    library=
+elif ! "${CC:-cc}" -O2 -o "$library" "$top/tools/bench_sqlite.c" -lsqlite3; then
+    echo "bench: tools/bench_sqlite.c was not built: the C library is not measured" >&2
+    library=
+fi
 
 # N entries, of ten APIDs in turn. Lines are short: a script has at most 1,048,576 bytes.
 enters() {
@@ -18,21 +42,68 @@ enters() {
 withdraws() {
     awk -v n="$1" 'BEGIN { for (i = 1; i <= n; i++) print "0 b withdraw " i }'
 }
-# timed NAME ACTS COMMAND..: runs the command, and prints what it took
+
+# timed NAME ACTS TOLD COMMAND..: runs the command so often, and writes down each run: its seconds, of the user and of the
+# kernel, its memory, and the bytes of the file that it makes, 0 for none. TOLD has to be the last line of its output.
 timed() {
-    name=$1
-    acts=$2
-    shift 2
-    /usr/bin/time -f '%e %M' -o "$work/time" "$@" >"$work/out"
-    read -r seconds kilobytes <"$work/time"
-    awk -v name="$name" -v acts="$acts" -v s="$seconds" -v kb="$kilobytes" \
-        'BEGIN { printf "%-28s %7d acts %8.2f s %9.0f acts/s %7.1f MB\n", name, acts, s, acts / (s > 0 ? s : 0.01), kb / 1024 }'
+    local name=$1 acts=$2 told=$3 run bytes times
+    shift 3
+    for ((run = 0; run < runs; run++)); do
+        rm -f "$work/file" "$work/file"-*
+        TIMEFORMAT=$'%R\t%U\t%S'
+        { time /usr/bin/time -o "$work/memory" -f %M "$@" >"$work/out" 2>&3; } 3>&2 2>"$work/time"
+        [[ $(tail -n 1 "$work/out") == "$told" ]] || { echo "bench: $name tells something else" >&2; exit 1; }
+        bytes=$(stat -c %s "$work/file" 2>/dev/null || echo 0)
+        times=$(<"$work/time")
+        printf '%s\t%s\t%s\t%s\t%s\n' "$times" "$(<"$work/memory")" "$bytes" "$acts" "$name" >>"$work/runs"
+    done
 }
-for n in 1000 10000 30000; do
-    enters "$n" >"$work/enter-$n"
-    timed "enter-$n" "$n" "$program" run "$work/enter-$n"
-    timed "bare-store-$n" "$n" "$bare" "$n"
+
+# Prints what was written down as rows of the table, and forgets it.
+rows() {
+    awk -F '\t' 'function commas(n) { return n < 1000 ? n : commas(int(n / 1000)) sprintf(",%03d", n % 1000) }
+        function times(of, to) { return to == "" ? "" : sprintf("%.1f", of / (to > 0 ? to : 0.001)) }
+        {
+            acts = $6
+            name = $7
+            if (!(name in user)) names[++count] = name
+            if (!(name in user) || $1 < wall[name]) wall[name] = $1
+            if (!(name in user) || $2 + $3 < user[name] + kernel[name]) {
+                user[name] = $2
+                kernel[name] = $3
+            }
+            if ($4 > memory[name]) memory[name] = $4
+            bytes[name] = $5
+        }
+        END {
+            for (at = 1; at <= count; at++) {
+                name = names[at]
+                printf "| %s %s | %.2f | %.3f | %.2f | %s | %s | %s | %.1f | %s |\n", commas(acts), name, wall[name],
+                    user[name], kernel[name], commas(int(acts / (user[name] > 0 ? user[name] : 0.001))),
+                    times(user[name], user["entries, the bare store"]), times(user[name], user["entries, the C library"]),
+                    memory[name] / 1024, bytes[name] ? sprintf("%.2f", bytes[name] / 1048576) : ""
+            }
+        }' "$work/runs"
+    rm "$work/runs"
+}
+
+echo "$began; of $runs runs each${library:+; SQLite $("$library" version), its file on $(findmnt -no FSTYPE -T "$work" || stat -f -c %T "$work")}"
+echo
+echo "| What | Wall s | User s | Kernel s | Acts a user second | Times the store | Times C | MB | File MB |"
+echo "|---|---|---|---|---|---|---|---|---|"
+zeros="0 0 0 0 0 0 0 0 0 0 0 0 0 0"
+for count in 1000 10000 30000 60000; do
+    enters "$count" >"$work/script"
+    if (($(stat -c %s "$work/script") <= 1048576)); then
+        timed '`enter`' "$count" "places $count: $count $zeros" "$program" run "$work/script"
+    fi
+    timed "entries, the bare store" "$count" "$count" "$bare" "$count"
+    if [[ -n $library ]]; then
+        timed "entries, the C library" "$count" "$count" "$library" :memory: "$count" "${texts[@]}"
+        timed "entries, the C library in a file" "$count" "$count" "$library" "$work/file" "$count" "${texts[@]}"
+    fi
+    rows
 done
-timed bare-store-60000 60000 "$bare" 60000
-{ enters 20000; withdraws 20000; } >"$work/enter-withdraw-20000"
-timed enter-withdraw-20000 40000 "$program" run "$work/enter-withdraw-20000"
+{ enters 20000; withdraws 20000; } >"$work/script"
+timed 'acts, half `enter`, then half `withdraw`' 40000 "places 20000: 0 0 0 0 0 0 0 0 0 0 0 0 20000 0 0" "$program" run "$work/script"
+rows

@@ -6,6 +6,7 @@ import subprocess
 import tempfile
 import time
 from dataclasses import dataclass
+from functools import cached_property
 
 from edit_files import text_of
 
@@ -23,8 +24,13 @@ class Kit:
         rt = shutil.which("rt")
         if not rt:
             raise SystemExit("edits: the toolchain's command rt is not on the path")
-        self.top = os.path.dirname(os.path.dirname(os.path.realpath(rt)))
+        self.rt, self.top = rt, os.path.dirname(os.path.dirname(os.path.realpath(rt)))
         self.rattle = f"{self.top}/bin/rattle"
+
+    @cached_property
+    def version(self):
+        """What the toolchain calls itself."""
+        return subprocess.run([self.rt, "version"], stdout=subprocess.PIPE, text=True, check=True).stdout.strip()
 
 
 class Crate:

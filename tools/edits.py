@@ -7,8 +7,12 @@ is refused where its own function, or a closure in it, has a goal of its own tha
 function calls, and not because a proof file names what is gone. What is not clear from a group is tried alone, by a
 whole check, and judged as `rt must-fail` does.
 
+Where no crate is named, a crate is passed over whose edits were all refused for the very texts that stand: tools/edits.tried
+has the digests, and tools/edit_record.py says what they cover and what is trusted. --record writes that file after a run.
+
 The libraries below a crate must be built (crates/*/out/rlib), by `rt ci` or `rt all check`. For each edit there is a
-line with the goal that refuses it; the last line is 'N passed, M failed', and the status is 1 where one failed.
+line with the goal that refuses it, and for each crate passed over one with how many it has; the last line is
+'N passed, M failed, K not tried again', and the status is 1 where one failed.
 """
 import argparse
 import os
@@ -21,6 +25,7 @@ from concurrent.futures import ThreadPoolExecutor
 
 from edit_checks import Crate, Kit, check, crates_of, fault_of, path_of, told
 from edit_files import edits_in, joined
+from edit_record import Record, digest_of
 
 
 def say(text):
@@ -33,6 +38,8 @@ class Trial:
     def __init__(self, crate, asked, cores):
         self.crate, self.asked, self.cores = crate, asked, cores
         self.edits = edits_in(f"{crate.folder}/{asked.folder}", crate.folder)
+        # Of all that the verdicts are made from, before the first check.
+        self.digest = digest_of(crate, asked.folder)
         # What was found of each edit, what each check took, and how many edits met an answer by hand.
         self.verdicts, self.reports, self.by_hand = [], [], 0
         self.names = set()
@@ -96,6 +103,12 @@ class Trial:
         half = len(edits) // 2
         return self.group(edits[:half]) + self.group(edits[half:])
 
+    @property
+    def is_refused(self):
+        """Whether each edit was refused, for the texts that stand now."""
+        is_all = len(self.verdicts) == len(self.edits) > 0 and all(self.verdicts)
+        return is_all and self.digest == digest_of(self.crate, self.asked.folder)
+
     def path(self, function):
         return path_of(function, self.crate.name, self.names)
 
@@ -143,8 +156,32 @@ def asked():
     to.add_argument("--trust", action="store_true", help="begin over what rt check kept in out/incremental (not in a gate)")
     to.add_argument("--most", type=int, default=1000, help="edits in one check (1000)")
     to.add_argument("--logs", help="a folder for what each check says")
+    to.add_argument("--all", action="store_true", help="try all, whatever tools/edits.tried says")
+    to.add_argument("--which", action="store_true", help="only tell which crates would be tried, and their digests")
+    to.add_argument("--record", action="store_true", help="write into tools/edits.tried the crates all of whose edits were refused")
     to.add_argument("crates", nargs="*", metavar="CRATE", help="the crates to try (all)")
-    return to.parse_args()
+    given = to.parse_args()
+    if given.record and (given.trust or given.folder != "wrong"):
+        to.error("--record takes neither --trust nor --folder: it says what a gate would find")
+    return given
+
+
+def spared(given, trials):
+    """The crates that need not be tried, by what tools/edits.tried has. One that is named is always tried."""
+    record = Record()
+    is_same = lambda it: it.edits and record.holds(it.crate.name, it.digest, len(it.edits))
+    return [] if given.all or given.crates else [it for it in trials if is_same(it)]
+
+
+def put_down(trials):
+    """Records the crates all of whose edits were refused, and takes out those where one was not."""
+    record = Record()
+    for trial in trials:
+        name = trial.crate.name
+        record.drop(name)
+        if trial.is_refused:
+            record.put(name, trial.digest, len(trial.edits))
+    record.write(crates_of())
 
 
 def main():
@@ -156,6 +193,14 @@ def main():
         os.makedirs(given.logs, exist_ok=True)
     cores = threading.Semaphore(given.cores)
     trials = [Trial(Crate(it, crates, kit), given, cores) for it in given.crates or crates]
+    same = spared(given, trials)
+    trials = [it for it in trials if it.edits and it not in same]
+    for it in same:
+        say(f"same {it.crate.name}: {len(it.edits)} edits, not tried again: unchanged since all were refused")
+    if given.which:
+        for it in trials:
+            say(f"try  {it.crate.name}: {len(it.edits)} edits, digest {it.digest}")
+        return 0
     with ThreadPoolExecutor(given.cores) as pool:
         # The crates that stand highest have most to load, and those with most edits most to try: these first.
         weight = lambda it: len(it.edits) * (1 + len(it.crate.below()))
@@ -165,7 +210,10 @@ def main():
     used = sum(it.processor for it in reports)
     say(f"{len(reports)} checks, {(time.time() - began) / 60:.1f} minutes, of processors {used / 60:.1f}")
     say(f"{sum(it.by_hand for it in trials)} of the edits are refused at an answer by hand")
-    say(f"{sum(verdicts)} passed, {len(verdicts) - sum(verdicts)} failed")
+    if given.record:
+        put_down(trials)
+    failed, again = len(verdicts) - sum(verdicts), sum(len(it.edits) for it in same)
+    say(f"{sum(verdicts)} passed, {failed} failed, {again} not tried again")
     return 0 if all(verdicts) else 1
 
 

@@ -1,16 +1,17 @@
 #!/usr/bin/env python3
 """The test of tools/edits.py: a small crate with planted edits, wrong, harmless and unreadable, and what it must say of
-each: tools/edits_test.py, at any place. The last line is 'N passed, M failed'.
+each; and what it passes over, by tools/edits.tried: tools/edits_test.py, at any place. The last line is 'N passed, M failed'.
 
 The crate is written here, since `rt ci` refuses a source that no crate of the repository reads.
 """
 import os
 import re
+import shutil
 import subprocess
 import sys
 import tempfile
 
-EDITS = os.path.join(os.path.dirname(os.path.realpath(__file__)), "edits.py")
+TOOLS = os.path.dirname(os.path.realpath(__file__))
 
 CRATE = {
     "src/lib.rt": """\
@@ -176,6 +177,32 @@ PLANTED = {
 }
 
 
+# What may change in three crates, of which `planted` stands on `low` alone, and whether its edits are then to be tried.
+CHANGES = {
+    "a body": ("crates/planted/src/counters.rt", True),
+    "a definition": ("crates/planted/specs/Twice.antt", True),
+    "a proof": ("crates/planted/proofs/twice/Answers.antt", True),
+    "an edit": ("crates/planted/wrong/wrong_method.edit", True),
+    "an edit more": ("crates/planted/wrong/one_more.edit", True),
+    "a lower body": ("crates/low/src/lib.rt", True),
+    "a lower definition": ("crates/low/specs/deep/Words.antt", True),
+    "a lower lemma": ("crates/low/proofs/Lib.antt", True),
+    "a lower proof": ("crates/low/proofs/half/Answers.antt", False),
+    "a lower edit": ("crates/low/wrong/other.edit", False),
+    "a page": ("crates/planted/README.md", False),
+    "what is built": ("crates/planted/out/kept", False),
+    "a crate beside": ("crates/beside/src/lib.rt", False),
+}
+THREE = {
+    "crates.txt": "low:\nbeside:\nplanted: low\n",
+    "crates/low/src/lib.rt": "//! A lower crate.\n",
+    "crates/low/specs/deep/Words.antt": "",
+    "crates/low/proofs/Lib.antt": "",
+    "crates/low/proofs/half/Answers.antt": "",
+    "crates/beside/src/lib.rt": "//! A crate beside.\n",
+}
+
+
 def lay(top, files):
     for file, text in files.items():
         path = f"{top}/{file}"
@@ -189,9 +216,28 @@ def edit_text(file, old, new):
     return f"file: {file}\nold: {old.strip(chr(10))}\nnew: {new.strip(chr(10))}\n"
 
 
-def ran(top, *words):
-    it = subprocess.run([sys.executable, EDITS, *words], cwd=top, capture_output=True, text=True, errors="replace")
+def ran(top, *words, tools=TOOLS, path=""):
+    how = {"cwd": top, "capture_output": True, "text": True, "errors": "replace"}
+    how["env"] = {**os.environ, "PATH": path + os.environ["PATH"], "PYTHONDONTWRITEBYTECODE": "1"}
+    it = subprocess.run([sys.executable, f"{tools}/edits.py", *words], **how)
     return it.returncode, it.stdout.splitlines() or [it.stderr]
+
+
+def tried(top, **how):
+    """Whether the edits of `planted` would be tried."""
+    return any(it.startswith("try  planted: ") for it in ran(top, "--which", **how)[1])
+
+
+def text_of(path):
+    if not os.path.exists(path):
+        return None
+    with open(path, encoding="utf-8") as it:
+        return it.read()
+
+
+def recorded(top):
+    """What tools/edits.tried has, as lines of words."""
+    return [it.split() for it in text_of(f"{top}/tools/edits.tried").splitlines()]
 
 
 def verdicts():
@@ -200,22 +246,76 @@ def verdicts():
         lay(top, {"crates.txt": "planted:\n"})
         lay(f"{top}/crates/planted", CRATE)
         lay(f"{top}/crates/planted/wrong", {f"{name}.edit": edit_text(*it[:3]) for name, it in PLANTED.items()})
-        status, lines = ran(top)
+        lay(top, {"tools/edits.tried": "gone 0 1\nplanted 0 18\n"})
+        status, lines = ran(top, "--record")
         for name, (_, _, _, wanted) in PLANTED.items():
             said = [it for it in lines if f" planted/{name}.edit: " in it]
             yield name, len(said) == 1 and re.match(wanted.replace("NAME", rf"{name}\.edit"), said[0]), said
         well = sum(it[3] in (REFUSED, BY_HAND, ALONE) for it in PLANTED.values())
-        yield "the last line and the status", (status, lines[-1]) == (1, f"{well} passed, {len(PLANTED) - well} failed"), lines[-1:]
+        last = f"{well} passed, {len(PLANTED) - well} failed, 0 not tried again"
+        yield "the last line and the status", (status, lines[-1]) == (1, last), lines[-1:]
+        yield "what is not refused is not recorded", recorded(top) == [], recorded(top)
 
         # A crate that is not proved shows nothing of its edits.
         lay(f"{top}/crates/planted", {"src/lib.rt": CRATE["src/lib.rt"].replace("half(half(x))", "half(x)")})
+        lay(top, {"tools/edits.tried": "planted 0 18\n"})
         status, lines = ran(top, "planted")
-        yield "a crate that is not proved", (status, lines[-1]) == (1, f"0 passed, {len(PLANTED)} failed"), lines[-3:]
+        last = f"0 passed, {len(PLANTED)} failed, 0 not tried again"
+        yield "a crate that is not proved", (status, lines[-1]) == (1, last), lines[-3:]
+        yield "nothing is recorded unasked", recorded(top) == [["planted", "0", "18"]], recorded(top)
+
+
+def records():
+    """What must hold of a crate all of whose edits were refused: it is recorded, and passed over from then on."""
+    with tempfile.TemporaryDirectory(prefix="edits-test-") as top:
+        lay(top, {"crates.txt": "planted:\n", "tools/edits.tried": ""})
+        lay(f"{top}/crates/planted", CRATE)
+        lay(f"{top}/crates/planted/wrong", {"wrong_method.edit": edit_text(*PLANTED["wrong_method"][:3])})
+        status, lines = ran(top, "--record")
+        yield "one is tried while there is no line", (status, lines[-1]) == (0, "1 passed, 0 failed, 0 not tried again"), lines[-3:]
+        name, digest, count = (recorded(top) or [["", "", ""]])[0]
+        yield "it is recorded", (name, count) == ("planted", "1") and re.fullmatch("[0-9a-f]{64}", digest), recorded(top)
+        status, lines = ran(top)
+        yield "then it is passed over", (status, lines[-1]) == (0, "0 passed, 0 failed, 1 not tried again"), lines[-3:]
+        yield "and named so", lines[0].startswith("same planted: 1 edits, not tried again"), lines[:1]
+        for words in (["--all"], ["planted"]):
+            _, lines = ran(top, "--which", *words)
+            yield f"unless by {words[0]}", lines == [f"try  planted: 1 edits, digest {digest}"], lines
+        lay(top, {"tools/edits.tried": f"planted {digest} 2\n"})
+        yield "or by a line of other edits", ran(top, "--which")[1][0].startswith("try  planted"), recorded(top)
+
+
+def changes():
+    """What must hold as something changes, of the crate, below it, or of what judges."""
+    with tempfile.TemporaryDirectory(prefix="edits-test-") as top:
+        lay(top, THREE)
+        lay(f"{top}/crates/planted", CRATE)
+        lay(f"{top}/crates/planted/wrong", {"wrong_method.edit": edit_text(*PLANTED["wrong_method"][:3])})
+        digest = ran(top, "--which")[1][0].split(" ")[-1]
+        lay(top, {"tools/edits.tried": f"planted {digest} 1\n"})
+        for change, (file, is_tried) in CHANGES.items():
+            before = text_of(f"{top}/{file}")
+            lay(top, {file: (before or "") + "\n"})
+            yield f"once {change} changes", tried(top) == is_tried, recorded(top)
+            if before is None:
+                os.remove(f"{top}/{file}")
+            else:
+                lay(top, {file: before})
+        yield "once all is as it was", not tried(top), recorded(top)
+        lay(top, {"crates.txt": THREE["crates.txt"].replace("low:", "low: thiserror")})
+        yield "once a lower crate stands on more", tried(top), recorded(top)
+        lay(top, {"crates.txt": THREE["crates.txt"], "bin/rt": "#!/bin/sh\necho another version\n"})
+        os.chmod(f"{top}/bin/rt", 0o755)
+        yield "once the toolchain changes", tried(top, path=f"{top}/bin:"), recorded(top)
+        shutil.copytree(TOOLS, f"{top}/rules", ignore=shutil.ignore_patterns("__pycache__"))
+        yield "the tool lies elsewhere", not tried(top, tools=f"{top}/rules"), recorded(top)
+        lay(f"{top}/rules", {"edit_checks.py": text_of(f"{TOOLS}/edit_checks.py") + "\n"})
+        yield "once a rule of judging changes", tried(top, tools=f"{top}/rules"), recorded(top)
 
 
 def main():
     passed = failed = 0
-    for name, is_well, said in verdicts():
+    for name, is_well, said in [*verdicts(), *records(), *changes()]:
         passed, failed = passed + bool(is_well), failed + (not is_well)
         if not is_well:
             print(f"edits_test: {name}: it said {said}", flush=True)

@@ -4,7 +4,8 @@
 #   - all lines are right (the request was not needed);
 #   - the right lines, then `refused 30 Memory` for one line, and the others as if that line were not there;
 #   - the right lines, then `refused 31 Store` for one line, and `refused 32 Stopped` for each one after it;
-#   - the right lines, `tcdesk: cannot use memory` on standard error, and status 2.
+#   - the right lines, `tcdesk: cannot use memory` or, where the tables could not be made, `.. tables` on standard error, and
+#     status 2.
 # The number of the refused request goes up until a run asks for less memory than that. Status 1 where a run ended in
 # another way.
 set -u
@@ -78,7 +79,7 @@ try() {
     error=$(<"$work/err")
     how=${allowed["$status$out"]:-}
     case $how in
-    ended) [[ $error == "tcdesk: cannot use memory" ]] || how= ;;
+    ended) [[ $error == "tcdesk: cannot use memory" || $error == "tcdesk: cannot use tables" ]] || how= ;;
     right | memory | store) [[ -z $error ]] || how= ;;
     esac
     if [[ -z $how ]]; then

@@ -4,9 +4,16 @@
 # program's words, files, statuses, faulty streams, and each of its requests for memory refused in turn.
 # It stops at the first part that fails. At its end it prints what each part took: docs/GATE.md has that table for each
 # landing.
+#
+# tools/gate.sh [--all] [--record]: --all tries the edits of every crate, also of those that tools/edits.tried has as they
+# stand; --record writes that file anew, for the landing's commit.
 set -u
 cd "$(dirname "$(readlink -f "$0")")/.." || exit 1
 
+asked=("$@")
+for word in "$@"; do
+    [[ $word == --all || $word == --record ]] || { echo "gate: no word $word: --all, --record" >&2; exit 2; }
+done
 parts=()
 began=$(date +%s)
 
@@ -42,7 +49,7 @@ rm -rf crates/*/out
 
 part "rt ci" rt ci
 part "the test of the tool for edits" tools/edits_test.py
-part "edits of wrong/, many in a check" tools/edits.py
+part "edits of wrong/, many in a check" tools/edits.py "${asked[@]}"
 part "the program runs" sh -c './tcdesk run - </dev/null >/dev/null'
 part "program cases" tools/program_cases.sh
 part "streams that fail" tools/stream_cases.sh

@@ -92,6 +92,13 @@ else
     failed=$((failed + 1))
     echo "program_cases: an output that takes nothing" >&2
 fi
+"$program" --help >/dev/full 2>err
+if [[ $? == 2 ]] && grep -qF "tcdesk: cannot use output" err; then
+    passed=$((passed + 1))
+else
+    failed=$((failed + 1))
+    echo "program_cases: help that cannot be printed" >&2
+fi
 
 # The bare store of tc_bench tells the moves that the desk answers, for the same entries of ten APIDs in turn.
 bare=$top/crates/tc_bench/out/tc_bench
