@@ -4,17 +4,20 @@ use Rattle.tc_types.specs.declared.frames.Frame.{Frame}
 use Rattle.tc_types.specs.declared.refusals.Refusal.{Refusal}
 use Rattle.tc_types.specs.declared.refusals.Refusal.TheVariants.{Memory}
 use Rattle.tc_types.specs.declared.reports.Report.{Report}
+use Rattle.tc_types.specs.declared.reports.Report.TheVariants as report
 use Rattle.tc_farm.specs.declared.clcws.Clcw.{Clcw}
 use Rattle.tc_farm.specs.ControlWord.{IsValid, word_of, without_ignored}
 use Rattle.tc_fop.specs.declared.signals.Directive.{Directive}
 use Rattle.tc_fop.specs.Moves.{is_initiation}
 use Rattle.tc_fop.specs.Machine.{Machine, Action, Out, after, output}
-use Rattle.tc_fop.specs.Calls.{Given, Answers, directed, ticked}
+use Rattle.tc_fop.specs.Calls.{Given, Answers, directed, reported, ticked}
 use Rattle.tc_world.specs.declared.events.Event.TheVariants as event
 use Rattle.tc_world.specs.declared.events.Indication.{Indication}
+use Rattle.tc_world.specs.declared.fop_side.FopSide.{FopSide}
 use Rattle.tc_world.specs.Links.{Kind, PutsAll, IsReadied}
 use Rattle.tc_world.specs.Logs.{Log, noted, blank}
-use Rattle.tc_world.specs.World.{Whole, Happens, Carries, Begins, Directs, IsAsBefore, Reads, refusal_in, clean_after, told_by_fop}
+use Rattle.tc_world.specs.Sides.{Passes}
+use Rattle.tc_world.specs.World.{Whole, Happens, Hears, Carries, Begins, Directs, IsAsBefore, Reads, refusal_in, clean_after, told_by_fop}
 
 -- what was answered was given: the actions were carried out
 pub answered : (given : Given) (old new : Machine) (out : Out) → Answers given old new (Ok out) → (actions : List Action) × (given ≡ Ok actions) × (new ≡ after actions old) × (out ≡ output actions old)
@@ -77,6 +80,18 @@ begun uplink downlink given old fop out ready up past newest clean answer h read
 -- what is read from a word, on the channel of the world
 pub reads_from : (word vc : ℕ) (heard : Option Clcw) → (IsSome heard ↔ IsValid word vc) → IfSome heard (λ (c : Clcw). word_of c ≡ without_ignored word) → IfSome heard (λ (c : Clcw). c.vc ≡ vc) → ((c : Clcw) → c.report < 256 → word ≡ word_of c → vc ≡ c.vc → heard ≡ Some c) → Reads word vc heard
 reads_from word vc heard valid back channel again = record { valid = valid; back = back; channel = channel; again = again }
+
+-- the word was passed to the FOP, on the link as it was before room was made: it was heard
+pub hears : {U D A : Type 0} (uplink : Kind U Frame) (vc word : ℕ) (old new : FopSide U A) (before : Whole U D) (answer : List Indication)
+    → before.fop ≡ old.fop.machine → IsReadied uplink before.up old.up → before.newest ≡ old.newest.log → before.vc ≡ vc
+    → Passes uplink vc word old new answer
+    → Hears uplink (report.Word word) before (record before { fop = new.fop.machine; up = new.up; newest = new.newest.log }) answer
+hears uplink vc word old new before answer same readied log channel h =
+    let answers = subst (λ (m : Machine). Answers (reported m h.heard) m new.fop.machine (Ok h.out)) (sym same) h.answers in
+    let written = h.log ∙ ap (λ (l : Log). noted h.out l) (sym log) in
+    let done = carried uplink before _ _ _ _ _ _ _ answers readied h.frames written refl in
+    let reads = subst (λ (c : ℕ). Reads word c h.heard) (sym channel) h.reads in
+    (h.heard, done.0, _, reads, done.1, done.2, h.answered)
 
 -- where no timer runs a tick changes nothing
 started_stays : (before : Bool) → before ≡ (if before then true else false)

@@ -26,3 +26,4 @@ pub mod RunLemmas
 pub mod Flying
 pub mod Tells
 pub mod Stills
+pub mod MarkLemmas

@@ -12,3 +12,5 @@ pub mod Flight
 pub mod Telling
 pub mod Runs
 pub mod Told
+pub mod Marks
+pub mod Sides

@@ -1,5 +1,5 @@
 //! What happens to the link on the FARM's side: frames come up, control words and reports go down, and items are lost.
-ghost use Rattle.std.specs.Prelude.{◌≡◌, IfErr, IfOk};
+ghost use Rattle.std.specs.Prelude.{IfErr, IfOk};
 ghost use Rattle.tc_world.specs.declared.events.Event.TheVariants as event;
 ghost use Rattle.tc_world.specs.World.{Happens, IsRefused, IsAsBefore, IsWordOf, EndsWithin};
 
@@ -24,15 +24,15 @@ impl<U: Carrier<Frame> + Drop, D: Carrier<Report> + Drop, A: Allocator + Copy + 
         ensures refused { IfErr result (λ refusal. IsRefused (event.Uplink free_buffer) self.old refusal × IsAsBefore U.kind D.kind self.old self.new) }
         ensures limits { EndsWithin U.kind D.kind D.covered (event.Uplink free_buffer) self.old self.new result }
     {
-        if self.up.is_empty() {
+        if self.side.up.is_empty() {
             return Ok(Indications::none(self.alloc));
         }
-        self.newest.reserve_verdict()?;
-        let Some(frame) = self.up.take() else {
+        self.side.newest.reserve_verdict()?;
+        let Some(frame) = self.side.up.take() else {
             unreachable!()
         };
         let verdict = self.farm.frame(frame, free_buffer);
-        self.newest.board(&verdict);
+        self.side.newest.board(&verdict);
         Ok(Indications::lone(Indication::Farm(verdict)))
     }
 
@@ -42,7 +42,7 @@ impl<U: Carrier<Frame> + Drop, D: Carrier<Report> + Drop, A: Allocator + Copy + 
         ensures refused { IfErr result (λ refusal. IsRefused (event.LoseUp place) self.old refusal × IsAsBefore U.kind D.kind self.old self.new) }
         ensures limits { EndsWithin U.kind D.kind D.covered (event.LoseUp place) self.old self.new result }
     {
-        let found = self.up.lose(place);
+        let found = self.side.up.lose(place);
         Ok(Indications::of_loss(self.alloc, found))
     }
 
@@ -88,25 +88,13 @@ impl<U: Carrier<Frame> + Drop, D: Carrier<Report> + Drop, A: Allocator + Copy + 
         if self.down.is_empty() {
             return Ok(Indications::none(self.alloc));
         }
-        let answer = Self::reserve_fop_side(
-            self.alloc,
-            &mut self.fop,
-            &mut self.up,
-            &mut self.newest,
-        )?;
+        let answer = self.side.reserve(self.alloc)?;
         let Some(item) = self.down.take() else {
             unreachable!()
         };
         match item {
             Report::Word(word) => {
-                let answer = Self::pass_word(
-                    &mut self.fop,
-                    &mut self.up,
-                    &mut self.newest,
-                    self.vc,
-                    word,
-                    answer,
-                );
+                let answer = self.side.pass_word(self.vc, word, answer);
                 Ok(Indications::many(answer))
             }
             Report::Telemetry(telemetry) => Ok(Indications::lone(Indication::Received(

@@ -1,21 +1,21 @@
-//! The parts of the link, and one event among them.
-ghost use Rattle.std.specs.Prelude.{◌≡◌, ◌+◌, ◌≤◌, ◌<◌, length, map, true, false, IfErr, IfOk, IsOk, [], ◌∷◌};
-ghost use Rattle.tc_farm.specs.Farm.{new_farm};
+//! The parts of the link.
+ghost use Rattle.std.specs.Prelude.{◌≡◌, ◌≤◌, map, true, [], ◌++◌};
 ghost use Rattle.tc_fop.specs.Standing.{IsFop};
 ghost use Rattle.tc_farm.specs.Farm.{IsFarm};
 ghost use Rattle.tc_world.specs.Logs.{blank};
+ghost use Rattle.std.specs.List.{flat_map};
+ghost use Rattle.tc_world.specs.Marks.{AreMarked};
 ghost use Rattle.tc_world.specs.Pages.{Page};
 ghost use Rattle.tc_world.specs.World.{Whole};
 
 use crate::carriers::Carrier;
-use crate::events::{Event, Indication};
-use crate::sessions::Session;
+use crate::fop_side::FopSide;
+use crate::session_logs::SessionLog;
 use std::alloc::Allocator;
 use std::marker::Model;
 use tc_farm::farms::Farm;
 use tc_fop::fops::Fop;
 use tc_types::frames::Frame;
-use tc_types::refusals::Refusal;
 use tc_types::reports::Report;
 
 /// The most that is told of one event: what came down, 255 in doubt, one given back, and the alert.
@@ -29,12 +29,10 @@ pub(crate) struct Parts<
     A: Allocator + Copy + Drop,
 > {
     pub(crate) alloc: A,
-    pub(crate) fop: Fop<A>,
+    pub(crate) side: FopSide<U, A>,
     pub(crate) farm: Farm,
-    pub(crate) up: U,
     pub(crate) down: D,
-    pub(crate) past: Vec<Session<A>, A>,
-    pub(crate) newest: Session<A>,
+    pub(crate) past: Vec<SessionLog<A>, A>,
     pub(crate) clean: bool,
     pub(crate) vc: u8,
 }
@@ -43,9 +41,10 @@ impl<U: Carrier<Frame> + Drop, D: Carrier<Report> + Drop, A: Allocator + Copy + 
     for Parts<U, D, A> {
     ghost Value = { Whole U D };
 
-    ghost view = { λ p. record { fop = p.fop.machine; farm = p.farm; up = p.up; down = p.down; past = map (λ (page : Page). page.log) p.past.items; newest = p.newest.log; clean = p.clean; vc = p.vc } };
+    ghost view = { λ p. record { fop = p.side.fop.machine; farm = p.farm; up = p.side.up; down = p.down; past = map (λ (page : Page). page.log) p.past.items; newest = p.side.newest.log; clean = p.clean; vc = p.vc } };
 
-    ghost invariant = { λ p. (p.vc ≤ 63) × IsFop p.fop.machine × IsFarm p.farm };
+    // the marks are those of the requests that were sent in some session
+    ghost invariant = { λ p. (p.vc ≤ 63) × IsFop p.side.fop.machine × IsFarm p.farm × AreMarked (flat_map (λ (page : Page). page.log.sent) p.past.items ++ p.side.newest.log.sent) p.side.marks.items };
 }
 
 impl<U: Carrier<Frame> + Drop, D: Carrier<Report> + Drop, A: Allocator + Copy + Drop> Parts<
@@ -54,18 +53,22 @@ impl<U: Carrier<Frame> + Drop, D: Carrier<Report> + Drop, A: Allocator + Copy + 
     A,
 > {
     /// Parts in which nothing happened yet. It takes no memory.
+    #[tactic(auto, using(crate::proofs::MarkLemmas::marks_none))]
     pub(crate) fn new(alloc: A, fop: Fop<A>, farm: Farm, up: U, down: D, vc: u8) -> Parts<U, D, A>
         requires { vc ≤ 63 }
         ensures { result ≡ record { fop = fop.machine; farm = farm; up = up; down = down; past = []; newest = blank 0; clean = true; vc = vc } }
     {
         Parts {
             alloc,
-            fop,
+            side: FopSide {
+                fop,
+                up,
+                newest: SessionLog::new(alloc, 0),
+                marks: Vec::new(alloc),
+            },
             farm,
-            up,
             down,
             past: Vec::new(alloc),
-            newest: Session::new(alloc, 0),
             clean: true,
             vc,
         }

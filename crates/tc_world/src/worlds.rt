@@ -20,7 +20,7 @@ use crate::indications::Indications;
 use crate::laws::window_is_kept;
 use crate::parts::Parts;
 use crate::runs::RunEnd;
-use crate::sessions::Session;
+use crate::session_logs::SessionLog;
 use std::alloc::Allocator;
 use std::marker::Model;
 use tc_farm::farms::{Farm, FarmView};
@@ -159,8 +159,8 @@ impl<U: Carrier<Frame> + Drop, D: Carrier<Report> + Drop, A: Allocator + Copy + 
         self.parts.past.len()
     }
 
-    /// The session at this place, from 0 for the first.
-    pub fn session(&self, place: usize) -> Option<&Session<A>>
+    /// The log of the session at this place, from 0 for the first.
+    pub fn session(&self, place: usize) -> Option<&SessionLog<A>>
         ensures found { IfSome result (λ session. slice_get (sessions_of self.now) place ≡ Some session.now.log) }
         ensures none { IfNone result (slice_get (sessions_of self.now) place ≡ None) }
     {
@@ -169,7 +169,7 @@ impl<U: Carrier<Frame> + Drop, D: Carrier<Report> + Drop, A: Allocator + Copy + 
             return None;
         }
         if place + 1 == count {
-            return Some(&self.parts.newest);
+            return Some(&self.parts.side.newest);
         }
         Some(&self.parts.past[place + 1])
     }
@@ -178,7 +178,7 @@ impl<U: Carrier<Frame> + Drop, D: Carrier<Report> + Drop, A: Allocator + Copy + 
     pub fn fop_view(&self) -> FopView
         ensures { result ≡ view_of self.now.fop }
     {
-        self.parts.fop.view()
+        self.parts.side.fop.view()
     }
 
     /// The variables of the FARM.
@@ -192,7 +192,7 @@ impl<U: Carrier<Frame> + Drop, D: Carrier<Report> + Drop, A: Allocator + Copy + 
     pub fn up_len(&self) -> usize
         ensures { result ≡ length (U.kind.content self.now.up) }
     {
-        self.parts.up.len()
+        self.parts.side.up.len()
     }
 
     /// How many control words and reports are in flight.

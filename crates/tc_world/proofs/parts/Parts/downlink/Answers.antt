@@ -1,6 +1,7 @@
 -- The control word was heard, or a report came down.
 use Rattle.std.proofs.Common.{sym, refl, inr}
 use Rattle.tc_types.specs.declared.reports.Report.TheVariants as report
+use Rattle.tc_world.proofs.CarryLemmas.{hears}
 use Rattle.tc_world.proofs.parts.Parts.downlink.Goals as goal
 
 pub returns-in-Word-clause-happens : goal.returns-in-Word-clause-happens
@@ -10,7 +11,7 @@ returns-in-Word-clause-happens g c =
       item = report.Word c.in-Word.word;
       left = c.take.new.self;
       taken = rw c.in-Word.is at c.in-Some.ensures.some;
-      heard = c.pass_word-answer.ensures.heard _ (sym c.reserve_fop_side.ensures.machine) c.reserve_fop_side.ensures.readied (sym c.reserve_fop_side.ensures.log) refl;
+      heard = hears g.U.Carrier.kind _ _ _ _ _ _ (sym c.reserve.ensures.machine) c.reserve.ensures.readied (sym c.reserve.ensures.log) refl c.pass_word-answer.ensures.heard;
     }))
 
 pub returns-in-Telemetry-clause-happens : goal.returns-in-Telemetry-clause-happens
@@ -21,8 +22,8 @@ returns-in-Telemetry-clause-happens g c =
       left = c.take.new.self;
       taken = rw c.in-Telemetry.is at c.in-Some.ensures.some;
       heard = (
-        c.reserve_fop_side.ensures.readied,
-        rw (c.reserve_fop_side.ensures.machine, c.reserve_fop_side.ensures.log) refl,
+        c.reserve.ensures.readied,
+        rw (c.reserve.ensures.machine, c.reserve.ensures.log) refl,
         c.lone.ensures,
       );
     }))

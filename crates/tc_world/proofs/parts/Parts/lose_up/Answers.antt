@@ -6,7 +6,7 @@ use Rattle.tc_world.proofs.parts.Parts.lose_up.Goals as goal
 pub returns-clause-limits : goal.returns-clause-limits
 returns-clause-limits g c =
     rw (← c.self.view_is)
-    (let fewer : length (g.U.Carrier.kind.content c.lose-found.new.self) ≤ length (g.U.Carrier.kind.content c.self.inside.up)
+    (let fewer : length (g.U.Carrier.kind.content c.lose-found.new.self) ≤ length (g.U.Carrier.kind.content c.self.inside.side.up)
     = sublist_length _ _ (g.met.U.Carrier.lose_only_loses _ _ _ _ c.lose-found.ensures.lost) in
     let few = c.of_loss.ensures.most in record {
       spared = λ always. refl;
