@@ -64,4 +64,4 @@ fn main(rt: HostRuntime) -> Result<()> {
 }
 PROGRAM
 (cd "$work/crates/sample" && rt run -- "$work/desk.db" >"$work/log" 2>&1) || { cat "$work/log" >&2; exit 1; }
-sqlite3 -header "$work/desk.db" "PRAGMA integrity_check" ".schema" "SELECT * FROM meta" "SELECT * FROM request" "SELECT * FROM move"
+sqlite3 -header "$work/desk.db" "PRAGMA integrity_check" ".schema" "SELECT * FROM meta" "SELECT * FROM request" "SELECT * FROM move" "SELECT * FROM tally"

@@ -7,3 +7,4 @@ pub mod Acts
 pub mod Tables
 pub mod Answers
 pub mod Batch
+pub mod Places

@@ -1,6 +1,20 @@
 -- The rows of a book: what its tables hold, and nothing else.
-use Rattle.tc_types.specs.Tables.{Image}
+use Rattle.std.specs.Prelude.{List, map, unwrap_or}
+use Rattle.tc_types.specs.declared.places.Place.TheVariants.{Entered}
+use Rattle.tc_types.specs.declared.moves.Move.{Move}
+use Rattle.tc_types.specs.declared.requests.Request.{Request}
+use Rattle.tc_types.specs.declared.rows.PlacedRequest.{PlacedRequest}
+use Rattle.tc_types.specs.History.{place_of, count_at}
+use Rattle.tc_types.specs.Tables.{Image, tallies_by}
 use Rattle.tc_book.specs.Book.{Book}
 
+-- a request where the history leaves it: at Entered, if no row moves it
+abbrev pub placed : List Move → Request → PlacedRequest
+placed history request = record { request = request; place = unwrap_or (place_of history request.number) Entered }
+
 abbrev pub image_of : Book → Image
-image_of book = record { requests = book.requests; moves = book.history }
+image_of book = record {
+  requests = map (placed book.history) book.requests;
+  moves = book.history;
+  tallies = tallies_by (count_at book.history);
+}

@@ -1,11 +1,12 @@
 //! The room that an act takes before it does anything: for its records, its moves and its batch.
 ghost use Rattle.std.specs.Prelude.{◌≡◌, ◌+◌, ◌<◌, ◌≤◌, ◌^◌, [], length, vec_len, vec_capacity, IfOk, IfErr, OnOk};
-ghost use Rattle.tc_book.specs.Batch.{HasRoomFor};
+ghost use Rattle.tc_book.specs.Batch.{HasRoomFor, batch_rows};
 
 use crate::firsts::First;
 use crate::records::Records;
 use std::alloc::Allocator;
 use tc_types::moves::Move;
+use tc_types::places::PLACES;
 use tc_types::refusals::Refusal;
 use tc_types::rows::Row;
 
@@ -33,14 +34,14 @@ pub fn make_room<A: Allocator + Copy + Drop>(
     ensures err { IfErr result (λ e. e ≡ Refusal.Memory) }
     ensures first { IfOk result (λ draft. draft.first ≡ first) }
     ensures moves { IfOk result (λ draft. HasRoomFor rows draft.moves) }
-    ensures batch { IfOk result (λ draft. HasRoomFor (requests + rows) draft.batch) }
+    ensures batch { IfOk result (λ draft. HasRoomFor (batch_rows requests rows) draft.batch) }
     ensures requests { OnOk result (length records.new.book.requests + requests ≤ 65535 → length records.new.book.requests + requests ≤ records.new.most_requests) }
     ensures rows { OnOk result (length records.new.book.history + rows < 2 ^ 32 → length records.new.book.history + rows ≤ records.new.most_rows) }
 {
     let Ok(moves) = Vec::with_capacity(alloc, rows) else {
         return Err(Refusal::Memory);
     };
-    let Ok(batch) = Vec::with_capacity(alloc, requests + rows) else {
+    let Ok(batch) = Vec::with_capacity(alloc, requests + rows + rows + PLACES) else {
         return Err(Refusal::Memory);
     };
     match records.reserve(requests, rows) {

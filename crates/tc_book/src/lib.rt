@@ -4,10 +4,15 @@
 #![tactic(auto)]
 
 pub mod acts;
+mod batches;
+mod counts;
 pub mod drafts;
 pub mod firsts;
+mod histories;
 pub mod laws;
 pub mod marks;
+mod pushes;
 mod reading;
 pub mod records;
 pub mod stamps;
+mod tallies;

@@ -1,11 +1,14 @@
 -- The steps of a room.
-use Rattle.std.proofs.Common.{◌≡◌, ◌∙◌, ◌⊎◌, inl, inr, ℕ, Bool, true, false, Option, Some, None, Result, Ok, Err, List, refl, sym, ap, length}
+use Rattle.std.proofs.Common.{◌≡◌, ◌∙◌, ◌⊎◌, inl, inr, ℕ, zero, suc, nat_lt, map, take, [], ◌∷◌, arith, Bool, true, false, Option, Some, None, Result, Ok, Err, List, refl, sym, ap, subst, length}
 use Rattle.std.specs.Prelude.{◌≢◌, ◌≤◌, ◌↔◌}
-use Rattle.std.proofs.lemmas.List.{length-map}
+use Rattle.std.proofs.lemmas.List.{length-map, length-take}
+use Rattle.std.proofs.lemmas.Bool.Decides.{nat_tests}
 use Rattle.sqlite_trees.specs.declared.memory.MemStore.{MemStore}
 use Rattle.sqlite.specs.Held.{Held}
 use Rattle.tc_types.specs.Grammar.{HasLongAct, SpellsLine, act_text}
-use Rattle.tc_types.specs.History.{entered}
+use Rattle.tc_types.specs.History.{entered, count_at, counts_of}
+use Rattle.tc_types.specs.Tables.{empty_image, tallies_by}
+use Rattle.tc_types.specs.declared.rows.Tally.{Tally}
 use Rattle.tc_types.specs.declared.acts.Line.{Line}
 use Rattle.tc_types.specs.declared.refusals.Refusal.{Refusal}
 use Rattle.tc_types.specs.declared.refusals.Refusal.TheVariants.{BadText, Store, TooLong}
@@ -15,14 +18,14 @@ use Rattle.tc_types.specs.declared.acts.Query.{Query}
 use Rattle.tc_types.specs.declared.moves.Move.{Move}
 use Rattle.tc_book.specs.declared.stamps.Stamp.{Stamp}
 use Rattle.tc_book.specs.declared.firsts.First.{First}
-use Rattle.tc_book.specs.Book.{Book}
+use Rattle.tc_book.specs.Book.{Book, empty_book}
 use Rattle.tc_book.specs.Conserved.{IsConserved}
 use Rattle.tc_book.specs.Good.{IsGoodBook}
 use Rattle.tc_book.specs.Tables.{image_of}
-use Rattle.tc_desk.specs.State.{State}
+use Rattle.tc_desk.specs.State.{State, new_desk}
 use Rattle.tc_desk.specs.Acts.{is_question, refusal_of}
 use Rattle.tc_desk.specs.Machine.{Carries, DeskStep, Does, Refuses, Serves, rows_new}
-use Rattle.tc_desk.specs.Replies.{Reply, act_reply, query_reply, refusal_reply}
+use Rattle.tc_desk.specs.Replies.{Reply, act_reply, history_lines, query_reply, refusal_reply}
 use Rattle.tc_room.specs.Joined.{HasImage, IsJoined, IsKept}
 use Rattle.tc_room.specs.Answers.{IsUnread}
 use Rattle.tc_room.specs.Room.{FailsStore, RoomStep, Standing}
@@ -84,3 +87,31 @@ unread text read refusal was only long others = record {
   others = others;
   unspelled = λ line spells few. let e : read ≡ Ok line = only line spells few in cc;
 }
+
+-- the tables of a desk where nothing happened yet hold its book
+empty_tables : image_of empty_book ≡ empty_image
+empty_tables = refl
+
+pub new_held : (desk : State) (tables : Held MemStore) → desk ≡ new_desk → HasImage tables empty_image → HasImage tables (image_of desk.book)
+new_held desk tables new made = subst (λ (at : State). HasImage tables (image_of at.book)) (sym new) (subst (HasImage tables) (sym empty_tables) made)
+
+-- the amounts of a book's tallies are its counts
+pub amounts_counted : (history : List Move) → map (λ (t : Tally). t.amount) (tallies_by (count_at history)) ≡ counts_of history
+amounts_counted history = refl
+
+-- the first of the first are the first
+take_within : {X : Type 0} (n m : ℕ) (xs : List X) → n ≤ m → take n (take m xs) ≡ take n xs
+take_within zero m xs low = refl
+take_within (suc n) zero xs low = absurd (omega (arith, low))
+take_within (suc n) (suc m) [] low = refl
+take_within (suc n) (suc m) (x ∷ xs) low = ap (λ l. x ∷ l) (take_within n m xs (omega (arith, low)))
+
+-- a reply shows of the first 51 rows what it shows of all
+pub enough_shown : (n : ℕ) (rows : List Move) → history_lines n (take 51 rows) ≡ history_lines n rows
+enough_shown n rows = rw (shown, more) refl
+  where
+    shown : take 50 (take 51 rows) ≡ take 50 rows
+    shown = take_within 50 51 rows (omega arith)
+
+    more : nat_lt 50 (length (take 51 rows)) ≡ nat_lt 50 (length rows)
+    more = let len = length-take 51 rows in grind (arith, nat_tests, len)

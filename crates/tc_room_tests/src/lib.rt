@@ -2,6 +2,12 @@
 #![tactic(auto)]
 
 #[cfg(test)]
+mod columns;
+#[cfg(test)]
+mod dice;
+#[cfg(test)]
+mod plain;
+#[cfg(test)]
 mod seen;
 #[cfg(test)]
 mod tests;

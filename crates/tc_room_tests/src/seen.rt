@@ -22,7 +22,16 @@ pub trait SeenTables {
     /// Whether the moves of one request above a number are exactly these, in order.
     fn tells(&mut self, request: u32, after: u32, moves: &[Move]) -> Result<bool, StoreFault>;
 
-    /// Whether exactly so many requests stand at each place.
+    /// Whether the first `limit` of them are exactly these, in order.
+    fn begins(
+        &mut self,
+        request: u32,
+        after: u32,
+        limit: u32,
+        moves: &[Move],
+    ) -> Result<bool, StoreFault>;
+
+    /// Whether the tallies are these, in order of place.
     fn stand(&mut self, counts: [u32; PLACES]) -> Result<bool, StoreFault>;
 }
 
@@ -32,7 +41,17 @@ impl<S: Alter> SeenTables for Tables<S> {
     }
 
     fn tells(&mut self, request: u32, after: u32, moves: &[Move]) -> Result<bool, StoreFault> {
-        let told = self.history_of(request, after)?;
+        self.begins(request, after, u32::MAX, moves)
+    }
+
+    fn begins(
+        &mut self,
+        request: u32,
+        after: u32,
+        limit: u32,
+        moves: &[Move],
+    ) -> Result<bool, StoreFault> {
+        let told = self.history_of(request, after, limit)?;
         Ok(told.as_slice() == moves)
     }
 

@@ -1,5 +1,5 @@
 -- What a SELECT over one table in the order of its rowid lists.
-use Rattle.std.proofs.Common.{◌≡◌, inl, inr, IsTrue, ℕ, nat_le, nat_lt, ◌^◌, ◌==◌, pos, List, [], ◌∷◌, ◌++◌, unwrap_or, map, filter, flat_map, Bool, true, false, cond, Some, None, refl, sym, ap, subst, ◌∙◌, arith, is_eq, is_gt, IsPermutation}
+use Rattle.std.proofs.Common.{◌≡◌, inl, inr, IsTrue, ℕ, nat_le, nat_lt, ◌^◌, ◌==◌, pos, List, [], ◌∷◌, ◌++◌, unwrap_or, map, filter, take, flat_map, Bool, true, false, cond, Some, None, refl, sym, ap, subst, ◌∙◌, arith, is_eq, is_gt, IsPermutation}
 use Rattle.std.proofs.lemmas.Bool.Decides.{nat_tests}
 use Rattle.std.specs.declared.cmp.Ordering.TheVariants.{Less}
 use Rattle.std.specs.Ordering.{nat_cmp}
@@ -11,8 +11,8 @@ use Rattle.sqlite_trees.specs.Tree.{Trees, rowid, IsTable, IsAscending}
 use Rattle.sqlite_sql.specs.declared.ops.BinaryOp.TheVariants.{Compare}
 use Rattle.sqlite_sql.specs.declared.ops.CompareOp.TheVariants.{Eq, Gt}
 use Rattle.sqlite_sql.specs.Ops.{binary, is_true, from_truth}
-use Rattle.sqlite_sql.specs.Term.{Term, Env, eval_all}
-use Rattle.sqlite_sql.specs.Query.{Query, IsAnswer, Output, output, output_cmp, page}
+use Rattle.sqlite_sql.specs.Term.{Term, Env, eval, eval_all}
+use Rattle.sqlite_sql.specs.Query.{Query, IsAnswer, Output, output, output_cmp, page, limited, as_count}
 use Rattle.sqlite_sql.specs.Program.{overlay}
 use Rattle.sqlite_sql.proofs.QueryLemmas.{output_cmp_total}
 use Rattle.sqlite_keyed.proofs.ListLemmas.{map-map, filter-map, filter_same, map_same, ascending-map, ascending-filter, ascending_weaker}
@@ -101,6 +101,10 @@ module _ (tree : ℕ) (tests columns : List Term) (most : Term) (params : Row) w
   listed_as row shown pass xs db held same showed =
       ap (λ rows. map shown_row (filter (passes tests params) rows)) held ∙ ap (map shown_row) (filter-map (passes tests params) row xs) ∙ map-map shown_row row (filter (λ x. passes tests params (row x)) xs)
       ∙ ap (map (λ x. shown_row (row x))) (filter_same (λ x. passes tests params (row x)) pass same xs) ∙ map_same (λ x. shown_row (row x)) shown showed (filter pass xs)
+
+  -- of these, a LIMIT that is a number gives the first so many
+  pub paged : {Y : Type 0} (n : ℕ) (xs : List Y) → eval most (params ∷ []) ≡ Int (pos n) → page q params xs ≡ take n xs
+  paged n xs is = ap (λ v. limited (as_count v) xs) is
 
 -- ---- a SELECT changes nothing and commits nothing
 

@@ -1,5 +1,5 @@
--- The texts of a chain of CREATE are run one after another.
-use Rattle.std.proofs.Common.{ℕ, ◌+◌, ◌<◌, ◌≤◌, arith, List, [], map, length, drop, get_or, Ok, subst, sym}
+-- The texts of a chain of CREATE are run one after another, and so are those that write the first tallies.
+use Rattle.std.proofs.Common.{ℕ, ◌+◌, ◌<◌, ◌≤◌, arith, List, [], ◌∷◌, map, length, take, drop, get_or, Ok, subst, sym}
 use Rattle.std.proofs.lemmas.List.{drop_more, drop_all, get_or-map, length-map}
 use Rattle.std.specs.Borrow.{Bor}
 use Rattle.sqlite_trees.specs.declared.store.Store.{Ghosts}
@@ -7,8 +7,11 @@ use Rattle.sqlite_schema.specs.declared.schema.Schema.{Schema}
 use Rattle.sqlite.specs.Held.{Held, state}
 use Rattle.tc_sql.specs.Builds.{BuildsTo}
 use Rattle.tc_sql.proofs.Creates.{makes}
-use Rattle.tc_store.specs.Steps.{Goes, Ran, Defined}
-use Rattle.tc_store.proofs.StepLemmas.{goes_same, goes_then}
+use Rattle.tc_types.specs.declared.places.Place.{Place}
+use Rattle.tc_types.specs.declared.rows.Row.{Row}
+use Rattle.tc_store.specs.Tallies.{first_tally}
+use Rattle.tc_store.specs.Steps.{Goes, Ran, Defined, Step}
+use Rattle.tc_store.proofs.StepLemmas.{goes_same, goes_then, step_more}
 
 -- whatever the texts led to, those from this one on lead to it now
 pub record Leads {S : Type 0} (g : Ghosts S) (texts : List (List ℕ)) (k : ℕ) (old new : Held S) : Type 0 where
@@ -34,3 +37,10 @@ module _ {S : Type 0} (g : Ghosts S) where
   leads_lent texts k count d a b c within one ran =
       leads_more (map (λ text. text.now) texts) k count [] a b c (omega (arith, within, length-map texts (λ (text : Bor (List ℕ)). text.now))) one
       (subst (λ t. Ran g t [] count b c) (sym (get_or-map (λ (text : Bor (List ℕ)). text.now) texts k d [] within)) ran)
+
+  -- one place more has its tally
+  pub first_more : (places : List Place) (k : ℕ) (d : Place) (a b c : Held S) → k < length places → Step g (take k (map first_tally places)) a b → Step g (first_tally (get_or places k d) ∷ []) b c
+      → Step g (take (k + 1) (map first_tally places)) a c
+  first_more places k d a b c within one two =
+      step_more g a b c (map first_tally places) k (first_tally d) (omega (arith, within, length-map places first_tally)) one
+      (subst (λ (row : Row). Step g (row ∷ []) b c) (sym (get_or-map first_tally places k d (first_tally d) within)) two)

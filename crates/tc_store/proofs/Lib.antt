@@ -3,7 +3,8 @@ pub mod SchemaLemmas
 pub mod MetaLemmas
 pub mod RequestLemmas
 pub mod MoveLemmas
+pub mod TallyLemmas
+pub mod ReadLemmas
 pub mod HistoryLemmas
-pub mod StandingLemmas
 pub mod StepLemmas
 pub mod CreateLemmas

@@ -1,5 +1,5 @@
 -- What the text of `meta` means: the row that names the version.
-use Rattle.std.proofs.Common.{◌≡◌, ℕ, pos, true, codes, [], ◌∷◌, Result, Ok, Err, OnOk, IfOk, refl, sym, ap, subst, ◌∙◌}
+use Rattle.std.proofs.Common.{◌≡◌, ℕ, pos, true, codes, [], ◌∷◌, map, Result, Ok, Err, OnOk, IfOk, refl, sym, ap, subst, ◌∙◌}
 use Rattle.sqlite_value.specs.Order.{Row}
 use Rattle.sqlite_value.specs.declared.value.Value.TheVariants.{Null, Int, Text}
 use Rattle.sqlite_trees.specs.Tree.{put_row}
@@ -13,7 +13,7 @@ use Rattle.sqlite.specs.Listing.{understood}
 use Rattle.sqlite.specs.declared.error.Error.{Error}
 use Rattle.sqlite.specs.Held.{Held, state}
 use Rattle.std.specs.List.{AllByRecursion}
-use Rattle.tc_types.specs.Tables.{empty_image}
+use Rattle.tc_types.specs.Lawful.{all_places}
 use Rattle.tc_sql.specs.Builds.{no_schema, Builds, BuildsTo}
 use Rattle.tc_sql.specs.Contents.{Contents, Matches, are_tables}
 use Rattle.tc_sql.specs.Puts.{PutsInto, HasPut}
@@ -22,8 +22,9 @@ use Rattle.tc_sql.proofs.Changes.{matches_put}
 use Rattle.tc_store.specs.Meta.{meta_tree, meta_form, meta_put, meta_terms, version_row}
 use Rattle.tc_store.specs.Requests.{request_tree}
 use Rattle.tc_store.specs.Moves.{move_tree}
+use Rattle.tc_store.specs.Tallies.{tally_tree, first_tally}
 use Rattle.tc_store.specs.Schema.{schema_1, create_texts, Holds}
-use Rattle.tc_store.specs.Steps.{Ran, Defined, Versioned, Filled}
+use Rattle.tc_store.specs.Steps.{Ran, Defined, Versioned, Step, Filled, blank_image}
 use Rattle.tc_store.proofs.SchemaLemmas.{built}
 use Rattle.tc_store.proofs.StepLemmas.{goes_same, goes_then}
 
@@ -33,15 +34,15 @@ meta_puts = record { at = 0; listed = refl; command = refl; plain = (refl, refl)
 
 -- the trees before it
 abbrev no_rows : Contents
-no_rows = (meta_tree, []) ∷ (request_tree, []) ∷ (move_tree, []) ∷ []
+no_rows = (meta_tree, []) ∷ (request_tree, []) ∷ (move_tree, []) ∷ (tally_tree, []) ∷ []
 
 abbrev given : Row
 given = Null ∷ Text (codes "schema") ∷ Int (pos 1) ∷ []
 
-versioned_from : (old new : Database) → BuildsTo schema_1 [] old → HasPut meta_tree (with_rowid Chosen (old.trees meta_tree) given) old new → Holds new empty_image
+versioned_from : (old new : Database) → BuildsTo schema_1 [] old → HasPut meta_tree (with_rowid Chosen (old.trees meta_tree) given) old new → Holds new blank_image
 versioned_from old new to put =
     let none : AllByRecursion (λ t. old.trees t.tree ≡ []) schema_1.tables = subst (λ (s : Schema). AllByRecursion (λ t. old.trees t.tree ≡ []) s.tables) to.builds to.empty in
-    let before : Matches old.trees no_rows = ((none.0, tt), ((none.1.0, tt), ((none.1.1.0, tt), tt))) in
+    let before : Matches old.trees no_rows = ((none.0, tt), ((none.1.0, tt), ((none.1.1.0, tt), ((none.1.1.1.0, tt), tt)))) in
     let clear : are_tables old.schema no_rows ≡ true = ap (λ s. are_tables s no_rows) to.builds in
     let row : version_row ∷ [] ≡ put_row (with_rowid Chosen (old.trees meta_tree) given) (old.trees meta_tree) = ap (λ rows. put_row (with_rowid Chosen rows given) rows) (sym none.0) in
     record { schema = put.schema ∙ to.builds; rows = matches_put meta_tree (with_rowid Chosen (old.trees meta_tree) given) (version_row ∷ []) old new no_rows put clear row before; sound = put.sound }
@@ -55,8 +56,10 @@ versioned g old new (Ok count) h =
 pub defined_none : {S : Type 0} (g : Ghosts S) (a : Held S) → Defined g [] a a
 defined_none g a = record { builds = λ after to. to; goes = goes_same g a }
 
-pub filled : {S : Type 0} (g : Ghosts S) (a b c : Held S) → Defined g create_texts a b → Versioned g b c → Filled g a c
-filled g a b c one two = record {
-  holds = λ (none : a.schema ≡ no_schema). two.holds (one.builds schema_1 (record { builds = subst (λ s. Builds s create_texts schema_1) (sym none) built; empty = subst (λ (s : Schema). AllByRecursion (λ t. (state g a).now.trees t.tree ≡ []) s.tables) (sym none) tt }));
-  goes = goes_then g a b c one.goes two.goes;
+pub filled : {S : Type 0} (g : Ghosts S) (a b c d : Held S) → Defined g create_texts a b → Versioned g b c → Step g (map first_tally all_places) c d → Filled g a d
+filled g a b c d one two three = record {
+  holds = λ (none : a.schema ≡ no_schema).
+      let to : BuildsTo schema_1 create_texts (state g a).now = record { builds = subst (λ s. Builds s create_texts schema_1) (sym none) built; empty = subst (λ (s : Schema). AllByRecursion (λ t. (state g a).now.trees t.tree ≡ []) s.tables) (sym none) tt } in
+      three.holds blank_image (two.holds (one.builds schema_1 to));
+  goes = goes_then g a b d one.goes (goes_then g b c d two.goes three.goes);
 }

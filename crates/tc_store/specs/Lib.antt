@@ -2,6 +2,6 @@ pub mod Faults
 pub mod Meta
 pub mod Requests
 pub mod Moves
+pub mod Tallies
 pub mod Schema
 pub mod Steps
-pub mod Standing

@@ -1,4 +1,4 @@
--- The table `request`: one row for each request that was entered, by its number.
+-- The table `request`: one row for each request that was entered, and where it stands, by its number.
 use Rattle.std.specs.Prelude.{ℕ, ◌+◌, ℤ, pos, true, false, if◌then◌else◌, List, [], ◌∷◌, codes, Some}
 use Rattle.sqlite_value.specs.declared.value.Value.TheVariants.{Null, Int, Text}
 use Rattle.sqlite_value.specs.Order.{Row}
@@ -7,8 +7,9 @@ use Rattle.sqlite_sql.specs.Term.{Term, lit, col}
 use Rattle.tc_types.specs.declared.requests.Ack.{Ack}
 use Rattle.tc_types.specs.declared.requests.Command.{Command}
 use Rattle.tc_types.specs.declared.requests.Command.TheVariants as command
-use Rattle.tc_types.specs.declared.requests.Request.{Request}
+use Rattle.tc_types.specs.declared.rows.PlacedRequest.{PlacedRequest}
 use Rattle.tc_types.specs.Grammar.{outcome_word}
+use Rattle.tc_types.specs.Lawful.{place_number}
 use Rattle.tc_sql.specs.Forms.{Form, column_of}
 
 abbrev pub request_tree : ℕ
@@ -20,7 +21,8 @@ request_form = record {
   columns = column_of (codes "num") kind.Integer false ∷ column_of (codes "apid") kind.Integer true ∷ column_of (codes "cnt") kind.Integer true ∷ column_of (codes "ack") kind.Integer true
       ∷ column_of (codes "critical") kind.Integer true ∷ column_of (codes "service") kind.Integer true ∷ column_of (codes "subtype") kind.Integer true
       ∷ column_of (codes "target") kind.Integer true ∷ column_of (codes "at_time") kind.Integer true ∷ column_of (codes "outcome") kind.Text true
-      ∷ column_of (codes "author") kind.Text true ∷ column_of (codes "stack") kind.Text true ∷ column_of (codes "line") kind.Integer true ∷ column_of (codes "prior") kind.Integer true ∷ [];
+      ∷ column_of (codes "author") kind.Text true ∷ column_of (codes "stack") kind.Text true ∷ column_of (codes "line") kind.Integer true ∷ column_of (codes "prior") kind.Integer true
+      ∷ column_of (codes "place") kind.Integer true ∷ [];
   key = Some 0;
   primary = 0 ∷ [];
   uniques = [];
@@ -28,13 +30,18 @@ request_form = record {
 }
 
 abbrev pub request_text : List ℕ
-request_text = codes "CREATE TABLE request (num INTEGER PRIMARY KEY, apid INTEGER NOT NULL, cnt INTEGER NOT NULL, ack INTEGER NOT NULL, critical INTEGER NOT NULL, service INTEGER NOT NULL, subtype INTEGER NOT NULL, target INTEGER NOT NULL, at_time INTEGER NOT NULL, outcome TEXT NOT NULL, author TEXT NOT NULL, stack TEXT NOT NULL, line INTEGER NOT NULL, prior INTEGER NOT NULL) STRICT"
+request_text = codes "CREATE TABLE request (num INTEGER PRIMARY KEY, apid INTEGER NOT NULL, cnt INTEGER NOT NULL, ack INTEGER NOT NULL, critical INTEGER NOT NULL, service INTEGER NOT NULL, subtype INTEGER NOT NULL, target INTEGER NOT NULL, at_time INTEGER NOT NULL, outcome TEXT NOT NULL, author TEXT NOT NULL, stack TEXT NOT NULL, line INTEGER NOT NULL, prior INTEGER NOT NULL, place INTEGER NOT NULL) STRICT"
 
 abbrev pub request_put : List ℕ
-request_put = codes "INSERT INTO request (num, apid, cnt, ack, critical, service, subtype, target, at_time, outcome, author, stack, line, prior) VALUES (?1, ?2, ?3, ?4, ?5, ?6, ?7, ?8, ?9, ?10, ?11, '', 0, 0)"
+request_put = codes "INSERT INTO request (num, apid, cnt, ack, critical, service, subtype, target, at_time, outcome, author, stack, line, prior, place) VALUES (?1, ?2, ?3, ?4, ?5, ?6, ?7, ?8, ?9, ?10, ?11, '', 0, 0, ?12)"
+
+-- the same over the row with its number
+abbrev pub request_replace : List ℕ
+request_replace = codes "INSERT OR REPLACE INTO request (num, apid, cnt, ack, critical, service, subtype, target, at_time, outcome, author, stack, line, prior, place) VALUES (?1, ?2, ?3, ?4, ?5, ?6, ?7, ?8, ?9, ?10, ?11, '', 0, 0, ?12)"
 
 abbrev pub request_terms : List Term
-request_terms = col 0 0 ∷ lit Null ∷ col 0 1 ∷ col 0 2 ∷ col 0 3 ∷ col 0 4 ∷ col 0 5 ∷ col 0 6 ∷ col 0 7 ∷ col 0 8 ∷ col 0 9 ∷ col 0 10 ∷ lit (Text []) ∷ lit (Int (pos 0)) ∷ lit (Int (pos 0)) ∷ []
+request_terms = col 0 0 ∷ lit Null ∷ col 0 1 ∷ col 0 2 ∷ col 0 3 ∷ col 0 4 ∷ col 0 5 ∷ col 0 6 ∷ col 0 7 ∷ col 0 8 ∷ col 0 9 ∷ col 0 10 ∷ lit (Text []) ∷ lit (Int (pos 0)) ∷ lit (Int (pos 0))
+    ∷ col 0 11 ∷ []
 
 -- 8 for acceptance, 4 for start, 2 for progress, 1 for completion
 abbrev pub ack_number : Ack → ℕ
@@ -68,8 +75,17 @@ time_of (command.ShiftActivity target offset) = offset
 time_of (command.ShiftAll offset) = offset
 time_of _ = pos 0
 
-abbrev pub request_row : Request → Row
-request_row r =
+-- the parameters of a request and its place
+abbrev pub request_given : PlacedRequest → Row
+request_given placed =
+    let r = placed.request in
+    Int (pos r.number) ∷ Int (pos r.body.identity.apid) ∷ Int (pos r.body.identity.count) ∷ Int (pos (ack_number r.body.ack)) ∷ Int (if r.critical then pos 1 else pos 0)
+    ∷ Int (pos (service_of r.body.command)) ∷ Int (pos (subtype_of r.body.command)) ∷ Int (pos (target_of r.body.command)) ∷ Int (time_of r.body.command)
+    ∷ Text (outcome_word r.body.outcome) ∷ Text r.author ∷ Int (pos (place_number placed.place)) ∷ []
+
+abbrev pub request_row : PlacedRequest → Row
+request_row placed =
+    let r = placed.request in
     Int (pos r.number) ∷ Null ∷ Int (pos r.body.identity.apid) ∷ Int (pos r.body.identity.count) ∷ Int (pos (ack_number r.body.ack)) ∷ Int (if r.critical then pos 1 else pos 0)
     ∷ Int (pos (service_of r.body.command)) ∷ Int (pos (subtype_of r.body.command)) ∷ Int (pos (target_of r.body.command)) ∷ Int (time_of r.body.command)
-    ∷ Text (outcome_word r.body.outcome) ∷ Text r.author ∷ Text [] ∷ Int (pos 0) ∷ Int (pos 0) ∷ []
+    ∷ Text (outcome_word r.body.outcome) ∷ Text r.author ∷ Text [] ∷ Int (pos 0) ∷ Int (pos 0) ∷ Int (pos (place_number placed.place)) ∷ []

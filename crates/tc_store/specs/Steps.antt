@@ -11,10 +11,10 @@ use Rattle.sqlite.specs.State.{State, Executes}
 use Rattle.sqlite.specs.Held.{Held, state}
 use Rattle.sqlite.specs.Steps.{FailsToCommit}
 use Rattle.sqlite.specs.declared.error.Error.{Error}
-use Rattle.tc_types.specs.declared.requests.Request.{Request}
+use Rattle.tc_types.specs.declared.rows.PlacedRequest.{PlacedRequest}
 use Rattle.tc_types.specs.declared.moves.Move.{Move}
 use Rattle.tc_types.specs.declared.rows.Row.{Row}
-use Rattle.tc_types.specs.declared.rows.Row.TheVariants.{Entered, Moved}
+use Rattle.tc_types.specs.declared.rows.Row.TheVariants.{Entered, Placed, Moved, Tallied}
 use Rattle.tc_types.specs.Tables.{Image, empty_image, with_row, applied}
 use Rattle.tc_sql.specs.Builds.{BuildsTo, no_schema}
 use Rattle.tc_sql.specs.Contents.{Matches}
@@ -38,20 +38,26 @@ pub record Defined {S : Type 0} (g : Ghosts S) (texts : List (List ℕ)) (old ne
   pub builds : (after : Schema) → BuildsTo after texts (state g old).now → BuildsTo after [] (state g new).now
   pub goes : Goes g old new
 
+-- a desk whose tables have no row but the version
+abbrev pub blank_image : Image
+blank_image = record { requests = []; moves = []; tallies = [] }
+
 -- where those of the desk stand with no row, they name their version now
 pub record Versioned {S : Type 0} (g : Ghosts S) (old new : Held S) : Type 0 where
-  pub holds : BuildsTo schema_1 [] (state g old).now → Holds (state g new).now empty_image
+  pub holds : BuildsTo schema_1 [] (state g old).now → Holds (state g new).now blank_image
   pub goes : Goes g old new
 
--- where there was no table, those of the desk stand, with no row but the version
+-- where there was no table, those of the desk stand, with the version and a tally of 0 for each place
 pub record Filled {S : Type 0} (g : Ghosts S) (old new : Held S) : Type 0 where
   pub holds : old.schema ≡ no_schema → Holds (state g new).now empty_image
   pub goes : Goes g old new
 
--- no row with its key stands
+-- no row with its key stands, where the row is to be a new one
 abbrev pub IsNewIn : Image → Row → Type 0
-IsNewIn image (Entered request) = list_any (λ (r : Request). r.number == request.number) image.requests ≡ false
+IsNewIn image (Entered request) = list_any (λ (r : PlacedRequest). r.request.number == request.number) image.requests ≡ false
+IsNewIn image (Placed placed) = ⊤
 IsNewIn image (Moved move) = list_any (λ (m : Move). m.seq == move.seq) image.moves ≡ false
+IsNewIn image (Tallied tally) = ⊤
 
 -- so it is of each row of a batch, where those before it stand too
 abbrev pub AreNew : Image → List Row → Type 0

@@ -5,7 +5,6 @@
 #![tactic(auto)]
 
 mod cells;
-mod counts;
 mod creates;
 pub mod faults;
 mod history;
@@ -13,4 +12,5 @@ mod moves;
 mod requests;
 mod steps;
 pub mod tables;
+mod tallies;
 mod writes;

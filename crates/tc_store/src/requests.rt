@@ -1,15 +1,17 @@
 //! The table `request`.
-ghost use Rattle.std.specs.Prelude.{◌≡◌, [], ◌∷◌, IsTrue, OnOk};
+ghost use Rattle.std.specs.Prelude.{◌≡◌, [], ◌∷◌, IsTrue, IfOk, OnOk};
 ghost use Rattle.sqlite.specs.State.{HasCleanDisk, KeepsCommit, Survives};
 ghost use Rattle.sqlite.specs.Held.{state};
-ghost use Rattle.tc_types.specs.declared.rows.Row.TheVariants.{Entered};
-ghost use Rattle.tc_store.specs.Requests.{ack_number, service_of, subtype_of, target_of, time_of};
-ghost use Rattle.tc_store.specs.Steps.{Step};
+ghost use Rattle.tc_types.specs.declared.rows.Row.TheVariants.{Entered, Placed};
+ghost use Rattle.tc_store.specs.Requests.{ack_number, service_of, subtype_of, target_of, time_of, request_given};
+ghost use Rattle.tc_store.specs.Steps.{Ran, Step};
 
 use crate::steps::run;
 use sqlite::{Alter, Error, Transaction, params};
 use std::alloc::Global;
+use tc_types::places::Place;
 use tc_types::requests::{Ack, Body, Command, Request};
+use tc_types::rows::PlacedRequest;
 
 /// The reports that are asked for: 8 for acceptance, 4 for start, 2 for progress, 1 for completion.
 fn ack_code(ack: Ack) -> u32
@@ -70,14 +72,15 @@ fn columns_of(command: &Command) -> Columns
     }
 }
 
-/// Writes one request.
-pub(crate) fn put_request<S: Alter>(
+/// Runs a text over the columns of a request and its place.
+fn put_columns<S: Alter>(
     tx: &mut Transaction<'_, S>,
     alloc: Global,
-    row: Request,
+    text: &str,
+    row: PlacedRequest,
 ) -> Result<usize, Error>
     ensures same_reference { tx.new.conn.ghost_name ≡ tx.old.conn.ghost_name }
-    ensures put { HasCleanDisk (state S.Store tx.new.conn.now) → IsTrue tx.old.conn.now.in_transaction → OnOk result (Step S.Store (Entered row ∷ []) tx.old.conn.now tx.new.conn.now) }
+    ensures ran { HasCleanDisk (state S.Store tx.new.conn.now) → IsTrue tx.old.conn.now.in_transaction → IfOk result (λ count. Ran S.Store text.now (request_given row) count tx.old.conn.now tx.new.conn.now) }
     ensures kept { HasCleanDisk (state S.Store tx.new.conn.now) → IsTrue tx.old.conn.now.in_transaction → KeepsCommit (state S.Store tx.old.conn.now) (state S.Store tx.new.conn.now) }
     ensures survives { Survives (state S.Store tx.old.conn.now) (state S.Store tx.new.conn.now) (λ _. ⊥) }
 {
@@ -86,7 +89,7 @@ pub(crate) fn put_request<S: Alter>(
         body,
         critical,
         author,
-    } = row;
+    } = row.request;
     let Body {
         identity,
         ack,
@@ -99,9 +102,10 @@ pub(crate) fn put_request<S: Alter>(
     let count = u32::from(identity.count.get());
     let ack = ack_code(ack);
     let columns = columns_of(&command);
+    let place = u32::from(row.place.number());
     run(
         tx,
-        "INSERT INTO request (num, apid, cnt, ack, critical, service, subtype, target, at_time, outcome, author, stack, line, prior) VALUES (?1, ?2, ?3, ?4, ?5, ?6, ?7, ?8, ?9, ?10, ?11, '', 0, 0)",
+        text,
         params![
             number,
             apid,
@@ -113,7 +117,49 @@ pub(crate) fn put_request<S: Alter>(
             columns.target,
             &columns.time,
             outcome.as_str(),
-            author.as_str()
+            author.as_str(),
+            place
         ],
+    )
+}
+
+/// Writes a request that was entered.
+pub(crate) fn put_request<S: Alter>(
+    tx: &mut Transaction<'_, S>,
+    alloc: Global,
+    request: Request,
+) -> Result<usize, Error>
+    ensures same_reference { tx.new.conn.ghost_name ≡ tx.old.conn.ghost_name }
+    ensures put { HasCleanDisk (state S.Store tx.new.conn.now) → IsTrue tx.old.conn.now.in_transaction → OnOk result (Step S.Store (Entered request ∷ []) tx.old.conn.now tx.new.conn.now) }
+    ensures kept { HasCleanDisk (state S.Store tx.new.conn.now) → IsTrue tx.old.conn.now.in_transaction → KeepsCommit (state S.Store tx.old.conn.now) (state S.Store tx.new.conn.now) }
+    ensures survives { Survives (state S.Store tx.old.conn.now) (state S.Store tx.new.conn.now) (λ _. ⊥) }
+{
+    put_columns(
+        tx,
+        alloc,
+        "INSERT INTO request (num, apid, cnt, ack, critical, service, subtype, target, at_time, outcome, author, stack, line, prior, place) VALUES (?1, ?2, ?3, ?4, ?5, ?6, ?7, ?8, ?9, ?10, ?11, '', 0, 0, ?12)",
+        PlacedRequest {
+            request,
+            place: Place::Entered,
+        },
+    )
+}
+
+/// Writes a request and its place, over the row that it has.
+pub(crate) fn put_placed<S: Alter>(
+    tx: &mut Transaction<'_, S>,
+    alloc: Global,
+    row: PlacedRequest,
+) -> Result<usize, Error>
+    ensures same_reference { tx.new.conn.ghost_name ≡ tx.old.conn.ghost_name }
+    ensures put { HasCleanDisk (state S.Store tx.new.conn.now) → IsTrue tx.old.conn.now.in_transaction → OnOk result (Step S.Store (Placed row ∷ []) tx.old.conn.now tx.new.conn.now) }
+    ensures kept { HasCleanDisk (state S.Store tx.new.conn.now) → IsTrue tx.old.conn.now.in_transaction → KeepsCommit (state S.Store tx.old.conn.now) (state S.Store tx.new.conn.now) }
+    ensures survives { Survives (state S.Store tx.old.conn.now) (state S.Store tx.new.conn.now) (λ _. ⊥) }
+{
+    put_columns(
+        tx,
+        alloc,
+        "INSERT OR REPLACE INTO request (num, apid, cnt, ack, critical, service, subtype, target, at_time, outcome, author, stack, line, prior, place) VALUES (?1, ?2, ?3, ?4, ?5, ?6, ?7, ?8, ?9, ?10, ?11, '', 0, 0, ?12)",
+        row,
     )
 }

@@ -3,3 +3,4 @@ pub mod WordLaws
 pub mod NumberLaws
 pub mod Spellings
 mod WorkedCases
+pub mod PlaceLemmas

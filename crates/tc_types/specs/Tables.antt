@@ -1,18 +1,27 @@
 -- The rows of the desk's tables, and what a batch makes of them.
-use Rattle.std.specs.Prelude.{ℕ, ◌==◌, nat_lt, if◌then◌else◌, List, [], ◌∷◌, fold}
-use Rattle.tc_types.specs.declared.requests.Request.{Request}
+use Rattle.std.specs.Prelude.{ℕ, ◌==◌, nat_lt, if◌then◌else◌, List, [], ◌∷◌, map, fold}
+use Rattle.tc_types.specs.declared.places.Place.{Place}
+use Rattle.tc_types.specs.declared.places.Place.TheVariants.{Entered}
 use Rattle.tc_types.specs.declared.moves.Move.{Move}
+use Rattle.tc_types.specs.declared.rows.PlacedRequest.{PlacedRequest}
+use Rattle.tc_types.specs.declared.rows.Tally.{Tally}
 use Rattle.tc_types.specs.declared.rows.Row.{Row}
-use Rattle.tc_types.specs.declared.rows.Row.TheVariants.{Entered, Moved}
+use Rattle.tc_types.specs.declared.rows.Row.TheVariants as row
+use Rattle.tc_types.specs.Lawful.{place_number, all_places}
 
 -- all rows of all tables, each table in order of its key
 pub record Image : Type 0 where
-  pub requests : List Request
+  pub requests : List PlacedRequest
   pub moves : List Move
+  pub tallies : List Tally
+
+-- a tally of each place, in order of number
+abbrev pub tallies_by : (Place → ℕ) → List Tally
+tallies_by amount = map (λ place. let tally : Tally = record { place = place; amount = amount place } in tally) all_places
 
 -- the tables of a desk where nothing happened yet
 abbrev pub empty_image : Image
-empty_image = record { requests = []; moves = [] }
+empty_image = record { requests = []; moves = []; tallies = tallies_by (λ place. 0) }
 
 -- a table with this row: in place of the one with the same key, else in order of key
 abbrev pub put_by : {X : Type 0} → (X → ℕ) → X → List X → List X
@@ -22,10 +31,22 @@ put_by key row (first ∷ others) =
     else if key row == key first then row ∷ others
     else first ∷ put_by key row others
 
--- the tables with one more row
+-- the keys of the tables
+abbrev pub request_key : PlacedRequest → ℕ
+request_key r = r.request.number
+
+abbrev pub move_key : Move → ℕ
+move_key m = m.seq
+
+abbrev pub tally_key : Tally → ℕ
+tally_key t = place_number t.place
+
+-- the tables with one more row, or with this one in place of the one with its key
 abbrev pub with_row : Image → Row → Image
-with_row image (Entered request) = record image { requests = put_by (λ (r : Request). r.number) request image.requests }
-with_row image (Moved move) = record image { moves = put_by (λ (m : Move). m.seq) move image.moves }
+with_row image (row.Entered request) = record image { requests = put_by request_key (record { request = request; place = Entered }) image.requests }
+with_row image (row.Placed placed) = record image { requests = put_by request_key placed image.requests }
+with_row image (row.Moved move) = record image { moves = put_by move_key move image.moves }
+with_row image (row.Tallied tally) = record image { tallies = put_by tally_key tally image.tallies }
 
 -- the tables with all rows of a batch, in order
 abbrev pub applied : List Row → Image → Image

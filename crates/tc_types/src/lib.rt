@@ -12,6 +12,7 @@ pub mod counted;
 pub mod entries;
 pub mod entry_reader;
 pub mod frames;
+pub mod lawful;
 pub mod line_reader;
 pub mod moves;
 pub mod names;

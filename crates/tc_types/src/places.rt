@@ -1,6 +1,6 @@
 //! The fifteen places where a request can stand.
-ghost use Rattle.std.specs.Prelude.{◌≡◌, ◌<◌, ◌≤◌, Some, IfSome};
-ghost use Rattle.tc_types.specs.Lawful.{place_number, is_one_of};
+ghost use Rattle.std.specs.Prelude.{◌≡◌, ◌↔◌, ◌<◌, ◌≤◌, Some, IfSome, IsTrue};
+ghost use Rattle.tc_types.specs.Lawful.{place_number, is_one_of, is_among};
 ghost use Rattle.tc_types.specs.declared.places.Place.{Place};
 ghost use Rattle.tc_types.specs.Lines.{place_name};
 
@@ -41,6 +41,25 @@ pub enum Place {
     /// Closed by a person.
     Closed,
 }
+
+/// All places, in order of number.
+pub const ALL_PLACES: [Place; PLACES] = [
+    Place::Entered,
+    Place::Approved,
+    Place::Queued,
+    Place::Sent,
+    Place::Confirmed,
+    Place::Riding,
+    Place::Scheduled,
+    Place::Accepted,
+    Place::Started,
+    Place::Completed,
+    Place::Failed,
+    Place::Doubtful,
+    Place::Withdrawn,
+    Place::Deleted,
+    Place::Closed,
+];
 
 impl Place {
     /// Its number, 1 to 15, in tables and in the line of counts.
@@ -122,5 +141,27 @@ impl Place {
     {
         let wanted = self.number();
         places.iter().any(|place| place.number() == wanted)
+    }
+}
+
+/// Whether a request that stands `at` a place stands at one of these.
+pub fn is_among(at: Option<Place>, places: &[Place]) -> bool
+    ensures { result ≡ is_among places.now at }
+{
+    match at {
+        None => false,
+        Some(place) => place.is_one_of(places),
+    }
+}
+
+/// Whether two requests stand at the same place, or both nowhere.
+#[tactic(auto, using(crate::proofs::PlaceLemmas::same_number))]
+pub fn is_same_place(a: Option<Place>, b: Option<Place>) -> bool
+    ensures { IsTrue result ↔ (a ≡ b) }
+{
+    match (a, b) {
+        (None, None) => true,
+        (Some(a), Some(b)) => a.number() == b.number(),
+        (None, Some(_)) | (Some(_), None) => false,
     }
 }

@@ -1,12 +1,35 @@
 //! The rows of the desk's tables.
 use crate::moves::Move;
+use crate::places::Place;
 use crate::requests::Request;
+
+/// A row of the table `request`: a request, and where it stands.
+#[derive(Clone, Copy, Debug, PartialEq, Eq)]
+pub struct PlacedRequest {
+    /// What was entered.
+    pub request: Request,
+    /// Where it stands.
+    pub place: Place,
+}
+
+/// A row of the table `tally`: how many requests stand at a place.
+#[derive(Clone, Copy, Debug, PartialEq, Eq)]
+pub struct Tally {
+    /// The place.
+    pub place: Place,
+    /// How many requests stand there.
+    pub amount: u32,
+}
 
 /// One row that an act writes. A batch is a list of rows, all written or none.
 #[derive(Clone, Copy, Debug, PartialEq, Eq)]
 pub enum Row {
-    /// A row of the table `request`.
+    /// A new row of the table `request`: a request that was entered stands at Entered.
     Entered(Request),
-    /// A row of the table `move`.
+    /// A row of the table `request`, in place of the one with its number: the request was moved.
+    Placed(PlacedRequest),
+    /// A new row of the table `move`.
     Moved(Move),
+    /// A row of the table `tally`, in place of the one of its place.
+    Tallied(Tally),
 }

@@ -9,7 +9,8 @@ use std::alloc::{AllocError, Global};
 use std::process::Abort;
 use std::test::Fail;
 use tc_store::tables::Tables;
-use tc_types::rows::Row;
+use tc_types::places::Place;
+use tc_types::rows::{Row, Tally};
 
 /// How far a run got.
 #[derive(Clone, Copy, Debug, PartialEq, Eq)]
@@ -23,15 +24,22 @@ enum Reached {
 #[derive(Clone, Copy, Debug, PartialEq, Eq)]
 enum Found {
     NoTables,
+    /// So many moves, and a tally of as many.
     Moves(u32),
+    /// Another tally.
+    Torn,
 }
 
-/// Rows by which requests 1 to `count` are entered.
+/// Rows by which requests 1 to `count` are entered, and their tally.
 fn batch_of(rt: &impl Abort, alloc: Global, count: u32) -> Result<Vec<Row>, AllocError> {
     let mut batch = Vec::new(alloc);
     for seq in 1..=count {
         batch.push(Row::Moved(entered(rt, seq, seq)))?;
     }
+    batch.push(Row::Tallied(Tally {
+        place: Place::Entered,
+        amount: count,
+    }))?;
     Ok(batch)
 }
 
@@ -60,9 +68,12 @@ fn live<S: Alter + Drop>(
 
 /// What is found in a database.
 fn found_in<D: SeenDatabase>(database: &mut D) -> Found {
-    match database.number("SELECT count(*) FROM move") {
-        Ok(count) => Found::Moves(count),
-        Err(_) => Found::NoTables,
+    let Ok(count) = database.number("SELECT count(*) FROM move") else {
+        return Found::NoTables;
+    };
+    match database.number("SELECT amount FROM tally WHERE place = 1") {
+        Ok(amount) if amount == count => Found::Moves(count),
+        _ => Found::Torn,
     }
 }
 
@@ -139,12 +150,13 @@ fn stopped(alloc: Global, calls: u64, batch: &[Row]) -> Option<(Reached, Found)>
     run_on(alloc, files, batch)
 }
 
-/// Nothing that was answered Ok is lost, and no part of the batch of two is found.
+/// Nothing that was answered Ok is lost, and no part of the batch is found: its two moves and their tally, or none.
 fn is_lawful(run: (Reached, Found)) -> bool {
     match run {
         (Reached::Opened, Found::NoTables) => true,
         (Reached::Opened | Reached::Made, Found::Moves(count)) => count == 0 || count == 2,
         (Reached::Made, Found::NoTables) => false,
+        (Reached::Opened | Reached::Made, Found::Torn) => false,
         (Reached::Written, found) => found == Found::Moves(2),
     }
 }

@@ -1,0 +1,369 @@
+//! Random acts on a room and on the book of `plain`, which keeps nothing but its requests and its history: the same
+//! replies, the same answers, and tables that show the same. Then the identities of one application process as they run
+//! out.
+use super::{moment, name};
+use crate::columns::check_tables;
+use crate::dice::{Dice, random_act};
+use crate::plain::{Plain, count_of};
+use sqlite::{Connection, MemStore};
+use std::alloc::Global;
+use std::process::Abort;
+use std::test::Fail;
+use tc_book::firsts::First;
+use tc_desk::desks::Desk;
+use tc_room::rooms::{Config, Room};
+use tc_store::tables::Tables;
+use tc_types::acts::{Act, BookAct, Query};
+use tc_types::entries::Entry;
+use tc_types::moves::Move;
+use tc_types::names::Name;
+use tc_types::numbers::{Apid, Moment, Service, Subtype};
+use tc_types::places::PLACES;
+use tc_types::refusals::Refusal;
+use tc_types::requests::{Ack, Command, Form, Outcome, Request};
+
+/// What carries acts out. Nothing is promised of it here.
+trait Acting {
+    /// Carries an act out: what its reply begins with, and the moves that it made.
+    fn acts(
+        &mut self,
+        by: Name,
+        moment: Moment,
+        act: BookAct,
+    ) -> Result<(First, Vec<Move>), Refusal>;
+}
+
+/// What answers questions, too.
+trait Asked: Acting {
+    /// How many requests stand at each place.
+    fn counted(&mut self) -> Result<[u32; PLACES], Refusal>;
+
+    /// The first rows of a request with a greater number than `after`.
+    fn told(&mut self, request: u32, after: u32) -> Result<Vec<Move>, Refusal>;
+}
+
+impl Acting for Room {
+    fn acts(
+        &mut self,
+        by: Name,
+        moment: Moment,
+        act: BookAct,
+    ) -> Result<(First, Vec<Move>), Refusal> {
+        let done = self.act(by, moment, Act::Book(act))?;
+        Ok((done.first, done.moves))
+    }
+}
+
+impl Asked for Room {
+    fn counted(&mut self) -> Result<[u32; PLACES], Refusal> {
+        Ok(self.counts()?.places)
+    }
+
+    fn told(&mut self, request: u32, after: u32) -> Result<Vec<Move>, Refusal> {
+        self.history(request, after)
+    }
+}
+
+impl Acting for Desk<Global> {
+    fn acts(
+        &mut self,
+        by: Name,
+        moment: Moment,
+        act: BookAct,
+    ) -> Result<(First, Vec<Move>), Refusal> {
+        let done = self.act(by, moment, Act::Book(act))?;
+        Ok((done.first, done.moves))
+    }
+}
+
+/// A desk and its tables, which a room does not show.
+#[derive(Drop)]
+struct Bare {
+    desk: Desk<Global>,
+    tables: Tables<MemStore>,
+}
+
+impl Acting for Bare {
+    fn acts(
+        &mut self,
+        by: Name,
+        moment: Moment,
+        act: BookAct,
+    ) -> Result<(First, Vec<Move>), Refusal> {
+        let done = self.desk.act(by, moment, Act::Book(act))?;
+        match self.tables.write(&done.batch) {
+            Ok(()) => Ok((done.first, done.moves)),
+            Err(_) => Err(Refusal::Store),
+        }
+    }
+}
+
+impl Asked for Bare {
+    fn counted(&mut self) -> Result<[u32; PLACES], Refusal> {
+        self.tables.counts().or(Err(Refusal::Store))
+    }
+
+    fn told(&mut self, request: u32, after: u32) -> Result<Vec<Move>, Refusal> {
+        match self.desk.refusal_of(Query::History { request, after }) {
+            Some(refusal) => Err(refusal),
+            None => self
+                .tables
+                .history_of(request, after, 51)
+                .or(Err(Refusal::Store)),
+        }
+    }
+}
+
+/// How often acts were done, and how often they were refused with 2, with 3 and with 19.
+#[derive(Clone, Copy, Debug, PartialEq, Eq)]
+struct Seen {
+    done: u32,
+    unknown: u32,
+    wrong_place: u32,
+    bad_activity: u32,
+}
+
+impl Seen {
+    /// One more of those.
+    fn sees(&mut self, reply: Result<First, Refusal>) {
+        let count = match reply {
+            Ok(_) => &mut self.done,
+            Err(Refusal::UnknownRequest) => &mut self.unknown,
+            Err(Refusal::WrongPlace) => &mut self.wrong_place,
+            Err(_) => &mut self.bad_activity,
+        };
+        *count = count.saturating_add(1);
+    }
+}
+
+/// Whether a reply is the one that is wanted: the same first line and the same moves, or the same refusal.
+fn is_same_reply(
+    reply: Result<(First, Vec<Move>), Refusal>,
+    wanted: Result<First, Refusal>,
+    moves: &[Move],
+) -> bool {
+    match reply {
+        Ok((first, made)) => wanted == Ok(first) && made.as_slice() == moves,
+        Err(refusal) => wanted == Err(refusal),
+    }
+}
+
+/// Whether an answer is the one that is wanted.
+fn is_same_history(told: Result<Vec<Move>, Refusal>, wanted: Result<Vec<Move>, Refusal>) -> bool {
+    match (told, wanted) {
+        (Ok(told), Ok(wanted)) => told.as_slice() == wanted.as_slice(),
+        (Err(told), Err(wanted)) => told == wanted,
+        _ => false,
+    }
+}
+
+/// A random act on both.
+fn act_on_both<A: Asked>(
+    rt: &impl Abort,
+    asked: &mut A,
+    plain: &mut Plain,
+    dice: &mut Dice,
+) -> Result<First, Refusal> {
+    let entered = count_of(&plain.requests);
+    let before = plain.history.len();
+    let act = random_act(dice, entered).expect(rt, "an act");
+    let by = name(rt, if dice.flips() { b"ann7" } else { b"bob" });
+    let when = moment(rt, dice.roll(2_000_000_000));
+    let wanted = plain.act(by, when, act);
+    let reply = asked.acts(by, when, act);
+    let moves = plain.history.get(before..).unwrap_or(&[]);
+    assert!(rt; is_same_reply(reply, wanted, moves), "{act:?}");
+    wanted
+}
+
+/// Both questions, asked of both: of one request, and of all places.
+fn ask_both<A: Asked>(
+    rt: &impl Abort,
+    alloc: Global,
+    asked: &mut A,
+    plain: &Plain,
+    dice: &mut Dice,
+) -> Result<(), Fail> {
+    let counts = plain.counts(alloc)?;
+    assert!(rt; asked.counted() == Ok(counts));
+    let request = dice.request(count_of(&plain.requests));
+    let after = dice.roll(count_of(&plain.history));
+    let after = if dice.flips() { 0 } else { after };
+    let told = asked.told(request, after);
+    let wanted = plain.told(alloc, request, after);
+    assert!(rt; is_same_history(told, wanted), "history {request} {after}");
+    Ok(())
+}
+
+/// So many random acts on both, with both questions after each: what was seen.
+fn course<A: Asked>(
+    rt: &impl Abort,
+    alloc: Global,
+    asked: &mut A,
+    plain: &mut Plain,
+    acts: u32,
+) -> Result<Seen, Fail> {
+    let mut dice = Dice {
+        state: u64::from(acts),
+    };
+    let mut seen = Seen {
+        done: 0,
+        unknown: 0,
+        wrong_place: 0,
+        bad_activity: 0,
+    };
+    for _ in 0..acts {
+        let reply = act_on_both(rt, asked, plain, &mut dice);
+        seen.sees(reply);
+        ask_both(rt, alloc, asked, plain, &mut dice)?;
+    }
+    Ok(seen)
+}
+
+/// How many acts the longest course has.
+const LONGEST: u32 = 3_000;
+
+#[test]
+fn a_room_answers_as_the_definitions_do(rt: HostRuntime) -> Result<(), Fail> {
+    let mut room = Room::open(rt.alloc(), Config {})?;
+    let mut plain = Plain::new(rt.alloc());
+    let seen = course(&rt, rt.alloc(), &mut room, &mut plain, LONGEST)?;
+    assert!(rt; seen.done > LONGEST / 2, "{seen:?}");
+    assert!(rt; seen.wrong_place > 99 && seen.bad_activity > 99, "{seen:?}");
+    assert!(rt; seen.unknown > 9, "{seen:?}");
+    Ok(())
+}
+
+/// Makes the tables of an empty desk in memory.
+fn made(rt: &impl Abort, alloc: Global) -> Tables<MemStore> {
+    let conn = Connection::open_in_memory(alloc).expect(rt, "a database");
+    match Tables::create(alloc, conn) {
+        Ok(tables) => tables,
+        Err(_) => panic!(rt; "no tables"),
+    }
+}
+
+/// A course of so many acts, and what the tables then show.
+fn course_shown(rt: &impl Abort, alloc: Global, acts: u32) -> Result<(), Fail> {
+    let mut bare = Bare {
+        desk: Desk::new(alloc),
+        tables: made(rt, alloc),
+    };
+    let mut plain = Plain::new(alloc);
+    course(rt, alloc, &mut bare, &mut plain, acts)?;
+    let Bare { desk: _, tables } = bare;
+    let mut conn = tables.into_connection();
+    check_tables(rt, alloc, &mut conn, &plain)
+}
+
+#[test]
+fn the_tables_show_what_the_definitions_say(rt: HostRuntime) -> Result<(), Fail> {
+    for acts in [1u32, 200, 500, 900, 1_300] {
+        course_shown(&rt, rt.alloc(), acts)?;
+    }
+    Ok(())
+}
+
+/// Enters a plain request of an application process.
+fn enters<A: Acting>(rt: &impl Abort, acting: &mut A, apid: u16) -> Result<First, Refusal> {
+    let entry = plain_entry(apid).expect(rt, "an entry");
+    let reply = acting.acts(name(rt, b"ann7"), moment(rt, 0), BookAct::Enter(entry));
+    reply.map(|done| done.0)
+}
+
+/// Withdraws a request.
+fn withdraws<A: Acting>(rt: &impl Abort, acting: &mut A, request: u32) -> Result<First, Refusal> {
+    let act = BookAct::Withdraw { request };
+    let reply = acting.acts(name(rt, b"bob"), moment(rt, 0), act);
+    reply.map(|done| done.0)
+}
+
+/// The entry of a plain request.
+fn plain_entry(apid: u16) -> Option<Entry> {
+    Entry::new(Form {
+        apid: Apid::new(apid)?,
+        ack: Ack {
+            acceptance: false,
+            start: false,
+            progress: false,
+            completion: false,
+        },
+        critical: false,
+        command: Command::Plain {
+            service: Service::new(8)?,
+            subtype: Subtype::new(1)?,
+        },
+        outcome: Outcome::Completes,
+    })
+}
+
+/// Whether a first line tells of the entry of this request with this identity.
+fn is_first(first: First, number: u32, apid: u16, count: u16) -> bool {
+    match first {
+        First::Plain => false,
+        First::Entered { request, identity } => {
+            let is_identity = identity.apid.get() == apid && identity.count.get() == count;
+            request.get() == number && is_identity
+        }
+    }
+}
+
+/// Whether a reply tells of the entry of this request with this identity.
+fn is_entered(reply: Result<First, Refusal>, number: u32, apid: u16, count: u16) -> bool {
+    match reply {
+        Ok(first) => is_first(first, number, apid, count),
+        Err(_) => false,
+    }
+}
+
+/// How many sequence counts an application process has.
+const SEQUENCE_COUNTS: u16 = 16_384;
+
+/// The application process whose identities run out.
+const APID: u16 = 7;
+
+/// All identities of one application process are given out, in order.
+fn give_all<A: Acting>(rt: &impl Abort, acting: &mut A) {
+    for count in 0..SEQUENCE_COUNTS {
+        let number = u32::from(count).saturating_add(1);
+        let reply = enters(rt, acting, APID);
+        assert!(rt; is_entered(reply, number, APID, count), "{number}");
+    }
+}
+
+/// Then the next is the first again, which is refused while a request has it that is not at a final place, whatever
+/// becomes of others; and so on with the second.
+fn give_again<A: Acting>(rt: &impl Abort, acting: &mut A) {
+    assert!(rt; enters(rt, acting, APID) == Err(Refusal::IdentityInUse));
+    assert!(rt; is_entered(enters(rt, acting, 8), 16_385, 8, 0));
+    assert!(rt; withdraws(rt, acting, 2) == Ok(First::Plain));
+    assert!(rt; enters(rt, acting, APID) == Err(Refusal::IdentityInUse));
+    assert!(rt; withdraws(rt, acting, 1) == Ok(First::Plain));
+    assert!(rt; is_entered(enters(rt, acting, APID), 16_386, APID, 0));
+    assert!(rt; is_entered(enters(rt, acting, APID), 16_387, APID, 1));
+    assert!(rt; enters(rt, acting, APID) == Err(Refusal::IdentityInUse));
+    assert!(rt; withdraws(rt, acting, 16_386) == Ok(First::Plain));
+    assert!(rt; enters(rt, acting, APID) == Err(Refusal::IdentityInUse));
+}
+
+/// Requests of other application processes are entered until there are 65,535 of them. Then none is entered, and which
+/// refusal is told is that of the first test that holds; a withdrawal still is done.
+fn fill<A: Acting>(rt: &impl Abort, acting: &mut A) {
+    for number in 16_388..=65_535u32 {
+        let apid = u16::try_from(number % 10).unwrap_or(0).saturating_add(100);
+        assert!(rt; enters(rt, acting, apid).is_ok(), "{number}");
+    }
+    assert!(rt; enters(rt, acting, 100) == Err(Refusal::DeskFull));
+    assert!(rt; enters(rt, acting, APID) == Err(Refusal::IdentityInUse));
+    assert!(rt; withdraws(rt, acting, 65_536) == Err(Refusal::UnknownRequest));
+    assert!(rt; withdraws(rt, acting, 65_535) == Ok(First::Plain));
+}
+
+#[test]
+fn identities_and_numbers_run_out(rt: HostRuntime) -> Result<(), Fail> {
+    let mut desk = Desk::new(rt.alloc());
+    give_all(&rt, &mut desk);
+    give_again(&rt, &mut desk);
+    fill(&rt, &mut desk);
+    Ok(())
+}

@@ -1,0 +1,73 @@
+-- What the texts of `tally` mean: a tally in place of the one of its place, and the amounts of all.
+use Rattle.std.proofs.Common.{◌≡◌, ℕ, ◌+◌, ◌<◌, add-one, pos, List, [], ◌∷◌, ◌++◌, map, filter, take, set, length, get_or, true, Result, Ok, Err, OnOk, IfOk, refl, sym, ap, ap₂, ◌∙◌, arith}
+use Rattle.std.proofs.lemmas.List.{get_or-map, length-map}
+use Rattle.std.proofs.Math.Seq.{take-suc, take-suc-set}
+use Rattle.sqlite_value.specs.declared.value.Value.TheVariants.{Int}
+use Rattle.sqlite_value.specs.Order.{Row, column}
+use Rattle.sqlite_tied.specs.Compute.{everything}
+use Rattle.sqlite.specs.Listing.{understood}
+use Rattle.sqlite.specs.declared.error.Error.{Error}
+use Rattle.sqlite_trees.specs.Tree.{IsTable}
+use Rattle.sqlite_trees.specs.declared.store.Store.{Ghosts}
+use Rattle.sqlite.specs.State.{State, Executes, Shown}
+use Rattle.sqlite.specs.Held.{Held, state}
+use Rattle.tc_types.specs.declared.places.Place.TheVariants as place
+use Rattle.tc_types.specs.declared.rows.Row.TheVariants.{Tallied}
+use Rattle.tc_types.specs.declared.rows.Tally.{Tally}
+use Rattle.tc_types.specs.Tables.{Image, tally_key}
+use Rattle.tc_sql.specs.Lists.{ListsFrom, no_limit}
+use Rattle.tc_sql.specs.Puts.{ReplacesIn, HasPut}
+use Rattle.tc_sql.proofs.Replaces.{replaces}
+use Rattle.tc_sql.proofs.Selects.{listed, listed_as}
+use Rattle.tc_store.specs.Schema.{schema_1, Holds}
+use Rattle.tc_store.specs.Steps.{Ran, Step}
+use Rattle.tc_store.specs.Tallies.{tally_tree, tally_form, tally_put, tally_terms, tally_given, tally_row, tally_columns, tally_shown, tallies_text}
+use Rattle.tc_store.proofs.SchemaLemmas.{stepped_over}
+use Rattle.tc_store.proofs.ReadLemmas.{rising}
+
+tally_replaces : ReplacesIn schema_1 tally_form tally_tree tally_put tally_terms
+unfolding understood everything
+tally_replaces = record { at = 3; listed = refl; command = refl; plain = (refl, refl); single = refl; quiet = λ _ _. refl; alone = λ _ _. refl }
+
+replaced : (t : Tally) (old new : State) (count : ℕ) → Executes tally_put (tally_given t) old new (Ok count) → (xs : List Tally) → old.now.schema ≡ schema_1 → old.now.trees tally_tree ≡ map tally_row xs
+    → IsTable (map tally_row xs) → HasPut tally_tree (tally_row t) old.now new.now
+replaced t old new count h xs has held table = replaces tally_replaces tally_key tally_row (λ _. refl) t xs (tally_given t) old new (Ok count) has held table refl refl refl h
+
+pub tallied : {S : Type 0} (g : Ghosts S) (t : Tally) (old new : Held S) (r : Result ℕ Error) → IfOk r (λ count. Ran g tally_put (tally_given t) count old new) → OnOk r (Step g (Tallied t ∷ []) old new)
+tallied g t old new (Err e) h = tt
+tallied g t old new (Ok count) h =
+    stepped_over g tally_key tally_row (λ _. refl) t (λ image. image.tallies) tally_tree (Tallied t) old new (λ image. refl) (λ image. refl) (λ image. refl) (λ image. tt)
+    (replaced t (state g old) (state g new) count h.executes) h.goes
+
+-- ---- the amounts
+
+pub tallies_is : ListsFrom schema_1 tally_tree tallies_text [] tally_columns no_limit
+unfolding understood everything
+tallies_is = record { names = _; command = refl; plain = (refl, refl); unlisted = refl }
+
+filter_true : {X : Type 0} (xs : List X) → filter (λ _. true) xs ≡ xs
+filter_true [] = refl
+filter_true (x ∷ xs) = ap (λ l. x ∷ l) (filter_true xs)
+
+pub rows_tallies : (image : Image) (old new : State) (rows : List Row) → Holds old.now image → Shown tallies_text [] old new rows → rows ≡ map tally_shown image.tallies
+rows_tallies image old new rows held h =
+    let at = rising tally_tree tally_row image.tallies image old held refl refl in
+    listed tally_tree [] tally_columns no_limit [] schema_1 tallies_text old new held.schema tallies_is rows at.1 h
+    ∙ listed_as tally_tree [] tally_columns no_limit [] tally_row tally_shown (λ (t : Tally). true) image.tallies old.now.trees at.0 (λ t. refl) (λ t. refl)
+    ∙ ap (map tally_shown) (filter_true image.tallies)
+
+abbrev none : Tally
+none = record { place = place.Entered; amount = 0 }
+
+-- one amount more was read
+pub amounts_more : (rows : List Row) (all : List Tally) (amounts : List ℕ) (k n : ℕ) (d : Row) → length amounts ≡ 15 → length rows ≡ 15 → k < 15 → rows ≡ map tally_shown all → column (get_or rows k d) 0 ≡ Int (pos n)
+    → take k amounts ≡ take k (map (λ (t : Tally). t.amount) all) → take (k + 1) (set amounts k n) ≡ take (k + 1) (map (λ (t : Tally). t.amount) all)
+amounts_more rows all amounts k n d room whole within are read so_far =
+    let low : k < length all = omega (arith, whole, within, ap length are, length-map all tally_shown) in
+    let row : get_or rows k d ≡ tally_shown (get_or all k none) = ap (λ l. get_or l k d) are ∙ get_or-map tally_shown all k none d low in
+    let is : Int (pos n) ≡ Int (pos (get_or all k none).amount) = sym read ∙ ap (λ r. column r 0) row in
+    let amount : n ≡ (get_or all k none).amount = cc in
+    rw add-one (
+    take-suc-set amounts k n (omega (arith, room, within)) ∙ ap₂ (λ a b. a ++ b ∷ []) so_far (amount ∙ sym (get_or-map (λ (t : Tally). t.amount) all k none 0 low))
+    ∙ sym (take-suc (map (λ (t : Tally). t.amount) all) k 0 (omega (arith, low, length-map all (λ (t : Tally). t.amount))))
+    )

@@ -1,0 +1,21 @@
+use Rattle.std.proofs.Common.{IsTrue, arith, ◌∙◌}
+use Rattle.sqlite.specs.State.{HasCleanDisk}
+use Rattle.sqlite.specs.Held.{state}
+use Rattle.tc_store.proofs.StepLemmas.{survives_both, keeps_then}
+use Rattle.tc_store.proofs.CreateLemmas.{first_more}
+use Rattle.tc_store.proofs.creates.put_tallies.Goals as goal
+
+pub places-preserved : goal.places-preserved
+places-preserved g c =
+    let first = c.args.tx.now.conn.now in
+    let mid = c.places.tx.conn.now in
+    let last = c.put_tally.new.tx.conn.now in
+    let was = c.places.invariant in
+    let made = c.in_ok-put_tally.ensures in
+    let earlier : HasCleanDisk (state g.S.Store last) → HasCleanDisk (state g.S.Store mid) = λ clean. omega (arith, made.survives.clean) in
+    let within : HasCleanDisk (state g.S.Store last) → IsTrue first.in_transaction → IsTrue mid.in_transaction = λ clean inside. (was.1 (earlier clean) inside).goes.mode ∙ inside in (
+      made.same_reference ∙ was.0,
+      λ clean inside. first_more g.S.Store c.args.places.now c.places.place-index _ first mid last c.places-test.true (was.1 (earlier clean) inside) (made.put clean (within clean inside)),
+      λ clean inside. keeps_then (state g.S.Store first) (state g.S.Store mid) (state g.S.Store last) (was.2 (earlier clean) inside) (made.kept clean (within clean inside)),
+      survives_both (state g.S.Store first) (state g.S.Store mid) (state g.S.Store last) was.3 made.survives,
+    )
