@@ -1,5 +1,6 @@
-// What SQLite's own C library needs for the rows that tc_bench writes: the same tables by the same texts, a batch of two
-// rows for each entry, in memory or in a file, and at the end how many requests stand at Entered, read from the moves.
+// What SQLite's own C library needs for the rows that tc_bench writes: the same tables by the same texts, a batch of three
+// rows for each entry (the request, its move, a tally), in memory or in a file, and at the end how many requests stand at
+// Entered, read from the tallies.
 //
 // bench_sqlite PATH COUNT TEXT..: PATH is `:memory:` or a file that is not there yet, and each TEXT is one of tc_store's,
 // which tools/bench.sh reads from its source. A file is written through a log with a sync at each commit, as tc_store
@@ -9,7 +10,9 @@
 #include <stdlib.h>
 #include <string.h>
 
-enum { PROCESSES = 10, SEQUENCE_COUNTS = 16384, REQUESTS = 65536, ENTERED = 1, ENTER = 1 };
+enum { PROCESSES = 10, SEQUENCE_COUNTS = 16384, PLACES = 15, ENTERED = 1, ENTER = 1 };
+
+static const char *const TALLY = "INSERT OR REPLACE INTO tally ";
 
 static sqlite3 *db;
 
@@ -57,11 +60,12 @@ static void bind_text(sqlite3_stmt *statement, int at, const char *text) {
 // The row of the request at this place of the list, from 0.
 static void put_request(sqlite3_stmt *statement, int place) {
     const int apid = place % PROCESSES, count = place / PROCESSES % SEQUENCE_COUNTS;
-    // num, apid, cnt, ack, critical, service, subtype, target, at_time; then outcome and author
+    // num, apid, cnt, ack, critical, service, subtype, target, at_time; then outcome, author and place
     const int numbers[] = {place + 1, apid, count, 0, 0, 8, 1, 0, 0};
     bind_numbers(statement, numbers, 9);
     bind_text(statement, 10, "ok");
     bind_text(statement, 11, "a");
+    check(sqlite3_bind_int(statement, 12, ENTERED), SQLITE_OK);
     run(statement);
 }
 
@@ -75,11 +79,28 @@ static void put_move(sqlite3_stmt *statement, int place) {
     run(statement);
 }
 
+// The tally of a place.
+static void put_tally(sqlite3_stmt *statement, int place, int amount) {
+    const int numbers[] = {place, amount};
+    bind_numbers(statement, numbers, 2);
+    run(statement);
+}
+
+// A tally of 0 for each place.
+static void put_tallies(char **texts) {
+    sqlite3_stmt *tally = compiled(text_of(texts, TALLY));
+    for (int place = 1; place <= PLACES; place++) {
+        put_tally(tally, place, 0);
+    }
+    sqlite3_finalize(tally);
+}
+
 static void write_entries(char **texts, int count) {
     sqlite3_stmt *begin = compiled("BEGIN"), *commit = compiled("COMMIT");
     sqlite3_stmt *request = compiled(text_of(texts, "INSERT INTO request "));
     sqlite3_stmt *move = compiled(text_of(texts, "INSERT INTO move "));
-    if (sqlite3_bind_parameter_count(request) != 11 || sqlite3_bind_parameter_count(move) != 7) {
+    sqlite3_stmt *tally = compiled(text_of(texts, TALLY));
+    if (sqlite3_bind_parameter_count(request) != 12 || sqlite3_bind_parameter_count(move) != 7) {
         fprintf(stderr, "bench_sqlite: tc_store's rows are not those that stand here\n");
         exit(1);
     }
@@ -87,28 +108,21 @@ static void write_entries(char **texts, int count) {
         run(begin);
         put_request(request, place);
         put_move(move, place);
+        put_tally(tally, ENTERED, place + 1);
         run(commit);
     }
-    sqlite3_stmt *all[] = {begin, commit, request, move};
-    for (int at = 0; at < 4; at++) {
+    sqlite3_stmt *all[] = {begin, commit, request, move, tally};
+    for (int at = 0; at < 5; at++) {
         sqlite3_finalize(all[at]);
     }
 }
 
-// How many requests stand at Entered, by the newest move of each.
+// How many requests stand at Entered: the first of the tallies.
 static int entered(char **texts) {
-    static int at[REQUESTS];
-    sqlite3_stmt *moves = compiled(text_of(texts, "SELECT seq, request, from_place, to_place, cause, person, moment FROM move ORDER"));
-    int status;
-    while ((status = sqlite3_step(moves)) == SQLITE_ROW) {
-        at[sqlite3_column_int(moves, 1) % REQUESTS] = sqlite3_column_int(moves, 3);
-    }
-    check(status, SQLITE_DONE);
-    sqlite3_finalize(moves);
-    int found = 0;
-    for (int request = 0; request < REQUESTS; request++) {
-        found += at[request] == ENTERED;
-    }
+    sqlite3_stmt *tallies = compiled(text_of(texts, "SELECT amount FROM tally "));
+    check(sqlite3_step(tallies), SQLITE_ROW);
+    int found = sqlite3_column_int(tallies, 0);
+    sqlite3_finalize(tallies);
     return found;
 }
 
@@ -130,6 +144,7 @@ int main(int argc, char **argv) {
         }
     }
     execute(text_of(texts, "INSERT INTO meta "));
+    put_tallies(texts);
     execute("COMMIT");
     write_entries(texts, atoi(argv[2]));
     printf("%d\n", entered(texts));

@@ -1,0 +1,24 @@
+//! What is measured, of which nothing is promised here.
+use std::alloc::Global;
+use tc_types::places::PLACES;
+
+/// How many moves of a request are told at most: as many as the room asks its tables for.
+pub const MOST_TOLD: u32 = 51;
+
+/// What takes acts and answers questions. Each call is None where it failed.
+pub trait Subject: Sized {
+    /// One where nothing happened yet.
+    fn opened(alloc: Global) -> Option<Self>;
+
+    /// The request at this place of the list, from 0, is entered.
+    fn enters(&mut self, place: u32) -> Option<()>;
+
+    /// It is withdrawn, where so many were entered in all, and those before it were withdrawn.
+    fn withdraws(&mut self, place: u32, count: u32) -> Option<()>;
+
+    /// How many requests stand at each place.
+    fn counted(&mut self) -> Option<[u32; PLACES]>;
+
+    /// How many of the first 51 moves of a request are told.
+    fn told(&mut self, request: u32) -> Option<usize>;
+}
