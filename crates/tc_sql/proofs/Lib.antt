@@ -6,5 +6,7 @@ pub mod Appends
 pub mod Changes
 pub mod Creates
 pub mod Selects
+pub mod Conflicts
 pub mod Replaces
+pub mod Upserts
 pub mod Worked

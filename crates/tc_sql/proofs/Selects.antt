@@ -52,10 +52,10 @@ no_overlay : (b : Bool) (db : Trees) (t : ℕ) → unwrap_or (cond b None None) 
 no_overlay true db t = refl
 no_overlay false db t = refl
 
-overlay_none : (db : Trees) (t : ℕ) → overlay db [] t ≡ db t
+pub overlay_none : (db : Trees) (t : ℕ) → overlay db [] t ≡ db t
 overlay_none db t = no_overlay (nat_le (2 ^ 31) t) db t
 
-kept_rows : {A B : Type 0} (p : A → Bool) (f : A → B) (xs : List A) → flat_map (λ x. cond (p x) (f x ∷ []) []) xs ≡ map f (filter p xs)
+pub kept_rows : {A B : Type 0} (p : A → Bool) (f : A → B) (xs : List A) → flat_map (λ x. cond (p x) (f x ∷ []) []) xs ≡ map f (filter p xs)
 kept_rows p f [] = refl
 kept_rows {A} {B} p f (x ∷ xs) = go (p x) (kept_rows p f xs)
   where

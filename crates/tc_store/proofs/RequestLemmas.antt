@@ -13,10 +13,10 @@ use Rattle.tc_types.specs.declared.requests.Request.{Request}
 use Rattle.tc_types.specs.declared.rows.PlacedRequest.{PlacedRequest}
 use Rattle.tc_types.specs.declared.rows.Row.TheVariants.{Entered, Placed}
 use Rattle.tc_types.specs.Tables.{request_key}
-use Rattle.tc_sql.specs.Puts.{PutsInto, ReplacesIn, HasPut, HasInserted}
+use Rattle.tc_sql.specs.Puts.{PutsInto, UpsertsIn, HasPut, HasInserted}
 use Rattle.tc_sql.proofs.Inserts.{puts}
-use Rattle.tc_sql.proofs.Replaces.{replaces}
-use Rattle.tc_store.specs.Requests.{request_tree, request_form, request_put, request_replace, request_terms, request_given, request_row}
+use Rattle.tc_sql.proofs.Upserts.{upserts}
+use Rattle.tc_store.specs.Requests.{request_tree, request_form, request_put, request_put_again, request_terms, request_again, request_given, request_row}
 use Rattle.tc_store.specs.Schema.{schema_1}
 use Rattle.tc_store.proofs.SchemaLemmas.{stepped, stepped_over}
 
@@ -24,17 +24,17 @@ request_puts : PutsInto schema_1 request_form request_tree request_put request_t
 unfolding understood everything
 request_puts = record { at = 1; listed = refl; command = refl; plain = (refl, refl); single = refl; quiet = λ _ _. refl }
 
-request_replaces : ReplacesIn schema_1 request_form request_tree request_replace request_terms
+request_upserts : UpsertsIn schema_1 request_form request_tree request_put_again request_terms 12 request_again
 unfolding understood everything
-request_replaces = record { at = 1; listed = refl; command = refl; plain = (refl, refl); single = refl; quiet = λ _ _. refl; alone = λ _ _. refl }
+request_upserts = record { at = 1; listed = refl; command = refl; plain = (refl, refl); single = refl; quiet = λ _ _. refl; alone = λ _ _. refl }
 
 inserted : (r : PlacedRequest) (old new : State) (count : ℕ) → Executes request_put (request_given r) old new (Ok count) → old.now.schema ≡ schema_1 → HasInserted request_tree (request_row r) old.now new.now
 inserted r old new count h has = puts request_puts request_key request_row (λ _. refl) r (request_given r) old new (Ok count) has refl refl h
 
-replaced : (r : PlacedRequest) (old new : State) (count : ℕ) → Executes request_replace (request_given r) old new (Ok count) → (xs : List PlacedRequest) → old.now.schema ≡ schema_1
+put_again : (r : PlacedRequest) (old new : State) (count : ℕ) → Executes request_put_again (request_given r) old new (Ok count) → (xs : List PlacedRequest) → old.now.schema ≡ schema_1
     → old.now.trees request_tree ≡ map request_row xs → IsTable (map request_row xs) → HasPut request_tree (request_row r) old.now new.now
-replaced r old new count h xs has held table =
-    replaces request_replaces request_key request_row (λ _. refl) r xs (request_given r) old new (Ok count) has held table refl refl refl h
+put_again r old new count h xs has held table =
+    upserts request_upserts request_key request_row (λ _. refl) r xs (request_given r) old new (Ok count) has held table refl refl (record { placed = λ _. refl; again = λ _ _. refl }) h
 
 -- a request that is entered, where it stands then
 abbrev entered_at : Request → PlacedRequest
@@ -47,9 +47,9 @@ entered g m old new (Ok count) h =
     stepped g request_key request_row (λ _. refl) (entered_at m) (λ image. image.requests) request_tree (Entered m) old new (λ image. refl) (λ image. refl) (λ image. refl) (λ image none. none)
     (inserted (entered_at m) (state g old) (state g new) count h.executes) h.goes
 
-pub placed : {S : Type 0} (g : Ghosts S) (m : PlacedRequest) (old new : Held S) (r : Result ℕ Error) → IfOk r (λ count. Ran g request_replace (request_given m) count old new)
+pub placed : {S : Type 0} (g : Ghosts S) (m : PlacedRequest) (old new : Held S) (r : Result ℕ Error) → IfOk r (λ count. Ran g request_put_again (request_given m) count old new)
     → OnOk r (Step g (Placed m ∷ []) old new)
 placed g m old new (Err e) h = tt
 placed g m old new (Ok count) h =
     stepped_over g request_key request_row (λ _. refl) m (λ image. image.requests) request_tree (Placed m) old new (λ image. refl) (λ image. refl) (λ image. refl) (λ image. tt)
-    (replaced m (state g old) (state g new) count h.executes) h.goes
+    (put_again m (state g old) (state g new) count h.executes) h.goes

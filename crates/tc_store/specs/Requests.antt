@@ -35,13 +35,17 @@ request_text = codes "CREATE TABLE request (num INTEGER PRIMARY KEY, apid INTEGE
 abbrev pub request_put : List ℕ
 request_put = codes "INSERT INTO request (num, apid, cnt, ack, critical, service, subtype, target, at_time, outcome, author, stack, line, prior, place) VALUES (?1, ?2, ?3, ?4, ?5, ?6, ?7, ?8, ?9, ?10, ?11, '', 0, 0, ?12)"
 
--- the same over the row with its number
-abbrev pub request_replace : List ℕ
-request_replace = codes "INSERT OR REPLACE INTO request (num, apid, cnt, ack, critical, service, subtype, target, at_time, outcome, author, stack, line, prior, place) VALUES (?1, ?2, ?3, ?4, ?5, ?6, ?7, ?8, ?9, ?10, ?11, '', 0, 0, ?12)"
+-- the same over the row with its number, where it stands
+abbrev pub request_put_again : List ℕ
+request_put_again = codes "INSERT INTO request (num, apid, cnt, ack, critical, service, subtype, target, at_time, outcome, author, stack, line, prior, place) VALUES (?1, ?2, ?3, ?4, ?5, ?6, ?7, ?8, ?9, ?10, ?11, '', 0, 0, ?12) ON CONFLICT (num) DO UPDATE SET apid = excluded.apid, cnt = excluded.cnt, ack = excluded.ack, critical = excluded.critical, service = excluded.service, subtype = excluded.subtype, target = excluded.target, at_time = excluded.at_time, outcome = excluded.outcome, author = excluded.author, stack = excluded.stack, line = excluded.line, prior = excluded.prior, place = excluded.place"
 
 abbrev pub request_terms : List Term
 request_terms = col 0 0 ∷ lit Null ∷ col 0 1 ∷ col 0 2 ∷ col 0 3 ∷ col 0 4 ∷ col 0 5 ∷ col 0 6 ∷ col 0 7 ∷ col 0 8 ∷ col 0 9 ∷ col 0 10 ∷ lit (Text []) ∷ lit (Int (pos 0)) ∷ lit (Int (pos 0))
     ∷ col 0 11 ∷ []
+
+-- the row that stands, as `request_put_again` writes it: its number, and then the row, which stands past the parameters and the number
+abbrev pub request_again : List Term
+request_again = col 1 0 ∷ col 1 0 ∷ lit Null ∷ col 0 15 ∷ col 0 16 ∷ col 0 17 ∷ col 0 18 ∷ col 0 19 ∷ col 0 20 ∷ col 0 21 ∷ col 0 22 ∷ col 0 23 ∷ col 0 24 ∷ col 0 25 ∷ col 0 26 ∷ col 0 27 ∷ col 0 28 ∷ []
 
 -- 8 for acceptance, 4 for start, 2 for progress, 1 for completion
 abbrev pub ack_number : Ack → ℕ

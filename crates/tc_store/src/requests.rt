@@ -159,7 +159,7 @@ pub(crate) fn put_placed<S: Alter>(
     put_columns(
         tx,
         alloc,
-        "INSERT OR REPLACE INTO request (num, apid, cnt, ack, critical, service, subtype, target, at_time, outcome, author, stack, line, prior, place) VALUES (?1, ?2, ?3, ?4, ?5, ?6, ?7, ?8, ?9, ?10, ?11, '', 0, 0, ?12)",
+        "INSERT INTO request (num, apid, cnt, ack, critical, service, subtype, target, at_time, outcome, author, stack, line, prior, place) VALUES (?1, ?2, ?3, ?4, ?5, ?6, ?7, ?8, ?9, ?10, ?11, '', 0, 0, ?12) ON CONFLICT (num) DO UPDATE SET apid = excluded.apid, cnt = excluded.cnt, ack = excluded.ack, critical = excluded.critical, service = excluded.service, subtype = excluded.subtype, target = excluded.target, at_time = excluded.at_time, outcome = excluded.outcome, author = excluded.author, stack = excluded.stack, line = excluded.line, prior = excluded.prior, place = excluded.place",
         row,
     )
 }
