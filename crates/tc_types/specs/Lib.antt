@@ -8,3 +8,4 @@ pub mod Grammar
 pub mod Words
 pub mod Tables
 pub mod Counts
+pub mod Stages

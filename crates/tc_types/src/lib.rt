@@ -6,6 +6,7 @@
 #![tactic(auto)]
 
 pub mod act_reader;
+pub mod activities;
 pub mod acts;
 pub mod causes;
 pub mod counted;
@@ -23,5 +24,6 @@ pub mod refusals;
 pub mod reports;
 pub mod requests;
 pub mod rows;
+pub mod telecommands;
 pub mod texts;
 pub mod words;

@@ -1,5 +1,10 @@
 //! What comes down: the control words of the link, and the spacecraft's reports.
+ghost use Rattle.std.specs.Prelude.{◌≡◌};
+ghost use Rattle.tc_types.specs.Stages.{stage_of_verification, stage_of_telemetry, stage_of};
+
+use crate::activities::Summary;
 use crate::numbers::RequestNumber;
+use crate::places::Place;
 use crate::requests::Identity;
 
 /// What a report of request verification tells (ECSS-E-ST-70-41C, service 1). A code says why something failed; a
@@ -33,6 +38,8 @@ pub enum Telemetry {
         request: RequestNumber,
         identity: Identity,
     },
+    /// TM[11,13]: the on-board schedule as it stands.
+    Summary(Summary),
 }
 
 /// What flies on the downlink.
@@ -42,4 +49,43 @@ pub enum Report {
     Word(u32),
     /// A report of the spacecraft.
     Telemetry(Telemetry),
+}
+
+impl Verification {
+    /// The place that it asks for.
+    fn stage(&self) -> Place
+        ensures { result ≡ stage_of_verification self.now }
+    {
+        match self {
+            Verification::Accepted => Place::Accepted,
+            Verification::Started | Verification::StepDone { .. } => Place::Started,
+            Verification::Completed => Place::Completed,
+            Verification::AcceptanceFailed { .. }
+            | Verification::StartFailed { .. }
+            | Verification::StepFailed { .. }
+            | Verification::CompletionFailed { .. } => Place::Failed,
+        }
+    }
+}
+
+impl Telemetry {
+    /// The place that it asks for: `None` for a summary.
+    fn stage(&self) -> Option<Place>
+        ensures { result ≡ stage_of_telemetry self.now }
+    {
+        match self {
+            Telemetry::Verification { verification, .. } => Some(verification.stage()),
+            Telemetry::Summary(_) => None,
+        }
+    }
+}
+
+/// The place that a report asks for its request: `None` for a control word and for a summary.
+pub fn stage_of(report: &Report) -> Option<Place>
+    ensures { result ≡ stage_of report.now }
+{
+    match report {
+        Report::Word(_) => None,
+        Report::Telemetry(telemetry) => telemetry.stage(),
+    }
 }

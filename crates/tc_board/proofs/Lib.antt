@@ -1,0 +1,10 @@
+mod DueLemmas
+mod FollowLemmas
+mod LoopLemmas
+mod MirrorLemmas
+mod PlaceLemmas
+mod SortLemmas
+mod SoundLemmas
+mod StepLemmas
+mod SummaryLemmas
+mod WorkedCases

@@ -1,0 +1,9 @@
+-- What stays is a schedule.
+use Rattle.std.proofs.Common.{not, ◌≡◌, sym, subst}
+use Rattle.tc_board.specs.Schedule.{IsSchedule, is_of}
+use Rattle.tc_board.proofs.SoundLemmas.{schedule_filtered}
+use Rattle.tc_board.proofs.schedules.Schedule.delete.Goals as goal
+
+pub invariant_of-self : goal.invariant_of-self
+invariant_of-self g c =
+    (subst IsSchedule (sym c.take_out.ensures.items) (schedule_filtered (λ a. not (is_of c.args.target a)) c.self.inside.activities.items c.self.invariant.0), rw c.take_out.ensures.capacity c.self.invariant.1)

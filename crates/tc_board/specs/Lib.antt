@@ -1,0 +1,5 @@
+pub mod Schedule
+pub mod Reports
+pub mod Board
+pub mod Mirror
+pub mod Follows

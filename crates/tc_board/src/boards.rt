@@ -1,0 +1,321 @@
+//! The rehearsal spacecraft behind the link.
+ghost use Rattle.std.specs.Prelude.{◌≡◌, ◌+◌, ◌*◌, ◌≤◌, ◌<◌, ◌++◌, ◌∷◌, [], length, nat_lt, vec_len, vec_capacity, IfOk, IfErr, OnOk, OnErr};
+ghost use Rattle.std.specs.Option.{option_to_list};
+ghost use Rattle.std.specs.List.{flat_map};
+ghost use Rattle.tc_types.specs.declared.refusals.Refusal.TheVariants as refusal;
+ghost use Rattle.tc_board.specs.Schedule.{failure_of, after_command, fault_of};
+ghost use Rattle.tc_board.specs.Board.{new_board, reporter_of, reporter_at, outcome_of, accept_reports, accepted, command_reports, task_reports, after_task, work_reports, worked, released, ClockReports, clocked, oldest_of};
+
+use crate::outcomes::{Reporter, is_refused};
+use crate::schedules::{Fault, Schedule};
+use std::alloc::Allocator;
+use std::collections::VecDeque;
+use std::marker::Model;
+use tc_types::activities::Activity;
+use tc_types::numbers::Moment;
+use tc_types::refusals::Refusal;
+use tc_types::reports::{Telemetry, Verification};
+use tc_types::requests::{Identity, Outcome};
+use tc_types::telecommands::{ScheduleCommand, Task, Telecommand};
+
+/// How many requests the input buffer holds (this desk's own).
+pub const BUFFER: usize = 4;
+
+/// The code of an activity that falls due while the schedule is disabled (this desk's own).
+pub const NOT_ENABLED: u8 = 5;
+
+/// The spacecraft: its time, its input buffer, oldest first, and its schedule. A contract sees these.
+#[derive(Drop)]
+pub struct Board<A: Allocator + Copy + Drop> {
+    alloc: A,
+    time: Moment,
+    buffer: VecDeque<Telecommand, A>,
+    schedule: Schedule<A>,
+}
+
+impl<A: Allocator + Copy + Drop> Model for Board<A> {
+    ghost use Rattle.std.specs.Prelude.{◌≤◌, length};
+    ghost use Rattle.std.specs.VecDeque.{deque_capacity};
+    ghost use Rattle.tc_board.specs.Board.{BoardState};
+
+    ghost Value = { BoardState };
+
+    ghost view = { λ b. record { time = b.time; buffer = b.buffer.items; schedule = b.schedule } };
+
+    ghost invariant = { λ b. (length b.buffer.items ≤ 4) × (4 ≤ deque_capacity b.buffer) };
+}
+
+/// Whose reports those of a request are.
+fn reporter_of(request: &Telecommand) -> Reporter
+    ensures { result ≡ reporter_of request.now }
+{
+    Reporter {
+        request: request.request,
+        identity: request.identity,
+        ack: request.ack,
+    }
+}
+
+/// Whose reports those of an activity are.
+fn reporter_at(activity: &Activity) -> Reporter
+    ensures { result ≡ reporter_at activity.now }
+{
+    Reporter {
+        request: activity.request,
+        identity: activity.identity,
+        ack: activity.ack,
+    }
+}
+
+/// How a request behaves as it comes: a command of the schedule is accepted.
+fn outcome_of(task: &Task) -> Outcome
+    ensures { result ≡ outcome_of task.now }
+{
+    match task {
+        Task::Plain(outcome) => *outcome,
+        Task::Schedule(_) => Outcome::Completes,
+    }
+}
+
+/// Appends the reports of an activity that falls due: one failure alone where the schedule is disabled. Where memory is
+/// refused some may stand.
+fn release<A: Allocator>(
+    activity: &Activity,
+    enabled: bool,
+    reports: &mut Vec<Telemetry, A>,
+) -> Result<(), Refusal>
+    ensures released { OnOk result (reports.new.items ≡ reports.old.items ++ released enabled activity.now) }
+    ensures few { vec_len reports.new ≤ vec_len reports.old + 12 }
+    ensures refused { IfErr result (λ why. why ≡ refusal.Memory) }
+{
+    let reporter = reporter_at(activity);
+    if !enabled {
+        return match reports.push(reporter.tells(Verification::StartFailed { code: NOT_ENABLED })) {
+            Ok(()) => Ok(()),
+            Err(_) => Err(Refusal::Memory),
+        };
+    }
+    if let Some(report) = reporter.first_report(activity.outcome) {
+        if reports.push(report).is_err() {
+            return Err(Refusal::Memory);
+        }
+    }
+    match reporter.later_reports(activity.outcome, reports) {
+        Ok(()) => Ok(()),
+        Err(_) => Err(Refusal::Memory),
+    }
+}
+
+/// The reports of all these activities, in order.
+fn release_all<A: Allocator + Copy>(
+    alloc: A,
+    due: &[Activity],
+    enabled: bool,
+) -> Result<Vec<Telemetry, A>, Refusal>
+    ensures released { IfOk result (λ reports. reports.items ≡ flat_map (released enabled) due.now) }
+    ensures few { IfOk result (λ reports. vec_len reports ≤ 12 * length due.now) }
+    ensures refused { IfErr result (λ why. why ≡ refusal.Memory) }
+{
+    let mut reports = Vec::new(alloc);
+    for activity in due {
+        release(activity, enabled, &mut reports)?;
+    }
+    Ok(reports)
+}
+
+/// A command's effect on the schedule, or why it fails: then nothing changes.
+fn command_schedule<A: Allocator + Copy + Drop>(
+    schedule: &mut Schedule<A>,
+    now: Moment,
+    command: ScheduleCommand,
+) -> Result<(), Fault>
+    ensures failure { fault_of result ≡ failure_of now command schedule.old }
+    ensures after { schedule.new ≡ after_command (fault_of result) command schedule.old }
+{
+    match command {
+        ScheduleCommand::Enable => schedule.enable(),
+        ScheduleCommand::Disable => schedule.disable(),
+        ScheduleCommand::Reset => schedule.reset(),
+        ScheduleCommand::Insert(activity) => return schedule.insert(now, activity),
+        ScheduleCommand::Delete { target } => return schedule.delete(now, target),
+        ScheduleCommand::Shift { target, offset } => return schedule.shift(now, target, offset),
+        ScheduleCommand::ShiftAll { offset } => return schedule.shift_all(now, offset),
+        ScheduleCommand::Summarize => {}
+    }
+    Ok(())
+}
+
+/// Carries out a command of the schedule, and appends its reports, for which there is room.
+fn carry_command<A: Allocator + Copy + Drop>(
+    schedule: &mut Schedule<A>,
+    now: Moment,
+    reporter: &Reporter,
+    command: &ScheduleCommand,
+    reports: &mut Vec<Telemetry, A>,
+)
+    requires { vec_len reports.old + 3 ≤ vec_capacity reports.old }
+    ensures after { schedule.new ≡ after_command (failure_of now command.now schedule.old) command.now schedule.old }
+    ensures few { vec_len reports.new ≤ vec_len reports.old + 3 }
+    ensures reports { reports.new.items ≡ reports.old.items ++ command_reports reporter.now (failure_of now command.now schedule.old) command.now schedule.old }
+{
+    let done = command_schedule(schedule, now, *command);
+    if let Err(fault) = &done {
+        let code = fault.code();
+        reports.push_reserved(reporter.tells(Verification::StartFailed { code }));
+        return;
+    }
+    if reporter.ack.start {
+        reports.push_reserved(reporter.tells(Verification::Started));
+    }
+    if matches!(command, ScheduleCommand::Summarize) {
+        reports.push_reserved(Telemetry::Summary(schedule.summary()));
+    }
+    reports.push_reserved(reporter.tells(Verification::Completed));
+}
+
+/// Carries out a task, and gives its reports. Answers `Memory` where that is refused; then nothing changes.
+fn carry_out<A: Allocator + Copy + Drop>(
+    alloc: A,
+    schedule: &mut Schedule<A>,
+    now: Moment,
+    reporter: &Reporter,
+    task: Task,
+) -> Result<Vec<Telemetry, A>, Refusal>
+    ensures reports { IfOk result (λ reports. reports.items ≡ task_reports now reporter.now task schedule.old) }
+    ensures few { IfOk result (λ reports. vec_len reports ≤ 11) }
+    ensures after { OnOk result (schedule.new ≡ after_task now task schedule.old) }
+    ensures unchanged { OnErr result (schedule.new ≡ schedule.old) }
+    ensures refused { IfErr result (λ why. why ≡ refusal.Memory) }
+{
+    let Ok(mut reports) = Vec::with_capacity(alloc, 3) else {
+        return Err(Refusal::Memory);
+    };
+    match task {
+        Task::Schedule(command) => carry_command(schedule, now, reporter, &command, &mut reports),
+        Task::Plain(outcome) => {
+            if reporter.later_reports(outcome, &mut reports).is_err() {
+                return Err(Refusal::Memory);
+            }
+        }
+    }
+    Ok(reports)
+}
+
+impl<A: Allocator + Copy + Drop> Board<A> {
+    /// A spacecraft at this time, with an empty buffer and an empty, disabled schedule. Answers `Memory` where that is
+    /// refused.
+    pub fn new(alloc: A, time: Moment) -> Result<Self, Refusal>
+        ensures made { IfOk result (λ b. b ≡ new_board time) }
+        ensures refused { IfErr result (λ why. why ≡ refusal.Memory) }
+    {
+        let Ok(buffer) = VecDeque::with_capacity(alloc, BUFFER) else {
+            return Err(Refusal::Memory);
+        };
+        let schedule = Schedule::new(alloc)?;
+        Ok(Board {
+            alloc,
+            time,
+            buffer,
+            schedule,
+        })
+    }
+
+    /// Whether the buffer has room for one more request.
+    pub fn room(&self) -> bool
+        ensures { result ≡ nat_lt (length self.now.buffer) 4 }
+    {
+        self.buffer.len() < BUFFER
+    }
+
+    /// The board's time.
+    pub fn now(&self) -> Moment
+        ensures { result ≡ self.now.time }
+    {
+        self.time
+    }
+
+    /// The name of the oldest request of the buffer; `None` where it is empty.
+    pub fn oldest(&self) -> Option<Identity>
+        ensures { result ≡ oldest_of self.now.buffer }
+    {
+        match self.buffer.front() {
+            None => None,
+            Some(request) => Some(request.identity),
+        }
+    }
+
+    /// The schedule.
+    pub fn schedule(&self) -> &Schedule<A>
+        ensures { result.now ≡ self.now.schedule }
+    {
+        &self.schedule
+    }
+
+    /// A request comes: its report of acceptance is made at once, if it makes one, and a request that is not refused enters
+    /// the buffer. It takes no memory: there is room.
+    pub fn accept(&mut self, request: Telecommand) -> Option<Telemetry>
+        requires { length self.old.buffer < 4 }
+        ensures reports { option_to_list result ≡ accept_reports request }
+        ensures after { self.new ≡ accepted request self.old }
+    {
+        let outcome = outcome_of(&request.task);
+        let reporter = reporter_of(&request);
+        let report = reporter.first_report(outcome);
+        if is_refused(&outcome) {
+            return report;
+        }
+        self.enter(&request);
+        report
+    }
+
+    /// A request enters the buffer, which has room.
+    fn enter(&mut self, request: &Telecommand)
+        requires { length self.old.buffer < 4 }
+        ensures { self.new ≡ record self.old { buffer = self.old.buffer ++ request.now ∷ [] } }
+    {
+        self.buffer.push_back_reserved(*request);
+    }
+
+    /// Carries out the oldest request of the buffer, which leaves it, and gives its later reports, at most 11; none where
+    /// the buffer is empty. Answers `Memory` where that is refused; then nothing changes.
+    pub fn work(&mut self) -> Result<Vec<Telemetry, A>, Refusal>
+        ensures reports { IfOk result (λ reports. reports.items ≡ work_reports self.old self.old.buffer) }
+        ensures few { IfOk result (λ reports. vec_len reports ≤ 11) }
+        ensures after { OnOk result (self.new ≡ worked self.old self.old.buffer) }
+        ensures unchanged { OnErr result (self.new ≡ self.old) }
+        ensures refused { IfErr result (λ why. why ≡ refusal.Memory) }
+    {
+        let oldest = match self.buffer.front() {
+            None => return Ok(Vec::new(self.alloc)),
+            Some(request) => *request,
+        };
+        let reporter = reporter_of(&oldest);
+        let reports = carry_out(
+            self.alloc,
+            &mut self.schedule,
+            self.time,
+            &reporter,
+            oldest.task,
+        )?;
+        let _done = self.buffer.pop_front();
+        Ok(reports)
+    }
+
+    /// The time is now this one, which is not before the one that was. What falls due by it leaves the schedule, by time,
+    /// application process and count, and its reports are given, at most 12 for each. Answers `Memory` where that is
+    /// refused; then nothing changes.
+    pub fn clock(&mut self, time: Moment) -> Result<Vec<Telemetry, A>, Refusal>
+        requires { self.old.time ≤ time }
+        ensures reports { IfOk result (λ reports. ClockReports time self.old.schedule reports.items) }
+        ensures few { IfOk result (λ reports. vec_len reports ≤ 768) }
+        ensures after { OnOk result (self.new ≡ clocked time self.old) }
+        ensures unchanged { OnErr result (self.new ≡ self.old) }
+        ensures refused { IfErr result (λ why. why ≡ refusal.Memory) }
+    {
+        let due = self.schedule.due_by(self.alloc, time)?;
+        let reports = release_all(self.alloc, &due, self.schedule.is_enabled())?;
+        self.schedule.drop_due(time);
+        self.time = time;
+        Ok(reports)
+    }
+}

@@ -1,0 +1,381 @@
+//! The on-board schedule (ECSS-E-ST-70-41C, service 11).
+ghost use Rattle.std.specs.Prelude.{◌≡◌, ◌≤◌, ◌++◌, ◌&&◌, not, map, filter, drop, length, vec_len, Some, IsPermutation, IsSortedBy, IfOk, IfErr, OnOk, OnErr, vec_capacity, if◌then◌else◌};
+ghost use Rattle.std.specs.List.{list_any};
+ghost use Rattle.tc_types.specs.declared.refusals.Refusal.TheVariants as refusal;
+ghost use Rattle.tc_types.specs.declared.telecommands.ScheduleCommand.TheVariants as command;
+ghost use Rattle.tc_board.specs.Schedule.{empty_schedule, fault_code, fault_of, failure_of, commanded, after_command, after_due, FallDue, summary_of, is_of, is_too_early, is_bad_time, shifted_time, nearest_moment, shifts_badly, shifted, has_identity, is_due, is_before, IsSchedule, listed, places_for};
+
+use std::alloc::{AllocError, Allocator};
+use std::marker::Model;
+use tc_types::activities::{Activity, ListedActivity, MOST_ACTIVITIES, Summary};
+use tc_types::numbers::{LARGEST_MOMENT, Moment, Offset};
+use tc_types::refusals::Refusal;
+use tc_types::requests::Identity;
+
+/// How far off a time to come is at least, in seconds (this desk's own).
+pub const MARGIN: u32 = 60;
+
+/// Why a command of the schedule fails (this desk's own).
+#[derive(Clone, Copy, Debug, PartialEq, Eq)]
+pub enum Fault {
+    /// A time is nearer than the margin, or past the last moment.
+    Time,
+    /// No such activity is there.
+    NotThere,
+    /// The schedule is full.
+    Full,
+    /// The identity is there already.
+    IdentityInUse,
+}
+
+impl Fault {
+    /// The code that a report carries.
+    pub fn code(self) -> u8
+        ensures { result ≡ fault_code self }
+    {
+        match self {
+            Fault::Time => 2,
+            Fault::NotThere => 3,
+            Fault::Full => 4,
+            Fault::IdentityInUse => 6,
+        }
+    }
+}
+
+/// The on-board schedule: a status, and at most 64 activities, no two of one identity. A contract sees both.
+#[derive(Drop)]
+pub struct Schedule<A: Allocator + Copy + Drop> {
+    enabled: bool,
+    activities: Vec<Activity, A>,
+}
+
+impl<A: Allocator + Copy + Drop> Model for Schedule<A> {
+    ghost use Rattle.std.specs.Prelude.{◌≤◌, vec_capacity};
+    ghost use Rattle.tc_board.specs.Schedule.{ScheduleState, IsSchedule};
+
+    ghost Value = { ScheduleState };
+
+    ghost view = { λ s. record { enabled = s.enabled; activities = s.activities.items } };
+
+    ghost invariant = { λ s. IsSchedule s.activities.items × (64 ≤ vec_capacity s.activities) };
+}
+
+/// Whether a time to come is nearer than the margin.
+fn is_too_early(now: Moment, time: Moment) -> bool
+    ensures { result ≡ is_too_early now time }
+{
+    u64::from(time.get()) < u64::from(now.get()) + u64::from(MARGIN)
+}
+
+/// The moment that is so far from a time, or the nearest one.
+pub(crate) fn nearest(time: Moment, offset: Offset) -> Moment
+    ensures { result ≡ nearest_moment (shifted_time offset time) }
+{
+    let seconds = i64::from(time.get()) + offset.get();
+    if seconds < 0 {
+        return Moment::new(0).unwrap_or(time);
+    }
+    if seconds > i64::from(LARGEST_MOMENT) {
+        return Moment::new(LARGEST_MOMENT).unwrap_or(time);
+    }
+    Moment::new(seconds as u32).unwrap_or(time)
+}
+
+/// Whether the moment that is so far from a time is nearer than the margin, or past the last.
+fn is_bad_time(now: Moment, time: Moment, offset: Offset) -> bool
+    ensures { result ≡ is_bad_time now (shifted_time offset time) }
+{
+    let seconds = i64::from(time.get()) + offset.get();
+    seconds < i64::from(now.get()) + i64::from(MARGIN) || seconds > i64::from(LARGEST_MOMENT)
+}
+
+/// The order in which activities of one moment are released.
+fn release_order(activity: &Activity) -> (u32, u16, u16)
+    ensures { result ≡ (activity.now.time, activity.now.identity.apid, activity.now.identity.count) }
+{
+    (
+        activity.time.get(),
+        activity.identity.apid.get(),
+        activity.identity.count.get(),
+    )
+}
+
+/// The activity of this request is released so much later, or at the nearest moment.
+fn shift_one<A: Allocator>(activities: &mut Vec<Activity, A>, target: u32, offset: Offset)
+    ensures items { activities.new.items ≡ map (λ a. if is_of target a then shifted offset a else a) activities.old.items }
+    ensures capacity { vec_capacity activities.new ≡ vec_capacity activities.old }
+{
+    for activity in activities.iter_mut() {
+        if activity.request.get() == target {
+            activity.time = nearest(activity.time, offset);
+        }
+    }
+}
+
+/// Each activity is released so much later, or at the nearest moment.
+fn shift_each<A: Allocator>(activities: &mut Vec<Activity, A>, offset: Offset)
+    ensures items { activities.new.items ≡ map (shifted offset) activities.old.items }
+    ensures capacity { vec_capacity activities.new ≡ vec_capacity activities.old }
+{
+    for activity in activities.iter_mut() {
+        activity.time = nearest(activity.time, offset);
+    }
+}
+
+/// The activity of this request is taken out.
+fn take_out<A: Allocator>(activities: &mut Vec<Activity, A>, target: u32)
+    ensures items { activities.new.items ≡ filter (λ a. not (is_of target a)) activities.old.items }
+    ensures capacity { vec_capacity activities.new ≡ vec_capacity activities.old }
+{
+    activities.retain(|a| a.request.get() != target);
+}
+
+/// What falls due by now is taken out.
+fn take_due<A: Allocator>(activities: &mut Vec<Activity, A>, now: Moment)
+    ensures items { activities.new.items ≡ filter (λ a. not (is_due now a)) activities.old.items }
+    ensures capacity { vec_capacity activities.new ≡ vec_capacity activities.old }
+{
+    activities.retain(|a| a.time.get() > now.get());
+}
+
+/// Only what falls due by now is left.
+fn keep_due<A: Allocator>(activities: &mut Vec<Activity, A>, now: Moment)
+    ensures items { activities.new.items ≡ filter (is_due now) activities.old.items }
+    ensures few { vec_len activities.new ≤ vec_len activities.old }
+{
+    activities.retain(|a| a.time.get() <= now.get());
+}
+
+/// By time, application process and count. Fails where memory is refused.
+fn put_in_order<A: Allocator>(activities: &mut Vec<Activity, A>) -> Result<(), AllocError>
+    ensures all { IsPermutation activities.old.items activities.new.items }
+    ensures few { vec_len activities.new ≡ vec_len activities.old }
+    ensures ordered { OnOk result (IsSortedBy (λ a b. is_before a.time a.identity b.time b.identity) activities.new.items) }
+{
+    activities.sort_by_key(|a| release_order(a))
+}
+
+/// What a summary tells of an activity.
+pub(crate) fn listed(activity: &Activity) -> ListedActivity
+    ensures { result ≡ listed activity.now }
+{
+    ListedActivity {
+        request: activity.request,
+        identity: activity.identity,
+        time: activity.time,
+    }
+}
+
+/// These activities take the first places.
+fn take_places(places: &mut [Option<ListedActivity>; MOST_ACTIVITIES], activities: &[Activity])
+    requires { length activities.now ≤ 64 }
+    ensures { places.new ≡ map (λ a. Some (listed a)) activities.now ++ drop (length activities.now) places.old }
+{
+    for (index, activity) in activities.iter().enumerate() {
+        places[index] = Some(listed(activity));
+    }
+}
+
+/// The places of a summary, the first of them taken by these activities.
+fn places_of(activities: &[Activity]) -> [Option<ListedActivity>; MOST_ACTIVITIES]
+    requires { length activities.now ≤ 64 }
+    ensures { result ≡ places_for 64 (map listed activities.now) }
+{
+    let mut places = [None; MOST_ACTIVITIES];
+    take_places(&mut places, activities);
+    places
+}
+
+impl<A: Allocator + Copy + Drop> Schedule<A> {
+    /// An empty schedule, disabled, with room for all that it ever holds. Answers `Memory` where that is refused.
+    pub fn new(alloc: A) -> Result<Self, Refusal>
+        ensures made { IfOk result (λ s. s ≡ empty_schedule) }
+        ensures refused { IfErr result (λ why. why ≡ refusal.Memory) }
+    {
+        match Vec::with_capacity(alloc, MOST_ACTIVITIES) {
+            Ok(activities) => Ok(Schedule {
+                enabled: false,
+                activities,
+            }),
+            Err(_) => Err(Refusal::Memory),
+        }
+    }
+
+    /// Whether it is enabled.
+    pub fn is_enabled(&self) -> bool
+        ensures { result ≡ self.now.enabled }
+    {
+        self.enabled
+    }
+
+    /// Its activities.
+    pub fn activities(&self) -> &[Activity]
+        ensures activities { result.now ≡ self.now.activities }
+        ensures sound { IsSchedule self.now.activities }
+    {
+        &self.activities
+    }
+
+    /// Whether an activity has this identity.
+    fn has_identity(&self, identity: Identity) -> bool
+        ensures { result ≡ list_any (has_identity identity) self.now.activities }
+    {
+        let apid = identity.apid.get();
+        let count = identity.count.get();
+        self.activities.iter().any(|a| a.identity.apid.get() == apid
+            && a.identity.count.get() == count)
+    }
+
+    /// Whether the activity of this request is there.
+    fn is_there(&self, target: u32) -> bool
+        ensures { result ≡ list_any (is_of target) self.now.activities }
+    {
+        self.activities.iter().any(|a| a.request.get() == target)
+    }
+
+    /// Whether the activity of this request cannot be so much later.
+    fn shifts_badly(&self, now: Moment, target: u32, offset: Offset) -> bool
+        ensures { result ≡ list_any (λ a. is_of target a && shifts_badly now offset a) self.now.activities }
+    {
+        self.activities.iter().any(|a| a.request.get() == target
+            && is_bad_time(now, a.time, offset))
+    }
+
+    /// Whether an activity cannot be so much later.
+    fn some_shifts_badly(&self, now: Moment, offset: Offset) -> bool
+        ensures { result ≡ list_any (shifts_badly now offset) self.now.activities }
+    {
+        self.activities
+            .iter()
+            .any(|a| is_bad_time(now, a.time, offset))
+    }
+
+    /// TC[11,4]: the activity is released at its time. Fails with `Time` where that is nearer than the margin, with
+    /// `IdentityInUse` where its identity is there, and with `Full` where there are 64; then nothing changes.
+    pub fn insert(&mut self, now: Moment, activity: Activity) -> Result<(), Fault>
+        ensures failure { fault_of result ≡ failure_of now (command.Insert activity) self.old }
+        ensures after { self.new ≡ after_command (fault_of result) (command.Insert activity) self.old }
+    {
+        if is_too_early(now, activity.time) {
+            return Err(Fault::Time);
+        }
+        if self.has_identity(activity.identity) {
+            return Err(Fault::IdentityInUse);
+        }
+        if self.activities.len() >= MOST_ACTIVITIES {
+            return Err(Fault::Full);
+        }
+        self.activities.push_reserved(activity);
+        Ok(())
+    }
+
+    /// TC[11,5]: the activity is taken out. Fails with `NotThere` where there is none; then nothing changes.
+    pub fn delete(&mut self, now: Moment, target: u32) -> Result<(), Fault>
+        ensures failure { fault_of result ≡ failure_of now (command.Delete target) self.old }
+        ensures after { self.new ≡ after_command (fault_of result) (command.Delete target) self.old }
+    {
+        if !self.is_there(target) {
+            return Err(Fault::NotThere);
+        }
+        take_out(&mut self.activities, target);
+        Ok(())
+    }
+
+    /// TC[11,7]: the activity is released so much later. Fails with `NotThere` where there is none, and with `Time` where
+    /// its new time is nearer than the margin or past the last moment; then nothing changes.
+    pub fn shift(&mut self, now: Moment, target: u32, offset: Offset) -> Result<(), Fault>
+        ensures failure { fault_of result ≡ failure_of now (command.Shift target offset) self.old }
+        ensures after { self.new ≡ after_command (fault_of result) (command.Shift target offset) self.old }
+    {
+        if !self.is_there(target) {
+            return Err(Fault::NotThere);
+        }
+        if self.shifts_badly(now, target, offset) {
+            return Err(Fault::Time);
+        }
+        shift_one(&mut self.activities, target, offset);
+        Ok(())
+    }
+
+    /// TC[11,15]: all activities are released so much later. Fails with `Time` where a new time is nearer than the margin
+    /// or past the last moment; then nothing changes.
+    pub fn shift_all(&mut self, now: Moment, offset: Offset) -> Result<(), Fault>
+        ensures failure { fault_of result ≡ failure_of now (command.ShiftAll offset) self.old }
+        ensures after { self.new ≡ after_command (fault_of result) (command.ShiftAll offset) self.old }
+    {
+        if self.some_shifts_badly(now, offset) {
+            return Err(Fault::Time);
+        }
+        shift_each(&mut self.activities, offset);
+        Ok(())
+    }
+
+    /// TC[11,1]: activities are released as they fall due.
+    pub fn enable(&mut self)
+        ensures { self.new ≡ commanded command.Enable self.old }
+    {
+        self.enabled = true;
+    }
+
+    /// TC[11,2]: activities are not released.
+    pub fn disable(&mut self)
+        ensures { self.new ≡ commanded command.Disable self.old }
+    {
+        self.enabled = false;
+    }
+
+    /// TC[11,3]: all activities are taken out, and the schedule is disabled.
+    pub fn reset(&mut self)
+        ensures { self.new ≡ commanded command.Reset self.old }
+    {
+        self.disable();
+        self.activities.clear();
+    }
+
+    /// What falls due by now, in the order in which it is released. It stays where it is. Answers `Memory` where that is
+    /// refused.
+    pub(crate) fn due_by(&self, alloc: A, now: Moment) -> Result<Vec<Activity, A>, Refusal>
+        ensures due { IfOk result (λ due. FallDue now self.now due.items) }
+        ensures few { IfOk result (λ due. vec_len due ≤ 64) }
+        ensures refused { IfErr result (λ why. why ≡ refusal.Memory) }
+    {
+        let Ok(mut due) = Vec::from_slice(alloc, &self.activities) else {
+            return Err(Refusal::Memory);
+        };
+        keep_due(&mut due, now);
+        match put_in_order(&mut due) {
+            Ok(()) => Ok(due),
+            Err(_) => Err(Refusal::Memory),
+        }
+    }
+
+    /// Takes out what falls due by now.
+    pub(crate) fn drop_due(&mut self, now: Moment)
+        ensures { self.new ≡ after_due now self.old }
+    {
+        take_due(&mut self.activities, now);
+    }
+
+    /// Takes out what falls due by now, and gives it by time, application process and count. Answers `Memory` where that
+    /// is refused; then nothing changes.
+    pub fn due(&mut self, alloc: A, now: Moment) -> Result<Vec<Activity, A>, Refusal>
+        ensures due { IfOk result (λ due. FallDue now self.old due.items) }
+        ensures left { OnOk result (self.new ≡ after_due now self.old) }
+        ensures unchanged { OnErr result (self.new ≡ self.old) }
+        ensures refused { IfErr result (λ why. why ≡ refusal.Memory) }
+    {
+        let due = self.due_by(alloc, now)?;
+        self.drop_due(now);
+        Ok(due)
+    }
+
+    /// TC[11,17]: what the schedule holds.
+    pub fn summary(&self) -> Summary
+        ensures { result ≡ summary_of self.now }
+    {
+        Summary {
+            enabled: self.enabled,
+            activities: places_of(&self.activities),
+        }
+    }
+}
