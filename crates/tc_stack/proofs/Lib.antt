@@ -1,0 +1,2 @@
+mod ApprovalLemmas
+mod WorkedCases

@@ -1,0 +1,2 @@
+pub mod Approvals
+pub mod Given
