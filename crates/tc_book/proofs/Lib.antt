@@ -6,3 +6,4 @@ pub mod TallyLemmas
 pub mod CountLemmas
 pub mod KeptLemmas
 pub mod CopyLemmas
+pub mod ApprovalLemmas

@@ -1,8 +1,8 @@
 -- Each act on the book: its tests, with the refusal that each gives, in order; what it does to the book; and the first
 -- line of its reply. An act is one case of each of these. Beside them the tests of each question.
-use Rattle.std.specs.Prelude.{ℕ, ◌+◌, Bool, false, not, ◌||◌, if◌then◌else◌, Option, Some, None, List, [], ◌∷◌, length}
+use Rattle.std.specs.Prelude.{ℕ, ◌+◌, Bool, false, not, ◌||◌, if◌then◌else◌, Option, Some, None, List, [], ◌∷◌, ◌++◌, length}
 use Rattle.std.specs.Option.{option_map_or}
-use Rattle.tc_types.specs.declared.places.Place.TheVariants.{Entered, Approved, Withdrawn}
+use Rattle.tc_types.specs.declared.places.Place.TheVariants.{Entered, Approved, Confirmed, Riding, Scheduled, Accepted, Started, Doubtful, Withdrawn, Closed}
 use Rattle.tc_types.specs.declared.causes.Cause.TheVariants as cause
 use Rattle.tc_types.specs.declared.refusals.Refusal.{Refusal}
 use Rattle.tc_types.specs.declared.refusals.Refusal.TheVariants.{UnknownRequest, WrongPlace, IdentityInUse, DeskFull, BadActivity}
@@ -14,7 +14,10 @@ use Rattle.tc_types.specs.declared.acts.Query.TheVariants as query
 use Rattle.tc_book.specs.declared.stamps.Stamp.{Stamp}
 use Rattle.tc_book.specs.declared.firsts.First.{First}
 use Rattle.tc_book.specs.declared.firsts.First.TheVariants as first
-use Rattle.tc_book.specs.Book.{Book, stands, is_unknown, request_at, next_identity, is_identity_in_use, has_all_requests, has_all_rows, want, moved, with_entry}
+use Rattle.tc_book.specs.Book.{Book, stands, is_unknown, request_at, next_identity, is_identity_in_use, has_all_requests, has_all_rows, want, moved, with_entry, approval_at, with_approval}
+pub use Rattle.tc_stack.specs.Approvals.{first_refusal}
+use Rattle.tc_stack.specs.Approvals.{ApprovalState, approved, is_complete, wanted}
+use Rattle.tc_stack.specs.Approvals as approval
 use Rattle.tc_book.specs.Targets.{target_of, is_bad_activity}
 
 abbrev pub names_unknown : Book → Command → Bool
@@ -26,17 +29,42 @@ bad_activity_at book given n = option_map_or (is_bad_activity given) (request_at
 abbrev pub names_bad_activity : Book → Command → Bool
 names_bad_activity book given = option_map_or (bad_activity_at book given) (target_of given) false
 
+-- who may not approve a request: its author, and who approved it already
+abbrev pub approval_tests : List ℕ → Option ApprovalState → List (Bool × Refusal)
+approval_tests person None = []
+approval_tests person (Some s) = approval.tests_of person s
+
+-- the approval by this person is the last that is wanted
+abbrev pub completes : List ℕ → Option ApprovalState → Bool
+completes person None = false
+completes person (Some s) = is_complete (approved person s)
+
+-- how many approved with one more, and how many are wanted
+abbrev pub approvals_first : Option ApprovalState → First
+approvals_first None = first.Plain
+approvals_first (Some s) = first.Approvals (length s.persons + 1) (wanted s)
+
 -- The tests of each act, in order. The first that holds is the refusal, and then nothing changes.
-abbrev pub tests_of : Book → BookAct → List (Bool × Refusal)
-tests_of book (act.Enter entry) =
+abbrev pub tests_of : Stamp → Book → BookAct → List (Bool × Refusal)
+tests_of stamp book (act.Enter entry) =
     (names_unknown book entry.command, UnknownRequest)
     ∷ (names_bad_activity book entry.command, BadActivity)
     ∷ (is_identity_in_use book (next_identity book.requests entry.apid), IdentityInUse)
     ∷ (has_all_requests book || has_all_rows book, DeskFull)
     ∷ []
-tests_of book (act.Withdraw n) =
+tests_of stamp book (act.Withdraw n) =
     (is_unknown book n, UnknownRequest)
     ∷ (not (stands book n (Entered ∷ Approved ∷ [])), WrongPlace)
+    ∷ (has_all_rows book, DeskFull)
+    ∷ []
+tests_of stamp book (act.Approve n) =
+    (is_unknown book n, UnknownRequest)
+    ∷ (not (stands book n (Entered ∷ [])), WrongPlace)
+    ∷ approval_tests stamp.by (approval_at book n) ++ (has_all_rows book, DeskFull)
+    ∷ []
+tests_of stamp book (act.Close n) =
+    (is_unknown book n, UnknownRequest)
+    ∷ (not (stands book n (Confirmed ∷ Riding ∷ Scheduled ∷ Accepted ∷ Started ∷ Doubtful ∷ [])), WrongPlace)
     ∷ (has_all_rows book, DeskFull)
     ∷ []
 
@@ -44,17 +72,21 @@ tests_of book (act.Withdraw n) =
 abbrev pub query_tests : Book → Query → List (Bool × Refusal)
 query_tests book query.Places = []
 query_tests book (query.History n after) = (is_unknown book n, UnknownRequest) ∷ []
-
-abbrev pub first_refusal : List (Bool × Refusal) → Option Refusal
-first_refusal [] = None
-first_refusal (test ∷ tests) = if test.0 then Some test.1 else first_refusal tests
+query_tests book (query.Request n) = (is_unknown book n, UnknownRequest) ∷ []
 
 -- what the book becomes where no test holds
 abbrev pub acted : Stamp → BookAct → Book → Book
 acted stamp (act.Enter entry) book = with_entry stamp book entry
 acted stamp (act.Withdraw n) book = moved stamp book (want n Withdrawn cause.Withdraw)
+acted stamp (act.Approve n) book =
+    if completes stamp.by (approval_at book n)
+    then moved stamp (with_approval book n stamp.by) (want n Approved cause.Approve)
+    else with_approval book n stamp.by
+acted stamp (act.Close n) book = moved stamp book (want n Closed cause.Close)
 
 -- the first line of the reply
 abbrev pub first_of : Book → BookAct → First
 first_of book (act.Enter entry) = first.Entered (length book.requests + 1) (next_identity book.requests entry.apid)
 first_of book (act.Withdraw n) = first.Plain
+first_of book (act.Approve n) = approvals_first (approval_at book n)
+first_of book (act.Close n) = first.Plain

@@ -12,7 +12,7 @@ use Rattle.tc_book.specs.Acts.{tests_of, first_refusal, acted, first_of}
 -- nothing changed; else the book became what the act makes of it, and the reply begins as it should.
 abbrev pub Answers : {X : Type 0} → (X → First) → Book → Stamp → BookAct → Book → Result X Refusal → Type 0
 Answers first old stamp given new (Ok done) =
-    (first_refusal (tests_of old given) ≡ None) × (new ≡ acted stamp given old) × (first done ≡ first_of old given)
+    (first_refusal (tests_of stamp old given) ≡ None) × (new ≡ acted stamp given old) × (first done ≡ first_of old given)
 Answers first old stamp given new (Err refused) =
-    ((first_refusal (tests_of old given) ≡ Some refused) ⊎ ((first_refusal (tests_of old given) ≡ None) × (refused ≡ Memory)))
+    ((first_refusal (tests_of stamp old given) ≡ Some refused) ⊎ ((first_refusal (tests_of stamp old given) ≡ None) × (refused ≡ Memory)))
     × (new ≡ old)

@@ -1,7 +1,8 @@
--- The book: the requests that were entered and the history of their moves. Where a request stands is read from the
--- history alone.
-use Rattle.std.specs.Prelude.{ℕ, ◌+◌, ◌-◌, ◌%◌, ◌==◌, Bool, not, ◌&&◌, ◌||◌, nat_lt, if◌then◌else◌, Option, None, List, [], ◌∷◌, ◌++◌, length, count_by, slice_get}
+-- The book: the requests that were entered, the history of their moves, and who approved which. Where a request stands
+-- is read from the history alone.
+use Rattle.std.specs.Prelude.{ℕ, ◌+◌, ◌-◌, ◌%◌, ◌==◌, Bool, not, ◌&&◌, ◌||◌, nat_lt, if◌then◌else◌, Option, None, List, [], ◌∷◌, ◌++◌, length, map, filter, count_by, slice_get}
 use Rattle.std.specs.List.{list_any}
+use Rattle.std.specs.Option.{option_map}
 use Rattle.tc_types.specs.declared.places.Place.{Place}
 use Rattle.tc_types.specs.declared.places.Place.TheVariants.{Entered}
 use Rattle.tc_types.specs.declared.causes.Cause.{Cause}
@@ -10,6 +11,8 @@ use Rattle.tc_types.specs.declared.moves.Move.{Move}
 use Rattle.tc_types.specs.declared.requests.Request.{Request}
 use Rattle.tc_types.specs.declared.requests.Identity.{Identity}
 use Rattle.tc_types.specs.declared.requests.Form.{Form}
+use Rattle.tc_types.specs.declared.rows.Approval.{Approval}
+use Rattle.tc_stack.specs.Approvals.{ApprovalState}
 use Rattle.tc_types.specs.Lawful.{is_among, final_places}
 use Rattle.tc_types.specs.History.{place_of}
 use Rattle.tc_book.specs.declared.stamps.Stamp.{Stamp}
@@ -17,10 +20,12 @@ use Rattle.tc_book.specs.declared.stamps.Stamp.{Stamp}
 pub record Book : Type 0 where
   pub requests : List Request
   pub history : List Move
+  -- in the order in which they were given
+  pub approvals : List Approval
 
 -- the book of a desk where nothing happened yet
 abbrev pub empty_book : Book
-empty_book = record { requests = []; history = [] }
+empty_book = record { requests = []; history = []; approvals = [] }
 
 -- where request n stands
 abbrev pub place_in : Book → ℕ → Option Place
@@ -113,7 +118,23 @@ form_of request = record {
 
 -- the book with a request entered: it stands at Entered
 abbrev pub with_entry : Stamp → Book → Form → Book
-with_entry stamp book entry = record {
+with_entry stamp book entry = record book {
   requests = book.requests ++ request_of stamp book.requests entry ∷ [];
   history = book.history ++ row_of stamp book.history (want (length book.requests + 1) Entered cause.Enter) ∷ [];
 }
+
+-- who approved request n, in the order in which they did
+abbrev pub approvers_of : List Approval → ℕ → List (List ℕ)
+approvers_of approvals n = map (λ (a : Approval). a.person) (filter (λ (a : Approval). a.request == n) approvals)
+
+-- the approval of a request
+abbrev pub approval_of : List Approval → Request → ApprovalState
+approval_of approvals request = record { author = request.author; critical = request.critical; persons = approvers_of approvals request.number }
+
+-- the approval of request n
+abbrev pub approval_at : Book → ℕ → Option ApprovalState
+approval_at book n = option_map (approval_of book.approvals) (request_at book n)
+
+-- the book with an approval given
+abbrev pub with_approval : Book → ℕ → List ℕ → Book
+with_approval book n person = record book { approvals = book.approvals ++ (let given : Approval = record { request = n; person = person } in given) ∷ [] }

@@ -8,3 +8,4 @@ pub mod Tables
 pub mod Answers
 pub mod Batch
 pub mod Places
+pub mod Approvals

@@ -17,4 +17,5 @@ image_of book = record {
   requests = map (placed book.history) book.requests;
   moves = book.history;
   tallies = tallies_by (count_at book.history);
+  approvals = book.approvals;
 }

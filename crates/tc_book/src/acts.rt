@@ -4,9 +4,13 @@ ghost use Rattle.tc_book.specs.Acts.{first_refusal, query_tests};
 ghost use Rattle.tc_book.specs.Answers.{Answers};
 ghost use Rattle.tc_book.specs.Batch.{GoesOn, HoldsRoom};
 
+pub mod approve;
+pub mod close;
 pub mod enter;
 pub mod withdraw;
 
+use crate::acts::approve::approve;
+use crate::acts::close::close;
 use crate::acts::enter::enter;
 use crate::acts::withdraw::withdraw;
 use crate::drafts::Draft;
@@ -30,6 +34,8 @@ pub fn perform<A: Allocator + Copy + Drop>(
     match act {
         BookAct::Enter(entry) => enter(records, alloc, stamp, entry),
         BookAct::Withdraw { request } => withdraw(records, alloc, stamp, request),
+        BookAct::Approve { request } => approve(records, alloc, stamp, request),
+        BookAct::Close { request } => close(records, alloc, stamp, request),
     }
 }
 
@@ -39,7 +45,7 @@ pub fn refusal_of<A: Allocator + Copy + Drop>(records: &Records<A>, query: Query
 {
     match query {
         Query::Places => None,
-        Query::History { request, .. } => {
+        Query::History { request, .. } | Query::Request { request } => {
             if records.is_unknown(request) {
                 Some(Refusal::UnknownRequest)
             } else {

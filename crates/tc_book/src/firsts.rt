@@ -12,4 +12,9 @@ pub enum First {
         request: RequestNumber,
         identity: Identity,
     },
+    /// `ok approvals I of M`: so many approved, and so many are wanted.
+    Approvals {
+        given: u8,
+        wanted: u8,
+    },
 }

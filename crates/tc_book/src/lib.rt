@@ -4,6 +4,7 @@
 #![tactic(auto)]
 
 pub mod acts;
+mod approvals;
 mod batches;
 mod counts;
 pub mod drafts;

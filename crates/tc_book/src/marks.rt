@@ -1,13 +1,15 @@
 //! How much of the book stood before an act.
 use tc_types::places::PLACES;
 
-/// How many requests and rows stood, and how many requests at each place.
+/// How many requests, rows and approvals stood, and how many requests at each place.
 #[derive(Clone, Copy, Debug, PartialEq, Eq)]
 pub struct Mark {
     /// How many requests.
     pub requests: usize,
     /// How many rows of the history.
     pub rows: usize,
+    /// How many approvals.
+    pub approvals: usize,
     /// How many requests at each place, in order of number.
     pub tallies: [u32; PLACES],
 }

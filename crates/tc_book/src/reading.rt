@@ -1,12 +1,13 @@
 //! What is read from requests and from identities.
-ghost use Rattle.std.specs.Prelude.{◌≡◌};
+ghost use Rattle.std.specs.Prelude.{◌≡◌, ◌==◌, ◌||◌, is_none, length, nat_lt};
 ghost use Rattle.tc_book.specs.Book.{request_in, same_identity};
 
 use tc_types::requests::{Identity, Request};
 
 /// The one of these requests with the number `n`.
 pub(crate) fn request_in(requests: &[Request], n: u32) -> Option<Request>
-    ensures { result ≡ request_in requests.now n }
+    ensures value { result ≡ request_in requests.now n }
+    ensures unknown { is_none result ≡ (n == 0 || nat_lt (length requests.now) n) }
 {
     if n == 0 {
         return None;

@@ -1,20 +1,22 @@
--- The definitions carried out on a case that was worked by hand: two requests are entered, one is withdrawn, and the
--- counts and a history are asked for.
+-- The definitions carried out on cases that were worked by hand: two requests are entered, one is withdrawn, and the
+-- counts and a history are asked for; and requests are told and closed.
 use Rattle.std.proofs.Common.{◌≡◌, ℕ, true, false, Option, Some, None, List, [], ◌∷◌, ◌++◌, map, drop, length, refl}
 use Rattle.std.specs.Prelude.{codes}
 use Rattle.std.specs.Fmt.{digits}
 use Rattle.tc_types.specs.declared.requests.Form.{Form}
 use Rattle.tc_types.specs.declared.requests.Command.TheVariants.{Plain}
 use Rattle.tc_types.specs.declared.requests.Outcome.TheVariants.{Completes}
+use Rattle.tc_types.specs.declared.places.Place.TheVariants.{Approved, Queued, Sent, Confirmed}
+use Rattle.tc_types.specs.declared.causes.Cause.TheVariants as cause
 use Rattle.tc_types.specs.declared.refusals.Refusal.{Refusal}
 use Rattle.tc_types.specs.declared.acts.Line.{Line}
-use Rattle.tc_types.specs.declared.acts.BookAct.TheVariants.{Enter, Withdraw}
+use Rattle.tc_types.specs.declared.acts.BookAct.TheVariants.{Close, Enter, Withdraw}
 use Rattle.tc_types.specs.declared.acts.Act.{Act}
 use Rattle.tc_types.specs.declared.acts.Act.TheVariants as act
 use Rattle.tc_types.specs.declared.acts.Query.TheVariants as query
 use Rattle.tc_types.specs.Grammar.{line_text}
 use Rattle.tc_book.specs.declared.stamps.Stamp.{Stamp}
-use Rattle.tc_book.specs.Book.{Book, empty_book}
+use Rattle.tc_book.specs.Book.{Book, empty_book, moved, want, with_entry}
 use Rattle.tc_desk.specs.State.{State}
 use Rattle.tc_desk.specs.Acts.{refusal_of, acted, first_of}
 use Rattle.tc_desk.specs.Machine.{stamp_of}
@@ -52,7 +54,7 @@ step (Some refusal) book stamp given = (refusal_reply refusal, book)
 step None book stamp given = (served book stamp given, acted stamp given book)
 
 abbrev step_of : Book → Line → Reply × Book
-step_of book given = step (refusal_of (record { book = book }) given.act) book (stamp_of given) given.act
+step_of book given = step (refusal_of (stamp_of given) (record { book = book }) given.act) book (stamp_of given) given.act
 
 -- the lines of the replies
 abbrev replies_to : Book → List Line → Reply
@@ -88,3 +90,50 @@ first_run-replies = refl
 pub empty-replies : replies_to empty_book (line 0 (codes "ann") (act.Ask query.Places) ∷ []) ≡ codes "places 0: 0 0 0 0 0 0 0 0 0 0 0 0 0 0 0" ∷ []
 unfolding digits
 empty-replies = refl
+
+-- what the desk itself does
+abbrev by_desk : Stamp
+by_desk = record { by = codes "desk"; moment = 115 }
+
+-- one request, which stands at Entered
+abbrev entered_book : Book
+entered_book = with_entry (record { by = codes "ann"; moment = 100 }) empty_book first_entry
+
+-- the same request at Confirmed
+abbrev confirmed_book : Book
+confirmed_book =
+    moved by_desk (moved by_desk (moved by_desk (moved by_desk entered_book (want 1 Approved cause.Approve)) (want 1 Queued cause.Release)) (want 1 Sent cause.Transmit)) (want 1 Confirmed cause.Confirm)
+
+-- requests are asked for, and closed
+abbrev closing : List Line
+closing =
+    line 120 (codes "bob") (act.Ask (query.Request 1))
+    ∷ line 120 (codes "bob") (act.Ask (query.Request 2))
+    ∷ line 120 (codes "bob") (act.Book (Close 1))
+    ∷ line 120 (codes "bob") (act.Book (Close 1))
+    ∷ line 120 (codes "bob") (act.Book (Close 2))
+    ∷ line 120 (codes "bob") (act.Ask (query.Request 1))
+    ∷ []
+
+pub entered-closing : replies_to entered_book closing ≡
+    codes "request 1 5/0 8/1 a--c no - - ok ann Entered"
+    ∷ codes "refused 2 UnknownRequest"
+    ∷ codes "refused 3 WrongPlace"
+    ∷ codes "refused 3 WrongPlace"
+    ∷ codes "refused 2 UnknownRequest"
+    ∷ codes "request 1 5/0 8/1 a--c no - - ok ann Entered"
+    ∷ []
+unfolding digits
+entered-closing = refl
+
+pub confirmed-closing : replies_to confirmed_book closing ≡
+    codes "request 1 5/0 8/1 a--c no - - ok ann Confirmed"
+    ∷ codes "refused 2 UnknownRequest"
+    ∷ codes "ok"
+    ∷ codes "move 6 120 bob 1 Confirmed Closed close"
+    ∷ codes "refused 3 WrongPlace"
+    ∷ codes "refused 2 UnknownRequest"
+    ∷ codes "request 1 5/0 8/1 a--c no - - ok ann Closed"
+    ∷ []
+unfolding digits
+confirmed-closing = refl

@@ -20,14 +20,14 @@ pub record Does (stamp : Stamp) (given : Act) (old new : State) (first : First) 
 
 -- Why an act is refused: the first of its tests that holds says so, or memory was refused where none holds. Nothing
 -- changed.
-pub record Refuses (given : Act) (old new : State) (refused : Refusal) : Type 0 where
-  pub why : (refusal_of old given ≡ Some refused) ⊎ ((refusal_of old given ≡ None) × (refused ≡ Memory))
+pub record Refuses (stamp : Stamp) (given : Act) (old new : State) (refused : Refusal) : Type 0 where
+  pub why : (refusal_of stamp old given ≡ Some refused) ⊎ ((refusal_of stamp old given ≡ None) × (refused ≡ Memory))
   pub book : new.book ≡ old.book
 
 -- an act is refused, or no test of it holds and it is carried out
 abbrev pub Answers : {X : Type 0} → (X → First) → State → Stamp → Act → State → Result X Refusal → Type 0
-Answers first old stamp given new (Ok done) = (refusal_of old given ≡ None) × Does stamp given old new (first done)
-Answers first old stamp given new (Err refused) = Refuses given old new refused
+Answers first old stamp given new (Ok done) = (refusal_of stamp old given ≡ None) × Does stamp given old new (first done)
+Answers first old stamp given new (Err refused) = Refuses stamp given old new refused
 
 -- the rows of the history that came
 abbrev pub rows_new : State → State → List Move
@@ -36,21 +36,21 @@ rows_new old new = drop (length old.book.history) new.book.history
 -- an act was carried out, and its reply tells how, and the rows that came
 pub record Carries (old : State) (stamp : Stamp) (given : Act) (told : Reply) (new : State) : Type 0 where
   pub first : First
-  pub free : refusal_of old given ≡ None
+  pub free : refusal_of stamp old given ≡ None
   pub does : Does stamp given old new first
   pub reply : told ≡ act_reply first (rows_new old new)
 
 -- an act or a question that no test refuses, and its reply
 abbrev pub Serves : State → Stamp → Act → Reply → State → Type 0
 Serves old stamp (act.Ask asked) reply new =
-    (refusal_of old (act.Ask asked) ≡ None) × (reply ≡ query_reply old.book asked) × (new.book ≡ old.book)
+    (refusal_of stamp old (act.Ask asked) ≡ None) × (reply ≡ query_reply old.book asked) × (new.book ≡ old.book)
 Serves old stamp given reply new = Carries old stamp given reply new
 
 -- One step of the desk machine: an act or a question is served, or refused.
 abbrev pub DeskStep : State → Stamp → Act → Reply → State → Type 0
 DeskStep old stamp given reply new =
     Serves old stamp given reply new
-    ⊎ ((refused : Refusal) × Refuses given old new refused × (reply ≡ refusal_reply refused))
+    ⊎ ((refused : Refusal) × Refuses stamp given old new refused × (reply ≡ refusal_reply refused))
 
 abbrev pub stamp_of : Line → Stamp
 stamp_of line = record { by = line.by; moment = line.moment }

@@ -1,11 +1,12 @@
 -- An approval that one person more has given.
-use Rattle.std.proofs.Common.{◌≡◌, ℕ, ◌≤◌, ◌<◌, nat_eq, nat_le, Bool, true, false, ◌||◌, if◌then◌else◌, List, [], ◌∷◌, ◌++◌, length, refl, sym, ◌∙◌, ap, subst, arith}
+use Rattle.std.proofs.Common.{◌≡◌, ℕ, ◌≤◌, ◌<◌, nat_eq, nat_le, Bool, true, false, ◌||◌, if◌then◌else◌, Option, Some, None, List, [], ◌∷◌, ◌++◌, length, refl, sym, ◌∙◌, ap, subst, arith}
 use Rattle.std.specs.List.{list_any, AllByRecursion, IsDistinct}
 use Rattle.std.specs.Cmp.Lexicographic.{pointwise}
 use Rattle.std.proofs.lemmas.List.{length-append}
 use Rattle.std.proofs.lemmas.Cmp.{nat_list_eq_equiv}
 use Rattle.std.proofs.lemmas.Bool.Decides.{nat_tests}
-use Rattle.tc_stack.specs.Approvals.{ApprovalState, IsApproval, is_same_person, is_complete, wanted, approved}
+use Rattle.tc_types.specs.declared.refusals.Refusal.TheVariants.{SamePerson, ApprovedAlready}
+use Rattle.tc_stack.specs.Approvals.{ApprovalState, IsApproval, is_same_person, is_complete, wanted, approved, refusal_of}
 
 -- nobody approved so far
 pub unapproved_sound : (author : List ℕ) (critical : Bool) → IsApproval (record { author = author; critical = critical; persons = [] })
@@ -60,3 +61,15 @@ open_below s unfinished = by_size s.critical (let less : length s.persons < want
     by_size : (t : Bool) → length s.persons < (if t then 2 else 1) → length s.persons < 2
     by_size true less = less
     by_size false less = omega (arith, less)
+
+-- the same of a person whom no test refuses
+pub unrefused_sound : (s : ApprovalState) (person : List ℕ) → IsApproval s → refusal_of person s ≡ None → IsApproval (approved person s)
+unrefused_sound s person is may = by_author (is_same_person s.author person) refl
+  where
+    by_persons : (t : Bool) → (list_any (is_same_person person) s.persons || is_complete s) ≡ t → is_same_person s.author person ≡ false → IsApproval (approved person s)
+    by_persons true e author = let none : Some ApprovedAlready ≡ None = rw (author, e) at may in cc
+    by_persons false e author = let both = neither (list_any (is_same_person person) s.persons) (is_complete s) e in approved_sound s person is author both.0 both.1
+
+    by_author : (t : Bool) → is_same_person s.author person ≡ t → IsApproval (approved person s)
+    by_author true e = let none : Some SamePerson ≡ None = rw e at may in cc
+    by_author false e = by_persons (list_any (is_same_person person) s.persons || is_complete s) refl e

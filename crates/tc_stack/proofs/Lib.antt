@@ -1,2 +1,2 @@
-mod ApprovalLemmas
+pub mod ApprovalLemmas
 mod WorkedCases

@@ -1,5 +1,5 @@
 //! The approval of a request by other persons than its author (this desk's own rule).
-ghost use Rattle.std.specs.Prelude.{◌≡◌, ◌<◌, ◌++◌, ◌∷◌, [], length, IfOk};
+ghost use Rattle.std.specs.Prelude.{◌≡◌, ◌<◌, ◌≤◌, ◌++◌, ◌∷◌, [], length, IfOk};
 ghost use Rattle.std.specs.List.{list_any};
 ghost use Rattle.tc_stack.specs.Approvals.{unapproved, wanted, is_complete, is_same_person, refusal_of, after_approval, refused_with, IsApproval};
 ghost use Rattle.tc_stack.specs.Given.{persons_of};
@@ -80,7 +80,8 @@ impl Approvals {
 
     /// How many persons approved: 0 to 2.
     pub fn count(&self) -> u8
-        ensures { result ≡ length self.now.persons }
+        ensures count { result ≡ length self.now.persons }
+        ensures few { result ≤ 2 }
     {
         match &self.given {
             Given::Nobody => 0,
@@ -107,6 +108,20 @@ impl Approvals {
                 is_same_person(person, first) || is_same_person(person, second)
             }
         }
+    }
+
+    /// Why this person may not approve, if so: `SamePerson` where it is the author, and `ApprovedAlready` where this person
+    /// approved or nobody is wanted any more.
+    pub fn refusal(&self, person: &Name) -> Option<Refusal>
+        ensures { result ≡ refusal_of person.now self.now }
+    {
+        if is_same_person(&self.author, person) {
+            return Some(Refusal::SamePerson);
+        }
+        if self.has(person) || self.is_complete() {
+            return Some(Refusal::ApprovedAlready);
+        }
+        None
     }
 
     /// A person approves: whether the approval is complete then. Refused with `SamePerson` where it is the author, and with

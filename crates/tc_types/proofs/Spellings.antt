@@ -113,12 +113,15 @@ entry_lacks entry h =
 book_act_parted : (a : BookAct) → IsBookAct a → (list_all (lacks 32) (book_act_words a) ≡ true) × (0 < length (book_act_words a))
 book_act_parted (book_act.Enter entry) h = (rw (entry_lacks entry h) refl, omega arith)
 book_act_parted (book_act.Withdraw request) h = (rw (number_lacks request h) refl, omega arith)
+book_act_parted (book_act.Approve request) h = (rw (number_lacks request h) refl, omega arith)
+book_act_parted (book_act.Close request) h = (rw (number_lacks request h) refl, omega arith)
 
 -- nor have those of any act
 pub act_parted : (a : Act) → IsAct a → (list_all (lacks 32) (act_words a) ≡ true) × (0 < length (act_words a))
 act_parted (act.Book given) h = book_act_parted given h
 act_parted (act.Ask query.Places) h = (refl, omega arith)
 act_parted (act.Ask (query.History request after)) h = (rw (number_lacks request h.0, number_lacks after h.1) refl, omega arith)
+act_parted (act.Ask (query.Request request)) h = (rw (number_lacks request h) refl, omega arith)
 
 -- nor have those of a line
 pub line_parted : (line : Line) → IsLine line → (list_all (lacks 32) (line_words line) ≡ true) × (0 < length (line_words line))

@@ -3,22 +3,24 @@
 use Rattle.std.proofs.Common.{◌≡◌, pos, negsuc, Bool, true, false, Some, None, [], ◌∷◌, map, refl}
 use Rattle.std.specs.Prelude.{codes}
 use Rattle.std.specs.Fmt.{digits}
-use Rattle.tc_types.specs.declared.places.Place.TheVariants.{Entered, Withdrawn}
+use Rattle.tc_types.specs.declared.places.Place.TheVariants.{Confirmed, Entered, Riding, Withdrawn}
 use Rattle.tc_types.specs.declared.causes.Cause.TheVariants as cause
 use Rattle.tc_types.specs.declared.refusals.Refusal.TheVariants as refusal
 use Rattle.tc_types.specs.declared.moves.Move.{Move}
 use Rattle.tc_types.specs.declared.requests.Ack.{Ack}
 use Rattle.tc_types.specs.declared.requests.Identity.{Identity}
+use Rattle.tc_types.specs.declared.requests.Request.{Request}
 use Rattle.tc_types.specs.declared.requests.Outcome.{Outcome}
 use Rattle.tc_types.specs.declared.requests.Outcome.TheVariants as outcome
 use Rattle.tc_types.specs.declared.requests.Command.{Command}
 use Rattle.tc_types.specs.declared.requests.Command.TheVariants as command
-use Rattle.tc_types.specs.declared.acts.BookAct.TheVariants.{Enter, Withdraw}
+use Rattle.tc_types.specs.declared.acts.BookAct.TheVariants.{Approve, Close, Enter, Withdraw}
 use Rattle.tc_types.specs.declared.acts.Act.{Act}
 use Rattle.tc_types.specs.declared.acts.Act.TheVariants as act
 use Rattle.tc_types.specs.declared.acts.Query.TheVariants as query
 use Rattle.tc_types.specs.Grammar.{outcome_word, act_text, line_text}
 use Rattle.tc_types.specs.Lines.{move_line, refusal_line, identity_word, entered_line, history_line, places_line}
+use Rattle.tc_types.specs.RequestLine.{request_line}
 
 -- every report is asked for
 abbrev all : Ack
@@ -86,14 +88,20 @@ pub short_acts-spelled : map act_text (
     act.Book (Withdraw 1)
     ∷ act.Book (Withdraw 0)
     ∷ act.Book (Withdraw 4294967295)
+    ∷ act.Book (Approve 12)
+    ∷ act.Book (Close 12)
     ∷ act.Ask query.Places
     ∷ act.Ask (query.History 12 0)
+    ∷ act.Ask (query.Request 12)
     ∷ []) ≡
     codes "withdraw 1"
     ∷ codes "withdraw 0"
     ∷ codes "withdraw 4294967295"
+    ∷ codes "approve 12"
+    ∷ codes "close 12"
     ∷ codes "places"
     ∷ codes "history 12 0"
+    ∷ codes "request 12"
     ∷ []
 unfolding digits
 short_acts-spelled = refl
@@ -164,3 +172,47 @@ pub places-printed : places_line 2 (1 ∷ 0 ∷ 0 ∷ 0 ∷ 0 ∷ 0 ∷ 0 ∷ 0 
     codes "places 2: 1 0 0 0 0 0 0 0 0 0 0 0 1 0 0"
 unfolding digits
 places-printed = refl
+
+-- request 1, entered by ann
+abbrev entered_by_ann : Request
+entered_by_ann = record {
+  number = 1;
+  body = record { identity = record { apid = 5; count = 0 }; ack = none; command = command.Plain 8 1; outcome = outcome.Completes };
+  critical = false;
+  author = codes "ann";
+}
+
+-- request 2, entered by bob, with this command
+abbrev entered_by_bob : Command → Request
+entered_by_bob given = record {
+  number = 2;
+  body = record { identity = last_identity; ack = all; command = given; outcome = outcome.Halts 9 16 };
+  critical = true;
+  author = codes "bob";
+}
+
+pub request-printed : request_line entered_by_ann (Some Confirmed) ≡ codes "request 1 5/0 8/1 ---- no - - ok ann Confirmed"
+unfolding digits
+request-printed = refl
+
+pub commands-printed : map (λ given. request_line (entered_by_bob given) (Some Riding)) (
+    command.EnableSchedule
+    ∷ command.DisableSchedule
+    ∷ command.ResetSchedule
+    ∷ command.InsertActivity 1 1060
+    ∷ command.DeleteActivity 1
+    ∷ command.ShiftActivity 1 (negsuc 59)
+    ∷ command.ShiftAll (pos 60)
+    ∷ command.SummarizeAll
+    ∷ []) ≡
+    codes "request 2 5/16383 11/1 aspc yes - - halt/9/16 bob Riding"
+    ∷ codes "request 2 5/16383 11/2 aspc yes - - halt/9/16 bob Riding"
+    ∷ codes "request 2 5/16383 11/3 aspc yes - - halt/9/16 bob Riding"
+    ∷ codes "request 2 5/16383 11/4 aspc yes 1 1060 halt/9/16 bob Riding"
+    ∷ codes "request 2 5/16383 11/5 aspc yes 1 - halt/9/16 bob Riding"
+    ∷ codes "request 2 5/16383 11/7 aspc yes 1 -60 halt/9/16 bob Riding"
+    ∷ codes "request 2 5/16383 11/15 aspc yes - 60 halt/9/16 bob Riding"
+    ∷ codes "request 2 5/16383 11/17 aspc yes - - halt/9/16 bob Riding"
+    ∷ []
+unfolding digits
+commands-printed = refl

@@ -100,20 +100,26 @@ pub record IsEntry (entry : Form) : Type 0 where
 abbrev pub query_words : Query → List (List ℕ)
 query_words query.Places = codes "places" ∷ []
 query_words (query.History request after) = codes "history" ∷ decimal request ∷ decimal after ∷ []
+query_words (query.Request request) = codes "request" ∷ decimal request ∷ []
 
 abbrev pub IsQuery : Query → Type 0
 IsQuery query.Places = Unit {0}
 IsQuery (query.History request after) = IsNumber request × IsNumber after
+IsQuery (query.Request request) = IsNumber request
 
 -- the words of an act on the book: its verb, and what it takes
 abbrev pub book_act_words : BookAct → List (List ℕ)
 book_act_words (book_act.Enter entry) = codes "enter" ∷ entry_words entry
 book_act_words (book_act.Withdraw request) = codes "withdraw" ∷ decimal request ∷ []
+book_act_words (book_act.Approve request) = codes "approve" ∷ decimal request ∷ []
+book_act_words (book_act.Close request) = codes "close" ∷ decimal request ∷ []
 
 -- the limits that its numbers keep
 abbrev pub IsBookAct : BookAct → Type 0
 IsBookAct (book_act.Enter entry) = IsEntry entry
 IsBookAct (book_act.Withdraw request) = IsNumber request
+IsBookAct (book_act.Approve request) = IsNumber request
+IsBookAct (book_act.Close request) = IsNumber request
 
 abbrev pub act_words : Act → List (List ℕ)
 act_words (act.Book given) = book_act_words given

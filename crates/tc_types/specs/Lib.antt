@@ -5,6 +5,7 @@ pub mod History
 pub mod Lines
 pub mod Schedule
 pub mod Grammar
+pub mod RequestLine
 pub mod Words
 pub mod Tables
 pub mod Counts

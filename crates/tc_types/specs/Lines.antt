@@ -129,6 +129,10 @@ identity_word identity = decimal identity.apid ++ 47 ∷ decimal identity.count
 abbrev pub entered_line : ℕ → Identity → List ℕ
 entered_line n identity = spaced (codes "ok" ∷ codes "request" ∷ decimal n ∷ identity_word identity ∷ [])
 
+-- ok approvals I of M
+abbrev pub approvals_line : ℕ → ℕ → List ℕ
+approvals_line given wanted = spaced (codes "ok" ∷ codes "approvals" ∷ decimal given ∷ codes "of" ∷ decimal wanted ∷ [])
+
 -- history N: K, or history N: K more
 abbrev pub history_line : ℕ → ℕ → Bool → List ℕ
 history_line n shown more = codes "history " ++ decimal n ++ codes ": " ++ decimal shown ++ (if more then codes " more" else [])

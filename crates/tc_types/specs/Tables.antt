@@ -1,19 +1,21 @@
 -- The rows of the desk's tables, and what a batch makes of them.
-use Rattle.std.specs.Prelude.{ℕ, ◌==◌, nat_lt, if◌then◌else◌, List, [], ◌∷◌, map, fold}
+use Rattle.std.specs.Prelude.{ℕ, ◌==◌, nat_lt, if◌then◌else◌, List, [], ◌∷◌, ◌++◌, map, fold}
 use Rattle.tc_types.specs.declared.places.Place.{Place}
 use Rattle.tc_types.specs.declared.places.Place.TheVariants.{Entered}
 use Rattle.tc_types.specs.declared.moves.Move.{Move}
 use Rattle.tc_types.specs.declared.rows.PlacedRequest.{PlacedRequest}
 use Rattle.tc_types.specs.declared.rows.Tally.{Tally}
+use Rattle.tc_types.specs.declared.rows.Approval.{Approval}
 use Rattle.tc_types.specs.declared.rows.Row.{Row}
 use Rattle.tc_types.specs.declared.rows.Row.TheVariants as row
 use Rattle.tc_types.specs.Lawful.{place_number, all_places}
 
--- all rows of all tables, each table in order of its key
+-- all rows of all tables, each table in order of its key, the approvals in the order in which they were given
 pub record Image : Type 0 where
   pub requests : List PlacedRequest
   pub moves : List Move
   pub tallies : List Tally
+  pub approvals : List Approval
 
 -- a tally of each place, in order of number
 abbrev pub tallies_by : (Place → ℕ) → List Tally
@@ -21,7 +23,7 @@ tallies_by amount = map (λ place. let tally : Tally = record { place = place; a
 
 -- the tables of a desk where nothing happened yet
 abbrev pub empty_image : Image
-empty_image = record { requests = []; moves = []; tallies = tallies_by (λ place. 0) }
+empty_image = record { requests = []; moves = []; tallies = tallies_by (λ place. 0); approvals = [] }
 
 -- a table with this row: in place of the one with the same key, else in order of key
 abbrev pub put_by : {X : Type 0} → (X → ℕ) → X → List X → List X
@@ -47,6 +49,7 @@ with_row image (row.Entered request) = record image { requests = put_by request_
 with_row image (row.Placed placed) = record image { requests = put_by request_key placed image.requests }
 with_row image (row.Moved move) = record image { moves = put_by move_key move image.moves }
 with_row image (row.Tallied tally) = record image { tallies = put_by tally_key tally image.tallies }
+with_row image (row.Approved approval) = record image { approvals = image.approvals ++ approval ∷ [] }
 
 -- the tables with all rows of a batch, in order
 abbrev pub applied : List Row → Image → Image

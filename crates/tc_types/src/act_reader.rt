@@ -31,6 +31,15 @@ fn places(words: &mut Words<'_>) -> Option<Query>
     Some(Query::Places)
 }
 
+/// What stands behind `request`.
+fn request_asked(words: &mut Words<'_>) -> Option<Query>
+    ensures { Reads query_words IsQuery (codes "request" ∷ words.old) result }
+{
+    let request = number(words.next()?)?;
+    words.end()?;
+    Some(Query::Request { request })
+}
+
 /// What stands behind `withdraw`.
 fn withdraw(words: &mut Words<'_>) -> Option<BookAct>
     ensures { Reads book_act_words IsBookAct (codes "withdraw" ∷ words.old) result }
@@ -38,6 +47,24 @@ fn withdraw(words: &mut Words<'_>) -> Option<BookAct>
     let request = number(words.next()?)?;
     words.end()?;
     Some(BookAct::Withdraw { request })
+}
+
+/// What stands behind `approve`.
+fn approve(words: &mut Words<'_>) -> Option<BookAct>
+    ensures { Reads book_act_words IsBookAct (codes "approve" ∷ words.old) result }
+{
+    let request = number(words.next()?)?;
+    words.end()?;
+    Some(BookAct::Approve { request })
+}
+
+/// What stands behind `close`.
+fn close(words: &mut Words<'_>) -> Option<BookAct>
+    ensures { Reads book_act_words IsBookAct (codes "close" ∷ words.old) result }
+{
+    let request = number(words.next()?)?;
+    words.end()?;
+    Some(BookAct::Close { request })
 }
 
 /// The words of an act, of which the first says which.
@@ -49,10 +76,16 @@ pub fn act_of(words: &mut Words<'_>) -> Option<Act>
         Some(Act::Book(BookAct::Enter(entry(words)?)))
     } else if is(verb, b"withdraw") {
         Some(Act::Book(withdraw(words)?))
+    } else if is(verb, b"approve") {
+        Some(Act::Book(approve(words)?))
+    } else if is(verb, b"close") {
+        Some(Act::Book(close(words)?))
     } else if is(verb, b"places") {
         Some(Act::Ask(places(words)?))
     } else if is(verb, b"history") {
         Some(Act::Ask(history(words)?))
+    } else if is(verb, b"request") {
+        Some(Act::Ask(request_asked(words)?))
     } else {
         None
     }

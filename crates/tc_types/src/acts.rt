@@ -10,6 +10,8 @@ pub enum Query {
     Places,
     /// The history rows of request `request` with a greater `seq` than `after`.
     History { request: u32, after: u32 },
+    /// Request `request`, as it was entered, and where it stands.
+    Request { request: u32 },
 }
 
 /// An act on the book alone: it asks nothing of the link.
@@ -19,6 +21,10 @@ pub enum BookAct {
     Enter(Entry),
     /// A request is withdrawn before release.
     Withdraw { request: u32 },
+    /// A request is approved by a person who did not enter it.
+    Approve { request: u32 },
+    /// A request that has left the desk is closed by a person.
+    Close { request: u32 },
 }
 
 /// An act of a person at the desk.

@@ -22,6 +22,7 @@ pub mod places;
 pub mod readers;
 pub mod refusals;
 pub mod reports;
+pub mod request_texts;
 pub mod requests;
 pub mod rows;
 pub mod telecommands;

@@ -1,5 +1,7 @@
 //! The rows of the desk's tables.
 use crate::moves::Move;
+use crate::names::Name;
+use crate::numbers::RequestNumber;
 use crate::places::Place;
 use crate::requests::Request;
 
@@ -21,6 +23,15 @@ pub struct Tally {
     pub amount: u32,
 }
 
+/// A row of the table `request_approval`: who approved a request.
+#[derive(Clone, Copy, Debug, PartialEq, Eq)]
+pub struct Approval {
+    /// The request.
+    pub request: RequestNumber,
+    /// Who approved it.
+    pub person: Name,
+}
+
 /// One row that an act writes. A batch is a list of rows, all written or none.
 #[derive(Clone, Copy, Debug, PartialEq, Eq)]
 pub enum Row {
@@ -32,4 +43,6 @@ pub enum Row {
     Moved(Move),
     /// A row of the table `tally`, in place of the one of its place.
     Tallied(Tally),
+    /// A new row of the table `request_approval`.
+    Approved(Approval),
 }

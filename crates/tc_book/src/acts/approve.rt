@@ -1,0 +1,43 @@
+//! The act `approve`: a request is approved by a person who did not enter it.
+ghost use Rattle.std.specs.Prelude.{◌≡◌, IfOk};
+ghost use Rattle.tc_types.specs.declared.acts.BookAct.TheVariants as book_act;
+ghost use Rattle.tc_book.specs.Batch.{HoldsRoom};
+ghost use Rattle.tc_book.specs.Answers.{Answers};
+
+use crate::drafts::{Draft, make_room};
+use crate::records::Records;
+use crate::stamps::Stamp;
+use std::alloc::Allocator;
+use tc_types::causes::Cause;
+use tc_types::places::Place;
+use tc_types::refusals::Refusal;
+
+/// Approves a request. Once as many approved as are wanted, it goes to Approved.
+pub fn approve<A: Allocator + Copy + Drop>(
+    records: &mut Records<A>,
+    alloc: A,
+    stamp: Stamp,
+    n: u32,
+) -> Result<Draft<A>, Refusal>
+    ensures answers { Answers (λ draft. draft.first) records.old.book stamp (book_act.Approve n) records.new.book result }
+    ensures room { IfOk result (λ draft. HoldsRoom records.old.book records.new.book draft.moves draft.batch) }
+{
+    let Some(request) = records.number_of(n) else {
+        return Err(Refusal::UnknownRequest);
+    };
+    if !records.stands(n, &[Place::Entered]) {
+        return Err(Refusal::WrongPlace);
+    }
+    if let Some(refusal) = records.approval_refusal(n, &stamp.by) {
+        return Err(refusal);
+    }
+    if records.has_all_rows() {
+        return Err(Refusal::DeskFull);
+    }
+    let first = records.next_approval(n);
+    let draft = make_room(records, alloc, first, 0, 1)?;
+    if records.approve(request, stamp.by) {
+        records.record(stamp, request, Place::Approved, Cause::Approve);
+    }
+    Ok(draft)
+}

@@ -1,0 +1,48 @@
+//! The act `close`: a request that has left the desk is closed by a person.
+ghost use Rattle.std.specs.Prelude.{◌≡◌, IfOk};
+ghost use Rattle.tc_types.specs.declared.acts.BookAct.TheVariants as book_act;
+ghost use Rattle.tc_book.specs.Batch.{HoldsRoom};
+ghost use Rattle.tc_book.specs.Answers.{Answers};
+
+use crate::drafts::{Draft, make_room};
+use crate::firsts::First;
+use crate::records::Records;
+use crate::stamps::Stamp;
+use std::alloc::Allocator;
+use tc_types::causes::Cause;
+use tc_types::places::Place;
+use tc_types::refusals::Refusal;
+
+/// The places from which a person may close a request.
+const CLOSABLE: [Place; 6] = [
+    Place::Confirmed,
+    Place::Riding,
+    Place::Scheduled,
+    Place::Accepted,
+    Place::Started,
+    Place::Doubtful,
+];
+
+/// Closes a request.
+pub fn close<A: Allocator + Copy + Drop>(
+    records: &mut Records<A>,
+    alloc: A,
+    stamp: Stamp,
+    n: u32,
+) -> Result<Draft<A>, Refusal>
+    ensures answers { Answers (λ draft. draft.first) records.old.book stamp (book_act.Close n) records.new.book result }
+    ensures room { IfOk result (λ draft. HoldsRoom records.old.book records.new.book draft.moves draft.batch) }
+{
+    let Some(request) = records.number_of(n) else {
+        return Err(Refusal::UnknownRequest);
+    };
+    if !records.stands(n, &CLOSABLE) {
+        return Err(Refusal::WrongPlace);
+    }
+    if records.has_all_rows() {
+        return Err(Refusal::DeskFull);
+    }
+    let draft = make_room(records, alloc, First::Plain, 0, 1)?;
+    records.record(stamp, request, Place::Closed, Cause::Close);
+    Ok(draft)
+}
