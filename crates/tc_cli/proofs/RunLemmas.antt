@@ -168,7 +168,7 @@ places_told at after reply asks granted = by_flag at.stopped (asks (record { by 
     not_refused refused = absurd (true_false (sym refused ∙ granted))
 
     by_flag : (stopped : Bool) → MatchBool stopped ((reply ≡ refusal_reply Stopped) × (after ≡ at))
-        (StepsDesk at (record { by = []; moment = 0 }) (act.Ask query.Places) reply after ⊎ FailsStore at (act.Ask query.Places) reply after) → Told
+        (StepsDesk at (record { by = []; moment = 0 }) (act.Ask query.Places) reply after ⊎ FailsStore at (record { by = []; moment = 0 }) (act.Ask query.Places) reply after) → Told
     by_flag true told = not_refused (rw told.0 refl)
     by_flag false (inl steps) = elim steps.desk [
       | inl (free, same, _) ↦ same

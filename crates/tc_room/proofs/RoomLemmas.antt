@@ -1,6 +1,6 @@
 -- The steps of a room.
 use Rattle.std.proofs.Common.{◌≡◌, ◌∙◌, ◌⊎◌, inl, inr, ℕ, zero, suc, nat_lt, map, take, [], ◌∷◌, arith, Bool, true, false, Option, Some, None, Result, Ok, Err, List, refl, sym, ap, subst, length}
-use Rattle.std.specs.Prelude.{◌≢◌, ◌≤◌, ◌↔◌}
+use Rattle.std.specs.Prelude.{◌≢◌, ◌≤◌, ◌↔◌, is_none}
 use Rattle.std.proofs.lemmas.List.{length-map, length-take}
 use Rattle.std.proofs.lemmas.Bool.Decides.{nat_tests}
 use Rattle.sqlite_trees.specs.declared.memory.MemStore.{MemStore}
@@ -11,21 +11,24 @@ use Rattle.tc_types.specs.Tables.{empty_image, tallies_by}
 use Rattle.tc_types.specs.declared.rows.Tally.{Tally}
 use Rattle.tc_types.specs.declared.acts.Line.{Line}
 use Rattle.tc_types.specs.declared.refusals.Refusal.{Refusal}
-use Rattle.tc_types.specs.declared.refusals.Refusal.TheVariants.{BadText, Store, TooLong}
+use Rattle.tc_types.specs.declared.refusals.Refusal.TheVariants.{BadText, Store, TooLong, UnknownRequest}
 use Rattle.tc_types.specs.declared.acts.Act.{Act}
 use Rattle.tc_types.specs.declared.acts.Act.TheVariants as act
 use Rattle.tc_types.specs.declared.acts.Query.{Query}
+use Rattle.tc_types.specs.declared.acts.Query.TheVariants as query
+use Rattle.tc_types.specs.declared.requests.Request.{Request}
+use Rattle.tc_types.specs.RequestLine.{request_line}
 use Rattle.tc_types.specs.declared.moves.Move.{Move}
 use Rattle.tc_book.specs.declared.stamps.Stamp.{Stamp}
 use Rattle.tc_book.specs.declared.firsts.First.{First}
-use Rattle.tc_book.specs.Book.{Book, empty_book}
+use Rattle.tc_book.specs.Book.{Book, empty_book, is_unknown, place_in, request_at}
 use Rattle.tc_book.specs.Conserved.{IsConserved}
 use Rattle.tc_book.specs.Good.{IsGoodBook}
 use Rattle.tc_book.specs.Tables.{image_of}
 use Rattle.tc_desk.specs.State.{State, new_desk}
 use Rattle.tc_desk.specs.Acts.{is_question, refusal_of}
 use Rattle.tc_desk.specs.Machine.{Carries, DeskStep, Does, Refuses, Serves, rows_new}
-use Rattle.tc_desk.specs.Replies.{Reply, act_reply, history_lines, query_reply, refusal_reply}
+use Rattle.tc_desk.specs.Replies.{Reply, act_reply, history_lines, query_reply, refusal_reply, request_lines}
 use Rattle.tc_room.specs.Joined.{HasImage, IsJoined, IsKept}
 use Rattle.tc_room.specs.Answers.{IsUnread}
 use Rattle.tc_room.specs.Room.{FailsStore, RoomStep, Standing}
@@ -40,17 +43,17 @@ pub steps : (old new : Standing) (stamp : Stamp) (given : Act) (reply : Reply) �
 steps old new stamp given reply going step holds goes = rw going (inl (record { desk = step; tables = holds; going = goes }))
 
 -- the database failed
-pub fails : (old new : Standing) (stamp : Stamp) (given : Act) → old.stopped ≡ false → refusal_of old.desk given ≡ None → new.stopped ≡ true
+pub fails : (old new : Standing) (stamp : Stamp) (given : Act) → old.stopped ≡ false → refusal_of stamp old.desk given ≡ None → new.stopped ≡ true
     → HasImage new.tables (image_of old.desk.book) → RoomStep old stamp given (refusal_reply Store) new
 fails old new stamp given going free stopped holds = rw going (inr (record { free = free; reply = refl; stopped = stopped; tables = holds }))
 
 -- the desk refused
-pub refused : (old new : State) (stamp : Stamp) (given : Act) (refusal : Refusal) → Refuses given old new refusal → DeskStep old stamp given (refusal_reply refusal) new
+pub refused : (old new : State) (stamp : Stamp) (given : Act) (refusal : Refusal) → Refuses stamp given old new refusal → DeskStep old stamp given (refusal_reply refusal) new
 refused old new stamp given refusal why = inr (refusal, why, refl)
 
 -- the desk carried an act out
 pub carried : (old new : State) (stamp : Stamp) (given : Act) (first : First) (rows : List Move) → is_question given ≡ false
-    → refusal_of old given ≡ None → Does stamp given old new first → rows ≡ rows_new old new → DeskStep old stamp given (act_reply first rows) new
+    → refusal_of stamp old given ≡ None → Does stamp given old new first → rows ≡ rows_new old new → DeskStep old stamp given (act_reply first rows) new
 carried old new stamp given first rows acts free does are = inl (by_kind given acts (record { first = first; free = free; does = does; reply = ap (act_reply first) are }))
   where
     by_kind : (given : Act) → is_question given ≡ false → Carries old stamp given (act_reply first rows) new → Serves old stamp given (act_reply first rows) new
@@ -58,9 +61,25 @@ carried old new stamp given first rows acts free does are = inl (by_kind given a
     by_kind (act.Ask asked) is carries = cc
 
 -- a question that the tables answered
-pub answered : (desk : State) (stamp : Stamp) (asked : Query) (reply : Reply) → refusal_of desk (act.Ask asked) ≡ None → reply ≡ query_reply desk.book asked
+pub answered : (desk : State) (stamp : Stamp) (asked : Query) (reply : Reply) → refusal_of stamp desk (act.Ask asked) ≡ None → reply ≡ query_reply desk.book asked
     → DeskStep desk stamp (act.Ask asked) reply desk
 answered desk stamp asked reply free same = inl (free, same, refl)
+
+-- a request that the desk found is told
+pub request_told : (desk : State) (stamp : Stamp) (n : ℕ) (found : Option Request) (request : Request) → found ≡ request_at desk.book n
+    → is_none found ≡ is_unknown desk.book n → found ≡ Some request → DeskStep desk stamp (act.Ask (query.Request n)) (request_line request (place_in desk.book n) ∷ []) desk
+request_told desk stamp n found request is unknown some = answered desk stamp (query.Request n) _ (rw known refl) (ap (λ at. request_lines at (place_in desk.book n)) (sym some ∙ is))
+  where
+    known : is_unknown desk.book n ≡ false
+    known = sym unknown ∙ ap is_none some
+
+-- a request that it did not find is unknown
+pub request_unknown : (desk : State) (stamp : Stamp) (n : ℕ) (found : Option Request) → is_none found ≡ is_unknown desk.book n → found ≡ None
+    → DeskStep desk stamp (act.Ask (query.Request n)) (refusal_reply UnknownRequest) desk
+request_unknown desk stamp n found unknown none = refused desk desk stamp (act.Ask (query.Request n)) UnknownRequest (record { why = inl (rw is refl); book = refl })
+  where
+    is : is_unknown desk.book n ≡ true
+    is = sym unknown ∙ ap is_none none
 
 -- a good book has no more requests than a desk takes
 pub good-few : (book : Book) → IsGoodBook book → length (entered book.history) ≤ 65535

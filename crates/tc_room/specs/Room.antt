@@ -32,8 +32,8 @@ pub record StepsDesk (old : Standing) (stamp : Stamp) (given : Act) (reply : Rep
   pub going : new.stopped ≡ false
 
 -- The database failed at what no test refused, and the room has stopped. Its tables hold the book as it was before.
-pub record FailsStore (old : Standing) (given : Act) (told : Reply) (new : Standing) : Type 0 where
-  pub free : refusal_of old.desk given ≡ None
+pub record FailsStore (old : Standing) (stamp : Stamp) (given : Act) (told : Reply) (new : Standing) : Type 0 where
+  pub free : refusal_of stamp old.desk given ≡ None
   pub reply : told ≡ refusal_reply Store
   pub stopped : new.stopped ≡ true
   pub tables : HasImage new.tables (image_of old.desk.book)
@@ -43,7 +43,7 @@ pub record FailsStore (old : Standing) (given : Act) (told : Reply) (new : Stand
 abbrev pub RoomStep : Standing → Stamp → Act → Reply → Standing → Type 0
 RoomStep old stamp given reply new = MatchBool old.stopped
     ((reply ≡ refusal_reply Stopped) × (new ≡ old))
-    (StepsDesk old stamp given reply new ⊎ FailsStore old given reply new)
+    (StepsDesk old stamp given reply new ⊎ FailsStore old stamp given reply new)
 
 -- the answer to a step, of which the lines of a reply are made
 abbrev pub AnswersStep : {X : Type 0} → (X → Reply) → Standing → Stamp → Act → Standing → Result X Refusal → Type 0

@@ -7,6 +7,7 @@ use std::test::Fail;
 use tc_types::moves::Move;
 use tc_types::places::{PLACES, Place};
 use tc_types::requests::{Ack, Command, Request};
+use tc_types::rows::Approval;
 
 /// A database of which all rows can be had.
 pub trait SeenRows {
@@ -153,6 +154,20 @@ fn show_counts(rows: &[Row], counts: &[u32; PLACES]) -> bool {
     is_shown
 }
 
+/// What finds the approvals.
+const APPROVALS: &str = "SELECT request, person FROM request_approval ORDER BY rowid";
+
+/// Whether these rows show the approvals.
+fn show_approvals(rows: &[Row], approvals: &[Approval]) -> bool {
+    let mut is_shown = rows.len() == approvals.len();
+    for (row, approval) in rows.iter().zip(approvals) {
+        let request = i64::from(approval.request.get());
+        is_shown = is_shown && has_numbers(row, &[request]);
+        is_shown = is_shown && has_text(row, 1, approval.person.as_str());
+    }
+    is_shown
+}
+
 /// Checks that the tables of a database show the book.
 pub fn check_tables<D: SeenRows>(
     rt: &impl Abort,
@@ -166,5 +181,7 @@ pub fn check_tables<D: SeenRows>(
     assert!(rt; show_moves(&moves, &plain.history));
     let tallies = database.rows(TALLIES)?;
     assert!(rt; show_counts(&tallies, &plain.counts(alloc)?));
+    let approvals = database.rows(APPROVALS)?;
+    assert!(rt; show_approvals(&approvals, &plain.approvals));
     Ok(())
 }

@@ -108,11 +108,23 @@ fn random_entry(dice: &mut Dice, entered: u32) -> Option<Entry> {
     })
 }
 
-/// An act, where so many requests were entered: a third are withdrawals.
+/// An act, where so many requests were entered: a third are approvals, a sixth withdrawals, and of the others one in twelve
+/// closes.
 pub fn random_act(dice: &mut Dice, entered: u32) -> Option<BookAct> {
-    if dice.roll(3) == 0 {
+    match dice.roll(6) {
+        0 | 1 => {
+            let request = dice.request(entered);
+            return Some(BookAct::Approve { request });
+        }
+        2 => {
+            let request = dice.request(entered);
+            return Some(BookAct::Withdraw { request });
+        }
+        _ => {}
+    }
+    if dice.roll(12) == 0 {
         let request = dice.request(entered);
-        return Some(BookAct::Withdraw { request });
+        return Some(BookAct::Close { request });
     }
     Some(BookAct::Enter(random_entry(dice, entered)?))
 }

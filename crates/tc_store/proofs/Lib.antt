@@ -4,6 +4,7 @@ pub mod MetaLemmas
 pub mod RequestLemmas
 pub mod MoveLemmas
 pub mod TallyLemmas
+pub mod ApprovalLemmas
 pub mod ReadLemmas
 pub mod HistoryLemmas
 pub mod StepLemmas

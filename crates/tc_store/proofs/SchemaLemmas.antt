@@ -24,7 +24,8 @@ use Rattle.tc_store.specs.Meta.{meta_form}
 use Rattle.tc_store.specs.Requests.{request_form}
 use Rattle.tc_store.specs.Moves.{move_tree, move_form, move_index}
 use Rattle.tc_store.specs.Tallies.{tally_form}
-use Rattle.tc_store.specs.Schema.{create_texts, with_meta, with_request, with_move, with_index, schema_1, contents, Holds}
+use Rattle.tc_store.specs.Approvals.{approval_form}
+use Rattle.tc_store.specs.Schema.{create_texts, with_meta, with_request, with_move, with_index, with_tally, schema_1, contents, Holds}
 use Rattle.tc_store.specs.Steps.{Goes, IsNewIn, Step}
 use Rattle.tc_store.proofs.Rows.{same_put}
 
@@ -43,9 +44,13 @@ built = (
         with_index,
         inr (record { at = 2; table = table_of move_form move_tree; index = move_index; listed = refl; command = refl; plain = (refl, refl); whole = refl; defined = refl; is = refl }),
         (
-          schema_1,
+          with_tally,
           inl (record { table = table_of tally_form 0; command = refl; plain = (refl, refl); whole = refl; defined = refl; uncounted = refl; is = refl }),
-          refl,
+          (
+            schema_1,
+            inl (record { table = table_of approval_form 0; command = refl; plain = (refl, refl); whole = refl; defined = refl; uncounted = refl; is = refl }),
+            refl,
+          ),
         ),
       ),
     ),

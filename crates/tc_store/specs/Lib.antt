@@ -3,5 +3,6 @@ pub mod Meta
 pub mod Requests
 pub mod Moves
 pub mod Tallies
+pub mod Approvals
 pub mod Schema
 pub mod Steps

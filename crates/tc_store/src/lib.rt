@@ -4,6 +4,7 @@
 //! crash the database has what it had before the call, or what the call commits.
 #![tactic(auto)]
 
+mod approvals;
 mod cells;
 mod creates;
 pub mod faults;

@@ -1,4 +1,4 @@
-//! Random acts on a room and on the book of `plain`, which keeps nothing but its requests and its history: the same
+//! Random acts on a room and on the book of `plain`, which keeps nothing but its requests, history and approvals: the same
 //! replies, the same answers, and tables that show the same. Then the identities of one application process as they run
 //! out.
 use super::{moment, name};
@@ -11,14 +11,14 @@ use std::process::Abort;
 use std::test::Fail;
 use tc_book::firsts::First;
 use tc_desk::desks::Desk;
-use tc_room::rooms::{Config, Room};
+use tc_room::rooms::{Config, Found, Room};
 use tc_store::tables::Tables;
 use tc_types::acts::{Act, BookAct, Query};
 use tc_types::entries::Entry;
 use tc_types::moves::Move;
 use tc_types::names::Name;
 use tc_types::numbers::{Apid, Moment, Service, Subtype};
-use tc_types::places::PLACES;
+use tc_types::places::{PLACES, Place};
 use tc_types::refusals::Refusal;
 use tc_types::requests::{Ack, Command, Form, Outcome, Request};
 
@@ -37,6 +37,9 @@ trait Acting {
 trait Asked: Acting {
     /// How many requests stand at each place.
     fn counted(&mut self) -> Result<[u32; PLACES], Refusal>;
+
+    /// A request as it was entered, and where it stands.
+    fn found(&mut self, request: u32) -> Result<Found, Refusal>;
 
     /// The first rows of a request with a greater number than `after`.
     fn told(&mut self, request: u32, after: u32) -> Result<Vec<Move>, Refusal>;
@@ -57,6 +60,10 @@ impl Acting for Room {
 impl Asked for Room {
     fn counted(&mut self) -> Result<[u32; PLACES], Refusal> {
         Ok(self.counts()?.places)
+    }
+
+    fn found(&mut self, request: u32) -> Result<Found, Refusal> {
+        self.request(request)
     }
 
     fn told(&mut self, request: u32, after: u32) -> Result<Vec<Move>, Refusal> {
@@ -103,6 +110,16 @@ impl Asked for Bare {
         self.tables.counts().or(Err(Refusal::Store))
     }
 
+    fn found(&mut self, n: u32) -> Result<Found, Refusal> {
+        match self.desk.request(n) {
+            Some(request) => Ok(Found {
+                request,
+                place: self.desk.place_of(n),
+            }),
+            None => Err(Refusal::UnknownRequest),
+        }
+    }
+
     fn told(&mut self, request: u32, after: u32) -> Result<Vec<Move>, Refusal> {
         match self.desk.refusal_of(Query::History { request, after }) {
             Some(refusal) => Err(refusal),
@@ -114,12 +131,14 @@ impl Asked for Bare {
     }
 }
 
-/// How often acts were done, and how often they were refused with 2, with 3 and with 19.
+/// How often acts were done, and how often they were refused with 2, with 3, with 5, with 6 and with 19.
 #[derive(Clone, Copy, Debug, PartialEq, Eq)]
 struct Seen {
     done: u32,
     unknown: u32,
     wrong_place: u32,
+    same_person: u32,
+    approved_already: u32,
     bad_activity: u32,
 }
 
@@ -130,6 +149,8 @@ impl Seen {
             Ok(_) => &mut self.done,
             Err(Refusal::UnknownRequest) => &mut self.unknown,
             Err(Refusal::WrongPlace) => &mut self.wrong_place,
+            Err(Refusal::SamePerson) => &mut self.same_person,
+            Err(Refusal::ApprovedAlready) => &mut self.approved_already,
             Err(_) => &mut self.bad_activity,
         };
         *count = count.saturating_add(1);
@@ -139,12 +160,12 @@ impl Seen {
 /// Whether a reply is the one that is wanted: the same first line and the same moves, or the same refusal.
 fn is_same_reply(
     reply: Result<(First, Vec<Move>), Refusal>,
-    wanted: Result<First, Refusal>,
+    wanted: &Result<First, Refusal>,
     moves: &[Move],
 ) -> bool {
     match reply {
-        Ok((first, made)) => wanted == Ok(first) && made.as_slice() == moves,
-        Err(refusal) => wanted == Err(refusal),
+        Ok((first, made)) => *wanted == Ok(first) && made.as_slice() == moves,
+        Err(refusal) => *wanted == Err(refusal),
     }
 }
 
@@ -157,6 +178,33 @@ fn is_same_history(told: Result<Vec<Move>, Refusal>, wanted: Result<Vec<Move>, R
     }
 }
 
+/// One of three persons.
+fn random_person(rt: &impl Abort, dice: &mut Dice) -> Name {
+    let text: &[u8] = match dice.roll(3) {
+        0 => b"ann7",
+        1 => b"bob",
+        _ => b"eve",
+    };
+    name(rt, text)
+}
+
+/// An act on both.
+fn done_on_both<A: Asked>(
+    rt: &impl Abort,
+    asked: &mut A,
+    plain: &mut Plain,
+    by: Name,
+    when: Moment,
+    act: &BookAct,
+) -> Result<First, Refusal> {
+    let before = plain.history.len();
+    let wanted = plain.act(by, when, *act);
+    let reply = asked.acts(by, when, *act);
+    let moves = plain.history.get(before..).unwrap_or(&[]);
+    assert!(rt; is_same_reply(reply, &wanted, moves), "{act:?}");
+    wanted
+}
+
 /// A random act on both.
 fn act_on_both<A: Asked>(
     rt: &impl Abort,
@@ -165,18 +213,24 @@ fn act_on_both<A: Asked>(
     dice: &mut Dice,
 ) -> Result<First, Refusal> {
     let entered = count_of(&plain.requests);
-    let before = plain.history.len();
     let act = random_act(dice, entered).expect(rt, "an act");
-    let by = name(rt, if dice.flips() { b"ann7" } else { b"bob" });
+    let by = random_person(rt, dice);
     let when = moment(rt, dice.roll(2_000_000_000));
-    let wanted = plain.act(by, when, act);
-    let reply = asked.acts(by, when, act);
-    let moves = plain.history.get(before..).unwrap_or(&[]);
-    assert!(rt; is_same_reply(reply, wanted, moves), "{act:?}");
-    wanted
+    done_on_both(rt, asked, plain, by, when, &act)
 }
 
-/// Both questions, asked of both: of one request, and of all places.
+/// What the definitions say of a request.
+fn wanted_of(plain: &Plain, n: u32) -> Result<Found, Refusal> {
+    match plain.request(n) {
+        Some(request) => Ok(Found {
+            request: *request,
+            place: plain.place_of(n),
+        }),
+        None => Err(Refusal::UnknownRequest),
+    }
+}
+
+/// The questions, asked of both: of one request, and of all places.
 fn ask_both<A: Asked>(
     rt: &impl Abort,
     alloc: Global,
@@ -187,6 +241,7 @@ fn ask_both<A: Asked>(
     let counts = plain.counts(alloc)?;
     assert!(rt; asked.counted() == Ok(counts));
     let request = dice.request(count_of(&plain.requests));
+    assert!(rt; asked.found(request) == wanted_of(plain, request));
     let after = dice.roll(count_of(&plain.history));
     let after = if dice.flips() { 0 } else { after };
     let told = asked.told(request, after);
@@ -195,7 +250,7 @@ fn ask_both<A: Asked>(
     Ok(())
 }
 
-/// So many random acts on both, with both questions after each: what was seen.
+/// So many random acts on both, with the questions after each: what was seen.
 fn course<A: Asked>(
     rt: &impl Abort,
     alloc: Global,
@@ -210,6 +265,8 @@ fn course<A: Asked>(
         done: 0,
         unknown: 0,
         wrong_place: 0,
+        same_person: 0,
+        approved_already: 0,
         bad_activity: 0,
     };
     for _ in 0..acts {
@@ -218,6 +275,17 @@ fn course<A: Asked>(
         ask_both(rt, alloc, asked, plain, &mut dice)?;
     }
     Ok(seen)
+}
+
+/// How many moves go from one place to another.
+fn count_moves(plain: &Plain, from: Place, to: Place) -> u32 {
+    let mut count = 0u32;
+    for row in &plain.history {
+        if row.from == Some(from) && row.to == to {
+            count = count.saturating_add(1);
+        }
+    }
+    count
 }
 
 /// How many acts the longest course has.
@@ -231,6 +299,12 @@ fn a_room_answers_as_the_definitions_do(rt: HostRuntime) -> Result<(), Fail> {
     assert!(rt; seen.done > LONGEST / 2, "{seen:?}");
     assert!(rt; seen.wrong_place > 99 && seen.bad_activity > 99, "{seen:?}");
     assert!(rt; seen.unknown > 9, "{seen:?}");
+    assert!(rt;
+        seen.same_person > 99 && seen.approved_already > 9,
+        "{seen:?}"
+    );
+    assert!(rt; count_moves(&plain, Place::Entered, Place::Approved) > 99);
+    assert!(rt; count_moves(&plain, Place::Approved, Place::Withdrawn) > 9);
     Ok(())
 }
 
@@ -300,7 +374,7 @@ fn plain_entry(apid: u16) -> Option<Entry> {
 /// Whether a first line tells of the entry of this request with this identity.
 fn is_first(first: First, number: u32, apid: u16, count: u16) -> bool {
     match first {
-        First::Plain => false,
+        First::Plain | First::Approvals { .. } => false,
         First::Entered { request, identity } => {
             let is_identity = identity.apid.get() == apid && identity.count.get() == count;
             request.get() == number && is_identity

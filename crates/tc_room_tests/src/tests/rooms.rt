@@ -12,7 +12,7 @@ use tc_types::refusals::Refusal;
 /// A line, what it is answered, and whether that is a refusal.
 type Case = (&'static [u8], &'static str, bool);
 
-const CASES: [Case; 8] = [
+const CASES: [Case; 12] = [
     (
         b"100 ann enter 5 a--c no 8 1 - - ok",
         "ok request 1 5/0\nmove 1 100 ann 1 - Entered enter\n",
@@ -36,20 +36,32 @@ const CASES: [Case; 8] = [
         false,
     ),
     (b"130 ann history 2 0", "refused 2 UnknownRequest\n", true),
+    (
+        b"130 ann request 1",
+        "request 1 5/0 8/1 a--c no - - ok ann Withdrawn\n",
+        false,
+    ),
+    (b"130 ann request 2", "refused 2 UnknownRequest\n", true),
+    (b"140 bob close 1", "refused 3 WrongPlace\n", true),
+    (b"140 bob close 2", "refused 2 UnknownRequest\n", true),
     (b"places", "refused 1 BadText\n", true),
 ];
 
-fn answers_cases<R: SeenRoom>(rt: &impl Abort, alloc: Global, room: &mut R) -> Result<(), Fail> {
-    for (line, text, refused) in CASES {
+/// Gives a room these lines, and asks for the counts at the end.
+fn answers_cases<R: SeenRoom>(
+    rt: &impl Abort,
+    alloc: Global,
+    room: &mut R,
+    cases: &[Case],
+    counts: &str,
+) -> Result<(), Fail> {
+    for (line, text, refused) in cases {
         let answer = room.answers(alloc, line)?;
-        assert_eq!(rt; answer.text.as_str(), text);
-        assert_eq!(rt; answer.refused, refused);
+        assert_eq!(rt; answer.text.as_str(), *text);
+        assert_eq!(rt; answer.refused, *refused);
     }
     let last = room.answers_places(alloc)?;
-    assert_eq!(rt;
-        last.text.as_str(),
-        "places 1: 0 0 0 0 0 0 0 0 0 0 0 0 1 0 0\n"
-    );
+    assert_eq!(rt; last.text.as_str(), counts);
     assert!(rt; !last.refused);
     Ok(())
 }
@@ -57,7 +69,65 @@ fn answers_cases<R: SeenRoom>(rt: &impl Abort, alloc: Global, room: &mut R) -> R
 #[test]
 fn answers_each_line(rt: HostRuntime) -> Result<(), Fail> {
     let mut room = Room::open(rt.alloc(), Config {})?;
-    answers_cases(&rt, rt.alloc(), &mut room)
+    let counts = "places 1: 0 0 0 0 0 0 0 0 0 0 0 0 1 0 0\n";
+    answers_cases(&rt, rt.alloc(), &mut room, &CASES, counts)
+}
+
+/// A plain request and a critical one, and who approves them.
+const APPROVALS: [Case; 14] = [
+    (
+        b"100 ann enter 5 a--c no 8 1 - - ok",
+        "ok request 1 5/0\nmove 1 100 ann 1 - Entered enter\n",
+        false,
+    ),
+    (
+        b"100 ann enter 5 a--c yes 8 2 - - ok",
+        "ok request 2 5/1\nmove 2 100 ann 2 - Entered enter\n",
+        false,
+    ),
+    (b"110 ann approve 1", "refused 5 SamePerson\n", true),
+    (
+        b"111 bob approve 1",
+        "ok approvals 1 of 1\nmove 3 111 bob 1 Entered Approved approve\n",
+        false,
+    ),
+    (b"112 eve approve 1", "refused 3 WrongPlace\n", true),
+    (b"120 bob approve 2", "ok approvals 1 of 2\n", false),
+    (b"121 bob approve 2", "refused 6 ApprovedAlready\n", true),
+    (b"122 ann approve 2", "refused 5 SamePerson\n", true),
+    (
+        b"122 bob places",
+        "places 2: 1 1 0 0 0 0 0 0 0 0 0 0 0 0 0\n",
+        false,
+    ),
+    (
+        b"123 eve approve 2",
+        "ok approvals 2 of 2\nmove 4 123 eve 2 Entered Approved approve\n",
+        false,
+    ),
+    (b"124 joe approve 3", "refused 2 UnknownRequest\n", true),
+    (
+        b"130 ann request 2",
+        "request 2 5/1 8/2 a--c yes - - ok ann Approved\n",
+        false,
+    ),
+    (
+        b"140 ann withdraw 1",
+        "ok\nmove 5 140 ann 1 Approved Withdrawn withdraw\n",
+        false,
+    ),
+    (
+        b"150 ann history 1 1",
+        "history 1: 2\nmove 3 111 bob 1 Entered Approved approve\nmove 5 140 ann 1 Approved Withdrawn withdraw\n",
+        false,
+    ),
+];
+
+#[test]
+fn answers_each_approval(rt: HostRuntime) -> Result<(), Fail> {
+    let mut room = Room::open(rt.alloc(), Config {})?;
+    let counts = "places 2: 0 1 0 0 0 0 0 0 0 0 0 0 1 0 0\n";
+    answers_cases(&rt, rt.alloc(), &mut room, &APPROVALS, counts)
 }
 
 /// Withdraws request 1: how many moves that made, or why it was refused.

@@ -12,7 +12,7 @@ use tc_types::moves::Move;
 use tc_types::numbers::{Apid, FailureCode, Offset, SequenceCount, Steps};
 use tc_types::places::{ALL_PLACES, Place};
 use tc_types::requests::{Ack, Body, Command, Identity, Outcome, Request};
-use tc_types::rows::{PlacedRequest, Row, Tally};
+use tc_types::rows::{Approval, PlacedRequest, Row, Tally};
 
 /// Makes the tables of an empty desk in a database, which comes back with a fault.
 fn made_in(
@@ -394,4 +394,43 @@ fn tallies_each<T: SeenTables>(rt: &impl Abort, tables: &mut T) -> Result<(), Fa
 fn tallies_are_told_in_order_of_place(rt: HostRuntime) -> Result<(), Fail> {
     let mut tables = made(&rt, rt.alloc());
     tallies_each(&rt, &mut tables)
+}
+
+/// An approval of a request by a person.
+fn approval(rt: &impl Abort, n: u32, person: &[u8]) -> Row {
+    Row::Approved(Approval {
+        request: number(rt, n),
+        person: name(rt, person),
+    })
+}
+
+/// What finds that there are three approvals, and each of them, in the order in which they were written: each answers 1.
+const APPROVALS: [&str; 4] = [
+    "SELECT count(*) = 3 FROM request_approval",
+    "SELECT count(*) FROM request_approval WHERE rowid = 1 AND request = 65535 AND person = 'zoe'",
+    "SELECT count(*) FROM request_approval WHERE rowid = 2 AND request = 65535 AND person = 'bob'",
+    "SELECT count(*) FROM request_approval WHERE rowid = 3 AND request = 5 AND person = 'bob'",
+];
+
+/// Two persons approve one request, and one of them another. A second approval of a request by a person is a fault, and
+/// nothing of its batch is written.
+fn approves<T: SeenTables>(rt: &impl Abort, tables: &mut T) -> Result<(), Fail> {
+    let first = approval(rt, 65535, b"zoe");
+    let second = approval(rt, 65535, b"bob");
+    tables.writes(&[first, second])?;
+    let fault = tables.writes(&[approval(rt, 6, b"bob"), second]);
+    assert!(rt; matches!(fault, Err(StoreFault::Before(_))));
+    tables.writes(&[approval(rt, 5, b"bob")])?;
+    Ok(())
+}
+
+#[test]
+fn a_person_approves_a_request_once(rt: HostRuntime) -> Result<(), Fail> {
+    let mut tables = made(&rt, rt.alloc());
+    approves(&rt, &mut tables)?;
+    let mut conn = tables.into_connection();
+    for query in APPROVALS {
+        answers(&rt, &mut conn, query, 1)?;
+    }
+    Ok(())
 }
