@@ -31,7 +31,7 @@ static sqlite3_stmt *compiled(const char *text) {
     return made;
 }
 
-// The one text that begins so.
+// The first text that begins so: of those that put a request, the one that enters it.
 static const char *text_of(char **texts, const char *begins) {
     for (; *texts != NULL; texts++) {
         if (strncmp(*texts, begins, strlen(begins)) == 0) {

@@ -45,12 +45,32 @@ move 3 120 ann 1 Entered Withdrawn withdraw
 places 2: 1 0 0 0 0 0 0 0 0 0 0 0 1 0 0
 TEXT
 )$'\n'
+approval=$(cat <<'TEXT'
+ok request 1 5/0
+move 1 100 ann 1 - Entered enter
+ok request 2 5/1
+move 2 110 ann 2 - Entered enter
+ok approvals 1 of 1
+move 3 120 bob 1 Entered Approved approve
+ok approvals 1 of 2
+ok approvals 2 of 2
+move 4 140 eve 2 Entered Approved approve
+request 2 5/1 8/2 a--c yes - - ok ann Approved
+history 2: 2
+move 2 110 ann 2 - Entered enter
+move 4 140 eve 2 Entered Approved approve
+ok
+move 5 170 bob 1 Approved Withdrawn withdraw
+places 2: 0 1 0 0 0 0 0 0 0 0 0 0 1 0 0
+TEXT
+)$'\n'
 refused=$'refused 1 BadText\n'
 
 : >input
 : >empty
 check "an empty script" 0 "$none" "" run empty
 check "the first run" 0 "$first" "" run "$top/examples/first-run.tc"
+check "an approval" 0 "$approval" "" run "$top/examples/approval.tc"
 cp "$top/examples/first-run.tc" input
 check "no words" 0 "$first" ""
 check "standard input by its name" 0 "$first" "" run -

@@ -6,8 +6,8 @@ top=$(cd "$(dirname "$(readlink -f "$0")")/.." && pwd)
 work=$(mktemp -d)
 trap 'rm -rf "$work"' EXIT
 mkdir "$work/crates"
-cp -r "$top"/crates/tc_types "$top"/crates/tc_desk "$top"/crates/tc_sql "$top"/crates/tc_store "$work/crates/"
-grep -E "^tc_(types|desk|sql|store):" "$top/crates.txt" >"$work/crates.txt"
+for name in tc_types tc_stack tc_book tc_desk tc_sql tc_store; do cp -r "$top/crates/$name" "$work/crates/"; done
+grep -E "^tc_(types|stack|book|desk|sql|store):" "$top/crates.txt" >"$work/crates.txt"
 echo "sample: anyhow tc_types tc_desk tc_store sqlite" >>"$work/crates.txt"
 mkdir -p "$work/crates/sample/src"
 cat >"$work/crates/sample/src/main.rt" <<'PROGRAM'
