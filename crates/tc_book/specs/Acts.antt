@@ -73,6 +73,7 @@ abbrev pub query_tests : Book → Query → List (Bool × Refusal)
 query_tests book query.Places = []
 query_tests book (query.History n after) = (is_unknown book n, UnknownRequest) ∷ []
 query_tests book (query.Request n) = (is_unknown book n, UnknownRequest) ∷ []
+query_tests book query.Link = []
 
 -- what the book becomes where no test holds
 abbrev pub acted : Stamp → BookAct → Book → Book

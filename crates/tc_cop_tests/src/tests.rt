@@ -11,6 +11,7 @@ mod numbers;
 mod rooms;
 mod runs;
 mod starting;
+mod stops;
 mod tables;
 mod windows;
 mod words;

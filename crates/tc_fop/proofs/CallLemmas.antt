@@ -9,8 +9,8 @@ use Rattle.tc_fop.specs.declared.rows.Row.{Row}
 use Rattle.tc_fop.specs.declared.rows.Row.TheVariants.{P1, P2, P3, P4, P5, P6, P7, P8, P9, P10, P11, P12, P13, P14, P15, P16}
 use Rattle.tc_fop.specs.declared.signals.AlertKind.{AlertKind}
 use Rattle.tc_fop.specs.declared.signals.AlertKind.TheVariants as alert
-use Rattle.tc_fop.specs.declared.signals.Directive.{Directive}
-use Rattle.tc_fop.specs.declared.signals.Directive.TheVariants as directive
+use Rattle.tc_types.specs.declared.directives.Directive.{Directive}
+use Rattle.tc_types.specs.declared.directives.Directive.TheVariants as directive
 use Rattle.tc_fop.specs.declared.signals.FopState.{FopState}
 use Rattle.tc_fop.specs.declared.signals.FopState.TheVariants.{Active, RetransmitWithoutWait, RetransmitWithWait, InitialisingWithoutBc, InitialisingWithBc, Initial}
 use Rattle.tc_fop.specs.Machine.{Machine, Waiting, Out, Action, Remove, InitiateRetransmission, StartTimer, CancelTimer, LowerTimer, CountOne, SendControl, DropControl, Begin, To, Wait, SetVsAndNn, SetKTo, SetT1To, SetLimitTo, nothing, change, after, option_list, given_back}

@@ -11,8 +11,8 @@ use Rattle.tc_types.specs.declared.refusals.Refusal.TheVariants.{WaitQueueFull, 
 use Rattle.tc_fop.specs.declared.signals.AlertKind.TheVariants as alert
 use Rattle.tc_fop.specs.declared.signals.Indication.{Indication}
 use Rattle.tc_fop.specs.declared.signals.Indication.TheVariants as indication
-use Rattle.tc_fop.specs.declared.signals.Directive.{Directive}
-use Rattle.tc_fop.specs.declared.signals.Directive.TheVariants as directive
+use Rattle.tc_types.specs.declared.directives.Directive.{Directive}
+use Rattle.tc_types.specs.declared.directives.Directive.TheVariants as directive
 use Rattle.tc_fop.specs.declared.signals.FopState.{FopState}
 use Rattle.tc_fop.specs.declared.signals.FopState.TheVariants.{Active, RetransmitWithoutWait, RetransmitWithWait, InitialisingWithoutBc, InitialisingWithBc, Initial}
 use Rattle.tc_fop.specs.Machine.{Machine, Held, Waiting, Out, Action, Remove, Alert, LowerTimer, Wait, StartTimer, SendControl, Begin, To, Initiate, SetVsAlone, SetVsAndNn, SetKTo, SetT1To, SetLimitTo, change, after, output, option_list}

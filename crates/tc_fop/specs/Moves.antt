@@ -8,8 +8,8 @@ use Rattle.tc_farm.specs.declared.clcws.Clcw.{Clcw}
 use Rattle.tc_farm.specs.Farm.{distance}
 use Rattle.tc_fop.specs.declared.signals.FopState.{FopState}
 use Rattle.tc_fop.specs.declared.signals.FopState.TheVariants.{Active, RetransmitWithoutWait, RetransmitWithWait, InitialisingWithoutBc, InitialisingWithBc, Initial}
-use Rattle.tc_fop.specs.declared.signals.Directive.{Directive}
-use Rattle.tc_fop.specs.declared.signals.Directive.TheVariants as directive
+use Rattle.tc_types.specs.declared.directives.Directive.{Directive}
+use Rattle.tc_types.specs.declared.directives.Directive.TheVariants as directive
 use Rattle.tc_fop.specs.declared.signals.Indication.{Indication}
 use Rattle.tc_fop.specs.declared.signals.Indication.TheVariants as indication
 use Rattle.tc_fop.specs.Machine.{Machine, Waiting, Out, frame_of, option_list, nothing}

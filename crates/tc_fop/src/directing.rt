@@ -8,9 +8,10 @@ ghost use Rattle.tc_fop.specs.Views.{Carried};
 
 use crate::outputs::Output;
 use crate::queues::Offer;
-use crate::signals::{AlertKind, Directive, FopState};
+use crate::signals::{AlertKind, FopState};
 use crate::variables::Variables;
 use std::alloc::Allocator;
+use tc_types::directives::Directive;
 use tc_types::frames::Frame;
 
 impl<A: Allocator + Copy + Drop> Variables<A> {

@@ -9,12 +9,13 @@ ghost use Rattle.tc_fop.specs.Views.{FopModel, Responds, view_of};
 
 use crate::outputs::Output;
 use crate::queues::Offer;
-use crate::signals::{Directive, FopState};
+use crate::signals::FopState;
 use crate::variables::Variables;
 use crate::views::FopView;
 use std::alloc::Allocator;
 use std::marker::Model;
 use tc_farm::clcws::Clcw;
+use tc_types::directives::Directive;
 use tc_types::numbers::RequestNumber;
 use tc_types::refusals::Refusal;
 use tc_types::requests::Body;

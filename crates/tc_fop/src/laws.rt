@@ -8,7 +8,7 @@ ghost use Rattle.tc_fop.specs.Laws.{AtWords, AtTicks, AtOffers, AtDirectives};
 ghost use Rattle.tc_fop.specs.Requests.{KeepsRequests, KeepsOrder, KeepsWindow, ConfirmsFront, AreAmong, GivesBack, acknowledged, frames_of};
 ghost use Rattle.tc_fop.specs.Calls.{offered, directed, reported, Answers};
 ghost use Rattle.tc_fop.specs.Moves.{MovesIn, Initiates, is_initiation};
-ghost use Rattle.tc_fop.specs.declared.signals.Directive.{Directive};
+ghost use Rattle.tc_types.specs.declared.directives.Directive.{Directive};
 ghost use Rattle.tc_fop.specs.Standing.{IsFop};
 
 /// The row that is chosen applies, and no other row does.

@@ -20,12 +20,17 @@ use Rattle.tc_types.specs.declared.requests.Command.TheVariants as command
 use Rattle.tc_types.specs.declared.requests.Form.{Form}
 use Rattle.tc_types.specs.declared.acts.BookAct.{BookAct}
 use Rattle.tc_types.specs.declared.acts.BookAct.TheVariants as book_act
+use Rattle.tc_types.specs.declared.directives.Directive.{Directive}
+use Rattle.tc_types.specs.declared.directives.Directive.TheVariants as directive
+use Rattle.tc_types.specs.declared.acts.LinkAct.{LinkAct}
+use Rattle.tc_types.specs.declared.acts.LinkAct.TheVariants as link_act
 use Rattle.tc_types.specs.declared.acts.Act.{Act}
 use Rattle.tc_types.specs.declared.acts.Act.TheVariants as act
 use Rattle.tc_types.specs.declared.acts.Query.TheVariants as query
 use Rattle.tc_types.specs.declared.acts.Line.{Line}
 use Rattle.tc_types.specs.Lines.{spaced}
 use Rattle.tc_types.specs.Grammar.{flag, ack_word, yes_no, outcome_words, outcome_word, IsOutcome, command_words, IsCommand, entry_words, IsEntry, book_act_words, IsBookAct, act_words, IsAct, act_text, SpellsLine, after_two, act_part, HasLongAct}
+use Rattle.tc_types.specs.LinkGrammar.{directive_words, IsDirective, link_act_words, IsLinkAct}
 use Rattle.tc_types.specs.Words.{words, words_left, line_words, IsLine}
 use Rattle.tc_types.proofs.WordLaws.{lacks, lacks_joined, words_joined, words_nonempty}
 use Rattle.tc_types.proofs.NumberLaws.{numeral, small_offset}
@@ -116,12 +121,37 @@ book_act_parted (book_act.Withdraw request) h = (rw (number_lacks request h) ref
 book_act_parted (book_act.Approve request) h = (rw (number_lacks request h) refl, omega arith)
 book_act_parted (book_act.Close request) h = (rw (number_lacks request h) refl, omega arith)
 
+-- nor have those of a directive
+directive_parted : (d : Directive) → IsDirective d → (list_all (lacks 32) (directive_words d) ≡ true) × (0 < length (directive_words d))
+directive_parted directive.InitiateNone h = (refl, omega arith)
+directive_parted directive.InitiateCheck h = (refl, omega arith)
+directive_parted directive.InitiateUnlock h = (refl, omega arith)
+directive_parted (directive.InitiateSetVr v) h = (rw (number_lacks v (omega arith)) refl, omega arith)
+directive_parted directive.Terminate h = (refl, omega arith)
+directive_parted (directive.SetVs v) h = (rw (number_lacks v (omega arith)) refl, omega arith)
+directive_parted (directive.SetK k) h = (rw (number_lacks k (omega (arith, h.1))) refl, omega arith)
+directive_parted (directive.SetT1 t1) h = (rw (number_lacks t1 (omega (arith, h.1))) refl, omega arith)
+directive_parted (directive.SetLimit limit) h = (rw (number_lacks limit (omega (arith, h.1))) refl, omega arith)
+
+-- nor have those of an act that asks something of the link
+link_act_parted : (a : LinkAct) → IsLinkAct a → (list_all (lacks 32) (link_act_words a) ≡ true) × (0 < length (link_act_words a))
+link_act_parted (link_act.Release request) h = (rw (number_lacks request h) refl, omega arith)
+link_act_parted (link_act.Direct given) h = directive_parted given h
+link_act_parted link_act.Tick h = (refl, omega arith)
+link_act_parted link_act.Up h = (refl, omega arith)
+link_act_parted (link_act.LoseUp place) h = (rw (number_lacks place h) refl, omega arith)
+link_act_parted (link_act.LoseDown place) h = (rw (number_lacks place h) refl, omega arith)
+link_act_parted link_act.Clcw h = (refl, omega arith)
+link_act_parted link_act.Down h = (refl, omega arith)
+
 -- nor have those of any act
 pub act_parted : (a : Act) → IsAct a → (list_all (lacks 32) (act_words a) ≡ true) × (0 < length (act_words a))
 act_parted (act.Book given) h = book_act_parted given h
+act_parted (act.Link given) h = link_act_parted given h
 act_parted (act.Ask query.Places) h = (refl, omega arith)
 act_parted (act.Ask (query.History request after)) h = (rw (number_lacks request h.0, number_lacks after h.1) refl, omega arith)
 act_parted (act.Ask (query.Request request)) h = (rw (number_lacks request h) refl, omega arith)
+act_parted (act.Ask query.Link) h = (refl, omega arith)
 
 -- nor have those of a line
 pub line_parted : (line : Line) → IsLine line → (list_all (lacks 32) (line_words line) ≡ true) × (0 < length (line_words line))

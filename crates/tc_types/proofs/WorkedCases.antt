@@ -15,11 +15,15 @@ use Rattle.tc_types.specs.declared.requests.Outcome.TheVariants as outcome
 use Rattle.tc_types.specs.declared.requests.Command.{Command}
 use Rattle.tc_types.specs.declared.requests.Command.TheVariants as command
 use Rattle.tc_types.specs.declared.acts.BookAct.TheVariants.{Approve, Close, Enter, Withdraw}
+use Rattle.tc_types.specs.declared.directives.Directive.TheVariants as directive
+use Rattle.tc_types.specs.declared.acts.LinkAct.TheVariants as link_act
 use Rattle.tc_types.specs.declared.acts.Act.{Act}
 use Rattle.tc_types.specs.declared.acts.Act.TheVariants as act
 use Rattle.tc_types.specs.declared.acts.Query.TheVariants as query
+use Rattle.tc_types.specs.declared.reports.Verification.TheVariants as verification
 use Rattle.tc_types.specs.Grammar.{outcome_word, act_text, line_text}
 use Rattle.tc_types.specs.Lines.{move_line, refusal_line, identity_word, entered_line, history_line, places_line}
+use Rattle.tc_types.specs.LinkLines.{word_line, verified_line, summarized_line}
 use Rattle.tc_types.specs.RequestLine.{request_line}
 
 -- every report is asked for
@@ -105,6 +109,22 @@ pub short_acts-spelled : map act_text (
     ∷ []
 unfolding digits
 short_acts-spelled = refl
+
+pub link_acts-spelled : map act_text (
+    act.Link (link_act.Release 2)
+    ∷ act.Link (link_act.Direct (directive.InitiateSetVr 10))
+    ∷ act.Link (link_act.Direct (directive.SetT1 2))
+    ∷ act.Link (link_act.LoseDown 1)
+    ∷ act.Ask query.Link
+    ∷ []) ≡
+    codes "release 2"
+    ∷ codes "initiate setvr 10"
+    ∷ codes "set t1 2"
+    ∷ codes "losedown 1"
+    ∷ codes "link"
+    ∷ []
+unfolding digits
+link_acts-spelled = refl
 
 pub line-spelled : line_text (record { moment = 4102444799; by = codes "abcdefghij012345"; act = act.Book (Withdraw 7) }) ≡
     codes "4102444799 abcdefghij012345 withdraw 7"
@@ -216,3 +236,15 @@ pub commands-printed : map (λ given. request_line (entered_by_bob given) (Some 
     ∷ []
 unfolding digits
 commands-printed = refl
+
+pub word-printed : word_line 0x010c0800 ≡ codes "ok clcw 010c0800"
+unfolding digits
+word-printed = refl
+
+pub failed_start-printed : verified_line (verification.StartFailed 2) (record { apid = 5; count = 1 }) ≡ codes "ok tm 1,4 5/1 step 0 code 2"
+unfolding digits
+failed_start-printed = refl
+
+pub summary-printed : summarized_line true 1 ≡ codes "ok tm 11,13 enabled 1"
+unfolding digits
+summary-printed = refl

@@ -1,5 +1,5 @@
 -- The spelling of acts, queries and script lines. Each has one spelling: the words of it, parted by one space each.
-use Rattle.std.specs.Prelude.{◌≡◌, ℕ, ◌==◌, IsSomeAnd, ◌<◌, ◌^◌, Bool, true, false, if◌then◌else◌, Option, Some, None, IfSome, List, [], ◌∷◌, ◌++◌, codes, length}
+use Rattle.std.specs.Prelude.{◌≡◌, ◌⊎◌, ℕ, ◌==◌, IsSomeAnd, ◌<◌, Bool, true, false, if◌then◌else◌, Option, Some, None, IfSome, List, [], ◌∷◌, ◌++◌, codes, length}
 use Rattle.std.specs.List.{join_with_byte, slice_split}
 use Rattle.std.specs.Fmt.{decimal, signed_decimal}
 use Rattle.tc_types.specs.declared.requests.Ack.{Ack}
@@ -15,19 +15,17 @@ use Rattle.tc_types.specs.declared.acts.Act.TheVariants as act
 use Rattle.tc_types.specs.declared.acts.Query.{Query}
 use Rattle.tc_types.specs.declared.acts.Query.TheVariants as query
 use Rattle.tc_types.specs.declared.acts.Line.{Line}
+pub use Rattle.tc_types.specs.Numbers.{IsNumber}
 use Rattle.tc_types.specs.Numbers.{IsMoment, IsOffset, IsApid, IsSteps, IsFailureCode, IsService, IsSubtype}
 use Rattle.tc_types.specs.Names.{IsPerson}
 use Rattle.tc_types.specs.Lines.{spaced}
 use Rattle.tc_types.specs.Schedule.{KeepsScheduleRule}
+use Rattle.tc_types.specs.LinkGrammar.{link_act_words, IsLinkAct}
 
 -- What is read has this text, and what has this text is read.
 pub record Reads {X T : Type 0} (text : X → T) (In : X → Type 0) (given : T) (read : Option X) : Type 0 where
   pub found : IfSome read (λ x. (given ≡ text x) × In x)
   pub only : (x : X) → In x → given ≡ text x → read ≡ Some x
-
--- a number that no limit of the desk's bounds
-abbrev pub IsNumber : ℕ → Type 0
-IsNumber n = n < 2 ^ 32
 
 -- a flag that is there or not
 abbrev pub flag : Bool → ℕ → ℕ
@@ -101,11 +99,13 @@ abbrev pub query_words : Query → List (List ℕ)
 query_words query.Places = codes "places" ∷ []
 query_words (query.History request after) = codes "history" ∷ decimal request ∷ decimal after ∷ []
 query_words (query.Request request) = codes "request" ∷ decimal request ∷ []
+query_words query.Link = codes "link" ∷ []
 
 abbrev pub IsQuery : Query → Type 0
 IsQuery query.Places = Unit {0}
 IsQuery (query.History request after) = IsNumber request × IsNumber after
 IsQuery (query.Request request) = IsNumber request
+IsQuery query.Link = Unit {0}
 
 -- the words of an act on the book: its verb, and what it takes
 abbrev pub book_act_words : BookAct → List (List ℕ)
@@ -121,13 +121,23 @@ IsBookAct (book_act.Withdraw request) = IsNumber request
 IsBookAct (book_act.Approve request) = IsNumber request
 IsBookAct (book_act.Close request) = IsNumber request
 
+-- an act on the book begins with this word
+abbrev pub IsBookVerb : List ℕ → Type 0
+IsBookVerb word = (word ≡ codes "enter") ⊎ (word ≡ codes "withdraw") ⊎ (word ≡ codes "approve") ⊎ (word ≡ codes "close")
+
+-- a question begins with this word
+abbrev pub IsQueryVerb : List ℕ → Type 0
+IsQueryVerb word = (word ≡ codes "places") ⊎ (word ≡ codes "history") ⊎ (word ≡ codes "request") ⊎ (word ≡ codes "link")
+
 abbrev pub act_words : Act → List (List ℕ)
 act_words (act.Book given) = book_act_words given
+act_words (act.Link given) = link_act_words given
 act_words (act.Ask asked) = query_words asked
 
 -- the limits that the numbers of an act keep
 abbrev pub IsAct : Act → Type 0
 IsAct (act.Book given) = IsBookAct given
+IsAct (act.Link given) = IsLinkAct given
 IsAct (act.Ask asked) = IsQuery asked
 
 -- the one spelling of an act

@@ -4,6 +4,8 @@ pub mod Lawful
 pub mod History
 pub mod Lines
 pub mod Schedule
+pub mod LinkGrammar
+pub mod LinkLines
 pub mod Grammar
 pub mod RequestLine
 pub mod Words

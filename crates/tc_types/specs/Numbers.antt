@@ -1,5 +1,5 @@
 -- The ranges of the desk's numbers. All limits are this desk's own but where a comment names a standard.
-use Rattle.std.specs.Prelude.{◌≢◌, ℕ, ℤ, ◌<◌, ◌≤◌, ◌≤ℤ◌, pos, negsuc}
+use Rattle.std.specs.Prelude.{◌≢◌, ℕ, ℤ, ◌<◌, ◌≤◌, ◌≤ℤ◌, ◌^◌, pos, negsuc}
 
 -- whole Unix seconds, up to 2099-12-31 23:59:59
 abbrev pub IsMoment : ℕ → Type 0
@@ -36,3 +36,23 @@ IsService n = (0 < n) × (n < 256) × (n ≢ 11)
 -- the subtype of a plain request
 abbrev pub IsSubtype : ℕ → Type 0
 IsSubtype n = (0 < n) × (n < 256)
+
+-- a number that no limit of the desk's bounds
+abbrev pub IsNumber : ℕ → Type 0
+IsNumber n = n < 2 ^ 32
+
+-- a counter of the link, V(S) or V(R), 8 bits (CCSDS 232.0-B)
+abbrev pub IsCounter : ℕ → Type 0
+IsCounter n = n < 256
+
+-- K, the FOP sliding window width (CCSDS 232.1-B)
+abbrev pub IsWindow : ℕ → Type 0
+IsWindow n = (0 < n) × (n < 256)
+
+-- T1_Initial, in ticks
+abbrev pub IsTicks : ℕ → Type 0
+IsTicks n = (0 < n) × (n < 65536)
+
+-- the Transmission_Limit
+abbrev pub IsTransmissionLimit : ℕ → Type 0
+IsTransmissionLimit n = (0 < n) × (n < 256)

@@ -1,11 +1,12 @@
 //! Texts that are read as acts.
-ghost use Rattle.std.specs.Prelude.{◌≡◌, ◌≢◌, ◌↔◌, ◌<◌, ◌≤◌, Ok, Err, IfOk, IfErr, ◌∷◌, codes, length};
+ghost use Rattle.std.specs.Prelude.{◌≡◌, ◌≢◌, ◌↔◌, ◌<◌, ◌≤◌, IsTrue, Ok, Err, IfOk, IfErr, ◌∷◌, codes, length};
 ghost use Rattle.tc_types.specs.declared.acts.Act.{Act};
 ghost use Rattle.tc_types.specs.declared.refusals.Refusal.TheVariants as refusal;
-ghost use Rattle.tc_types.specs.Grammar.{Reads, query_words, IsQuery, book_act_words, IsBookAct, act_words, IsAct, act_text, SpellsAct};
+ghost use Rattle.tc_types.specs.Grammar.{Reads, query_words, IsQuery, IsQueryVerb, book_act_words, IsBookAct, IsBookVerb, act_words, IsAct, act_text, SpellsAct};
 
 use crate::acts::{Act, BookAct, Query};
 use crate::entry_reader::entry;
+use crate::link_reader::link_act_of;
 use crate::readers::{is, number};
 use crate::refusals::Refusal;
 use crate::words::Words;
@@ -40,6 +41,14 @@ fn request_asked(words: &mut Words<'_>) -> Option<Query>
     Some(Query::Request { request })
 }
 
+/// What stands behind `link`.
+fn link(words: &mut Words<'_>) -> Option<Query>
+    ensures { Reads query_words IsQuery (codes "link" ∷ words.old) result }
+{
+    words.end()?;
+    Some(Query::Link)
+}
+
 /// What stands behind `withdraw`.
 fn withdraw(words: &mut Words<'_>) -> Option<BookAct>
     ensures { Reads book_act_words IsBookAct (codes "withdraw" ∷ words.old) result }
@@ -67,27 +76,65 @@ fn close(words: &mut Words<'_>) -> Option<BookAct>
     Some(BookAct::Close { request })
 }
 
+/// Whether an act on the book begins with this word.
+fn is_book_verb(verb: &[u8]) -> bool
+    ensures { IsTrue result ↔ IsBookVerb verb.now }
+{
+    is(verb, b"enter") || is(verb, b"withdraw") || is(verb, b"approve") || is(verb, b"close")
+}
+
+/// An act on the book: its verb, and the words behind it.
+fn book_act_of(verb: &[u8], words: &mut Words<'_>) -> Option<BookAct>
+    ensures { Reads book_act_words IsBookAct (verb.now ∷ words.old) result }
+{
+    if is(verb, b"enter") {
+        Some(BookAct::Enter(entry(words)?))
+    } else if is(verb, b"withdraw") {
+        withdraw(words)
+    } else if is(verb, b"approve") {
+        approve(words)
+    } else if is(verb, b"close") {
+        close(words)
+    } else {
+        None
+    }
+}
+
+/// Whether a question begins with this word.
+fn is_query_verb(verb: &[u8]) -> bool
+    ensures { IsTrue result ↔ IsQueryVerb verb.now }
+{
+    is(verb, b"places") || is(verb, b"history") || is(verb, b"request") || is(verb, b"link")
+}
+
+/// A question: its verb, and the words behind it.
+fn query_of(verb: &[u8], words: &mut Words<'_>) -> Option<Query>
+    ensures { Reads query_words IsQuery (verb.now ∷ words.old) result }
+{
+    if is(verb, b"places") {
+        places(words)
+    } else if is(verb, b"history") {
+        history(words)
+    } else if is(verb, b"request") {
+        request_asked(words)
+    } else if is(verb, b"link") {
+        link(words)
+    } else {
+        None
+    }
+}
+
 /// The words of an act, of which the first says which.
 pub fn act_of(words: &mut Words<'_>) -> Option<Act>
     ensures { Reads act_words IsAct words.old result }
 {
     let verb = words.next()?;
-    if is(verb, b"enter") {
-        Some(Act::Book(BookAct::Enter(entry(words)?)))
-    } else if is(verb, b"withdraw") {
-        Some(Act::Book(withdraw(words)?))
-    } else if is(verb, b"approve") {
-        Some(Act::Book(approve(words)?))
-    } else if is(verb, b"close") {
-        Some(Act::Book(close(words)?))
-    } else if is(verb, b"places") {
-        Some(Act::Ask(places(words)?))
-    } else if is(verb, b"history") {
-        Some(Act::Ask(history(words)?))
-    } else if is(verb, b"request") {
-        Some(Act::Ask(request_asked(words)?))
+    if is_book_verb(verb) {
+        Some(Act::Book(book_act_of(verb, words)?))
+    } else if is_query_verb(verb) {
+        Some(Act::Ask(query_of(verb, words)?))
     } else {
-        None
+        Some(Act::Link(link_act_of(verb, words)?))
     }
 }
 

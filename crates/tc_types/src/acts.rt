@@ -1,4 +1,5 @@
 //! What a person can ask of the desk.
+use crate::directives::Directive;
 use crate::entries::Entry;
 use crate::names::Name;
 use crate::numbers::Moment;
@@ -12,6 +13,8 @@ pub enum Query {
     History { request: u32, after: u32 },
     /// Request `request`, as it was entered, and where it stands.
     Request { request: u32 },
+    /// How the FOP, the FARM and the link stand.
+    Link,
 }
 
 /// An act on the book alone: it asks nothing of the link.
@@ -27,11 +30,34 @@ pub enum BookAct {
     Close { request: u32 },
 }
 
+/// An act that asks something of the link.
+#[derive(Clone, Copy, Debug, PartialEq, Eq)]
+pub enum LinkAct {
+    /// A request leaves the desk: it is offered to the FOP.
+    Release { request: u32 },
+    /// The FOP gets a directive.
+    Direct(Directive),
+    /// One tick of the FOP's timer.
+    Tick,
+    /// The first frame of the uplink comes on board.
+    Up,
+    /// The item at this place of the uplink is lost, from 0 for the oldest.
+    LoseUp { place: u32 },
+    /// The item at this place of the downlink is lost, from 0 for the oldest.
+    LoseDown { place: u32 },
+    /// The FARM's control word is put on the downlink.
+    Clcw,
+    /// The first item of the downlink comes to the desk.
+    Down,
+}
+
 /// An act of a person at the desk.
 #[derive(Clone, Copy, Debug, PartialEq, Eq)]
 pub enum Act {
     /// An act on the book alone.
     Book(BookAct),
+    /// An act that asks something of the link.
+    Link(LinkAct),
     /// A question.
     Ask(Query),
 }

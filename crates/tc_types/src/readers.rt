@@ -1,7 +1,7 @@
 //! Words that are read as numbers, flags and outcomes. What is read has the word as its one spelling.
 ghost use Rattle.std.specs.Prelude.{◌≡◌, ◌≢◌, ◌<◌, ◌↔◌, ℕ, IsTrue, [], ◌∷◌, length, slice_index};
 ghost use Rattle.std.specs.Fmt.{decimal, signed_decimal};
-ghost use Rattle.tc_types.specs.Numbers.{IsMoment, IsOffset, IsApid, IsSteps, IsFailureCode, IsService, IsSubtype};
+ghost use Rattle.tc_types.specs.Numbers.{IsMoment, IsOffset, IsApid, IsSteps, IsFailureCode, IsService, IsSubtype, IsCounter, IsWindow, IsTicks, IsTransmissionLimit};
 ghost use Rattle.tc_types.specs.Grammar.{Reads, IsNumber, flag, ack_word, yes_no};
 
 use crate::numbers::{Apid, FailureCode, Moment, Offset, Service, Steps, Subtype};
@@ -58,6 +58,43 @@ fn byte(word: &[u8]) -> Option<u8>
     ensures { Reads decimal (λ n. n < 256) word.now result }
 {
     u8::try_from(number(word)?).ok()
+}
+
+/// A counter of the link: 0 to 255.
+pub fn counter(word: &[u8]) -> Option<u8>
+    ensures { Reads decimal IsCounter word.now result }
+{
+    byte(word)
+}
+
+/// A number of 8 bits that is not 0.
+fn positive_byte(word: &[u8]) -> Option<u8>
+    ensures { Reads decimal (λ n. (0 < n) × (n < 256)) word.now result }
+{
+    let number = byte(word)?;
+    if number == 0 { None } else { Some(number) }
+}
+
+/// A width of the FOP sliding window: 1 to 255.
+pub fn window(word: &[u8]) -> Option<u8>
+    ensures { Reads decimal IsWindow word.now result }
+{
+    positive_byte(word)
+}
+
+/// A Transmission_Limit: 1 to 255.
+pub fn transmission_limit(word: &[u8]) -> Option<u8>
+    ensures { Reads decimal IsTransmissionLimit word.now result }
+{
+    positive_byte(word)
+}
+
+/// A T1_Initial: 1 to 65,535 ticks.
+pub fn ticks(word: &[u8]) -> Option<u16>
+    ensures { Reads decimal IsTicks word.now result }
+{
+    let count = u16::try_from(number(word)?).ok()?;
+    if count == 0 { None } else { Some(count) }
 }
 
 /// A number of progress steps.

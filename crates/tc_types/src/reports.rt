@@ -1,5 +1,6 @@
 //! What comes down: the control words of the link, and the spacecraft's reports.
 ghost use Rattle.std.specs.Prelude.{◌≡◌};
+ghost use Rattle.tc_types.specs.LinkLines.{verification_subtype, verification_step, verification_code};
 ghost use Rattle.tc_types.specs.Stages.{stage_of_verification, stage_of_telemetry, stage_of};
 
 use crate::activities::Summary;
@@ -53,7 +54,7 @@ pub enum Report {
 
 impl Verification {
     /// The place that it asks for.
-    fn stage(&self) -> Place
+    pub fn stage(&self) -> Place
         ensures { result ≡ stage_of_verification self.now }
     {
         match self {
@@ -64,6 +65,53 @@ impl Verification {
             | Verification::StartFailed { .. }
             | Verification::StepFailed { .. }
             | Verification::CompletionFailed { .. } => Place::Failed,
+        }
+    }
+
+    /// The subtype of the report, 1 to 8.
+    pub fn subtype(&self) -> u8
+        ensures { result ≡ verification_subtype self.now }
+    {
+        match self {
+            Verification::Accepted => 1,
+            Verification::AcceptanceFailed { .. } => 2,
+            Verification::Started => 3,
+            Verification::StartFailed { .. } => 4,
+            Verification::StepDone { .. } => 5,
+            Verification::StepFailed { .. } => 6,
+            Verification::Completed => 7,
+            Verification::CompletionFailed { .. } => 8,
+        }
+    }
+
+    /// The step that it tells of, 0 where it tells of none.
+    pub fn step(&self) -> u8
+        ensures { result ≡ verification_step self.now }
+    {
+        match self {
+            Verification::StepDone { step } | Verification::StepFailed { step, .. } => *step,
+            Verification::Accepted
+            | Verification::AcceptanceFailed { .. }
+            | Verification::Started
+            | Verification::StartFailed { .. }
+            | Verification::Completed
+            | Verification::CompletionFailed { .. } => 0,
+        }
+    }
+
+    /// The code of its failure, 0 where it tells of none.
+    pub fn code(&self) -> u8
+        ensures { result ≡ verification_code self.now }
+    {
+        match self {
+            Verification::AcceptanceFailed { code }
+            | Verification::StartFailed { code }
+            | Verification::StepFailed { code, .. }
+            | Verification::CompletionFailed { code } => *code,
+            Verification::Accepted
+            | Verification::Started
+            | Verification::StepDone { .. }
+            | Verification::Completed => 0,
         }
     }
 }

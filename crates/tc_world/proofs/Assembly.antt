@@ -10,7 +10,7 @@ use Rattle.tc_types.specs.declared.reports.Telemetry.{Telemetry as Packet}
 use Rattle.tc_farm.specs.declared.clcws.Clcw.{Clcw}
 use Rattle.tc_farm.specs.ControlWord.{word_of}
 use Rattle.tc_farm.specs.Farm.{IsFarm, released}
-use Rattle.tc_fop.specs.declared.signals.Directive.{Directive}
+use Rattle.tc_types.specs.declared.directives.Directive.{Directive}
 use Rattle.tc_fop.specs.declared.signals.Indication.TheVariants as signal
 use Rattle.tc_fop.specs.Machine.{Machine, Waiting, Action, Out, after, output, option_list}
 use Rattle.tc_fop.specs.Calls.{Given, offered, directed, reported, ticked, Answers, is_taking}

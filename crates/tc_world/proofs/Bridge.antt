@@ -4,7 +4,7 @@ use Rattle.std.specs.Prelude.{MatchBool}
 use Rattle.tc_types.specs.declared.frames.Frame.{Frame}
 use Rattle.tc_types.specs.declared.reports.Report.{Report}
 use Rattle.tc_types.specs.declared.reports.Report.TheVariants as report
-use Rattle.tc_fop.specs.declared.signals.Directive.{Directive}
+use Rattle.tc_types.specs.declared.directives.Directive.{Directive}
 use Rattle.tc_fop.specs.Machine.{Action}
 use Rattle.tc_fop.specs.Moves.{is_initiation}
 use Rattle.tc_world.specs.declared.events.Event.{Event}

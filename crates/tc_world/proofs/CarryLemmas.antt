@@ -7,7 +7,7 @@ use Rattle.tc_types.specs.declared.reports.Report.{Report}
 use Rattle.tc_types.specs.declared.reports.Report.TheVariants as report
 use Rattle.tc_farm.specs.declared.clcws.Clcw.{Clcw}
 use Rattle.tc_farm.specs.ControlWord.{IsValid, word_of, without_ignored}
-use Rattle.tc_fop.specs.declared.signals.Directive.{Directive}
+use Rattle.tc_types.specs.declared.directives.Directive.{Directive}
 use Rattle.tc_fop.specs.Moves.{is_initiation}
 use Rattle.tc_fop.specs.Machine.{Machine, Action, Out, after, output}
 use Rattle.tc_fop.specs.Calls.{Given, Answers, directed, reported, ticked}

@@ -9,8 +9,8 @@ use Rattle.tc_types.specs.declared.refusals.Refusal.TheVariants.{BadDirective}
 use Rattle.tc_types.specs.declared.reports.Report.{Report}
 use Rattle.tc_types.specs.declared.reports.Report.TheVariants.{Word, Telemetry}
 use Rattle.tc_fop.specs.declared.signals.FopState.TheVariants.{Active, InitialisingWithoutBc, InitialisingWithBc}
-use Rattle.tc_fop.specs.declared.signals.Directive.{Directive}
-use Rattle.tc_fop.specs.declared.signals.Directive.TheVariants as directive
+use Rattle.tc_types.specs.declared.directives.Directive.{Directive}
+use Rattle.tc_types.specs.declared.directives.Directive.TheVariants as directive
 use Rattle.tc_fop.specs.Machine.{Machine, Action, StartTimer, SendControl, Begin, To, Initiate, SetVsAlone, SetVsAndNn, SetKTo, SetT1To, SetLimitTo, output}
 use Rattle.tc_fop.specs.Calls.{directed, is_initial}
 use Rattle.tc_fop.specs.Moves.{is_initiation}

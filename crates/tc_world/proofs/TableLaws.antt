@@ -5,7 +5,7 @@ use Rattle.tc_farm.specs.declared.clcws.Clcw.{Clcw}
 use Rattle.tc_farm.specs.declared.farms.FarmView.{FarmView}
 use Rattle.tc_farm.specs.Farm.{IsFarm, farm_after, verdict_of}
 use Rattle.tc_farm.specs.FarmLaws.{IsNumbered, Says}
-use Rattle.tc_fop.specs.declared.signals.Directive.{Directive}
+use Rattle.tc_types.specs.declared.directives.Directive.{Directive}
 use Rattle.tc_fop.specs.Machine.{Machine, Out}
 use Rattle.tc_fop.specs.Calls.{directed, reported, Answers}
 use Rattle.tc_fop.specs.Standing.{IsFop}

@@ -8,7 +8,7 @@ use Rattle.tc_types.specs.declared.frames.Frame.{Frame}
 use Rattle.tc_types.specs.declared.reports.Report.{Report}
 use Rattle.tc_types.specs.declared.reports.Report.TheVariants.{Word, Telemetry}
 use Rattle.tc_farm.specs.Farm.{verdict_of}
-use Rattle.tc_fop.specs.declared.signals.Directive.{Directive}
+use Rattle.tc_types.specs.declared.directives.Directive.{Directive}
 use Rattle.tc_fop.specs.declared.signals.Indication.{Indication as Signal}
 use Rattle.tc_fop.specs.Machine.{Action, after, output}
 use Rattle.tc_fop.specs.Calls.{offered, directed, reported, ticked}

@@ -11,8 +11,8 @@ use Rattle.tc_farm.specs.declared.clcws.Clcw.{Clcw}
 use Rattle.tc_farm.specs.declared.farms.FarmView.{FarmView}
 use Rattle.tc_farm.specs.ControlWord.{IsValid, word_of, without_ignored}
 use Rattle.tc_farm.specs.Farm.{IsFarm, farm_after, verdict_of, released}
-use Rattle.tc_fop.specs.declared.signals.Directive.{Directive}
-use Rattle.tc_fop.specs.declared.signals.Directive.TheVariants as directive
+use Rattle.tc_types.specs.declared.directives.Directive.{Directive}
+use Rattle.tc_types.specs.declared.directives.Directive.TheVariants as directive
 use Rattle.tc_fop.specs.declared.signals.Indication.TheVariants as signal
 use Rattle.tc_fop.specs.Machine.{Machine, Action, Out, after, output}
 use Rattle.tc_fop.specs.Calls.{Given, offered, directed, reported, ticked}

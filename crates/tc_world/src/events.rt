@@ -1,6 +1,7 @@
 //! What happens to the link, and what it tells.
 use tc_farm::farms::Verdict;
 use tc_fop::signals;
+use tc_types::directives::Directive;
 use tc_types::numbers::RequestNumber;
 use tc_types::reports::{Report, Telemetry};
 use tc_types::requests::Body;
@@ -11,7 +12,7 @@ pub enum Event {
     /// A request is offered to the FOP.
     Offer { request: RequestNumber, body: Body },
     /// The FOP gets a directive.
-    Directive(signals::Directive),
+    Directive(Directive),
     /// One tick of the FOP's timer.
     Tick,
     /// The FARM gets the first frame of the uplink; `free_buffer` says whether a buffer is free for it.

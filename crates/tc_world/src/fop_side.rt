@@ -29,7 +29,7 @@ use tc_farm::clcws::Clcw;
 use tc_fop::fops::Fop;
 use tc_fop::outputs::{MOST_FRAMES, Output};
 use tc_fop::signals;
-use tc_fop::signals::Directive;
+use tc_types::directives::Directive;
 use tc_types::frames::Frame;
 use tc_types::numbers::RequestNumber;
 use tc_types::refusals::Refusal;

@@ -32,7 +32,7 @@ impl<A: Allocator + Copy + Drop> Model for Indications<A> {
 
 impl<A: Allocator + Copy + Drop> Indications<A> {
     /// Nothing is told. It takes no memory.
-    pub(crate) fn none(alloc: A) -> Indications<A>
+    pub fn none(alloc: A) -> Indications<A>
         ensures { result ≡ [] }
     {
         Indications {

@@ -40,16 +40,9 @@ impl<T: Drop, A: Allocator> Carrier<T> for ListCarrier<T, A> {
     ghost use Rattle.std.proofs.Common.{subst, sym};
     ghost use Rattle.std.specs.Prelude.{◌≡◌, ℕ, Bool, List, [], ◌∷◌, ◌++◌, length, remove, nat_lt};
     ghost use Rattle.tc_world.specs.Sublist.{IsSublist, IsSublist-same, IsSublist-remove};
-    ghost use Rattle.tc_world.specs.Links.{Kind};
+    ghost use Rattle.tc_world.specs.InFlight.{listed};
 
-    // a put is behind the others, and all stay; the first is taken, and no other leaves; that one item is lost, and past
-    // the end nothing is, and the answer is false
-    ghost kind = { record {
-      content = λ c. c.content;
-      puts = λ old item new. new.content ≡ old.content ++ item ∷ [];
-      takes = λ old item new. old.content ≡ item ∷ new.content;
-      loses = λ old place answer new. (answer ≡ nat_lt place (length old.content)) × (new.content ≡ remove old.content place);
-    } };
+    ghost kind = { listed };
 
     ghost covered = { λ c. c.covered };
 

@@ -12,7 +12,7 @@ use std::process::Abort;
 use std::test::Fail;
 use tc_farm::farms::Farm;
 use tc_fop::fops::Fop;
-use tc_fop::signals::Directive;
+use tc_types::directives::Directive;
 use tc_types::frames::Frame;
 use tc_types::numbers::{Apid, RequestNumber, SequenceCount, Service, Subtype};
 use tc_types::refusals::Refusal;

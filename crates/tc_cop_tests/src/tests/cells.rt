@@ -1,16 +1,17 @@
 //! A case for each cell of the table that calls can reach in S1 to S5: those that act, and those that ignore.
 use super::calls::{Call, all_done, check_view, done};
 use super::ends::{OnGround, PutsOut, fop};
+use super::stops::{IGNORED_IN_S5, IN_S5, LIMITS, STOPS, Stop};
 use super::tables::{
-    ACKNOWLEDGES, ALL_AGAIN, BEGINS, Case, Flown, IGNORED, IGNORED_IN_S5, IN_S5, Indicated, LEFT,
-    LIMITS, NO_MORE, STOPPED, STOPS, Start, Stop,
+    ACKNOWLEDGES, ALL_AGAIN, BEGINS, Case, Flown, IGNORED, Indicated, LEFT, NO_MORE, STOPPED, Start,
 };
 use super::{ad, number};
 use std::alloc::Global;
 use std::process::Abort;
 use std::test::Fail;
-use tc_fop::signals::{Directive, Indication};
+use tc_fop::signals::Indication;
 use tc_fop::views::FopView;
+use tc_types::directives::Directive;
 use tc_types::frames::Frame;
 use tc_types::refusals::Refusal;
 

@@ -7,7 +7,8 @@ use std::test::Fail;
 use tc_farm::clcws::Clcw;
 use tc_farm::farms::{FarmState, Verdict};
 use tc_fop::signals;
-use tc_fop::signals::{AlertKind, Directive, FopState};
+use tc_fop::signals::{AlertKind, FopState};
+use tc_types::directives::Directive;
 use tc_types::reports::Report;
 use tc_world::events::Indication;
 

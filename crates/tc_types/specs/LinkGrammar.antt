@@ -1,0 +1,53 @@
+-- The spelling of acts on the link, and the limits that their numbers keep.
+use Rattle.std.specs.Prelude.{ℕ, List, [], ◌∷◌, codes}
+use Rattle.std.specs.Fmt.{decimal}
+use Rattle.tc_types.specs.declared.directives.Directive.{Directive}
+use Rattle.tc_types.specs.declared.directives.Directive.TheVariants as directive
+use Rattle.tc_types.specs.declared.acts.LinkAct.{LinkAct}
+use Rattle.tc_types.specs.declared.acts.LinkAct.TheVariants as link_act
+use Rattle.tc_types.specs.Numbers.{IsNumber, IsCounter, IsWindow, IsTicks, IsTransmissionLimit}
+
+-- the words of a directive
+abbrev pub directive_words : Directive → List (List ℕ)
+directive_words directive.InitiateNone = codes "initiate" ∷ codes "none" ∷ []
+directive_words directive.InitiateCheck = codes "initiate" ∷ codes "check" ∷ []
+directive_words directive.InitiateUnlock = codes "initiate" ∷ codes "unlock" ∷ []
+directive_words (directive.InitiateSetVr v) = codes "initiate" ∷ codes "setvr" ∷ decimal v ∷ []
+directive_words directive.Terminate = codes "terminate" ∷ []
+directive_words (directive.SetVs v) = codes "set" ∷ codes "vs" ∷ decimal v ∷ []
+directive_words (directive.SetK k) = codes "set" ∷ codes "k" ∷ decimal k ∷ []
+directive_words (directive.SetT1 t1) = codes "set" ∷ codes "t1" ∷ decimal t1 ∷ []
+directive_words (directive.SetLimit limit) = codes "set" ∷ codes "limit" ∷ decimal limit ∷ []
+
+abbrev pub IsDirective : Directive → Type 0
+IsDirective directive.InitiateNone = Unit {0}
+IsDirective directive.InitiateCheck = Unit {0}
+IsDirective directive.InitiateUnlock = Unit {0}
+IsDirective (directive.InitiateSetVr v) = IsCounter v
+IsDirective directive.Terminate = Unit {0}
+IsDirective (directive.SetVs v) = IsCounter v
+IsDirective (directive.SetK k) = IsWindow k
+IsDirective (directive.SetT1 t1) = IsTicks t1
+IsDirective (directive.SetLimit limit) = IsTransmissionLimit limit
+
+-- the words of an act on the link: its verb, and what it takes
+abbrev pub link_act_words : LinkAct → List (List ℕ)
+link_act_words (link_act.Release request) = codes "release" ∷ decimal request ∷ []
+link_act_words (link_act.Direct given) = directive_words given
+link_act_words link_act.Tick = codes "tick" ∷ []
+link_act_words link_act.Up = codes "up" ∷ []
+link_act_words (link_act.LoseUp place) = codes "loseup" ∷ decimal place ∷ []
+link_act_words (link_act.LoseDown place) = codes "losedown" ∷ decimal place ∷ []
+link_act_words link_act.Clcw = codes "clcw" ∷ []
+link_act_words link_act.Down = codes "down" ∷ []
+
+-- the limits that its numbers keep
+abbrev pub IsLinkAct : LinkAct → Type 0
+IsLinkAct (link_act.Release request) = IsNumber request
+IsLinkAct (link_act.Direct given) = IsDirective given
+IsLinkAct link_act.Tick = Unit {0}
+IsLinkAct link_act.Up = Unit {0}
+IsLinkAct (link_act.LoseUp place) = IsNumber place
+IsLinkAct (link_act.LoseDown place) = IsNumber place
+IsLinkAct link_act.Clcw = Unit {0}
+IsLinkAct link_act.Down = Unit {0}

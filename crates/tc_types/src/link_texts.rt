@@ -1,0 +1,56 @@
+//! The lines that tell what came over the link, without their LF.
+ghost use Rattle.std.specs.Prelude.{◌≡◌, IfOk};
+ghost use Rattle.std.specs.String.{string_bytes};
+ghost use Rattle.tc_types.specs.LinkLines.{accepted_line, word_line, verified_line, summarized_line};
+
+use crate::reports::Verification;
+use crate::requests::Identity;
+use std::alloc::{AllocError, Allocator};
+use std::fmt::Write;
+
+/// A request was taken on board: `ok accepted N`. Fails where memory is refused.
+pub fn accepted_text<A: Allocator + Copy>(alloc: A, number: u32) -> Result<String<A>, AllocError>
+    ensures { IfOk result (λ t. string_bytes t ≡ accepted_line number) }
+{
+    format!(in alloc; "ok accepted {number}")
+}
+
+/// A control word came down: `ok clcw HHHHHHHH`. Fails where memory is refused.
+#[tactic(auto, using(crate::proofs::LinkLaws::word_padded))]
+pub fn word_text<A: Allocator + Copy>(alloc: A, word: u32) -> Result<String<A>, AllocError>
+    ensures { IfOk result (λ t. string_bytes t ≡ word_line word) }
+{
+    format!(in alloc; "ok clcw {word:08x}")
+}
+
+/// A report of request verification came down: `ok tm 1,T APID/COUNT step N code C`, 0 where absent. Fails where memory
+/// is refused.
+pub fn verified_text<A: Allocator + Copy>(
+    alloc: A,
+    verification: Verification,
+    identity: Identity,
+) -> Result<String<A>, AllocError>
+    ensures { IfOk result (λ t. string_bytes t ≡ verified_line verification identity) }
+{
+    let subtype = verification.subtype();
+    let step = verification.step();
+    let code = verification.code();
+    let identity = identity.text(alloc)?;
+    let identity = identity.as_str();
+    let mut line = format!(in alloc; "ok tm 1,{subtype} {identity}")?;
+    write!(line, " step {step} code {code}")?;
+    Ok(line)
+}
+
+/// A summary of the on-board schedule came down: `ok tm 11,13 enabled N`, or `disabled N`, of so many activities. Fails
+/// where memory is refused.
+pub fn summarized_text<A: Allocator + Copy>(
+    alloc: A,
+    enabled: bool,
+    count: u32,
+) -> Result<String<A>, AllocError>
+    ensures { IfOk result (λ t. string_bytes t ≡ summarized_line enabled count) }
+{
+    let status = if enabled { "enabled" } else { "disabled" };
+    format!(in alloc; "ok tm 11,13 {status} {count}")
+}
