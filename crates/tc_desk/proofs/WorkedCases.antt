@@ -16,8 +16,11 @@ use Rattle.tc_types.specs.declared.acts.Act.TheVariants as act
 use Rattle.tc_types.specs.declared.acts.Query.TheVariants as query
 use Rattle.tc_types.specs.Grammar.{line_text}
 use Rattle.tc_book.specs.declared.stamps.Stamp.{Stamp}
+use Rattle.tc_types.specs.declared.frames.Frame.{Frame}
+use Rattle.tc_types.specs.declared.reports.Report.{Report}
 use Rattle.tc_book.specs.Book.{Book, empty_book, moved, want, with_entry}
-use Rattle.tc_desk.specs.State.{State}
+use Rattle.tc_world.specs.InFlight.{InFlight, listed}
+use Rattle.tc_desk.specs.State.{State, new_desk}
 use Rattle.tc_desk.specs.Acts.{refusal_of, acted, first_of}
 use Rattle.tc_desk.specs.Machine.{stamp_of}
 use Rattle.tc_desk.specs.Replies.{Reply, act_reply, query_reply, refusal_reply}
@@ -43,10 +46,18 @@ first_run =
     ∷ line 130 (codes "ann") (act.Ask (query.History 1 0))
     ∷ []
 
+-- a link with nothing in flight
+abbrev idle : {T : Type 0} → InFlight T
+idle = record { content = []; covered = 0 }
+
+-- a desk with this book, over a link where nothing happened yet
+abbrev desk_of : Book → State (InFlight Frame) (InFlight Report)
+desk_of book = record (new_desk (record { window = 20; channel = 3 }) idle idle) { book = book }
+
 -- the reply where no test holds
 abbrev served : Book → Stamp → Act → Reply
-served book stamp (act.Ask asked) = query_reply book asked
-served book stamp given = act_reply (first_of book given) (drop (length book.history) (acted stamp given book).history)
+served book stamp (act.Ask asked) = query_reply listed listed (desk_of book) asked
+served book stamp given = act_reply (first_of book given []) [] (drop (length book.history) (acted stamp given book).history)
 
 -- a line's reply, and the book after it, where memory is not refused
 abbrev step : Option Refusal → Book → Stamp → Act → Reply × Book
@@ -54,7 +65,7 @@ step (Some refusal) book stamp given = (refusal_reply refusal, book)
 step None book stamp given = (served book stamp given, acted stamp given book)
 
 abbrev step_of : Book → Line → Reply × Book
-step_of book given = step (refusal_of (stamp_of given) (record { book = book }) given.act) book (stamp_of given) given.act
+step_of book given = step (refusal_of (stamp_of given) (desk_of book) given.act) book (stamp_of given) given.act
 
 -- the lines of the replies
 abbrev replies_to : Book → List Line → Reply

@@ -1,41 +1,164 @@
--- What each kind of act is refused for, and what it makes by itself. An act on the book alone is the book's matter; the
--- link's acts will each be a case beside it.
-use Rattle.std.specs.Prelude.{Bool, true, false, Option, List}
+-- What each kind of act is refused for, what it makes of the book by itself, and how its reply begins. An act on the book
+-- alone is the book's matter.
+use Rattle.std.specs.Prelude.{◌==◌, Bool, true, false, not, ◌&&◌, Option, Some, None, is_some, List, [], ◌∷◌, count_by}
+use Rattle.tc_types.specs.declared.activities.ListedActivity.{ListedActivity}
+use Rattle.tc_types.specs.declared.places.Place.TheVariants.{Entered, Approved, Queued}
+use Rattle.tc_types.specs.declared.causes.Cause.TheVariants as cause
 use Rattle.tc_types.specs.declared.refusals.Refusal.{Refusal}
+use Rattle.tc_types.specs.declared.refusals.Refusal.TheVariants.{UnknownRequest, NotApproved, WrongPlace, BadActivity, ServiceNotActive, WaitQueueFull, BadDirective, DeskFull}
+use Rattle.tc_types.specs.declared.directives.Directive.{Directive}
+use Rattle.tc_types.specs.declared.directives.Directive.TheVariants as directive
+use Rattle.tc_types.specs.declared.requests.Request.{Request}
+use Rattle.tc_types.specs.declared.reports.Report.TheVariants as report
+use Rattle.tc_types.specs.declared.reports.Telemetry.{Telemetry}
+use Rattle.tc_types.specs.declared.reports.Telemetry.TheVariants as telemetry
+use Rattle.tc_types.specs.declared.acts.LinkAct.{LinkAct}
+use Rattle.tc_types.specs.declared.acts.LinkAct.TheVariants as link_act
 use Rattle.tc_types.specs.declared.acts.Act.{Act}
-use Rattle.tc_types.specs.declared.acts.Query.{Query}
 use Rattle.tc_types.specs.declared.acts.Act.TheVariants as act
+use Rattle.tc_types.specs.declared.acts.Query.{Query}
+use Rattle.tc_types.specs.Schedule.{is_schedule}
+use Rattle.tc_farm.specs.declared.farms.Verdict.TheVariants as verdict
+use Rattle.tc_fop.specs.declared.signals.FopState.{FopState}
+use Rattle.tc_fop.specs.declared.views.FopView.{FopView}
+use Rattle.tc_fop.specs.Calls.{is_taking, is_initial}
+use Rattle.tc_fop.specs.Views.{view_of}
+use Rattle.tc_world.specs.declared.events.Indication.{Indication}
+use Rattle.tc_world.specs.declared.events.Indication.TheVariants as said
+use Rattle.tc_world.specs.World.{is_terminate}
 use Rattle.tc_book.specs.declared.stamps.Stamp.{Stamp}
-use Rattle.tc_book.specs.declared.firsts.First.{First}
-use Rattle.tc_book.specs.declared.firsts.First.TheVariants.{Plain}
-use Rattle.tc_book.specs.Book.{Book}
+use Rattle.tc_book.specs.declared.firsts.First.TheVariants as book_first
+use Rattle.tc_book.specs.Book.{Book, stands, is_unknown, has_all_rows, request_at, want, moved}
 use Rattle.tc_book.specs.Acts as on_book
+use Rattle.tc_desk.specs.declared.firsts.First.{First}
+use Rattle.tc_desk.specs.declared.firsts.First.TheVariants as first
 use Rattle.tc_desk.specs.State.{State}
 
--- the tests, with the refusal that each gives, in order
-abbrev pub tests_of : Stamp → State → Act → List (Bool × Refusal)
+-- ---- the tests of each act, in order, with the refusal that each gives
+
+-- the request commands the on-board schedule: it is not released yet
+abbrev pub commands_schedule : Option Request → Bool
+commands_schedule None = false
+commands_schedule (Some request) = is_schedule request.body.command
+
+-- an initiation and a new V(S) are taken in S6 alone, and 0 is no setting
+abbrev pub is_bad_directive : FopState → Directive → Bool
+is_bad_directive state directive.InitiateNone = not (is_initial state)
+is_bad_directive state directive.InitiateCheck = not (is_initial state)
+is_bad_directive state directive.InitiateUnlock = not (is_initial state)
+is_bad_directive state (directive.InitiateSetVr v) = not (is_initial state)
+is_bad_directive state directive.Terminate = false
+is_bad_directive state (directive.SetVs v) = not (is_initial state)
+is_bad_directive state (directive.SetK k) = k == 0
+is_bad_directive state (directive.SetT1 t1) = t1 == 0
+is_bad_directive state (directive.SetLimit limit) = limit == 0
+
+-- of a book and a FOP
+abbrev pub link_tests : Book → FopView → LinkAct → List (Bool × Refusal)
+link_tests book fop (link_act.Release n) =
+    (is_unknown book n, UnknownRequest)
+    ∷ (stands book n (Entered ∷ []), NotApproved)
+    ∷ (not (stands book n (Approved ∷ [])), WrongPlace)
+    ∷ (commands_schedule (request_at book n), BadActivity)
+    ∷ (not (is_taking fop.state), ServiceNotActive)
+    ∷ (not (fop.waiting == 0), WaitQueueFull)
+    ∷ (has_all_rows book, DeskFull)
+    ∷ []
+link_tests book fop (link_act.Direct given) = (is_bad_directive fop.state given, BadDirective) ∷ (is_terminate given && has_all_rows book, DeskFull) ∷ []
+link_tests book fop link_act.Tick = (has_all_rows book, DeskFull) ∷ []
+link_tests book fop link_act.Up = []
+link_tests book fop (link_act.LoseUp place) = []
+link_tests book fop (link_act.LoseDown place) = []
+link_tests book fop link_act.Clcw = []
+link_tests book fop link_act.Down = (has_all_rows book, DeskFull) ∷ []
+
+abbrev pub tests_of : {U D : Type 0} → Stamp → State U D → Act → List (Bool × Refusal)
 tests_of stamp at (act.Book given) = on_book.tests_of stamp at.book given
+tests_of stamp at (act.Link given) = link_tests at.book (view_of at.world.fop) given
 tests_of stamp at (act.Ask asked) = on_book.query_tests at.book asked
 
 -- what the first test that holds says
-abbrev pub refusal_of : Stamp → State → Act → Option Refusal
+abbrev pub refusal_of : {U D : Type 0} → Stamp → State U D → Act → Option Refusal
 refusal_of stamp at given = on_book.first_refusal (tests_of stamp at given)
 
 -- the same of a question, whoever asks
-abbrev pub question_refusal : State → Query → Option Refusal
+abbrev pub question_refusal : {U D : Type 0} → State U D → Query → Option Refusal
 question_refusal at asked = on_book.first_refusal (on_book.query_tests at.book asked)
 
--- the book with the act's own rows
+-- ---- the act's own rows
+
+abbrev pub released : Stamp → LinkAct → Book → Book
+released stamp (link_act.Release n) book = moved stamp book (want n Queued cause.Release)
+released stamp (link_act.Direct given) book = book
+released stamp link_act.Tick book = book
+released stamp link_act.Up book = book
+released stamp (link_act.LoseUp place) book = book
+released stamp (link_act.LoseDown place) book = book
+released stamp link_act.Clcw book = book
+released stamp link_act.Down book = book
+
 abbrev pub acted : Stamp → Act → Book → Book
 acted stamp (act.Book given) book = on_book.acted stamp given book
+acted stamp (act.Link given) book = released stamp given book
 acted stamp (act.Ask asked) book = book
 
--- how the reply begins
-abbrev pub first_of : Book → Act → First
-first_of book (act.Book given) = on_book.first_of book given
-first_of book (act.Ask asked) = Plain
+-- ---- how the reply begins
+
+abbrev pub plain : First
+plain = first.Book book_first.Plain
+
+-- what became of the first frame
+abbrev pub first_of_up : List Indication → First
+first_of_up [] = first.Nothing
+first_of_up (said.Fop i ∷ others) = first.Nothing
+first_of_up (said.Farm (verdict.Accepted n body) ∷ others) = first.Accepted n
+first_of_up (said.Farm verdict.Discarded ∷ others) = first.Discarded
+first_of_up (said.Farm verdict.Control ∷ others) = first.Control
+first_of_up (said.Received item ∷ others) = first.Nothing
+first_of_up (said.Lost ∷ others) = first.Nothing
+
+abbrev pub is_there : Option ListedActivity → Bool
+is_there place = is_some place
+
+-- a report that came down: of a summary, how many activities it tells
+abbrev pub first_of_report : Telemetry → First
+first_of_report (telemetry.Verification verification n identity) = first.Verified verification identity
+first_of_report (telemetry.Summary summary) = first.Summarized summary.enabled (count_by is_there summary.activities)
+
+-- what came down
+abbrev pub first_of_down : List Indication → First
+first_of_down [] = first.Nothing
+first_of_down (said.Fop i ∷ others) = first.Nothing
+first_of_down (said.Farm given ∷ others) = first.Nothing
+first_of_down (said.Received (report.Word word) ∷ others) = first.Word word
+first_of_down (said.Received (report.Telemetry item) ∷ others) = first_of_report item
+first_of_down (said.Lost ∷ others) = first.Nothing
+
+-- whether something was lost
+abbrev pub first_of_loss : List Indication → First
+first_of_loss [] = first.Nothing
+first_of_loss (said.Fop i ∷ others) = first.Nothing
+first_of_loss (said.Farm given ∷ others) = first.Nothing
+first_of_loss (said.Received item ∷ others) = first.Nothing
+first_of_loss (said.Lost ∷ others) = first.Lost
+
+abbrev pub first_told : LinkAct → List Indication → First
+first_told (link_act.Release n) all = plain
+first_told (link_act.Direct given) all = plain
+first_told link_act.Tick all = plain
+first_told link_act.Up all = first_of_up all
+first_told (link_act.LoseUp place) all = first_of_loss all
+first_told (link_act.LoseDown place) all = first_of_loss all
+first_told link_act.Clcw all = plain
+first_told link_act.Down all = first_of_down all
+
+abbrev pub first_of : Book → Act → List Indication → First
+first_of book (act.Book given) all = first.Book (on_book.first_of book given)
+first_of book (act.Link given) all = first_told given all
+first_of book (act.Ask asked) all = plain
 
 -- a question changes nothing
 abbrev pub is_question : Act → Bool
 is_question (act.Book given) = false
+is_question (act.Link given) = false
 is_question (act.Ask asked) = true

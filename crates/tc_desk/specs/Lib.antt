@@ -1,4 +1,9 @@
 pub mod State
+pub mod Asks
+pub mod Effects
 pub mod Acts
+pub mod StatusLines
 pub mod Replies
 pub mod Machine
+pub mod Parts
+pub mod Tied

@@ -1,17 +1,27 @@
 -- The lines of a reply.
-use Rattle.std.specs.Prelude.{ℕ, nat_lt, Option, Some, None, List, [], ◌∷◌, length, map, take, codes}
+use Rattle.std.specs.Prelude.{ℕ, nat_lt, Option, Some, None, List, [], ◌∷◌, ◌++◌, length, map, take, codes}
+use Rattle.std.specs.List.{filter_map}
+use Rattle.tc_types.specs.declared.frames.Frame.{Frame}
 use Rattle.tc_types.specs.declared.moves.Move.{Move}
 use Rattle.tc_types.specs.declared.places.Place.{Place}
 use Rattle.tc_types.specs.declared.refusals.Refusal.{Refusal}
+use Rattle.tc_types.specs.declared.reports.Report.{Report}
 use Rattle.tc_types.specs.declared.requests.Request.{Request}
 use Rattle.tc_types.specs.declared.acts.Query.{Query}
 use Rattle.tc_types.specs.declared.acts.Query.TheVariants as query
 use Rattle.tc_types.specs.History.{entered, counts_of, rows_past}
 use Rattle.tc_types.specs.Lines.{entered_line, approvals_line, history_line, move_line, places_line, refusal_line}
+use Rattle.tc_types.specs.LinkLines.{accepted_line, word_line, verified_line, summarized_line}
 use Rattle.tc_types.specs.RequestLine.{request_line}
-use Rattle.tc_book.specs.declared.firsts.First.{First}
-use Rattle.tc_book.specs.declared.firsts.First.TheVariants as first
-use Rattle.tc_book.specs.Book.{Book, place_in, request_at}
+use Rattle.tc_world.specs.declared.events.Indication.{Indication}
+use Rattle.tc_world.specs.Links.{Kind}
+use Rattle.tc_book.specs.declared.firsts.First.{First as BookFirst}
+use Rattle.tc_book.specs.declared.firsts.First.TheVariants as book_first
+use Rattle.tc_book.specs.Book.{place_in, request_at}
+use Rattle.tc_desk.specs.declared.firsts.First.{First}
+use Rattle.tc_desk.specs.declared.firsts.First.TheVariants as first
+use Rattle.tc_desk.specs.State.{State}
+use Rattle.tc_desk.specs.StatusLines.{status_lines, status_of, told_line}
 
 abbrev pub Reply : Type 0
 Reply = List (List ℕ)
@@ -21,14 +31,26 @@ abbrev pub refusal_reply : Refusal → Reply
 refusal_reply refusal = refusal_line refusal ∷ []
 
 -- ok, or ok request N APID/COUNT, or ok approvals I of M
-abbrev pub first_line : First → List ℕ
-first_line first.Plain = codes "ok"
-first_line (first.Entered n identity) = entered_line n identity
-first_line (first.Approvals given wanted) = approvals_line given wanted
+abbrev pub book_line : BookFirst → List ℕ
+book_line book_first.Plain = codes "ok"
+book_line (book_first.Entered n identity) = entered_line n identity
+book_line (book_first.Approvals given wanted) = approvals_line given wanted
 
--- the reply to an act: its first line, then a line for each row that it made
-abbrev pub act_reply : First → List Move → Reply
-act_reply first rows = first_line first ∷ map move_line rows
+-- the same, or what came up, was lost, or came down
+abbrev pub first_line : First → List ℕ
+first_line (first.Book given) = book_line given
+first_line first.Nothing = codes "ok nothing"
+first_line (first.Accepted n) = accepted_line n
+first_line first.Discarded = codes "ok discarded"
+first_line first.Control = codes "ok control"
+first_line first.Lost = codes "ok lost"
+first_line (first.Word word) = word_line word
+first_line (first.Verified verification identity) = verified_line verification identity
+first_line (first.Summarized enabled count) = summarized_line enabled count
+
+-- the reply to an act: its first line, a line for each start and alert that the link told, and one for each row that it made
+abbrev pub act_reply : First → List Indication → List Move → Reply
+act_reply first all rows = first_line first ∷ filter_map told_line all ++ map move_line rows
 
 -- how many rows a reply about a request's history shows at most
 abbrev pub most_shown : ℕ
@@ -46,7 +68,8 @@ request_lines None at = []
 request_lines (Some request) at = request_line request at ∷ []
 
 -- the reply to a question
-abbrev pub query_reply : Book → Query → Reply
-query_reply book query.Places = places_line (length (entered book.history)) (counts_of book.history) ∷ []
-query_reply book (query.History n after) = history_lines n (rows_past n after book.history)
-query_reply book (query.Request n) = request_lines (request_at book n) (place_in book n)
+abbrev pub query_reply : {U D : Type 0} → Kind U Frame → Kind D Report → State U D → Query → Reply
+query_reply up down at query.Places = places_line (length (entered at.book.history)) (counts_of at.book.history) ∷ []
+query_reply up down at (query.History n after) = history_lines n (rows_past n after at.book.history)
+query_reply up down at (query.Request n) = request_lines (request_at at.book n) (place_in at.book n)
+query_reply up down at query.Link = status_lines (status_of up down at)

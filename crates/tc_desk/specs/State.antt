@@ -1,9 +1,35 @@
--- What a desk is made of: its book. The link and the spacecraft will stand beside it.
+-- What a desk is made of: its book, its link and the rehearsal spacecraft.
+use Rattle.std.specs.Prelude.{◌≤◌, true, []}
+use Rattle.tc_farm.specs.Farm.{IsWindowWidth, new_farm}
+use Rattle.tc_fop.specs.Calls.{new_machine}
+use Rattle.tc_world.specs.Logs.{blank}
+use Rattle.tc_world.specs.World.{Whole}
+use Rattle.tc_board.specs.Board.{BoardState, new_board}
 use Rattle.tc_book.specs.Book.{Book, empty_book}
+use Rattle.tc_desk.specs.declared.configs.Config.{Config}
 
-pub record State : Type 0 where
+-- what may be chosen: W even, 2 to 254, and a channel of 6 bits
+abbrev pub IsConfig : Config → Type 0
+IsConfig config = IsWindowWidth config.window × (config.channel ≤ 63)
+
+pub record State (U D : Type 0) : Type 0 where
   pub book : Book
+  pub world : Whole U D
+  pub board : BoardState
 
--- a desk where nothing happened yet
-abbrev pub new_desk : State
-new_desk = record { book = empty_book }
+-- a link where nothing happened yet, over these carriers: K = 10, T1_Initial = 10 ticks, Transmission_Limit = 3
+abbrev pub new_world : {U D : Type 0} → Config → U → D → Whole U D
+new_world config up down = record {
+  fop = new_machine 10 10 3;
+  farm = new_farm config.window;
+  up = up;
+  down = down;
+  past = [];
+  newest = blank 0;
+  clean = true;
+  vc = config.channel;
+}
+
+-- a desk where nothing happened yet: the spacecraft's time is 0
+abbrev pub new_desk : {U D : Type 0} → Config → U → D → State U D
+new_desk config up down = record { book = empty_book; world = new_world config up down; board = new_board 0 }

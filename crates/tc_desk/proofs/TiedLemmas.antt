@@ -1,0 +1,171 @@
+-- The tie between book and link is kept by what the book hears.
+use Rattle.std.proofs.Common.{◌≡◌, ℕ, ◌+◌, ◌≤◌, ◌==◌, Bool, true, false, if◌then◌else◌, Option, Some, None, List, [], ◌∷◌, ◌++◌, length, refl, sym, ◌∙◌, ap, subst, append_assoc, append-nil, arith}
+use Rattle.std.proofs.lemmas.Bool.Decides.{nat_tests}
+use Rattle.std.specs.List.{flat_map, list_any}
+use Rattle.tc_types.specs.declared.places.Place.{Place}
+use Rattle.tc_types.specs.declared.places.Place.TheVariants as place
+use Rattle.tc_types.specs.declared.causes.Cause.{Cause}
+use Rattle.tc_types.specs.declared.causes.Cause.TheVariants as cause
+use Rattle.tc_types.specs.declared.reports.Report.TheVariants as report
+use Rattle.tc_types.specs.declared.reports.Telemetry.TheVariants as telemetry
+use Rattle.tc_types.specs.declared.reports.Verification.{Verification}
+use Rattle.tc_types.specs.declared.reports.Verification.TheVariants as verification
+use Rattle.tc_types.specs.Lawful.{is_among, is_one_of, is_lawful, place_number}
+use Rattle.tc_types.specs.Stages.{stage_of_verification}
+use Rattle.tc_fop.specs.declared.signals.Indication.TheVariants as signal
+use Rattle.tc_world.specs.declared.events.Indication.{Indication}
+use Rattle.tc_world.specs.declared.events.Indication.TheVariants as said
+use Rattle.tc_world.specs.Kept.{Each}
+use Rattle.tc_world.specs.Telling.{leaves_said, sent_said}
+use Rattle.tc_book.specs.declared.stamps.Stamp.{Stamp}
+use Rattle.tc_book.specs.Book.{Book, place_in, moved, want, row_of}
+use Rattle.tc_book.proofs.HistoryLemmas.{place_of-snoc}
+use Rattle.tc_desk.specs.Effects.{tried, reported, heard_all}
+use Rattle.tc_desk.specs.Tied.{gone_places, StandsAt, AreTied}
+
+-- ---- lists of requests
+
+pub each_map : (P Q : ℕ → Type 0) (xs : List ℕ) → ((n : ℕ) → P n → Q n) → Each P xs → Each Q xs
+each_map P Q [] f all = tt
+each_map P Q (x ∷ xs) f all = (f x all.0, each_map P Q xs f all.1)
+
+each_behind : (P : ℕ → Type 0) (xs ys : List ℕ) → Each P xs → Each P ys → Each P (xs ++ ys)
+each_behind P [] ys all more = more
+each_behind P (x ∷ xs) ys all more = (all.0, each_behind P xs ys all.1 more)
+
+-- no request waits behind one
+nothing_behind : (n : ℕ) (xs ys : List ℕ) → length xs ≤ 1 → xs ≡ n ∷ ys → ys ≡ []
+nothing_behind n xs [] few e = refl
+nothing_behind n xs (y ∷ ys) few e = let long : length xs ≡ length ys + 2 = ap length e ∙ omega arith in absurd (omega (arith, long, few))
+
+abbrev pub Waits : Book → List ℕ → Type 0
+Waits book ns = Each (StandsAt (place.Queued ∷ []) book) ns
+
+abbrev pub Gone : Book → List ℕ → Type 0
+Gone book ns = Each (StandsAt gone_places book) ns
+
+-- ---- moves
+
+-- where a request stands after a move
+place_moved : (stamp : Stamp) (book : Book) (n : ℕ) (to : Place) (c : Cause) (m : ℕ)
+    → place_in (moved stamp book (want n to c)) m ≡ (if n == m then Some to else place_in book m)
+place_moved stamp book n to c m = place_of-snoc book.history (row_of stamp book.history (want n to c)) m
+
+-- a move keeps a request among these places, if the moved one does not leave them
+pub moved_keeps : (stamp : Stamp) (book : Book) (n : ℕ) (to : Place) (c : Cause) (good : List Place) (m : ℕ)
+    → (StandsAt good book n → is_one_of good to ≡ true) → StandsAt good book m → StandsAt good (moved stamp book (want n to c)) m
+moved_keeps stamp book n to c good m may stands = ap (is_among good) (place_moved stamp book n to c m) ∙ by_test (n == m) refl
+  where
+    by_test : (t : Bool) → (n == m) ≡ t → is_among good (if t then Some to else place_in book m) ≡ true
+    by_test true e = let same : m ≡ n = grind (arith, nat_tests) in may (subst (StandsAt good book) same stands)
+    by_test false e = stands
+
+-- who is moved stands there
+pub moved_there : (stamp : Stamp) (book : Book) (n : ℕ) (to : Place) (c : Cause) (good : List Place) → is_one_of good to ≡ true → StandsAt good (moved stamp book (want n to c)) n
+moved_there stamp book n to c good h =
+    let same : (n == n) ≡ true = grind (arith, nat_tests) in
+    ap (is_among good) (place_moved stamp book n to c n ∙ ap (λ t. if t then Some to else place_in book n) same) ∙ h
+
+-- one place: who stands there is among others as that place is
+pub only : (q : Place) (good : List Place) (at : Option Place) → is_among (q ∷ []) at ≡ true → is_among good at ≡ is_one_of good q
+only q good None h = cc
+only q good (Some p) h =
+    let e : place_number p ≡ place_number q = grind (arith, nat_tests) in
+    ap (λ k. list_any (λ place. place_number place == k) good) e
+
+tried_keeps : (stamp : Stamp) (book : Book) (n : ℕ) (q to : Place) (c : Cause) (good : List Place) (m : ℕ)
+    → (is_one_of good q ≡ true → is_one_of good to ≡ true) → StandsAt good book m → StandsAt good (tried stamp book n (q ∷ []) to c) m
+tried_keeps stamp book n q to c good m may stands = by_test (is_among (q ∷ []) (place_in book n)) refl
+  where
+    by_test : (t : Bool) → is_among (q ∷ []) (place_in book n) ≡ t → StandsAt good (if t then moved stamp book (want n to c) else book) m
+    by_test true e = moved_keeps stamp book n to c good m (λ s. may (sym (only q good (place_in book n) e) ∙ s)) stands
+    by_test false e = stands
+
+tried_there : (stamp : Stamp) (book : Book) (n : ℕ) (q to : Place) (c : Cause) (good : List Place) → is_one_of good to ≡ true → StandsAt (q ∷ []) book n → StandsAt good (tried stamp book n (q ∷ []) to c) n
+tried_there stamp book n q to c good h stands =
+    subst (λ t. StandsAt good (if t then moved stamp book (want n to c) else book) n) (sym stands) (moved_there stamp book n to c good h)
+
+-- ---- reports
+
+-- a report moves no request that stands at Queued
+queued_stays : (at : Option Place) (to : Place) → is_among (place.Queued ∷ []) at ≡ true → is_lawful at to cause.Report ≡ false
+queued_stays at to here =
+    rw (
+      only place.Queued (place.Sent ∷ place.Confirmed ∷ place.Riding ∷ place.Scheduled ∷ place.Doubtful ∷ []) at here,
+      only place.Queued (place.Accepted ∷ []) at here,
+      only place.Queued (place.Started ∷ []) at here,
+    ) refl
+
+-- all that a report asks for is behind the sending
+stage_gone : (v : Verification) → is_one_of gone_places (stage_of_verification v) ≡ true
+stage_gone verification.Accepted = refl
+stage_gone (verification.AcceptanceFailed code) = refl
+stage_gone verification.Started = refl
+stage_gone (verification.StartFailed code) = refl
+stage_gone (verification.StepDone step) = refl
+stage_gone (verification.StepFailed step code) = refl
+stage_gone verification.Completed = refl
+stage_gone (verification.CompletionFailed code) = refl
+
+-- a report keeps a request among these places, if the one that it moves does not leave them
+reported_keeps : (stamp : Stamp) (book : Book) (n : ℕ) (to : Place) (good : List Place) (m : ℕ)
+    → (is_lawful (place_in book n) to cause.Report ≡ true → StandsAt good book n → is_one_of good to ≡ true) → StandsAt good book m → StandsAt good (reported stamp book n to) m
+reported_keeps stamp book n to good m may stands = by_test (is_lawful (place_in book n) to cause.Report) refl
+  where
+    by_test : (t : Bool) → is_lawful (place_in book n) to cause.Report ≡ t → StandsAt good (if t then moved stamp book (want n to cause.Report) else book) m
+    by_test true e = moved_keeps stamp book n to cause.Report good m (may e) stands
+    by_test false e = stands
+
+-- ---- who waits and who was sent
+
+-- a request stays at Queued, and one that was sent does not return
+pub record BothKept (old new : Book) : Type 0 where
+  pub waits : (m : ℕ) → StandsAt (place.Queued ∷ []) old m → StandsAt (place.Queued ∷ []) new m
+  pub sent : (m : ℕ) → StandsAt gone_places old m → StandsAt gone_places new m
+
+reported_kept : (stamp : Stamp) (book : Book) (n : ℕ) (v : Verification) → BothKept book (reported stamp book n (stage_of_verification v))
+reported_kept stamp book n v = record {
+  waits = λ m. reported_keeps stamp book n (stage_of_verification v) (place.Queued ∷ []) m (λ lawful here. let no : true ≡ false = sym lawful ∙ queued_stays (place_in book n) (stage_of_verification v) here in cc);
+  sent = λ m. reported_keeps stamp book n (stage_of_verification v) gone_places m (λ lawful here. stage_gone v);
+}
+
+-- ---- what the book hears
+
+-- what the book hears keeps the tie
+pub heard_tied : (stamp : Stamp) (all : List Indication) (book : Book) (waits rest sent : List ℕ)
+    → waits ≡ flat_map leaves_said all ++ rest → length waits ≤ 1 → Waits book waits → Gone book sent
+    → AreTied (heard_all stamp all book) rest (sent ++ flat_map sent_said all)
+heard_tied stamp [] book waits rest sent e few w g = record { waits = subst (Waits book) e w; sent = subst (Gone book) (sym (append-nil sent)) g }
+heard_tied stamp (said.Farm v ∷ all) book waits rest sent e few w g = heard_tied stamp all book waits rest sent e few w g
+heard_tied stamp (said.Lost ∷ all) book waits rest sent e few w g = heard_tied stamp all book waits rest sent e few w g
+heard_tied stamp (said.Received (report.Word word) ∷ all) book waits rest sent e few w g = heard_tied stamp all book waits rest sent e few w g
+heard_tied stamp (said.Received (report.Telemetry (telemetry.Summary summary)) ∷ all) book waits rest sent e few w g = heard_tied stamp all book waits rest sent e few w g
+heard_tied stamp (said.Received (report.Telemetry (telemetry.Verification v n identity)) ∷ all) book waits rest sent e few w g =
+    let kept = reported_kept stamp book n v in
+    heard_tied stamp all (reported stamp book n (stage_of_verification v)) waits rest sent e few
+    (each_map _ _ waits kept.waits w) (each_map _ _ sent kept.sent g)
+heard_tied stamp (said.Fop (signal.Alert kind) ∷ all) book waits rest sent e few w g = heard_tied stamp all book waits rest sent e few w g
+heard_tied stamp (said.Fop signal.Started ∷ all) book waits rest sent e few w g = heard_tied stamp all book waits rest sent e few w g
+heard_tied stamp (said.Fop (signal.Confirmed n) ∷ all) book waits rest sent e few w g =
+    let after : Book = tried stamp book n (place.Sent ∷ []) place.Confirmed cause.Confirm in
+    heard_tied stamp all after waits rest sent e few
+    (each_map _ _ waits (λ m. tried_keeps stamp book n place.Sent place.Confirmed cause.Confirm (place.Queued ∷ []) m (λ h. cc)) w)
+    (each_map _ _ sent (λ m. tried_keeps stamp book n place.Sent place.Confirmed cause.Confirm gone_places m (λ h. refl)) g)
+heard_tied stamp (said.Fop (signal.InDoubt n) ∷ all) book waits rest sent e few w g =
+    let after : Book = tried stamp book n (place.Sent ∷ []) place.Doubtful cause.Doubt in
+    heard_tied stamp all after waits rest sent e few
+    (each_map _ _ waits (λ m. tried_keeps stamp book n place.Sent place.Doubtful cause.Doubt (place.Queued ∷ []) m (λ h. cc)) w)
+    (each_map _ _ sent (λ m. tried_keeps stamp book n place.Sent place.Doubtful cause.Doubt gone_places m (λ h. refl)) g)
+heard_tied stamp (said.Fop (signal.GivenBack n) ∷ all) book waits rest sent e few w g =
+    let after : Book = tried stamp book n (place.Queued ∷ []) place.Approved cause.GiveBack in
+    let none : flat_map leaves_said all ++ rest ≡ [] = nothing_behind n waits (flat_map leaves_said all ++ rest) few e in
+    heard_tied stamp all after [] rest sent (sym none) (omega arith) tt
+    (each_map _ _ sent (λ m. tried_keeps stamp book n place.Queued place.Approved cause.GiveBack gone_places m (λ h. cc)) g)
+heard_tied stamp (said.Fop (signal.Sent n) ∷ all) book waits rest sent e few w g =
+    let after : Book = tried stamp book n (place.Queued ∷ []) place.Sent cause.Transmit in
+    let none : flat_map leaves_said all ++ rest ≡ [] = nothing_behind n waits (flat_map leaves_said all ++ rest) few e in
+    let at_queued : StandsAt (place.Queued ∷ []) book n = (subst (Waits book) e w).0 in
+    let still : Gone after sent = each_map _ _ sent (λ m. tried_keeps stamp book n place.Queued place.Sent cause.Transmit gone_places m (λ h. refl)) g in
+    let fresh : Gone after (n ∷ []) = (tried_there stamp book n place.Queued place.Sent cause.Transmit gone_places refl at_queued, tt) in
+    let tied = heard_tied stamp all after [] rest (sent ++ n ∷ []) (sym none) (omega arith) tt (each_behind (StandsAt gone_places after) sent (n ∷ []) still fresh) in
+    record { waits = tied.waits; sent = subst (Gone (heard_all stamp all after)) (append_assoc sent (n ∷ []) (flat_map sent_said all)) tied.sent }

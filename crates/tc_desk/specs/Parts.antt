@@ -1,0 +1,46 @@
+-- What the parts of the desk answer: as the desk does, but that the link may still refuse what no test refuses. What ties the
+-- parts rules that out.
+use Rattle.std.specs.Prelude.{◌≡◌, ◌⊎◌, Option, Some, None, Ok, Err, Result, List}
+use Rattle.tc_types.specs.declared.frames.Frame.{Frame}
+use Rattle.tc_types.specs.declared.refusals.Refusal.{Refusal}
+use Rattle.tc_types.specs.declared.refusals.Refusal.TheVariants.{Memory}
+use Rattle.tc_types.specs.declared.reports.Report.{Report}
+use Rattle.tc_types.specs.declared.acts.Act.{Act}
+use Rattle.tc_types.specs.declared.acts.Act.TheVariants as act
+use Rattle.tc_world.specs.declared.events.Event.{Event}
+use Rattle.tc_world.specs.declared.events.Indication.{Indication}
+use Rattle.tc_world.specs.Links.{Kind}
+use Rattle.tc_world.specs.World.{Whole, IsAsBefore, refusal_of as link_refusal_of}
+use Rattle.tc_book.specs.declared.stamps.Stamp.{Stamp}
+use Rattle.tc_desk.specs.declared.firsts.First.{First}
+use Rattle.tc_desk.specs.State.{State}
+use Rattle.tc_desk.specs.Asks.{event_of}
+use Rattle.tc_desk.specs.Acts.{refusal_of}
+use Rattle.tc_desk.specs.Machine.{Happened, Does, StaysSame}
+
+-- the event that an act is to the link, if it is one
+abbrev pub event_asked : {U D : Type 0} → State U D → Act → Option Event
+event_asked at (act.Book given) = None
+event_asked at (act.Link given) = event_of at given
+event_asked at (act.Ask asked) = None
+
+-- what the link itself refuses
+abbrev pub link_refuses : {U D : Type 0} → Option Event → Whole U D → Option Refusal
+link_refuses None w = None
+link_refuses (Some given) w = link_refusal_of given w
+
+-- what the link answers where it is asked for an event
+abbrev pub Asked : {X U D : Type 0} → Kind U Frame → Kind D Report → (X → List Indication) → Event → Whole U D → Whole U D → Result X Refusal → Type 0
+Asked up down all given old new (Ok done) = Happened up down given old new (all done)
+Asked up down all given old new (Err refused) = ((refused ≡ Memory) ⊎ (link_refusal_of given old ≡ Some refused)) × IsAsBefore up down old new
+
+-- why an act is refused, by a test, by the link, or for want of memory; and nothing changed
+pub record IsRefused {U D : Type 0} (up : Kind U Frame) (down : Kind D Report) (stamp : Stamp) (given : Act) (old new : State U D) (refused : Refusal) : Type 0 where
+  pub why : (refusal_of stamp old given ≡ Some refused)
+      ⊎ ((refusal_of stamp old given ≡ None) × ((refused ≡ Memory) ⊎ (link_refuses (event_asked old given) old.world ≡ Some refused)))
+  pub same : StaysSame up down old new
+
+-- an act is refused, or no test of it holds and it is carried out
+abbrev pub Responds : {X U D : Type 0} → Kind U Frame → Kind D Report → (X → List Indication) → (X → First) → State U D → Stamp → Act → State U D → Result X Refusal → Type 0
+Responds up down all first old stamp given new (Ok done) = (refusal_of stamp old given ≡ None) × Does up down stamp given old new (all done) (first done)
+Responds up down all first old stamp given new (Err refused) = IsRefused up down stamp given old new refused

@@ -1,0 +1,97 @@
+//! The acts `initiate`, `terminate` and `set`: the FOP gets a directive.
+ghost use Rattle.std.specs.Prelude.{◌≡◌, false, IfOk};
+ghost use Rattle.tc_types.specs.declared.acts.Act.TheVariants as act;
+ghost use Rattle.tc_types.specs.declared.acts.LinkAct.TheVariants as link_act;
+ghost use Rattle.tc_book.specs.Batch.{HoldsRoom};
+ghost use Rattle.tc_fop.specs.Calls.{is_initial};
+ghost use Rattle.tc_world.specs.World.{is_terminate};
+ghost use Rattle.tc_desk.specs.Acts.{is_bad_directive};
+ghost use Rattle.tc_desk.specs.Parts.{Responds};
+
+use crate::flights::{Flight, MOST_ROWS, ask, pass};
+use crate::hearing::hear_all;
+use crate::parts::Parts;
+use std::alloc::Allocator;
+use tc_book::stamps::Stamp;
+use tc_fop::signals::FopState;
+use tc_types::directives::Directive;
+use tc_types::frames::Frame;
+use tc_types::refusals::Refusal;
+use tc_types::reports::Report;
+use tc_world::carriers::Carrier;
+use tc_world::events::Event;
+
+/// S6.
+fn is_initial(state: FopState) -> bool
+    ensures { result ≡ is_initial state }
+{
+    matches!(state, FopState::Initial)
+}
+
+/// Whether a directive is refused in this state.
+fn is_bad_directive(state: FopState, given: &Directive) -> bool
+    ensures { result ≡ is_bad_directive state given.now }
+{
+    match given {
+        Directive::InitiateNone
+        | Directive::InitiateCheck
+        | Directive::InitiateUnlock
+        | Directive::InitiateSetVr(_)
+        | Directive::SetVs(_) => !is_initial(state),
+        Directive::SetK(k) => *k == 0,
+        Directive::SetT1(t1) => *t1 == 0,
+        Directive::SetLimit(limit) => *limit == 0,
+        Directive::Terminate => false,
+    }
+}
+
+impl<U: Carrier<Frame> + Drop, D: Carrier<Report> + Drop, A: Allocator + Copy + Drop> Parts<
+    U,
+    D,
+    A,
+> {
+    /// The FOP gets a directive.
+    pub(crate) fn direct(&mut self, stamp: Stamp, given: Directive) -> Result<Flight<A>, Refusal>
+        ensures answers { Responds U.kind D.kind (λ flight. flight.said) (λ flight. flight.first) self.old stamp (act.Link (link_act.Direct given)) self.new result }
+        ensures room { IfOk result (λ flight. HoldsRoom self.old.book self.new.book flight.draft.moves flight.draft.batch) }
+    {
+        match given {
+            Directive::Terminate => self.terminate(stamp),
+            _ => self.set(stamp, given),
+        }
+    }
+
+    /// The FOP ends its service.
+    fn terminate(&mut self, stamp: Stamp) -> Result<Flight<A>, Refusal>
+        ensures answers { Responds U.kind D.kind (λ flight. flight.said) (λ flight. flight.first) self.old stamp (act.Link (link_act.Direct Directive.Terminate)) self.new result }
+        ensures room { IfOk result (λ flight. HoldsRoom self.old.book self.new.book flight.draft.moves flight.draft.batch) }
+    {
+        if self.records.has_all_rows() {
+            return Err(Refusal::DeskFull);
+        }
+        let event = Event::Directive(Directive::Terminate);
+        let flight = ask(
+            &mut self.records,
+            &mut self.world,
+            self.alloc,
+            event,
+            MOST_ROWS,
+        )?;
+        hear_all(&mut self.records, &stamp, flight.said.as_slice());
+        Ok(flight)
+    }
+
+    /// The FOP gets a directive at which no request moves: any but the end of the service.
+    fn set(&mut self, stamp: Stamp, given: Directive) -> Result<Flight<A>, Refusal>
+        requires { is_terminate given ≡ false }
+        ensures answers { Responds U.kind D.kind (λ flight. flight.said) (λ flight. flight.first) self.old stamp (act.Link (link_act.Direct given)) self.new result }
+        ensures room { IfOk result (λ flight. HoldsRoom self.old.book self.new.book flight.draft.moves flight.draft.batch) }
+    {
+        if is_bad_directive(self.world.fop_view().state, &given) {
+            return Err(Refusal::BadDirective);
+        }
+        let event = Event::Directive(given);
+        let flight = pass(&mut self.records, &mut self.world, self.alloc, event)?;
+        Ok(flight)
+    }
+}

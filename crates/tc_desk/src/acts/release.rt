@@ -1,0 +1,93 @@
+//! The act `release`: an approved request leaves the desk.
+ghost use Rattle.std.specs.Prelude.{◌≡◌, IfOk};
+ghost use Rattle.tc_types.specs.declared.acts.Act.TheVariants as act;
+ghost use Rattle.tc_types.specs.declared.acts.LinkAct.TheVariants as link_act;
+ghost use Rattle.tc_types.specs.Schedule.{is_schedule};
+ghost use Rattle.tc_book.specs.Batch.{HoldsRoom};
+ghost use Rattle.tc_fop.specs.Calls.{is_taking};
+ghost use Rattle.tc_desk.specs.Parts.{Responds};
+
+use crate::flights::{Flight, MOST_ROWS, ask};
+use crate::hearing::hear_all;
+use crate::parts::Parts;
+use std::alloc::Allocator;
+use tc_book::stamps::Stamp;
+use tc_fop::signals::FopState;
+use tc_types::causes::Cause;
+use tc_types::frames::Frame;
+use tc_types::places::Place;
+use tc_types::refusals::Refusal;
+use tc_types::reports::Report;
+use tc_types::requests::{Command, Request};
+use tc_world::carriers::Carrier;
+use tc_world::events::Event;
+
+/// The service takes requests in S1, S2 and S3.
+fn is_taking(state: FopState) -> bool
+    ensures { result ≡ is_taking state }
+{
+    matches!(
+        state,
+        FopState::Active | FopState::RetransmitWithoutWait | FopState::RetransmitWithWait
+    )
+}
+
+/// Whether a request commands the on-board schedule.
+fn commands_schedule(request: &Request) -> bool
+    ensures { result ≡ is_schedule request.now.body.command }
+{
+    !matches!(request.body.command, Command::Plain { .. })
+}
+
+impl<U: Carrier<Frame> + Drop, D: Carrier<Report> + Drop, A: Allocator + Copy + Drop> Parts<
+    U,
+    D,
+    A,
+> {
+    /// Releases a request: it is offered to the FOP.
+    pub(crate) fn release(&mut self, stamp: Stamp, n: u32) -> Result<Flight<A>, Refusal>
+        ensures answers { Responds U.kind D.kind (λ flight. flight.said) (λ flight. flight.first) self.old stamp (act.Link (link_act.Release n)) self.new result }
+        ensures room { IfOk result (λ flight. HoldsRoom self.old.book self.new.book flight.draft.moves flight.draft.batch) }
+    {
+        let Some(number) = self.records.number_of(n) else {
+            return Err(Refusal::UnknownRequest);
+        };
+        let Some(request) = self.records.request(n) else {
+            return Err(Refusal::UnknownRequest);
+        };
+        if self.records.stands(n, &[Place::Entered]) {
+            return Err(Refusal::NotApproved);
+        }
+        if !self.records.stands(n, &[Place::Approved]) {
+            return Err(Refusal::WrongPlace);
+        }
+        if commands_schedule(&request) {
+            return Err(Refusal::BadActivity);
+        }
+        let view = self.world.fop_view();
+        if !is_taking(view.state) {
+            return Err(Refusal::ServiceNotActive);
+        }
+        if view.waiting != 0 {
+            return Err(Refusal::WaitQueueFull);
+        }
+        if self.records.has_all_rows() {
+            return Err(Refusal::DeskFull);
+        }
+        let event = Event::Offer {
+            request: number,
+            body: request.body,
+        };
+        let flight = ask(
+            &mut self.records,
+            &mut self.world,
+            self.alloc,
+            event,
+            1 + MOST_ROWS,
+        )?;
+        self.records
+            .record(stamp, number, Place::Queued, Cause::Release);
+        hear_all(&mut self.records, &stamp, flight.said.as_slice());
+        Ok(flight)
+    }
+}

@@ -1,0 +1,113 @@
+//! The act `up`: the first frame of the uplink comes on board.
+ghost use Rattle.std.specs.Prelude.{◌≡◌, ◌<◌, [], ◌∷◌, true, is_some, length, IfOk};
+ghost use Rattle.tc_types.specs.declared.acts.Act.TheVariants as act;
+ghost use Rattle.tc_types.specs.declared.acts.LinkAct.TheVariants as link_act;
+ghost use Rattle.tc_book.specs.Batch.{HoldsRoom};
+ghost use Rattle.tc_desk.specs.Acts.{first_of_up};
+ghost use Rattle.tc_desk.specs.Asks.{telecommand_of, taken_in, board_after, reports_after};
+ghost use Rattle.tc_desk.specs.Machine.{PutsDown};
+ghost use Rattle.tc_desk.specs.Parts.{Responds};
+
+use crate::firsts::First;
+use crate::flights::{Flight, pass};
+use crate::parts::Parts;
+use std::alloc::Allocator;
+use tc_book::stamps::Stamp;
+use tc_farm::farms::Verdict;
+use tc_types::frames::Frame;
+use tc_types::numbers::RequestNumber;
+use tc_types::refusals::Refusal;
+use tc_types::reports::{Report, Telemetry};
+use tc_types::requests::Body;
+use tc_types::telecommands::{Task, Telecommand};
+use tc_world::carriers::Carrier;
+use tc_world::events::{Event, Indication};
+use tc_world::worlds::World;
+
+/// How the reply to `up` begins.
+fn first_of_up(said: &[Indication]) -> First
+    ensures { result ≡ first_of_up said.now }
+{
+    match said.first() {
+        Some(Indication::Farm(Verdict::Accepted { request, .. })) => First::Accepted(*request),
+        Some(Indication::Farm(Verdict::Discarded)) => First::Discarded,
+        Some(Indication::Farm(Verdict::Control)) => First::Control,
+        None | Some(Indication::Fop(_) | Indication::Received(_) | Indication::Lost) => {
+            First::Nothing
+        }
+    }
+}
+
+/// A plain request as it comes on board.
+fn telecommand_of(request: RequestNumber, body: &Body) -> Telecommand
+    ensures { result ≡ telecommand_of request body.now }
+{
+    Telecommand {
+        request,
+        identity: body.identity,
+        ack: body.ack,
+        task: Task::Plain(body.outcome),
+    }
+}
+
+/// The request that the FARM accepted, if it did.
+fn taken_in(said: &[Indication]) -> Option<Telecommand>
+    ensures { result ≡ taken_in said.now }
+{
+    match said.first() {
+        Some(Indication::Farm(Verdict::Accepted { request, body })) => {
+            Some(telecommand_of(*request, body))
+        }
+        _ => None,
+    }
+}
+
+/// Puts a report on the downlink, where there is room.
+fn put_down<U: Carrier<Frame> + Drop, D: Carrier<Report> + Drop, A: Allocator + Copy + Drop>(
+    world: &mut World<U, D, A>,
+    report: Telemetry,
+)
+    requires { 0 < D.covered world.old.down }
+    ensures { PutsDown U.kind D.kind (report ∷ []) world.old world.new }
+{
+    let is_put = world.step(Event::Put(report)).is_ok();
+    prove!(is_put);
+}
+
+impl<U: Carrier<Frame> + Drop, D: Carrier<Report> + Drop, A: Allocator + Copy + Drop> Parts<
+    U,
+    D,
+    A,
+> {
+    /// The first frame of the uplink comes on board. What the FARM accepts goes to the spacecraft, which has a buffer free,
+    /// since the FARM accepts nothing without.
+    pub(crate) fn up(&mut self, stamp: Stamp) -> Result<Flight<A>, Refusal>
+        ensures answers { Responds U.kind D.kind (λ flight. flight.said) (λ flight. flight.first) self.old stamp (act.Link link_act.Up) self.new result }
+        ensures room { IfOk result (λ flight. HoldsRoom self.old.book self.new.book flight.draft.moves flight.draft.batch) }
+    {
+        self.world.reserve(1)?;
+        let free_buffer = self.board.room();
+        let event = Event::Uplink { free_buffer };
+        let flight = pass(&mut self.records, &mut self.world, self.alloc, event)?;
+        let first = first_of_up(flight.said.as_slice());
+        let taken = taken_in(flight.said.as_slice());
+        self.deliver(taken);
+        Ok(Flight { first, ..flight })
+    }
+
+    /// A request, if one was taken, comes to the spacecraft, which has a buffer free. The report that this makes at once is put
+    /// on the downlink, where there is room.
+    fn deliver(&mut self, taken: Option<Telecommand>)
+        requires buffer { is_some taken ≡ true → length self.old.board.buffer < 4 }
+        requires room { 0 < D.covered self.old.world.down }
+        ensures board { self.new.board ≡ board_after taken self.old.board }
+        ensures reports { PutsDown U.kind D.kind (reports_after taken) self.old.world self.new.world }
+        ensures book { self.new.book ≡ self.old.book }
+    {
+        if let Some(request) = taken {
+            if let Some(report) = self.board.accept(request) {
+                put_down(&mut self.world, report);
+            }
+        }
+    }
+}

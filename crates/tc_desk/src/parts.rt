@@ -1,0 +1,151 @@
+//! The parts of the desk: its book, its link and the rehearsal spacecraft, and the acts on them.
+ghost use Rattle.std.specs.Prelude.{◌≡◌, ◌⊎◌, false, IfErr, IfOk, OnOk, []};
+ghost use Rattle.tc_types.specs.declared.refusals.Refusal.TheVariants.{BadDirective, Memory};
+ghost use Rattle.tc_types.specs.declared.acts.Act.TheVariants as act;
+ghost use Rattle.tc_types.specs.Tables.{applied};
+ghost use Rattle.tc_book.specs.Good.{IsGoodBook};
+ghost use Rattle.tc_book.specs.Tables.{image_of};
+ghost use Rattle.tc_book.specs.Batch.{GoesOn, HoldsRoom};
+ghost use Rattle.tc_desk.specs.State.{IsConfig, new_desk};
+ghost use Rattle.tc_desk.specs.Acts.{is_question};
+ghost use Rattle.tc_desk.specs.Machine.{rows_new};
+ghost use Rattle.tc_desk.specs.Parts.{Responds};
+
+use crate::configs::Config;
+use crate::dones::Done;
+use crate::flights::Flight;
+use std::alloc::Allocator;
+use std::marker::Model;
+use tc_board::boards::Board;
+use tc_book::drafts::Draft;
+use tc_book::records::Records;
+use tc_book::stamps::Stamp;
+use tc_farm::farms::Farm;
+use tc_fop::fops::Fop;
+use tc_types::acts::{Act, LinkAct};
+use tc_types::frames::Frame;
+use tc_types::numbers::Moment;
+use tc_types::refusals::Refusal;
+use tc_types::reports::Report;
+use tc_world::carriers::Carrier;
+use tc_world::worlds::World;
+
+/// K, the FOP sliding window width, as a desk is made.
+const K: u8 = 10;
+
+/// T1_Initial, in ticks, as a desk is made.
+const T1: u16 = 10;
+
+/// The Transmission_Limit, as a desk is made.
+const LIMIT: u8 = 3;
+
+/// The spacecraft's time, as a desk is made.
+const START: u32 = 0;
+
+/// The book, the link and the spacecraft. What ties them is the desk's.
+#[derive(Drop)]
+pub(crate) struct Parts<
+    U: Carrier<Frame> + Drop,
+    D: Carrier<Report> + Drop,
+    A: Allocator + Copy + Drop,
+> {
+    pub(crate) alloc: A,
+    pub(crate) records: Records<A>,
+    pub(crate) world: World<U, D, A>,
+    pub(crate) board: Board<A>,
+}
+
+impl<U: Carrier<Frame> + Drop, D: Carrier<Report> + Drop, A: Allocator + Copy + Drop> Model
+    for Parts<U, D, A> {
+    ghost use Rattle.tc_desk.specs.State.{State};
+
+    ghost Value = { State U D };
+
+    ghost view = { λ p. record { book = p.records.book; world = p.world; board = p.board } };
+}
+
+impl<U: Carrier<Frame> + Drop, D: Carrier<Report> + Drop, A: Allocator + Copy + Drop> Parts<
+    U,
+    D,
+    A,
+> {
+    /// The parts of a desk where nothing happened yet, over these carriers, which are empty. `BadDirective` unless the window
+    /// is even and 2 to 254 and the channel 0 to 63; else `Memory` where that is refused.
+    pub(crate) fn new(alloc: A, config: Config, up: U, down: D) -> Result<Self, Refusal>
+        requires up { U.kind.content up ≡ [] }
+        requires down { D.kind.content down ≡ [] }
+        ensures desk { IfOk result (λ parts. parts ≡ new_desk config up down) }
+        ensures good { IfOk result (λ parts. IsGoodBook parts.book) }
+        ensures config { IfOk result (λ parts. IsConfig config) }
+        ensures refused { IfErr result (λ refusal. ((refusal ≡ BadDirective) × (¬ IsConfig config)) ⊎ ((refusal ≡ Memory) × IsConfig config)) }
+    {
+        let Some(farm) = Farm::new(config.window) else {
+            return Err(Refusal::BadDirective);
+        };
+        if config.channel > 63 {
+            return Err(Refusal::BadDirective);
+        }
+        let fop = Fop::new(alloc, K, T1, LIMIT)?;
+        let board = Board::new(alloc, Moment::new(START).unwrap())?;
+        Ok(Parts {
+            alloc,
+            records: Records::new(alloc),
+            world: World::new(alloc, fop, farm, up, down, config.channel)?,
+            board,
+        })
+    }
+
+    /// Carries an act on the link out.
+    fn fly(&mut self, stamp: Stamp, given: LinkAct) -> Result<Flight<A>, Refusal>
+        ensures answers { Responds U.kind D.kind (λ flight. flight.said) (λ flight. flight.first) self.old stamp (act.Link given) self.new result }
+        ensures room { IfOk result (λ flight. HoldsRoom self.old.book self.new.book flight.draft.moves flight.draft.batch) }
+    {
+        match given {
+            LinkAct::Release { request } => self.release(stamp, request),
+            LinkAct::Direct(directive) => self.direct(stamp, directive),
+            LinkAct::Tick => self.tick(stamp),
+            LinkAct::Up => self.up(stamp),
+            LinkAct::LoseUp { place } => self.lose_up(stamp, place),
+            LinkAct::LoseDown { place } => self.lose_down(stamp, place),
+            LinkAct::Clcw => self.clcw(stamp),
+            LinkAct::Down => self.down(stamp),
+        }
+    }
+
+    /// Carries an act out.
+    fn perform(&mut self, stamp: Stamp, act: Act) -> Result<Flight<A>, Refusal>
+        requires { is_question act ≡ false }
+        ensures answers { Responds U.kind D.kind (λ flight. flight.said) (λ flight. flight.first) self.old stamp act self.new result }
+        ensures room { IfOk result (λ flight. HoldsRoom self.old.book self.new.book flight.draft.moves flight.draft.batch) }
+        ensures goes_on { OnOk result (GoesOn self.old.book self.new.book) }
+    {
+        match act {
+            Act::Book(given) => self.on_book(stamp, given),
+            Act::Link(given) => {
+                let flight = self.fly(stamp, given)?;
+                Ok(flight)
+            }
+            Act::Ask(_) => unreachable!(),
+        }
+    }
+
+    /// An act of a person at a moment: it is carried out, and its moves and its batch are filled in.
+    pub(crate) fn act(&mut self, stamp: Stamp, act: Act) -> Result<Done<A>, Refusal>
+        requires { is_question act ≡ false }
+        ensures answers { Responds U.kind D.kind (λ done. done.said) (λ done. done.first) self.old stamp act self.new result }
+        ensures moves { IfOk result (λ done. done.moves.items ≡ rows_new self.old self.new) }
+        ensures batch { IfOk result (λ done. applied done.batch.items (image_of self.old.book) ≡ image_of self.new.book) }
+        ensures good_before { IsGoodBook self.old.book }
+        ensures good { IsGoodBook self.new.book }
+    {
+        let mark = self.records.mark();
+        let Flight { first, said, draft } = self.perform(stamp, act)?;
+        let Draft { moves, batch, .. } = self.records.fill(mark, draft);
+        Ok(Done {
+            first,
+            said,
+            moves,
+            batch,
+        })
+    }
+}

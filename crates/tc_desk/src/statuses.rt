@@ -1,0 +1,19 @@
+//! What the question `link` tells.
+use tc_farm::farms::FarmView;
+use tc_fop::views::FopView;
+
+/// How the FOP, the FARM and the carriers stand.
+#[derive(Clone, Copy, Debug, PartialEq, Eq)]
+pub struct LinkStatus {
+    /// The variables of the FOP.
+    pub fop: FopView,
+    /// The variables of the FARM.
+    pub farm: FarmView,
+    /// How many frames are in flight.
+    pub up: usize,
+    /// How many control words and reports are in flight.
+    pub down: usize,
+    /// Whether every start so far was good: at each initiation nothing was in flight, and at each without check both sides
+    /// agreed.
+    pub clean: bool,
+}
