@@ -20,10 +20,11 @@ use Rattle.tc_room.specs.Answers.{AnswersLine, AsksPlaces}
 use Rattle.tc_room.specs.Joined.{IsKept}
 use Rattle.tc_room.specs.Replies.{ended, is_refused}
 use Rattle.tc_room.specs.Room.{FailsStore, IsJustOpened, Standing, StepsDesk}
+use Rattle.tc_desk.specs.declared.configs.Config as configs
 use Rattle.tc_room.specs.declared.memory.OpenFault.{OpenFault}
 use Rattle.tc_room.specs.declared.memory.OpenFault.TheVariants as opening
 use Rattle.tc_cli.specs.declared.script.ScriptFault.{ScriptFault}
-use Rattle.tc_cli.specs.declared.script.ScriptFault.TheVariants.{Script, Output, Memory, Tables}
+use Rattle.tc_cli.specs.declared.script.ScriptFault.TheVariants.{Script, Output, Memory, Tables, Config}
 use Rattle.tc_cli.specs.Script.{fault_of}
 use Rattle.tc_cli.specs.Run.{AnswersNext, IsAnswered, IsCutShort, LeavesPart, Stops, StopsAfter, StopsAtOnce, TakesFront, TakesLine, TakesLines, is_skipped, script_lines}
 
@@ -128,6 +129,7 @@ leaves_more Script at line left others part is leaves = leaves
 leaves_more Output at line left others part is (next, answers, cut) = (next, subst (λ (lines : List (List ℕ)). AnswersNext at lines next) (sym is) answers, cut)
 leaves_more Memory at line left others part is leaves = leaves
 leaves_more Tables at line left others part is leaves = leaves
+leaves_more Config at line left others part is leaves = leaves
 
 -- a run that stopped at one of its lines
 pub stopped_in_line : (start at : Standing) (lines left : List (List ℕ)) (line : List ℕ) (others : List (List ℕ)) (old mid new : Option (List ℕ)) (before : Bool) (fault : ScriptFault)
@@ -143,6 +145,7 @@ stopped_before at left w Script is_other = ([], refl, Appends-nil w)
 stopped_before at left w Output is_other = absurd (is_other refl)
 stopped_before at left w Memory is_other = ([], refl, Appends-nil w)
 stopped_before at left w Tables is_other = ([], refl, Appends-nil w)
+stopped_before at left w Config is_other = ([], refl, Appends-nil w)
 
 -- what the question at the end came to
 abbrev pub CameLast : Standing → Standing → Option (List ℕ) → Option (List ℕ) → Bool → Type 0
@@ -177,10 +180,10 @@ places_told at after reply asks granted = by_flag at.stopped (asks (record { by 
     by_flag false (inr fails) = not_refused (rw fails.reply refl)
 
 -- the lines of a script, and the question at the end
-pub run_answered : (input : List ℕ) (start end after : Standing) (refused last : Bool) (old mid new : Option (List ℕ))
-    → IsJustOpened start → CameAll start (script_lines input) end old mid refused → CameLast end after mid new last
-    → IsKept end.desk.book → IsAnswered input (if refused || last then 1 else 0) old new
-run_answered input start end after refused last old mid new opened (replies, takes, written, refusals) (reply, asks, appends, is_reply) kept =
+pub run_answered : (config : configs.Config) (input : List ℕ) (start end after : Standing) (refused last : Bool) (old mid new : Option (List ℕ))
+    → IsJustOpened config start → CameAll start (script_lines input) end old mid refused → CameLast end after mid new last
+    → IsKept end.desk.book → IsAnswered config input (if refused || last then 1 else 0) old new
+run_answered config input start end after refused last old mid new opened (replies, takes, written, refusals) (reply, asks, appends, is_reply) kept =
     let all : flat_map ended (replies ++ reply ∷ []) ≡ flat_map ended replies ++ ended reply =
     flat_map-append ended replies (reply ∷ []) ∙ ap (λ bytes. flat_map ended replies ++ bytes) (append-nil (ended reply)) in
     let any : list_any is_refused (replies ++ reply ∷ []) ≡ (refused || last) =
@@ -189,36 +192,42 @@ run_answered input start end after refused last old mid new opened (replies, tak
     (start, replies, end, reply, after, opened, takes, asks, bytes, ap (λ (b : Bool). if b then 1 else 0) (sym any), record { kept = kept; told = places_told end after reply asks })
 
 -- a run that stopped at the question at the end
-pub run_stopped_at_end : (lines : List (List ℕ)) (start end : Standing) (refused : Bool) (old mid new : Option (List ℕ)) (fault : ScriptFault)
-    → IsJustOpened start → CameAll start lines end old mid refused
+pub run_stopped_at_end : (config : configs.Config) (lines : List (List ℕ)) (start end : Standing) (refused : Bool) (old mid new : Option (List ℕ)) (fault : ScriptFault)
+    → IsJustOpened config start → CameAll start lines end old mid refused
     → (part : List ℕ) × LeavesPart fault end [] part × Appends mid new part
-    → Stops fault lines old new
-run_stopped_at_end lines start end refused old mid new fault opened (replies, takes, written, refusals) (part, leaves, appends) =
+    → Stops config fault lines old new
+run_stopped_at_end config lines start end refused old mid new fault opened (replies, takes, written, refusals) (part, leaves, appends) =
     inr (start, opened, (replies, end, [], part, (lines, sym (append-nil lines), takes), leaves, Appends-trans _ _ _ _ _ written appends))
 
 -- a run that stopped at one of the lines
-pub run_stopped : (lines : List (List ℕ)) (start : Standing) (old new : Option (List ℕ)) (fault : ScriptFault)
-    → IsJustOpened start → StopsAfter fault start lines old new → Stops fault lines old new
-run_stopped lines start old new fault opened stops = inr (start, opened, stops)
+pub run_stopped : (config : configs.Config) (lines : List (List ℕ)) (start : Standing) (old new : Option (List ℕ)) (fault : ScriptFault)
+    → IsJustOpened config start → StopsAfter fault start lines old new → Stops config fault lines old new
+run_stopped config lines start old new fault opened stops = inr (start, opened, stops)
 
 -- a run that stopped before its first line
-pub stops_first : (lines : List (List ℕ)) (w : Option (List ℕ)) (fault : ScriptFault) → fault ≢ Output → Stops fault lines w w
-stops_first lines w fault is_other = inl (is_other, Appends-nil w)
+pub stops_first : (config : configs.Config) (lines : List (List ℕ)) (w : Option (List ℕ)) (fault : ScriptFault) → fault ≢ Output → Stops config fault lines w w
+stops_first config lines w fault is_other = inl (is_other, Appends-nil w)
 
 not_output : (why : OpenFault) → fault_of why ≢ Output
+not_output opening.Config e = cc
 not_output opening.Memory e = cc
 not_output (opening.Tables why) e = cc
 
+-- what `?` gave out is the fault that it took
+pub is_fault : {X : Type 0} (result : Result X ScriptFault) (fault : ScriptFault) → IsErrAnd result (λ out. out ≡ fault) → result ≡ Err fault
+is_fault (Ok x) fault h = absurd h
+is_fault (Err out) fault h = ap Err h
+
 -- a run whose room could not be opened
-pub stops_unopened : {X : Type 0} (lines : List (List ℕ)) (w : Option (List ℕ)) (why : OpenFault) (result : Result X ScriptFault)
-    → IsErrAnd result (λ fault. fault ≡ fault_of why) → IfErr result (λ fault. Stops fault lines w w)
-stops_unopened lines w why (Ok x) _ = tt
-stops_unopened lines w why (Err fault) is = rw is (stops_first lines w (fault_of why) (not_output why))
+pub stops_unopened : {X : Type 0} (config : configs.Config) (lines : List (List ℕ)) (w : Option (List ℕ)) (why : OpenFault) (result : Result X ScriptFault)
+    → IsErrAnd result (λ fault. fault ≡ fault_of why) → IfErr result (λ fault. Stops config fault lines w w)
+stops_unopened config lines w why (Ok x) _ = tt
+stops_unopened config lines w why (Err fault) is = rw is (stops_first config lines w (fault_of why) (not_output why))
 
 -- a run whose script could not be read
-pub stops_unread : (read w : Option (List ℕ)) (fault : ScriptFault) → fault ≢ Output → IfSome read (λ input. Stops fault (script_lines input) w w)
-stops_unread None w fault is_other = tt
-stops_unread (Some input) w fault is_other = stops_first (script_lines input) w fault is_other
+pub stops_unread : (config : configs.Config) (read w : Option (List ℕ)) (fault : ScriptFault) → fault ≢ Output → IfSome read (λ input. Stops config fault (script_lines input) w w)
+stops_unread config None w fault is_other = tt
+stops_unread config (Some input) w fault is_other = stops_first config (script_lines input) w fault is_other
 
 take_none : (xs : List ℕ) (n : ℕ) → n ≡ 0 → take n xs ≡ []
 take_none [] n is = rw is refl

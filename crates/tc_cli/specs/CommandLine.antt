@@ -1,7 +1,11 @@
 -- The command line of the program, and what its words ask for.
-use Rattle.std.specs.Prelude.{List, Option, None, Some, codes, true, unwrap_or}
-use Rattle.clap.specs.Words.{App, Row, Rule, Text, first_of, new_app, new_rule, with_rule}
+use Rattle.std.specs.Prelude.{◌%◌, ◌≡◌, ◌≤◌, if◌then◌else◌, ℕ, List, [], ◌∷◌, Option, None, Some, codes, true, false, unwrap_or}
+use Rattle.std.specs.Str.Parse.{digits_value, without_leading_plus}
+use Rattle.clap.specs.ValueTests.{accepts}
+use Rattle.clap.specs.Words.{App, Row, Rule, Text, first_of, new_app, new_rule, one_of, with_rule}
 use Rattle.clap.specs.Words.{with_subcommand}
+use Rattle.clap.specs.declared.builder.value_parser.ValueParser.TheVariants as parser
+use Rattle.tc_desk.specs.declared.configs.Config.{Config}
 use Rattle.tc_cli.specs.declared.words.Line.{Line}
 use Rattle.tc_cli.specs.declared.words.Line.TheVariants.{Run}
 
@@ -11,9 +15,27 @@ use Rattle.tc_cli.specs.declared.words.Line.TheVariants.{Run}
 abbrev pub script_rule : Rule
 script_rule = record (new_rule (codes "SCRIPT")) { required = true }
 
--- run SCRIPT
+-- --w N: the window W of the FARM, 2 to 254, and 20 where it is not given
+abbrev pub window_rule : Rule
+window_rule = record (new_rule (codes "w")) {
+  long = Some (codes "w");
+  value_names = 1;
+  defaults = codes "20" ∷ [];
+  parser = Some (parser.Unsigned 2 254);
+}
+
+-- --vc N: the virtual channel, 0 to 63, and 3 where it is not given
+abbrev pub channel_rule : Rule
+channel_rule = record (new_rule (codes "vc")) {
+  long = Some (codes "vc");
+  value_names = 1;
+  defaults = codes "3" ∷ [];
+  parser = Some (parser.Unsigned 0 63);
+}
+
+-- run SCRIPT [--w N] [--vc N], each option at most once
 abbrev pub run_app : App
-run_app = with_rule (new_app (codes "run")) script_rule
+run_app = with_rule (with_rule (with_rule (new_app (codes "run")) script_rule) window_rule) channel_rule
 
 -- the program's name, without its commands; one of them has to be named
 abbrev pub bare_app : App
@@ -26,19 +48,47 @@ desk_app = with_subcommand bare_app run_app.top
 
 -- ---- what the words ask for
 
--- a command with what it was given
+-- a command with what it was given: the script, the window and the channel
 pub data Asked : Type 0 where
-  run : Text → Asked
+  run : Text → ℕ → ℕ → Asked
 
 -- the text that was given for an argument, or `-` where there was none
 abbrev pub given : Text → List Row → Text
 given id rows = unwrap_or (first_of id rows) (codes "-")
 
+-- The number that a text writes where that is one from least to most, and else another. The command's parser lets no
+-- other text through.
+abbrev pub number_in : ℕ → ℕ → ℕ → Option Text → ℕ
+number_in least most other None = other
+number_in least most other (Some text) =
+    if accepts false (parser.Unsigned least most) text then digits_value 10 (without_leading_plus text) else other
+
+-- the window that was given, or stands in the rows by default
+abbrev pub given_window : List Row → ℕ
+given_window rows = number_in 2 254 20 (one_of (codes "w") rows)
+
+-- the channel that was given, or stands in the rows by default
+abbrev pub given_channel : List Row → ℕ
+given_channel rows = number_in 0 63 3 (one_of (codes "vc") rows)
+
 -- what the matches of a command ask for, where none is `run -`
 abbrev pub asked : Option (Text × List Row) → Asked
-asked None = run (codes "-")
-asked (Some command) = run (given (codes "SCRIPT") command.1)
+asked None = run (codes "-") 20 3
+asked (Some command) =
+    run (given (codes "SCRIPT") command.1) (given_window command.1) (given_channel command.1)
+
+-- the window that is asked for is odd
+abbrev pub AsksOddWindow : Asked → Type 0
+AsksOddWindow (run script window channel) = window % 2 ≡ 1
 
 -- what a line asks for
 abbrev pub asked_by : Line → Asked
-asked_by (Run script) = run script.now
+asked_by (Run script config) = run script.now config.window config.channel
+
+-- what a line's desk is made with
+abbrev pub config_of : Line → Config
+config_of (Run script config) = config
+
+-- the window is 2 to 254, and the channel has 6 bits
+abbrev pub IsInRange : Config → Type 0
+IsInRange config = (2 ≤ config.window) × (config.window ≤ 254) × (config.channel ≤ 63)

@@ -7,12 +7,13 @@ use Rattle.tc_types.specs.History.{counts_of, entered}
 use Rattle.tc_types.specs.Lines.{places_line}
 use Rattle.tc_book.specs.Book.{Book}
 use Rattle.tc_desk.specs.Replies.{Reply}
+use Rattle.tc_desk.specs.declared.configs.Config as configs
 use Rattle.tc_room.specs.Answers.{AnswersLine, AsksPlaces}
 use Rattle.tc_room.specs.Joined.{IsKept}
 use Rattle.tc_room.specs.Replies.{ended, is_refused}
 use Rattle.tc_room.specs.Room.{IsJustOpened, Standing}
 use Rattle.tc_cli.specs.declared.script.ScriptFault.{ScriptFault}
-use Rattle.tc_cli.specs.declared.script.ScriptFault.TheVariants.{Script, Output, Memory, Tables}
+use Rattle.tc_cli.specs.declared.script.ScriptFault.TheVariants.{Script, Output, Memory, Tables, Config}
 
 -- the lines of a script: LF ends a line, and one CR just before that LF is dropped; the last LF may be missing
 abbrev pub script_lines : List ℕ → List (List ℕ)
@@ -51,10 +52,10 @@ pub record LeavesBook (book : Book) (last : Reply) : Type 0 where
 
 -- These bytes were read, and in a room that was just opened the run wrote the replies to their lines, and then the reply
 -- to `places`.
-abbrev pub IsAnswered : List ℕ → ℕ → Option (List ℕ) → Option (List ℕ) → Type 0
-IsAnswered input status old new =
+abbrev pub IsAnswered : configs.Config → List ℕ → ℕ → Option (List ℕ) → Option (List ℕ) → Type 0
+IsAnswered config input status old new =
     (start : Standing) × (replies : List Reply) × (end : Standing) × (last : Reply) × (after : Standing)
-    × IsJustOpened start × TakesLines start (script_lines input) replies end × AsksPlaces end last after
+    × IsJustOpened config start × TakesLines start (script_lines input) replies end × AsksPlaces end last after
     × Appends old new (flat_map ended (replies ++ last ∷ []))
     × (status ≡ status_of (replies ++ last ∷ []))
     × LeavesBook end.desk.book last
@@ -81,6 +82,7 @@ LeavesPart Script at left part = part ≡ []
 LeavesPart Output at left part = (next : Reply) × AnswersNext at left next × IsCutShort (ended next) part
 LeavesPart Memory at left part = part ≡ []
 LeavesPart Tables at left part = part ≡ []
+LeavesPart Config at left part = part ≡ []
 
 -- The run of these lines stopped after some of them: their replies are written, and of the next what the fault leaves.
 abbrev pub StopsAfter : ScriptFault → Standing → List (List ℕ) → Option (List ℕ) → Option (List ℕ) → Type 0
@@ -94,6 +96,6 @@ abbrev pub StopsAtOnce : ScriptFault → Option (List ℕ) → Option (List ℕ)
 StopsAtOnce fault old new = (fault ≢ Output) × Appends old new []
 
 -- The run of these lines stopped: at once, or after some of them, in a room that was just opened.
-abbrev pub Stops : ScriptFault → List (List ℕ) → Option (List ℕ) → Option (List ℕ) → Type 0
-Stops fault lines old new =
-    StopsAtOnce fault old new ⊎ ((start : Standing) × IsJustOpened start × StopsAfter fault start lines old new)
+abbrev pub Stops : configs.Config → ScriptFault → List (List ℕ) → Option (List ℕ) → Option (List ℕ) → Type 0
+Stops config fault lines old new =
+    StopsAtOnce fault old new ⊎ ((start : Standing) × IsJustOpened config start × StopsAfter fault start lines old new)

@@ -1,7 +1,8 @@
 //! The program `tcdesk`: it runs the lines of a script on a telecommand desk.
 //!
 //! `tcdesk run SCRIPT` takes the lines of the file SCRIPT, or of the standard input where SCRIPT is `-`, and prints
-//! what the desk answers. Given no words at all it is `tcdesk run -`.
+//! what the desk answers. Given no words at all it is `tcdesk run -`. The options `--w N` and `--vc N` choose the FARM's
+//! window and the virtual channel.
 #![tactic(auto)]
 
 mod run;
@@ -14,7 +15,7 @@ use std::alloc::{AllocError, Global};
 use std::process::ExitCode;
 use std::rt::{Env, Files};
 use std::{env, fs, io};
-use tc_room::rooms::Config;
+use tc_desk::configs::Config;
 use tc_types::counted::Counted;
 use words::{Line, UsageFault, read_words};
 
@@ -56,8 +57,12 @@ fn borrowed<'a>(alloc: Global, args: &'a [String]) -> Result<Vec<&'a str>, Alloc
 
 fn run_words<R: Files + Input + Print + Eprint + AllocGlobal>(rt: &R, words: &[&str]) -> u8 {
     match read_words(rt.alloc(), words) {
-        Ok(Line::Run { script }) => run_path(rt, script),
+        Ok(Line::Run { script, config }) => run_path(rt, script, config),
         Err(UsageFault::Memory) => cannot_use(rt, "memory"),
+        Err(fault @ UsageFault::OddWindow) => {
+            let _ = eprintln!(rt; "tcdesk: {fault}");
+            UNUSABLE
+        }
         Err(UsageFault::Words(error)) => match error.print(rt) {
             Ok(()) => error.exit_code() as u8,
             Err(_) => cannot_use(rt, "output"),
@@ -65,24 +70,33 @@ fn run_words<R: Files + Input + Print + Eprint + AllocGlobal>(rt: &R, words: &[&
     }
 }
 
-fn run_path<R: Files + Input + Print + Eprint + AllocGlobal>(rt: &R, path: &str) -> u8 {
-    match run_at(rt, path) {
+fn run_path<R: Files + Input + Print + Eprint + AllocGlobal>(
+    rt: &R,
+    path: &str,
+    config: Config,
+) -> u8 {
+    match run_at(rt, path, config) {
         Ok(status) => status,
         Err(ScriptFault::Script) => cannot_use(rt, path),
         Err(ScriptFault::Output) => cannot_use(rt, "output"),
         Err(ScriptFault::Memory) => cannot_use(rt, "memory"),
         Err(ScriptFault::Tables) => cannot_use(rt, "tables"),
+        Err(ScriptFault::Config) => cannot_use(rt, "config"),
     }
 }
 
-fn run_at<R: Files + Input + Print + AllocGlobal>(rt: &R, path: &str) -> Result<u8, ScriptFault> {
+fn run_at<R: Files + Input + Print + AllocGlobal>(
+    rt: &R,
+    path: &str,
+    config: Config,
+) -> Result<u8, ScriptFault> {
     let mut writer = Counted::new(io::writer(rt));
     if path == "-" {
         let mut reader = Counted::new(rt.reader());
-        return run_script(rt.alloc(), Config {}, &mut reader, &mut writer);
+        return run_script(rt.alloc(), config, &mut reader, &mut writer);
     }
     match fs::open(rt, path) {
-        Ok(file) => run_script(rt.alloc(), Config {}, &mut Counted::new(file), &mut writer),
+        Ok(file) => run_script(rt.alloc(), config, &mut Counted::new(file), &mut writer),
         Err(error) if error.kind() == io::ErrorKind::OutOfMemory => Err(ScriptFault::Memory),
         Err(_) => Err(ScriptFault::Script),
     }

@@ -15,8 +15,9 @@ use crate::script::{ScriptFault, read_script};
 use bstr::ByteSlice;
 use std::alloc::Global;
 use std::io::{Read, Write};
+use tc_desk::configs::Config;
 use tc_room::answers::{answer_line, answer_places};
-use tc_room::rooms::{Config, Room};
+use tc_room::rooms::Room;
 use tc_types::counted::Counted;
 
 /// Runs the lines of a script on a desk where nothing happened yet, and writes what they are answered, and at the end
@@ -33,9 +34,9 @@ pub fn run_script<R: Read, W: Write>(
     requires unread { counts_of reader.old ≡ no_counts }
     requires unwritten { counts_of writer.old ≡ no_counts }
     ensures answered { IfOk result (λ status. IfSome (R.remaining (inner_of reader.old)) (λ input.
-        IsAnswered input status (W.contents (inner_of writer.old)) (W.contents (inner_of writer.new)))) }
+        IsAnswered config input status (W.contents (inner_of writer.old)) (W.contents (inner_of writer.new)))) }
     ensures stopped { IfErr result (λ fault. IfSome (R.remaining (inner_of reader.old)) (λ input.
-        Stops fault (script_lines input) (W.contents (inner_of writer.old)) (W.contents (inner_of writer.new)))) }
+        Stops config fault (script_lines input) (W.contents (inner_of writer.old)) (W.contents (inner_of writer.new)))) }
     ensures script { result ≡ Err ScriptFault.Script →
         IsUnreadable (counts_of reader.new) (R.remaining (inner_of reader.old)) (R.remaining (inner_of reader.new))
         × (writer.new ≡ writer.old) }
@@ -55,8 +56,8 @@ fn run_text<W: Write>(
 ) -> Result<u8, ScriptFault>
     requires { counts_of writer.old ≡ no_counts }
     ensures answered { IfOk result (λ status.
-        IsAnswered text.now status (W.contents (inner_of writer.old)) (W.contents (inner_of writer.new))) }
-    ensures stopped { IfErr result (λ fault. Stops fault (script_lines text.now)
+        IsAnswered config text.now status (W.contents (inner_of writer.old)) (W.contents (inner_of writer.new))) }
+    ensures stopped { IfErr result (λ fault. Stops config fault (script_lines text.now)
         (W.contents (inner_of writer.old)) (W.contents (inner_of writer.new))) }
     ensures fault { IfErr result (λ fault. fault ≢ ScriptFault.Script) }
     ensures counted { counts_of writer.new ≡ written_counts result }

@@ -33,6 +33,9 @@ pub enum ScriptFault {
     /// The tables of the desk could not be made. No line was run.
     #[error("tables")]
     Tables,
+    /// The window is not even and 2 to 254, or the channel is above 63. No line was run.
+    #[error("config")]
+    Config,
 }
 
 impl From<AllocError> for ScriptFault {
@@ -56,6 +59,7 @@ impl From<OpenFault> for ScriptFault {
 
     fn from(fault: OpenFault) -> ScriptFault {
         match fault {
+            OpenFault::Config => ScriptFault::Config,
             OpenFault::Memory => ScriptFault::Memory,
             OpenFault::Tables(_) => ScriptFault::Tables,
         }

@@ -19,19 +19,21 @@ use Rattle.tc_types.specs.declared.acts.Query.TheVariants as query
 use Rattle.tc_types.specs.declared.requests.Request.{Request}
 use Rattle.tc_types.specs.RequestLine.{request_line}
 use Rattle.tc_types.specs.declared.moves.Move.{Move}
+use Rattle.tc_world.specs.declared.events.Indication.{Indication}
+use Rattle.tc_world.specs.InFlight.{listed}
 use Rattle.tc_book.specs.declared.stamps.Stamp.{Stamp}
-use Rattle.tc_book.specs.declared.firsts.First.{First}
 use Rattle.tc_book.specs.Book.{Book, empty_book, is_unknown, place_in, request_at}
 use Rattle.tc_book.specs.Conserved.{IsConserved}
 use Rattle.tc_book.specs.Good.{IsGoodBook}
 use Rattle.tc_book.specs.Tables.{image_of}
-use Rattle.tc_desk.specs.State.{State, new_desk}
+use Rattle.tc_desk.specs.declared.configs.Config.{Config}
+use Rattle.tc_desk.specs.declared.firsts.First.{First}
 use Rattle.tc_desk.specs.Acts.{is_question, refusal_of}
-use Rattle.tc_desk.specs.Machine.{Carries, DeskStep, Does, Refuses, Serves, rows_new}
+use Rattle.tc_desk.specs.Machine.{Carries, DeskStep, Does, Refuses, Serves, StaysSame, rows_new}
 use Rattle.tc_desk.specs.Replies.{Reply, act_reply, history_lines, query_reply, refusal_reply, request_lines}
 use Rattle.tc_room.specs.Joined.{HasImage, IsJoined, IsKept}
 use Rattle.tc_room.specs.Answers.{IsUnread}
-use Rattle.tc_room.specs.Room.{FailsStore, RoomStep, Standing}
+use Rattle.tc_room.specs.Room.{FailsStore, IsNewDesk, ListState, RoomStep, Standing}
 
 -- a room goes on: its flag, as its view told it
 pub goes_on : (inside view : Standing) (told : Bool) → inside ≡ view → told ≡ view.stopped → told ≡ false → inside.stopped ≡ false
@@ -39,7 +41,7 @@ goes_on inside view told same is none = ap (λ (s : Standing). s.stopped) same �
 
 -- the desk machine's step, and the tables that hold its book
 pub steps : (old new : Standing) (stamp : Stamp) (given : Act) (reply : Reply) → old.stopped ≡ false
-    → DeskStep old.desk stamp given reply new.desk → HasImage new.tables (image_of new.desk.book) → new.stopped ≡ false → RoomStep old stamp given reply new
+    → DeskStep listed listed old.desk stamp given reply new.desk → HasImage new.tables (image_of new.desk.book) → new.stopped ≡ false → RoomStep old stamp given reply new
 steps old new stamp given reply going step holds goes = rw going (inl (record { desk = step; tables = holds; going = goes }))
 
 -- the database failed
@@ -48,35 +50,43 @@ pub fails : (old new : Standing) (stamp : Stamp) (given : Act) → old.stopped �
 fails old new stamp given going free stopped holds = rw going (inr (record { free = free; reply = refl; stopped = stopped; tables = holds }))
 
 -- the desk refused
-pub refused : (old new : State) (stamp : Stamp) (given : Act) (refusal : Refusal) → Refuses stamp given old new refusal → DeskStep old stamp given (refusal_reply refusal) new
+pub refused : (old new : ListState) (stamp : Stamp) (given : Act) (refusal : Refusal) → Refuses listed listed stamp given old new refusal
+    → DeskStep listed listed old stamp given (refusal_reply refusal) new
 refused old new stamp given refusal why = inr (refusal, why, refl)
 
 -- the desk carried an act out
-pub carried : (old new : State) (stamp : Stamp) (given : Act) (first : First) (rows : List Move) → is_question given ≡ false
-    → refusal_of stamp old given ≡ None → Does stamp given old new first → rows ≡ rows_new old new → DeskStep old stamp given (act_reply first rows) new
-carried old new stamp given first rows acts free does are = inl (by_kind given acts (record { first = first; free = free; does = does; reply = ap (act_reply first) are }))
+pub carried : (old new : ListState) (stamp : Stamp) (given : Act) (first : First) (said : List Indication) (rows : List Move) → is_question given ≡ false
+    → refusal_of stamp old given ≡ None → Does listed listed stamp given old new said first → rows ≡ rows_new old new
+    → DeskStep listed listed old stamp given (act_reply first said rows) new
+carried old new stamp given first said rows acts free does are = inl (by_kind given acts (record { first = first; all = said; free = free; does = does; reply = ap (act_reply first said) are }))
   where
-    by_kind : (given : Act) → is_question given ≡ false → Carries old stamp given (act_reply first rows) new → Serves old stamp given (act_reply first rows) new
+    by_kind : (given : Act) → is_question given ≡ false → Carries listed listed old stamp given (act_reply first said rows) new
+        → Serves listed listed old stamp given (act_reply first said rows) new
     by_kind (act.Book on_book) _ carries = carries
+    by_kind (act.Link on_link) _ carries = carries
     by_kind (act.Ask asked) is carries = cc
 
 -- a question that the tables answered
-pub answered : (desk : State) (stamp : Stamp) (asked : Query) (reply : Reply) → refusal_of stamp desk (act.Ask asked) ≡ None → reply ≡ query_reply desk.book asked
-    → DeskStep desk stamp (act.Ask asked) reply desk
+pub answered : (desk : ListState) (stamp : Stamp) (asked : Query) (reply : Reply) → refusal_of stamp desk (act.Ask asked) ≡ None
+    → reply ≡ query_reply listed listed desk asked → DeskStep listed listed desk stamp (act.Ask asked) reply desk
 answered desk stamp asked reply free same = inl (free, same, refl)
 
 -- a request that the desk found is told
-pub request_told : (desk : State) (stamp : Stamp) (n : ℕ) (found : Option Request) (request : Request) → found ≡ request_at desk.book n
-    → is_none found ≡ is_unknown desk.book n → found ≡ Some request → DeskStep desk stamp (act.Ask (query.Request n)) (request_line request (place_in desk.book n) ∷ []) desk
+pub request_told : (desk : ListState) (stamp : Stamp) (n : ℕ) (found : Option Request) (request : Request) → found ≡ request_at desk.book n
+    → is_none found ≡ is_unknown desk.book n → found ≡ Some request → DeskStep listed listed desk stamp (act.Ask (query.Request n)) (request_line request (place_in desk.book n) ∷ []) desk
 request_told desk stamp n found request is unknown some = answered desk stamp (query.Request n) _ (rw known refl) (ap (λ at. request_lines at (place_in desk.book n)) (sym some ∙ is))
   where
     known : is_unknown desk.book n ≡ false
     known = sym unknown ∙ ap is_none some
 
+-- a question that is refused leaves all as it was
+pub stays : (desk : ListState) → StaysSame listed listed desk desk
+stays desk = record { book = refl; world = record { up = refl; down = refl; rest = refl }; board = refl }
+
 -- a request that it did not find is unknown
-pub request_unknown : (desk : State) (stamp : Stamp) (n : ℕ) (found : Option Request) → is_none found ≡ is_unknown desk.book n → found ≡ None
-    → DeskStep desk stamp (act.Ask (query.Request n)) (refusal_reply UnknownRequest) desk
-request_unknown desk stamp n found unknown none = refused desk desk stamp (act.Ask (query.Request n)) UnknownRequest (record { why = inl (rw is refl); book = refl })
+pub request_unknown : (desk : ListState) (stamp : Stamp) (n : ℕ) (found : Option Request) → is_none found ≡ is_unknown desk.book n → found ≡ None
+    → DeskStep listed listed desk stamp (act.Ask (query.Request n)) (refusal_reply UnknownRequest) desk
+request_unknown desk stamp n found unknown none = refused desk desk stamp (act.Ask (query.Request n)) UnknownRequest (record { why = inl (rw is refl); same = stays desk })
   where
     is : is_unknown desk.book n ≡ true
     is = sym unknown ∙ ap is_none none
@@ -111,8 +121,9 @@ unread text read refusal was only long others = record {
 empty_tables : image_of empty_book ≡ empty_image
 empty_tables = refl
 
-pub new_held : (desk : State) (tables : Held MemStore) → desk ≡ new_desk → HasImage tables empty_image → HasImage tables (image_of desk.book)
-new_held desk tables new made = subst (λ (at : State). HasImage tables (image_of at.book)) (sym new) (subst (HasImage tables) (sym empty_tables) made)
+pub new_held : (config : Config) (desk : ListState) (tables : Held MemStore) → IsNewDesk config desk → HasImage tables empty_image → HasImage tables (image_of desk.book)
+new_held config desk tables (up, down, _, _, new) made =
+    subst (λ (book : Book). HasImage tables (image_of book)) (sym (ap (λ (at : ListState). at.book) new)) (subst (HasImage tables) (sym empty_tables) made)
 
 -- the amounts of a book's tallies are its counts
 pub amounts_counted : (history : List Move) → map (λ (t : Tally). t.amount) (tallies_by (count_at history)) ≡ counts_of history

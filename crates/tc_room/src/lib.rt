@@ -3,6 +3,7 @@
 #![tactic(auto)]
 
 pub mod answers;
+pub mod desks;
 pub mod memory;
 pub mod replies;
 pub mod rooms;

@@ -1,6 +1,7 @@
 //! What no clause says: that calls succeed where there is memory, what lies in the columns, and what a fault or a crash
 //! leaves.
 use std::process::Abort;
+use tc_desk::configs::Config;
 use tc_types::causes::Cause;
 use tc_types::moves::Move;
 use tc_types::names::Name;
@@ -11,6 +12,12 @@ mod plain;
 mod rooms;
 mod stops;
 mod tables;
+
+/// How each desk is made.
+const CONFIG: Config = Config {
+    window: 20,
+    channel: 3,
+};
 
 /// The number of a request.
 fn number(rt: &impl Abort, n: u32) -> RequestNumber {

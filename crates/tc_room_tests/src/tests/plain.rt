@@ -1,19 +1,22 @@
 //! Random acts on a room and on the book of `plain`, which keeps nothing but its requests, history and approvals: the same
 //! replies, the same answers, and tables that show the same. Then the identities of one application process as they run
 //! out.
-use super::{moment, name};
+use super::{CONFIG, moment, name};
 use crate::columns::check_tables;
 use crate::dice::{Dice, random_act};
 use crate::plain::{Plain, count_of};
 use sqlite::{Connection, MemStore};
 use std::alloc::Global;
+use std::mem;
 use std::process::Abort;
 use std::test::Fail;
-use tc_book::firsts::First;
-use tc_desk::desks::Desk;
-use tc_room::rooms::{Config, Found, Room};
+use tc_book::firsts;
+use tc_desk::dones::Done;
+use tc_desk::firsts::First;
+use tc_room::desks::{ListDesk, make_desk};
+use tc_room::rooms::{Found, Room};
 use tc_store::tables::Tables;
-use tc_types::acts::{Act, BookAct, Query};
+use tc_types::acts::{Act, BookAct};
 use tc_types::entries::Entry;
 use tc_types::moves::Move;
 use tc_types::names::Name;
@@ -21,6 +24,7 @@ use tc_types::numbers::{Apid, Moment, Service, Subtype};
 use tc_types::places::{PLACES, Place};
 use tc_types::refusals::Refusal;
 use tc_types::requests::{Ack, Command, Form, Outcome, Request};
+use tc_types::rows::Row;
 
 /// What carries acts out. Nothing is promised of it here.
 trait Acting {
@@ -71,7 +75,7 @@ impl Asked for Room {
     }
 }
 
-impl Acting for Desk<Global> {
+impl Acting for ListDesk {
     fn acts(
         &mut self,
         by: Name,
@@ -83,50 +87,36 @@ impl Acting for Desk<Global> {
     }
 }
 
-/// A desk and its tables, which a room does not show.
+/// A desk, and the batches of its acts, which a room does not show.
 #[derive(Drop)]
-struct Bare {
-    desk: Desk<Global>,
-    tables: Tables<MemStore>,
+struct Batched {
+    desk: ListDesk,
+    batches: Vec<Vec<Row>>,
 }
 
-impl Acting for Bare {
+impl Batched {
+    /// The batches so far: none are left.
+    fn take(&mut self, alloc: Global) -> Vec<Vec<Row>> {
+        mem::replace(&mut self.batches, Vec::new(alloc))
+    }
+}
+
+impl Acting for Batched {
     fn acts(
         &mut self,
         by: Name,
         moment: Moment,
         act: BookAct,
     ) -> Result<(First, Vec<Move>), Refusal> {
-        let done = self.desk.act(by, moment, Act::Book(act))?;
-        match self.tables.write(&done.batch) {
-            Ok(()) => Ok((done.first, done.moves)),
-            Err(_) => Err(Refusal::Store),
-        }
-    }
-}
-
-impl Asked for Bare {
-    fn counted(&mut self) -> Result<[u32; PLACES], Refusal> {
-        self.tables.counts().or(Err(Refusal::Store))
-    }
-
-    fn found(&mut self, n: u32) -> Result<Found, Refusal> {
-        match self.desk.request(n) {
-            Some(request) => Ok(Found {
-                request,
-                place: self.desk.place_of(n),
-            }),
-            None => Err(Refusal::UnknownRequest),
-        }
-    }
-
-    fn told(&mut self, request: u32, after: u32) -> Result<Vec<Move>, Refusal> {
-        match self.desk.refusal_of(Query::History { request, after }) {
-            Some(refusal) => Err(refusal),
-            None => self
-                .tables
-                .history_of(request, after, 51)
-                .or(Err(Refusal::Store)),
+        let Done {
+            first,
+            moves,
+            batch,
+            ..
+        } = self.desk.act(by, moment, Act::Book(act))?;
+        match self.batches.push(batch) {
+            Ok(()) => Ok((first, moves)),
+            Err(_) => Err(Refusal::Memory),
         }
     }
 }
@@ -154,6 +144,14 @@ impl Seen {
             Err(_) => &mut self.bad_activity,
         };
         *count = count.saturating_add(1);
+    }
+}
+
+/// What the book of `plain` answers, as a desk says it.
+fn as_desk(reply: Result<firsts::First, Refusal>) -> Result<First, Refusal> {
+    match reply {
+        Ok(first) => Ok(First::Book(first)),
+        Err(refusal) => Err(refusal),
     }
 }
 
@@ -189,7 +187,7 @@ fn random_person(rt: &impl Abort, dice: &mut Dice) -> Name {
 }
 
 /// An act on both.
-fn done_on_both<A: Asked>(
+fn done_on_both<A: Acting>(
     rt: &impl Abort,
     asked: &mut A,
     plain: &mut Plain,
@@ -198,7 +196,7 @@ fn done_on_both<A: Asked>(
     act: &BookAct,
 ) -> Result<First, Refusal> {
     let before = plain.history.len();
-    let wanted = plain.act(by, when, *act);
+    let wanted = as_desk(plain.act(by, when, *act));
     let reply = asked.acts(by, when, *act);
     let moves = plain.history.get(before..).unwrap_or(&[]);
     assert!(rt; is_same_reply(reply, &wanted, moves), "{act:?}");
@@ -206,7 +204,7 @@ fn done_on_both<A: Asked>(
 }
 
 /// A random act on both.
-fn act_on_both<A: Asked>(
+fn act_on_both<A: Acting>(
     rt: &impl Abort,
     asked: &mut A,
     plain: &mut Plain,
@@ -291,11 +289,10 @@ fn count_moves(plain: &Plain, from: Place, to: Place) -> u32 {
 /// How many acts the longest course has.
 const LONGEST: u32 = 3_000;
 
-#[test]
-fn a_room_answers_as_the_definitions_do(rt: HostRuntime) -> Result<(), Fail> {
-    let mut room = Room::open(rt.alloc(), Config {})?;
-    let mut plain = Plain::new(rt.alloc());
-    let seen = course(&rt, rt.alloc(), &mut room, &mut plain, LONGEST)?;
+/// A long course of random acts, and that each kind of answer was met often enough.
+fn answers_as_defined<A: Asked>(rt: &impl Abort, alloc: Global, asked: &mut A) -> Result<(), Fail> {
+    let mut plain = Plain::new(alloc);
+    let seen = course(rt, alloc, asked, &mut plain, LONGEST)?;
     assert!(rt; seen.done > LONGEST / 2, "{seen:?}");
     assert!(rt; seen.wrong_place > 99 && seen.bad_activity > 99, "{seen:?}");
     assert!(rt; seen.unknown > 9, "{seen:?}");
@@ -308,6 +305,12 @@ fn a_room_answers_as_the_definitions_do(rt: HostRuntime) -> Result<(), Fail> {
     Ok(())
 }
 
+#[test]
+fn a_room_answers_as_the_definitions_do(rt: HostRuntime) -> Result<(), Fail> {
+    let mut room = Room::open(rt.alloc(), CONFIG)?;
+    answers_as_defined(&rt, rt.alloc(), &mut room)
+}
+
 /// Makes the tables of an empty desk in memory.
 fn made(rt: &impl Abort, alloc: Global) -> Tables<MemStore> {
     let conn = Connection::open_in_memory(alloc).expect(rt, "a database");
@@ -317,15 +320,44 @@ fn made(rt: &impl Abort, alloc: Global) -> Tables<MemStore> {
     }
 }
 
+/// So many random acts on both.
+fn acts_on_both<A: Acting>(rt: &impl Abort, asked: &mut A, plain: &mut Plain, acts: u32) {
+    let mut dice = Dice {
+        state: u64::from(acts),
+    };
+    for _ in 0..acts {
+        let _reply = act_on_both(rt, asked, plain, &mut dice);
+    }
+}
+
+/// The batches of a course of so many acts.
+fn batches_of(
+    rt: &impl Abort,
+    alloc: Global,
+    plain: &mut Plain,
+    acts: u32,
+) -> Result<Vec<Vec<Row>>, Fail> {
+    let mut batched = Batched {
+        desk: make_desk(alloc, CONFIG)?,
+        batches: Vec::new(alloc),
+    };
+    acts_on_both(rt, &mut batched, plain, acts);
+    Ok(batched.take(alloc))
+}
+
+/// Writes these batches, in order.
+fn write_all(rt: &impl Abort, tables: &mut Tables<MemStore>, batches: &[Vec<Row>]) {
+    for batch in batches {
+        assert!(rt; tables.write(batch).is_ok());
+    }
+}
+
 /// A course of so many acts, and what the tables then show.
 fn course_shown(rt: &impl Abort, alloc: Global, acts: u32) -> Result<(), Fail> {
-    let mut bare = Bare {
-        desk: Desk::new(alloc),
-        tables: made(rt, alloc),
-    };
     let mut plain = Plain::new(alloc);
-    course(rt, alloc, &mut bare, &mut plain, acts)?;
-    let Bare { desk: _, tables } = bare;
+    let batches = batches_of(rt, alloc, &mut plain, acts)?;
+    let mut tables = made(rt, alloc);
+    write_all(rt, &mut tables, &batches);
     let mut conn = tables.into_connection();
     check_tables(rt, alloc, &mut conn, &plain)
 }
@@ -372,10 +404,10 @@ fn plain_entry(apid: u16) -> Option<Entry> {
 }
 
 /// Whether a first line tells of the entry of this request with this identity.
-fn is_first(first: First, number: u32, apid: u16, count: u16) -> bool {
+fn is_first(first: firsts::First, number: u32, apid: u16, count: u16) -> bool {
     match first {
-        First::Plain | First::Approvals { .. } => false,
-        First::Entered { request, identity } => {
+        firsts::First::Plain | firsts::First::Approvals { .. } => false,
+        firsts::First::Entered { request, identity } => {
             let is_identity = identity.apid.get() == apid && identity.count.get() == count;
             request.get() == number && is_identity
         }
@@ -385,10 +417,13 @@ fn is_first(first: First, number: u32, apid: u16, count: u16) -> bool {
 /// Whether a reply tells of the entry of this request with this identity.
 fn is_entered(reply: Result<First, Refusal>, number: u32, apid: u16, count: u16) -> bool {
     match reply {
-        Ok(first) => is_first(first, number, apid, count),
-        Err(_) => false,
+        Ok(First::Book(first)) => is_first(first, number, apid, count),
+        Ok(_) | Err(_) => false,
     }
 }
+
+/// What says that an act was done, and no more.
+const PLAIN: First = First::Book(firsts::First::Plain);
 
 /// How many sequence counts an application process has.
 const SEQUENCE_COUNTS: u16 = 16_384;
@@ -410,13 +445,13 @@ fn give_all<A: Acting>(rt: &impl Abort, acting: &mut A) {
 fn give_again<A: Acting>(rt: &impl Abort, acting: &mut A) {
     assert!(rt; enters(rt, acting, APID) == Err(Refusal::IdentityInUse));
     assert!(rt; is_entered(enters(rt, acting, 8), 16_385, 8, 0));
-    assert!(rt; withdraws(rt, acting, 2) == Ok(First::Plain));
+    assert!(rt; withdraws(rt, acting, 2) == Ok(PLAIN));
     assert!(rt; enters(rt, acting, APID) == Err(Refusal::IdentityInUse));
-    assert!(rt; withdraws(rt, acting, 1) == Ok(First::Plain));
+    assert!(rt; withdraws(rt, acting, 1) == Ok(PLAIN));
     assert!(rt; is_entered(enters(rt, acting, APID), 16_386, APID, 0));
     assert!(rt; is_entered(enters(rt, acting, APID), 16_387, APID, 1));
     assert!(rt; enters(rt, acting, APID) == Err(Refusal::IdentityInUse));
-    assert!(rt; withdraws(rt, acting, 16_386) == Ok(First::Plain));
+    assert!(rt; withdraws(rt, acting, 16_386) == Ok(PLAIN));
     assert!(rt; enters(rt, acting, APID) == Err(Refusal::IdentityInUse));
 }
 
@@ -430,14 +465,19 @@ fn fill<A: Acting>(rt: &impl Abort, acting: &mut A) {
     assert!(rt; enters(rt, acting, 100) == Err(Refusal::DeskFull));
     assert!(rt; enters(rt, acting, APID) == Err(Refusal::IdentityInUse));
     assert!(rt; withdraws(rt, acting, 65_536) == Err(Refusal::UnknownRequest));
-    assert!(rt; withdraws(rt, acting, 65_535) == Ok(First::Plain));
+    assert!(rt; withdraws(rt, acting, 65_535) == Ok(PLAIN));
+}
+
+/// The three, one after the other.
+fn run_out<A: Acting>(rt: &impl Abort, acting: &mut A) {
+    give_all(rt, acting);
+    give_again(rt, acting);
+    fill(rt, acting);
 }
 
 #[test]
 fn identities_and_numbers_run_out(rt: HostRuntime) -> Result<(), Fail> {
-    let mut desk = Desk::new(rt.alloc());
-    give_all(&rt, &mut desk);
-    give_again(&rt, &mut desk);
-    fill(&rt, &mut desk);
+    let mut desk = make_desk(rt.alloc(), CONFIG)?;
+    run_out(&rt, &mut desk);
     Ok(())
 }

@@ -1,11 +1,11 @@
 //! A room, line by line and call by call.
-use super::{entered, moment, name};
+use super::{CONFIG, entered, moment, name};
 use crate::seen::SeenRoom;
 use std::alloc::Global;
 use std::process::Abort;
 use std::test::Fail;
 use tc_room::replies::{MOST_SHOWN, history_reply};
-use tc_room::rooms::{Config, Room};
+use tc_room::rooms::Room;
 use tc_types::places::Place;
 use tc_types::refusals::Refusal;
 
@@ -68,7 +68,7 @@ fn answers_cases<R: SeenRoom>(
 
 #[test]
 fn answers_each_line(rt: HostRuntime) -> Result<(), Fail> {
-    let mut room = Room::open(rt.alloc(), Config {})?;
+    let mut room = Room::open(rt.alloc(), CONFIG)?;
     let counts = "places 1: 0 0 0 0 0 0 0 0 0 0 0 0 1 0 0\n";
     answers_cases(&rt, rt.alloc(), &mut room, &CASES, counts)
 }
@@ -125,9 +125,50 @@ const APPROVALS: [Case; 14] = [
 
 #[test]
 fn answers_each_approval(rt: HostRuntime) -> Result<(), Fail> {
-    let mut room = Room::open(rt.alloc(), Config {})?;
+    let mut room = Room::open(rt.alloc(), CONFIG)?;
     let counts = "places 2: 0 1 0 0 0 0 0 0 0 0 0 0 1 0 0\n";
     answers_cases(&rt, rt.alloc(), &mut room, &APPROVALS, counts)
+}
+
+/// A request that is confirmed over the link, and how the link then stands.
+const FLIGHT: [Case; 10] = [
+    (
+        b"100 ann enter 5 ---- no 8 1 - - ok",
+        "ok request 1 5/0\nmove 1 100 ann 1 - Entered enter\n",
+        false,
+    ),
+    (
+        b"110 bob approve 1",
+        "ok approvals 1 of 1\nmove 2 110 bob 1 Entered Approved approve\n",
+        false,
+    ),
+    (b"120 ann release 1", "refused 11 ServiceNotActive\n", true),
+    (b"121 ann initiate none", "ok\nstarted\n", false),
+    (
+        b"122 ann release 1",
+        "ok\nmove 3 122 ann 1 Approved Queued release\nmove 4 122 ann 1 Queued Sent transmit\n",
+        false,
+    ),
+    (b"123 ann up", "ok accepted 1\n", false),
+    (b"124 ann clcw", "ok\n", false),
+    (
+        b"125 ann down",
+        "ok clcw 010c0001\nmove 5 125 ann 1 Sent Confirmed confirm\n",
+        false,
+    ),
+    (b"126 ann losedown 0", "ok nothing\n", false),
+    (
+        b"127 ann link",
+        "fop S1 vs 1 nn 1 sent 0 wait 0 count 1 timer 0 k 10 t1 10 limit 3\nfarm Open vr 1 b 0 flags --- w 20\nlink up 0 down 0 premise kept\n",
+        false,
+    ),
+];
+
+#[test]
+fn answers_each_line_of_a_flight(rt: HostRuntime) -> Result<(), Fail> {
+    let mut room = Room::open(rt.alloc(), CONFIG)?;
+    let counts = "places 1: 0 0 0 0 1 0 0 0 0 0 0 0 0 0 0\n";
+    answers_cases(&rt, rt.alloc(), &mut room, &FLIGHT, counts)
 }
 
 /// Withdraws request 1: how many moves that made, or why it was refused.
@@ -154,7 +195,7 @@ fn tells_of_one<R: SeenRoom>(rt: &impl Abort, alloc: Global, room: &mut R) -> Re
 
 #[test]
 fn tells_what_the_tables_hold(rt: HostRuntime) -> Result<(), Fail> {
-    let mut room = Room::open(rt.alloc(), Config {})?;
+    let mut room = Room::open(rt.alloc(), CONFIG)?;
     tells_of_one(&rt, rt.alloc(), &mut room)
 }
 

@@ -4,11 +4,14 @@ use Rattle.tc_room.proofs.RoomLemmas.{new_held}
 use Rattle.tc_room.proofs.rooms.Room.open.Goals as goal
 
 pub invariant_of-result : goal.invariant_of-result
-invariant_of-result c = record { held = λ going. new_held c.new.result c.in_ok-make_tables.field-0 c.new.ensures.empty c.in_ok-make_tables.ensures.made; good = c.new.ensures.good }
+invariant_of-result c = record {
+  held = λ going. new_held c.args.config c.in_ok-make_desk.field-0 c.in_ok-make_tables.field-0 c.in_ok-make_desk.ensures.made c.in_ok-make_tables.ensures.made;
+  good = c.in_ok-make_desk.ensures.good;
+}
 
 pub returns-clause-opened : goal.returns-clause-opened
 returns-clause-opened c = record {
-  desk = c.new.ensures.empty;
-  tables = new_held c.new.result c.in_ok-make_tables.field-0 c.new.ensures.empty c.in_ok-make_tables.ensures.made;
+  desk = c.in_ok-make_desk.ensures.made;
+  tables = new_held c.args.config c.in_ok-make_desk.field-0 c.in_ok-make_tables.field-0 c.in_ok-make_desk.ensures.made c.in_ok-make_tables.ensures.made;
   going = refl;
 }
