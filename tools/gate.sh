@@ -1,5 +1,5 @@
 #!/bin/bash
-# The gate, from nothing: every proof, all tests and the program as two compilers build it, with the few edits of
+# The gate, from nothing: the layout of files, every proof, all tests and the program as two compilers build it, with the few edits of
 # must-fail/ (`rt ci`); the edits of wrong/, many in a check, and the test of the tool that tries them; then the built
 # program's words, files, statuses, faulty streams, and each of its requests for memory refused in turn.
 # It stops at the first part that fails. At its end it prints what each part took: docs/GATE.md has that table for each
@@ -43,10 +43,18 @@ table() {
     printf '%s\n' "${parts[@]}" | awk -v m="$minutes" '{ p += $NF } END { printf "%-44s %6.1f %10.1f\n", "all", m, p }'
 }
 
+# Whether each file is as rt fmt lays it out. rt ci asks that too, but says it at its end.
+layout() {
+    local rattle
+    rattle=$(dirname "$(readlink -f "$(command -v rt)")")/rattle
+    find crates \( -name '*.rt' -o -name '*.antt' \) -print0 | xargs -0 "$rattle" fmt --check
+}
+
 times=$(mktemp) || exit 1
 trap 'rm -f "$times"' EXIT
 rm -rf crates/*/out
 
+part "the layout of files" layout
 part "rt ci" rt ci
 part "the test of the tool for edits" tools/edits_test.py
 part "edits of wrong/, many in a check" tools/edits.py "${asked[@]}"

@@ -64,6 +64,83 @@ move 5 170 bob 1 Approved Withdrawn withdraw
 places 2: 0 1 0 0 0 0 0 0 0 0 0 0 1 0 0
 TEXT
 )$'\n'
+pass=$(cat <<'TEXT'
+ok request 1 5/0
+move 1 100 ann 1 - Entered enter
+ok approvals 1 of 1
+move 2 110 bob 1 Entered Approved approve
+ok
+started
+ok
+move 3 130 ann 1 Approved Queued release
+move 4 130 ann 1 Queued Sent transmit
+ok accepted 1
+ok
+ok clcw 010c0001
+move 5 160 ann 1 Sent Confirmed confirm
+fop S1 vs 1 nn 1 sent 0 wait 0 count 1 timer 0 k 10 t1 10 limit 3
+farm Open vr 1 b 0 flags --- w 20
+link up 0 down 0 premise kept
+request 1 5/0 8/1 ---c no - - ok ann Confirmed
+places 1: 0 0 0 0 1 0 0 0 0 0 0 0 0 0 0
+TEXT
+)$'\n'
+loss=$(cat <<'TEXT'
+ok request 1 5/0
+move 1 100 ann 1 - Entered enter
+ok request 2 5/1
+move 2 100 ann 2 - Entered enter
+ok approvals 1 of 1
+move 3 110 bob 1 Entered Approved approve
+ok approvals 1 of 1
+move 4 110 bob 2 Entered Approved approve
+ok
+ok
+ok
+ok
+ok
+ok clcw 010c0000
+started
+ok
+move 5 160 ann 1 Approved Queued release
+move 6 160 ann 1 Queued Sent transmit
+ok
+move 7 170 ann 2 Approved Queued release
+ok lost
+ok
+ok
+ok accepted 1
+ok
+ok lost
+ok
+ok clcw 010c0001
+move 8 250 ann 1 Sent Confirmed confirm
+move 9 250 ann 2 Queued Sent transmit
+ok
+alert TERM
+move 10 260 ann 2 Sent Doubtful doubt
+fop S6 vs 2 nn 1 sent 0 wait 0 count 1 timer 0 k 1 t1 2 limit 3
+farm Open vr 1 b 0 flags --- w 20
+link up 1 down 0 premise kept
+ok
+move 11 280 bob 2 Doubtful Closed close
+ok
+ok lost
+ok
+ok control
+ok
+ok clcw 010c0201
+started
+ok
+alert TERM
+ok
+ok control
+ok
+ok clcw 010c0407
+started
+places 2: 0 0 0 0 1 0 0 0 0 0 0 0 0 0 1
+TEXT
+)$'\n'
 refused=$'refused 1 BadText\n'
 
 : >input
@@ -71,6 +148,21 @@ refused=$'refused 1 BadText\n'
 check "an empty script" 0 "$none" "" run empty
 check "the first run" 0 "$first" "" run "$top/examples/first-run.tc"
 check "an approval" 0 "$approval" "" run "$top/examples/approval.tc"
+check "a first pass" 0 "$pass" "" run "$top/examples/first-pass.tc"
+check "a lost frame" 0 "$loss" "" run "$top/examples/lost-frame.tc"
+fop='fop S6 vs 0 nn 0 sent 0 wait 0 count 1 timer 0 k 10 t1 10 limit 3'
+link='link up 0 down 0 premise kept'
+word=$'ok\nok clcw 01'
+echo '0 ann link' >link
+printf '0 ann clcw\n0 ann down\n' >word
+check "a window" 0 "$fop"$'\nfarm Open vr 0 b 0 flags --- w 254\n'"$link"$'\n'"$none" "" run --w 254 link
+check "the smallest window, behind the script" 0 "$fop"$'\nfarm Open vr 0 b 0 flags --- w 2\n'"$link"$'\n'"$none" "" run link --w=2
+check "a channel" 0 "$word"$'fc0000\n'"$none" "" run --vc 63 word
+check "the first channel" 0 "$word"$'000000\n'"$none" "" run --vc 0 word
+check "the channel that nobody chose" 0 "$word"$'0c0000\n'"$none" "" run word
+check "an odd window" 2 "" "tcdesk: --w must be even" run --w 21 link
+check "a window past its limit" 2 "" "2..=254" run --w 256 link
+check "a channel past its limit" 2 "" "0..=63" run --vc 64 link
 cp "$top/examples/first-run.tc" input
 check "no words" 0 "$first" ""
 check "standard input by its name" 0 "$first" "" run -

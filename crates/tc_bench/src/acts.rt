@@ -1,6 +1,6 @@
 //! Acts in turn, and how many of them there were a second in the first tenth and in the last.
 use crate::clocks::a_second;
-use crate::subjects::Subject;
+use crate::subjects::{ACTS_OF_FLIGHT, Subject};
 use std::alloc::Global;
 use std::rt::Clock;
 use std::time::{Duration, Instant};
@@ -12,6 +12,16 @@ enum Acts {
     Enter,
     /// It is withdrawn, where so many were entered.
     Withdraw { count: u32 },
+    /// It flies.
+    Fly,
+}
+
+/// How many acts that is with each request.
+fn acts_each(acts: Acts) -> u32 {
+    match acts {
+        Acts::Enter | Acts::Withdraw { .. } => 1,
+        Acts::Fly => ACTS_OF_FLIGHT,
+    }
 }
 
 /// The request at this place of the list goes through it.
@@ -19,6 +29,7 @@ fn acts_on<S: Subject>(subject: &mut S, acts: Acts, place: u32) -> Option<()> {
     match acts {
         Acts::Enter => subject.enters(place),
         Acts::Withdraw { count } => subject.withdraws(place, count),
+        Acts::Fly => subject.flies(place),
     }
 }
 
@@ -37,7 +48,7 @@ fn took<R: Clock, S: Subject>(
     start.elapsed(rt).ok()
 }
 
-/// So many requests go through it. Tells a line: how many a second in the first tenth, and how many in the last.
+/// So many requests go through it. Tells a line: how many acts a second in the first tenth, and how many in the last.
 fn rates_text<R: Clock, S: Subject>(
     rt: &R,
     alloc: Global,
@@ -50,8 +61,9 @@ fn rates_text<R: Clock, S: Subject>(
     let at_first = took(rt, subject, acts, 0, tenth)?;
     took(rt, subject, acts, tenth, last)?;
     let at_last = took(rt, subject, acts, last, count)?;
-    let first = a_second(tenth, at_first);
-    let last = a_second(tenth, at_last);
+    let done = tenth.saturating_mul(acts_each(acts));
+    let first = a_second(done, at_first);
+    let last = a_second(done, at_last);
     format!(in alloc; "rates {first} {last}\n").ok()
 }
 
@@ -78,4 +90,17 @@ pub fn moves_text<R: Clock, S: Subject>(
     let withdrawing = rates_text(rt, alloc, subject, Acts::Withdraw { count }, count)?;
     let [.., withdrawn, _, _] = subject.counted()?;
     format!(in alloc; "{entering}{withdrawing}{withdrawn}\n").ok()
+}
+
+/// The link is started, and so many requests fly. Tells the rates, and how many then stand at Confirmed.
+pub fn flights_text<R: Clock, S: Subject>(
+    rt: &R,
+    alloc: Global,
+    subject: &mut S,
+    count: u32,
+) -> Option<String> {
+    subject.starts()?;
+    let rates = rates_text(rt, alloc, subject, Acts::Fly, count)?;
+    let [_, _, _, _, confirmed, ..] = subject.counted()?;
+    format!(in alloc; "{rates}{confirmed}\n").ok()
 }

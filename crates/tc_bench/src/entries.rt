@@ -13,7 +13,7 @@ const PROCESSES: u32 = 10;
 /// Who enters.
 pub const AUTHOR: &[u8] = b"a";
 
-/// Who withdraws.
+/// Who withdraws and approves.
 pub const OTHER: &[u8] = b"b";
 
 /// The rows of an entry: the request, its move, a tally.
@@ -42,7 +42,7 @@ pub fn form_of(place: u32) -> Option<Form> {
 }
 
 /// That request.
-fn request_of(place: u32) -> Option<Request> {
+pub fn request_of(place: u32) -> Option<Request> {
     let form = form_of(place)?;
     let count = SequenceCount::new((place / PROCESSES % 16_384) as u16)?;
     Some(Request {
@@ -62,7 +62,7 @@ fn request_of(place: u32) -> Option<Request> {
 }
 
 /// The row of a tally.
-fn tally(place: Place, amount: u32) -> Row {
+pub fn tally(place: Place, amount: u32) -> Row {
     Row::Tallied(Tally { place, amount })
 }
 

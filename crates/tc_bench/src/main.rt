@@ -8,13 +8,14 @@
 mod acts;
 mod clocks;
 mod entries;
+mod flights;
 mod reads;
 mod rooms;
 mod stores;
 mod subjects;
 mod words;
 
-use crate::acts::{entries_text, moves_text};
+use crate::acts::{entries_text, flights_text, moves_text};
 use crate::reads::{filled, reads_text, requests_in};
 use crate::stores::history_text;
 use crate::subjects::Subject;
@@ -53,19 +54,51 @@ fn asked<R: Env + AllocGlobal>(rt: &R) -> Option<Asked> {
 
 /// Does what is asked, and tells of it. None where something failed.
 fn shown<R: Clock + AllocGlobal>(rt: &R, asked: Asked) -> Option<String> {
-    let alloc = rt.alloc();
     let count = asked.count;
     match asked.kind {
-        Kind::History => history_text(alloc, count),
-        Kind::Store => entries_text(rt, alloc, &mut Store::opened(alloc)?, count),
-        Kind::Room => entries_text(rt, alloc, &mut Room::opened(alloc)?, count),
-        Kind::StoreMoves => moves_text(rt, alloc, &mut Store::opened(alloc)?, count),
-        Kind::RoomMoves => moves_text(rt, alloc, &mut Room::opened(alloc)?, count),
-        Kind::StoreReads => reads_text(rt, alloc, &mut filled(alloc, count)?, requests_in(count)),
-        Kind::RoomReads => {
-            let mut room = Room::opened(alloc)?;
-            moves_text(rt, alloc, &mut room, count)?;
-            reads_text(rt, alloc, &mut room, count)
+        Kind::History => history_text(rt.alloc(), count),
+        Kind::Store | Kind::StoreMoves | Kind::StoreFlights | Kind::StoreReads => {
+            of_store(rt, asked.kind, count)
         }
+        Kind::Room => entries_of_room(rt, count),
+        Kind::RoomMoves => moves_of_room(rt, count),
+        Kind::RoomFlights => flights_of_room(rt, count),
+        Kind::RoomReads => reads_of_room(rt, count),
     }
+}
+
+/// Acts and questions on the bare store.
+fn of_store<R: Clock + AllocGlobal>(rt: &R, kind: Kind, count: u32) -> Option<String> {
+    let alloc = rt.alloc();
+    match kind {
+        Kind::StoreReads => reads_text(rt, alloc, &mut filled(alloc, count)?, requests_in(count)),
+        Kind::StoreMoves => moves_text(rt, alloc, &mut Store::opened(alloc)?, count),
+        Kind::StoreFlights => flights_text(rt, alloc, &mut Store::opened(alloc)?, count),
+        _ => entries_text(rt, alloc, &mut Store::opened(alloc)?, count),
+    }
+}
+
+/// Entries in a room.
+fn entries_of_room<R: Clock + AllocGlobal>(rt: &R, count: u32) -> Option<String> {
+    let mut room = Room::opened(rt.alloc())?;
+    entries_text(rt, rt.alloc(), &mut room, count)
+}
+
+/// Moves in a room.
+fn moves_of_room<R: Clock + AllocGlobal>(rt: &R, count: u32) -> Option<String> {
+    let mut room = Room::opened(rt.alloc())?;
+    moves_text(rt, rt.alloc(), &mut room, count)
+}
+
+/// Flights in a room.
+fn flights_of_room<R: Clock + AllocGlobal>(rt: &R, count: u32) -> Option<String> {
+    let mut room = Room::opened(rt.alloc())?;
+    flights_text(rt, rt.alloc(), &mut room, count)
+}
+
+/// Questions in a room with so many moves.
+fn reads_of_room<R: Clock + AllocGlobal>(rt: &R, count: u32) -> Option<String> {
+    let mut room = Room::opened(rt.alloc())?;
+    moves_text(rt, rt.alloc(), &mut room, count)?;
+    reads_text(rt, rt.alloc(), &mut room, count)
 }

@@ -1,5 +1,7 @@
 //! The bare store.
 use crate::entries::{EntryRows, WithdrawalRows, entry_rows, withdrawal_rows};
+use crate::flights;
+use crate::flights::{ApprovalRows, ConfirmationRows, ReleaseRows};
 use crate::subjects::{MOST_TOLD, Subject};
 use sqlite::{Connection, MemStore};
 use std::alloc::Global;
@@ -23,6 +25,23 @@ impl Subject for Tables<MemStore> {
     fn withdraws(&mut self, place: u32, count: u32) -> Option<()> {
         let rows: WithdrawalRows = withdrawal_rows(place, count)?;
         self.write(&rows).ok()
+    }
+
+    fn starts(&mut self) -> Option<()> {
+        self.write(&[]).ok()
+    }
+
+    fn flies(&mut self, place: u32) -> Option<()> {
+        let entered: EntryRows = flights::entry_rows(place)?;
+        self.write(&entered).ok()?;
+        let approved: ApprovalRows = flights::approval_rows(place)?;
+        self.write(&approved).ok()?;
+        let released: ReleaseRows = flights::release_rows(place)?;
+        self.write(&released).ok()?;
+        self.write(&[]).ok()?;
+        self.write(&[]).ok()?;
+        let confirmed: ConfirmationRows = flights::confirmation_rows(place)?;
+        self.write(&confirmed).ok()
     }
 
     fn counted(&mut self) -> Option<[u32; PLACES]> {

@@ -16,6 +16,10 @@ pub enum Kind {
     StoreMoves,
     /// So many requests are entered in the room, and then withdrawn.
     RoomMoves,
+    /// The rows of so many flights are written on the bare store.
+    StoreFlights,
+    /// So many requests fly in the room.
+    RoomFlights,
     /// Questions are asked of the bare store with so many moves.
     StoreReads,
     /// Questions are asked of the room where so many requests were entered and then withdrawn.
@@ -39,6 +43,8 @@ fn read_kind(word: &str) -> Option<Kind> {
         "room" => Some(Kind::Room),
         "store-moves" => Some(Kind::StoreMoves),
         "room-moves" => Some(Kind::RoomMoves),
+        "store-flights" => Some(Kind::StoreFlights),
+        "room-flights" => Some(Kind::RoomFlights),
         "store-reads" => Some(Kind::StoreReads),
         "room-reads" => Some(Kind::RoomReads),
         _ => None,
