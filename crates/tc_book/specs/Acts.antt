@@ -74,6 +74,7 @@ query_tests book query.Places = []
 query_tests book (query.History n after) = (is_unknown book n, UnknownRequest) ∷ []
 query_tests book (query.Request n) = (is_unknown book n, UnknownRequest) ∷ []
 query_tests book query.Link = []
+query_tests book query.Schedule = []
 
 -- what the book becomes where no test holds
 abbrev pub acted : Stamp → BookAct → Book → Book

@@ -1,8 +1,9 @@
 //! What no clause says: that calls succeed where there is memory, and with which values.
 use std::process::Abort;
 use tc_types::frames::Frame;
-use tc_types::numbers::{Apid, RequestNumber, SequenceCount, Service, Subtype};
-use tc_types::requests::{Ack, Body, Command, Identity, Outcome};
+use tc_types::numbers::{Apid, RequestNumber, SequenceCount};
+use tc_types::requests::{Ack, Identity, Outcome};
+use tc_types::telecommands::{Payload, Task};
 
 mod calls;
 mod cells;
@@ -22,9 +23,9 @@ fn number(rt: &impl Abort, n: u32) -> RequestNumber {
 }
 
 /// The part of request `n` that flies: requests differ by their count.
-fn body(rt: &impl Abort, n: u32) -> Body {
+fn body(rt: &impl Abort, n: u32) -> Payload {
     let count = u16::try_from(n).expect(rt, "a small number");
-    Body {
+    Payload {
         identity: Identity {
             apid: Apid::new(5).expect(rt, "an application process"),
             count: SequenceCount::new(count).expect(rt, "a count"),
@@ -35,11 +36,7 @@ fn body(rt: &impl Abort, n: u32) -> Body {
             progress: false,
             completion: true,
         },
-        command: Command::Plain {
-            service: Service::new(8).expect(rt, "a service"),
-            subtype: Subtype::new(1).expect(rt, "a subtype"),
-        },
-        outcome: Outcome::Completes,
+        task: Task::Plain(Outcome::Completes),
     }
 }
 

@@ -1,6 +1,6 @@
 -- What holds of the FARM-1 table, in the words of its users.
 use Rattle.std.specs.Prelude.{◌≡◌, ℕ, ◌+◌, ◌%◌, ◌<◌, Bool, true}
-use Rattle.tc_types.specs.declared.requests.Body.{Body}
+use Rattle.tc_types.specs.declared.telecommands.Payload.{Payload}
 use Rattle.tc_types.specs.declared.frames.Frame.{Frame}
 use Rattle.tc_types.specs.declared.frames.Frame.TheVariants.{Ad, Unlock, SetVr}
 use Rattle.tc_farm.specs.declared.clcws.Clcw.{Clcw}
@@ -11,7 +11,7 @@ use Rattle.tc_farm.specs.declared.farms.Verdict.TheVariants.{Accepted, Discarded
 
 -- A frame that is accepted: it has the number that is expected, the FARM is open and a buffer is free; the answer has
 -- its own request and body, and the next number is expected.
-pub record IsInOrder (before : FarmView) (frame : Frame) (free_buffer : Bool) (request : ℕ) (body : Body) (after : FarmView) : Type 0 where
+pub record IsInOrder (before : FarmView) (frame : Frame) (free_buffer : Bool) (request : ℕ) (body : Payload) (after : FarmView) : Type 0 where
   pub expected : frame ≡ Ad before.vr request body
   pub open_state : before.state ≡ Open
   pub with_buffer : free_buffer ≡ true

@@ -5,7 +5,7 @@ use crate::clcws::Clcw;
 use std::marker::Model;
 use tc_types::frames::Frame;
 use tc_types::numbers::RequestNumber;
-use tc_types::requests::Body;
+use tc_types::telecommands::Payload;
 
 /// The states of FARM-1 (CCSDS 232.1-B, 6.1.2).
 #[derive(Clone, Copy, Debug, PartialEq, Eq)]
@@ -41,7 +41,10 @@ pub struct FarmView {
 #[derive(Clone, Copy, Debug, PartialEq, Eq)]
 pub enum Verdict {
     /// The frame was taken: this request, and the part of it that flies.
-    Accepted { request: RequestNumber, body: Body },
+    Accepted {
+        request: RequestNumber,
+        body: Payload,
+    },
     /// The frame was not taken.
     Discarded,
     /// It was a control command.

@@ -1,6 +1,6 @@
 -- FOP-1 as a machine: its variables (CCSDS 232.1-B, 5.1), what it puts out, and what each named action does to both.
 use Rattle.std.specs.Prelude.{ℕ, ◌+◌, ◌-◌, ◌%◌, nat_lt, Bool, true, false, if◌then◌else◌, Option, Some, None, List, [], ◌∷◌, ◌++◌, map, filter, take, drop}
-use Rattle.tc_types.specs.declared.requests.Body.{Body}
+use Rattle.tc_types.specs.declared.telecommands.Payload.{Payload}
 use Rattle.tc_types.specs.declared.frames.Frame.{Frame}
 use Rattle.tc_types.specs.declared.frames.Frame.TheVariants.{Ad}
 use Rattle.tc_farm.specs.Farm.{distance}
@@ -13,13 +13,13 @@ use Rattle.tc_fop.specs.declared.signals.Indication.TheVariants as indication
 -- a request that waits for its transmission
 pub record Waiting : Type 0 where
   pub request : ℕ
-  pub body : Body
+  pub body : Payload
 
 -- a request in the Sent_Queue: the number of its frame, and whether it is To_Be_Retransmitted
 pub record Held : Type 0 where
   pub ns : ℕ
   pub request : ℕ
-  pub body : Body
+  pub body : Payload
   pub flagged : Bool
 
 pub record Machine : Type 0 where

@@ -18,7 +18,7 @@ use tc_farm::clcws::Clcw;
 use tc_types::directives::Directive;
 use tc_types::numbers::RequestNumber;
 use tc_types::refusals::Refusal;
-use tc_types::requests::Body;
+use tc_types::telecommands::Payload;
 
 /// FOP-1. A contract sees its machine, and whether the memory of the next call was taken.
 #[derive(Drop)]
@@ -128,7 +128,7 @@ impl<A: Allocator + Copy + Drop> Fop<A> {
 
     /// Offers a request. `ServiceNotActive` but in S1 to S3, else `WaitQueueFull` where one waits, else `Memory`; an
     /// error changes nothing.
-    pub fn offer(&mut self, request: RequestNumber, body: Body) -> Result<Output<A>, Refusal>
+    pub fn offer(&mut self, request: RequestNumber, body: Payload) -> Result<Output<A>, Refusal>
         ensures { Responds (offered self.old.machine (record { request = request; body = body })) self.old self.new result }
     {
         if let Some(refusal) = self.offer_refusal() {
@@ -139,7 +139,7 @@ impl<A: Allocator + Copy + Drop> Fop<A> {
     }
 
     /// The same where it is known that the offer is not refused, and its memory was taken by `reserve`.
-    pub fn offer_reserved(&mut self, request: RequestNumber, body: Body) -> Output<A>
+    pub fn offer_reserved(&mut self, request: RequestNumber, body: Payload) -> Output<A>
         requires taken { IsOk (offered self.old.machine (record { request = request; body = body })) }
         requires ready { self.old.ready ≡ true }
         ensures answers { Answers (offered self.old.machine (record { request = request; body = body })) self.old.machine self.new.machine (Ok result) }

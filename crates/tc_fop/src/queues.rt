@@ -9,7 +9,7 @@ use std::alloc::Allocator;
 use std::collections::VecDeque;
 use tc_types::frames::Frame;
 use tc_types::numbers::RequestNumber;
-use tc_types::requests::Body;
+use tc_types::telecommands::Payload;
 
 /// A request that waits for its first transmission.
 #[derive(Clone, Copy, Debug, PartialEq, Eq)]
@@ -17,7 +17,7 @@ pub struct Offer {
     /// Its number.
     pub request: RequestNumber,
     /// The part that flies.
-    pub body: Body,
+    pub body: Payload,
 }
 
 /// A request that was transmitted and is not acknowledged.
@@ -28,7 +28,7 @@ pub struct Outstanding {
     /// Its number.
     pub request: RequestNumber,
     /// The part that flies.
-    pub body: Body,
+    pub body: Payload,
 }
 
 /// Takes this many requests from the front: they are confirmed.

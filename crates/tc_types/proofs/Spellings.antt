@@ -143,6 +143,8 @@ link_act_parted (link_act.LoseUp place) h = (rw (number_lacks place h) refl, ome
 link_act_parted (link_act.LoseDown place) h = (rw (number_lacks place h) refl, omega arith)
 link_act_parted link_act.Clcw h = (refl, omega arith)
 link_act_parted link_act.Down h = (refl, omega arith)
+link_act_parted link_act.Work h = (refl, omega arith)
+link_act_parted (link_act.Clock time) h = (rw (number_lacks time (omega arith)) refl, omega arith)
 
 -- nor have those of any act
 pub act_parted : (a : Act) → IsAct a → (list_all (lacks 32) (act_words a) ≡ true) × (0 < length (act_words a))
@@ -152,6 +154,7 @@ act_parted (act.Ask query.Places) h = (refl, omega arith)
 act_parted (act.Ask (query.History request after)) h = (rw (number_lacks request h.0, number_lacks after h.1) refl, omega arith)
 act_parted (act.Ask (query.Request request)) h = (rw (number_lacks request h) refl, omega arith)
 act_parted (act.Ask query.Link) h = (refl, omega arith)
+act_parted (act.Ask query.Schedule) h = (refl, omega arith)
 
 -- nor have those of a line
 pub line_parted : (line : Line) → IsLine line → (list_all (lacks 32) (line_words line) ≡ true) × (0 < length (line_words line))

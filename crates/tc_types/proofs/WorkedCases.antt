@@ -23,7 +23,7 @@ use Rattle.tc_types.specs.declared.acts.Query.TheVariants as query
 use Rattle.tc_types.specs.declared.reports.Verification.TheVariants as verification
 use Rattle.tc_types.specs.Grammar.{outcome_word, act_text, line_text}
 use Rattle.tc_types.specs.Lines.{move_line, refusal_line, identity_word, entered_line, history_line, places_line}
-use Rattle.tc_types.specs.LinkLines.{word_line, verified_line, summarized_line}
+use Rattle.tc_types.specs.LinkLines.{word_line, verified_line, summarized_line, worked_line, time_line, mirror_line, activity_line}
 use Rattle.tc_types.specs.RequestLine.{request_line}
 
 -- every report is asked for
@@ -115,13 +115,19 @@ pub link_acts-spelled : map act_text (
     ∷ act.Link (link_act.Direct (directive.InitiateSetVr 10))
     ∷ act.Link (link_act.Direct (directive.SetT1 2))
     ∷ act.Link (link_act.LoseDown 1)
+    ∷ act.Link link_act.Work
+    ∷ act.Link (link_act.Clock 4102444799)
     ∷ act.Ask query.Link
+    ∷ act.Ask query.Schedule
     ∷ []) ≡
     codes "release 2"
     ∷ codes "initiate setvr 10"
     ∷ codes "set t1 2"
     ∷ codes "losedown 1"
+    ∷ codes "work"
+    ∷ codes "clock 4102444799"
     ∷ codes "link"
+    ∷ codes "schedule"
     ∷ []
 unfolding digits
 link_acts-spelled = refl
@@ -248,3 +254,8 @@ failed_start-printed = refl
 pub summary-printed : summarized_line true 1 ≡ codes "ok tm 11,13 enabled 1"
 unfolding digits
 summary-printed = refl
+
+pub schedule-printed : worked_line (record { apid = 5; count = 1 }) ∷ time_line 1000 ∷ mirror_line false 1 ∷ activity_line (record { apid = 5; count = 0 }) 1060 ∷ [] ≡
+    codes "ok work 5/1" ∷ codes "ok now 1000" ∷ codes "mirror disabled 1" ∷ codes "activity 5/0 1060" ∷ []
+unfolding digits
+schedule-printed = refl

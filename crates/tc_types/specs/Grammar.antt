@@ -100,12 +100,14 @@ query_words query.Places = codes "places" ∷ []
 query_words (query.History request after) = codes "history" ∷ decimal request ∷ decimal after ∷ []
 query_words (query.Request request) = codes "request" ∷ decimal request ∷ []
 query_words query.Link = codes "link" ∷ []
+query_words query.Schedule = codes "schedule" ∷ []
 
 abbrev pub IsQuery : Query → Type 0
 IsQuery query.Places = Unit {0}
 IsQuery (query.History request after) = IsNumber request × IsNumber after
 IsQuery (query.Request request) = IsNumber request
 IsQuery query.Link = Unit {0}
+IsQuery query.Schedule = Unit {0}
 
 -- the words of an act on the book: its verb, and what it takes
 abbrev pub book_act_words : BookAct → List (List ℕ)
@@ -127,7 +129,7 @@ IsBookVerb word = (word ≡ codes "enter") ⊎ (word ≡ codes "withdraw") ⊎ (
 
 -- a question begins with this word
 abbrev pub IsQueryVerb : List ℕ → Type 0
-IsQueryVerb word = (word ≡ codes "places") ⊎ (word ≡ codes "history") ⊎ (word ≡ codes "request") ⊎ (word ≡ codes "link")
+IsQueryVerb word = (word ≡ codes "places") ⊎ (word ≡ codes "history") ⊎ (word ≡ codes "request") ⊎ (word ≡ codes "link") ⊎ (word ≡ codes "schedule")
 
 abbrev pub act_words : Act → List (List ℕ)
 act_words (act.Book given) = book_act_words given

@@ -1,11 +1,11 @@
--- The spelling of acts on the link, and the limits that their numbers keep.
+-- The spelling of acts on the link and on the spacecraft, and the limits that their numbers keep.
 use Rattle.std.specs.Prelude.{ℕ, List, [], ◌∷◌, codes}
 use Rattle.std.specs.Fmt.{decimal}
 use Rattle.tc_types.specs.declared.directives.Directive.{Directive}
 use Rattle.tc_types.specs.declared.directives.Directive.TheVariants as directive
 use Rattle.tc_types.specs.declared.acts.LinkAct.{LinkAct}
 use Rattle.tc_types.specs.declared.acts.LinkAct.TheVariants as link_act
-use Rattle.tc_types.specs.Numbers.{IsNumber, IsCounter, IsWindow, IsTicks, IsTransmissionLimit}
+use Rattle.tc_types.specs.Numbers.{IsMoment, IsNumber, IsCounter, IsWindow, IsTicks, IsTransmissionLimit}
 
 -- the words of a directive
 abbrev pub directive_words : Directive → List (List ℕ)
@@ -30,7 +30,7 @@ IsDirective (directive.SetK k) = IsWindow k
 IsDirective (directive.SetT1 t1) = IsTicks t1
 IsDirective (directive.SetLimit limit) = IsTransmissionLimit limit
 
--- the words of an act on the link: its verb, and what it takes
+-- the words of an act on the link or on the spacecraft: its verb, and what it takes
 abbrev pub link_act_words : LinkAct → List (List ℕ)
 link_act_words (link_act.Release request) = codes "release" ∷ decimal request ∷ []
 link_act_words (link_act.Direct given) = directive_words given
@@ -40,6 +40,8 @@ link_act_words (link_act.LoseUp place) = codes "loseup" ∷ decimal place ∷ []
 link_act_words (link_act.LoseDown place) = codes "losedown" ∷ decimal place ∷ []
 link_act_words link_act.Clcw = codes "clcw" ∷ []
 link_act_words link_act.Down = codes "down" ∷ []
+link_act_words link_act.Work = codes "work" ∷ []
+link_act_words (link_act.Clock time) = codes "clock" ∷ decimal time ∷ []
 
 -- the limits that its numbers keep
 abbrev pub IsLinkAct : LinkAct → Type 0
@@ -51,3 +53,5 @@ IsLinkAct (link_act.LoseUp place) = IsNumber place
 IsLinkAct (link_act.LoseDown place) = IsNumber place
 IsLinkAct link_act.Clcw = Unit {0}
 IsLinkAct link_act.Down = Unit {0}
+IsLinkAct link_act.Work = Unit {0}
+IsLinkAct (link_act.Clock time) = IsMoment time

@@ -1,4 +1,4 @@
--- The first lines of replies that tell what came over the link, as bytes without their LF.
+-- The first lines of replies that tell what came over the link, or what the spacecraft did, as bytes without their LF.
 use Rattle.std.specs.Prelude.{ℕ, ◌-◌, Bool, false, if◌then◌else◌, List, [], ◌∷◌, ◌++◌, codes, length, replicate}
 use Rattle.std.specs.Fmt.{decimal, digits}
 use Rattle.tc_types.specs.declared.reports.Verification.{Verification}
@@ -9,6 +9,14 @@ use Rattle.tc_types.specs.Lines.{identity_word, spaced}
 -- ok accepted N
 abbrev pub accepted_line : ℕ → List ℕ
 accepted_line n = spaced (codes "ok" ∷ codes "accepted" ∷ decimal n ∷ [])
+
+-- ok work APID/COUNT
+abbrev pub worked_line : Identity → List ℕ
+worked_line identity = spaced (codes "ok" ∷ codes "work" ∷ identity_word identity ∷ [])
+
+-- ok now T
+abbrev pub time_line : ℕ → List ℕ
+time_line time = spaced (codes "ok" ∷ codes "now" ∷ decimal time ∷ [])
 
 -- a control word as eight digits, sixteen to a place, in lower case
 abbrev pub word_digits : ℕ → List ℕ
@@ -59,6 +67,14 @@ verified_line v identity = spaced (codes "ok" ∷ codes "tm" ∷ (codes "1," ++ 
 -- enabled or disabled
 abbrev pub status_word : Bool → List ℕ
 status_word enabled = if enabled then codes "enabled" else codes "disabled"
+
+-- mirror enabled N, or disabled: so many activities
+abbrev pub mirror_line : Bool → ℕ → List ℕ
+mirror_line enabled count = spaced (codes "mirror" ∷ status_word enabled ∷ decimal count ∷ [])
+
+-- activity APID/COUNT TIME
+abbrev pub activity_line : Identity → ℕ → List ℕ
+activity_line identity time = spaced (codes "activity" ∷ identity_word identity ∷ decimal time ∷ [])
 
 -- ok tm 11,13 enabled N, or disabled: so many activities
 abbrev pub summarized_line : Bool → ℕ → List ℕ

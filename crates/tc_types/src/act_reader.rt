@@ -49,6 +49,14 @@ fn link(words: &mut Words<'_>) -> Option<Query>
     Some(Query::Link)
 }
 
+/// What stands behind `schedule`.
+fn schedule(words: &mut Words<'_>) -> Option<Query>
+    ensures { Reads query_words IsQuery (codes "schedule" ∷ words.old) result }
+{
+    words.end()?;
+    Some(Query::Schedule)
+}
+
 /// What stands behind `withdraw`.
 fn withdraw(words: &mut Words<'_>) -> Option<BookAct>
     ensures { Reads book_act_words IsBookAct (codes "withdraw" ∷ words.old) result }
@@ -104,7 +112,11 @@ fn book_act_of(verb: &[u8], words: &mut Words<'_>) -> Option<BookAct>
 fn is_query_verb(verb: &[u8]) -> bool
     ensures { IsTrue result ↔ IsQueryVerb verb.now }
 {
-    is(verb, b"places") || is(verb, b"history") || is(verb, b"request") || is(verb, b"link")
+    is(verb, b"places")
+        || is(verb, b"history")
+        || is(verb, b"request")
+        || is(verb, b"link")
+        || is(verb, b"schedule")
 }
 
 /// A question: its verb, and the words behind it.
@@ -119,6 +131,8 @@ fn query_of(verb: &[u8], words: &mut Words<'_>) -> Option<Query>
         request_asked(words)
     } else if is(verb, b"link") {
         link(words)
+    } else if is(verb, b"schedule") {
+        schedule(words)
     } else {
         None
     }

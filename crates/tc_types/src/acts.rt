@@ -15,6 +15,8 @@ pub enum Query {
     Request { request: u32 },
     /// How the FOP, the FARM and the link stand.
     Link,
+    /// The on-board schedule, as the reports that were read tell it.
+    Schedule,
 }
 
 /// An act on the book alone: it asks nothing of the link.
@@ -30,7 +32,7 @@ pub enum BookAct {
     Close { request: u32 },
 }
 
-/// An act that asks something of the link.
+/// An act on the link, or on the rehearsal spacecraft behind it.
 #[derive(Clone, Copy, Debug, PartialEq, Eq)]
 pub enum LinkAct {
     /// A request leaves the desk: it is offered to the FOP.
@@ -49,6 +51,10 @@ pub enum LinkAct {
     Clcw,
     /// The first item of the downlink comes to the desk.
     Down,
+    /// The spacecraft carries out the oldest request of its buffer.
+    Work,
+    /// The spacecraft's time is now this one.
+    Clock { time: Moment },
 }
 
 /// An act of a person at the desk.
@@ -56,7 +62,7 @@ pub enum LinkAct {
 pub enum Act {
     /// An act on the book alone.
     Book(BookAct),
-    /// An act that asks something of the link.
+    /// An act on the link or on the spacecraft.
     Link(LinkAct),
     /// A question.
     Ask(Query),

@@ -1,7 +1,7 @@
 //! What flies: frames on the uplink, reports on the downlink. They are typed records; a frame carries the request's
 //! number beside its identity (this desk's own).
 use crate::numbers::RequestNumber;
-use crate::requests::Body;
+use crate::telecommands::Payload;
 
 /// A frame on the uplink.
 #[derive(Clone, Copy, Debug, PartialEq, Eq)]
@@ -10,7 +10,7 @@ pub enum Frame {
     Ad {
         ns: u8,
         request: RequestNumber,
-        body: Body,
+        body: Payload,
     },
     /// The control command Unlock (CCSDS 232.0-B, 4.1.3.3.2).
     Unlock,

@@ -1,12 +1,14 @@
-//! Texts that are read as acts on the link.
+//! Texts that are read as acts on the link and on the spacecraft.
 ghost use Rattle.std.specs.Prelude.{[], ◌∷◌, codes};
 ghost use Rattle.std.specs.Fmt.{decimal};
 ghost use Rattle.tc_types.specs.Grammar.{Reads, IsNumber};
+ghost use Rattle.tc_types.specs.Numbers.{IsMoment};
 ghost use Rattle.tc_types.specs.LinkGrammar.{directive_words, IsDirective, link_act_words, IsLinkAct};
 
 use crate::acts::LinkAct;
 use crate::directives::Directive;
-use crate::readers::{counter, is, number, ticks, transmission_limit, window};
+use crate::numbers::Moment;
+use crate::readers::{counter, is, moment, number, ticks, transmission_limit, window};
 use crate::words::Words;
 
 /// A number that is the last word.
@@ -14,6 +16,15 @@ fn last_number(words: &mut Words<'_>) -> Option<u32>
     ensures { Reads (λ n. decimal n ∷ []) IsNumber words.old result }
 {
     let value = number(words.next()?)?;
+    words.end()?;
+    Some(value)
+}
+
+/// A moment that is the last word.
+fn last_moment(words: &mut Words<'_>) -> Option<Moment>
+    ensures { Reads (λ n. decimal n ∷ []) IsMoment words.old result }
+{
+    let value = moment(words.next()?)?;
     words.end()?;
     Some(value)
 }
@@ -79,6 +90,8 @@ fn bare_act(verb: &[u8]) -> Option<LinkAct>
         Some(LinkAct::Clcw)
     } else if is(verb, b"down") {
         Some(LinkAct::Down)
+    } else if is(verb, b"work") {
+        Some(LinkAct::Work)
     } else if is(verb, b"terminate") {
         Some(LinkAct::Direct(Directive::Terminate))
     } else {
@@ -86,7 +99,7 @@ fn bare_act(verb: &[u8]) -> Option<LinkAct>
     }
 }
 
-/// An act on the link: its verb, and the words behind it.
+/// An act on the link or on the spacecraft: its verb, and the words behind it.
 pub fn link_act_of(verb: &[u8], words: &mut Words<'_>) -> Option<LinkAct>
     ensures { Reads link_act_words IsLinkAct (verb.now ∷ words.old) result }
 {
@@ -103,6 +116,9 @@ pub fn link_act_of(verb: &[u8], words: &mut Words<'_>) -> Option<LinkAct>
     } else if is(verb, b"losedown") {
         let place = last_number(words)?;
         Some(LinkAct::LoseDown { place })
+    } else if is(verb, b"clock") {
+        let time = last_moment(words)?;
+        Some(LinkAct::Clock { time })
     } else {
         words.end()?;
         bare_act(verb)

@@ -1,8 +1,9 @@
 //! The lines that tell what came over the link, without their LF.
 ghost use Rattle.std.specs.Prelude.{◌≡◌, IfOk};
 ghost use Rattle.std.specs.String.{string_bytes};
-ghost use Rattle.tc_types.specs.LinkLines.{accepted_line, word_line, verified_line, summarized_line};
+ghost use Rattle.tc_types.specs.LinkLines.{accepted_line, worked_line, time_line, word_line, verified_line, summarized_line, mirror_line, activity_line};
 
+use crate::numbers::Moment;
 use crate::reports::Verification;
 use crate::requests::Identity;
 use std::alloc::{AllocError, Allocator};
@@ -13,6 +14,26 @@ pub fn accepted_text<A: Allocator + Copy>(alloc: A, number: u32) -> Result<Strin
     ensures { IfOk result (λ t. string_bytes t ≡ accepted_line number) }
 {
     format!(in alloc; "ok accepted {number}")
+}
+
+/// The spacecraft carried out a request: `ok work APID/COUNT`. Fails where memory is refused.
+pub fn worked_text<A: Allocator + Copy>(
+    alloc: A,
+    identity: Identity,
+) -> Result<String<A>, AllocError>
+    ensures { IfOk result (λ t. string_bytes t ≡ worked_line identity) }
+{
+    let apid = identity.apid.get();
+    let count = identity.count.get();
+    format!(in alloc; "ok work {apid}/{count}")
+}
+
+/// The spacecraft's time is this one: `ok now T`. Fails where memory is refused.
+pub fn time_text<A: Allocator + Copy>(alloc: A, time: Moment) -> Result<String<A>, AllocError>
+    ensures { IfOk result (λ t. string_bytes t ≡ time_line time) }
+{
+    let seconds = time.get();
+    format!(in alloc; "ok now {seconds}")
 }
 
 /// A control word came down: `ok clcw HHHHHHHH`. Fails where memory is refused.
@@ -53,4 +74,30 @@ pub fn summarized_text<A: Allocator + Copy>(
 {
     let status = if enabled { "enabled" } else { "disabled" };
     format!(in alloc; "ok tm 11,13 {status} {count}")
+}
+
+/// The schedule as it is known: `mirror enabled N`, or `disabled N`, of so many activities. Fails where memory is refused.
+pub fn mirror_text<A: Allocator + Copy>(
+    alloc: A,
+    enabled: bool,
+    count: usize,
+) -> Result<String<A>, AllocError>
+    ensures { IfOk result (λ t. string_bytes t ≡ mirror_line enabled count) }
+{
+    let status = if enabled { "enabled" } else { "disabled" };
+    format!(in alloc; "mirror {status} {count}")
+}
+
+/// An activity of the schedule: `activity APID/COUNT TIME`. Fails where memory is refused.
+pub fn activity_text<A: Allocator + Copy>(
+    alloc: A,
+    identity: Identity,
+    time: Moment,
+) -> Result<String<A>, AllocError>
+    ensures { IfOk result (λ t. string_bytes t ≡ activity_line identity time) }
+{
+    let identity = identity.text(alloc)?;
+    let identity = identity.as_str();
+    let seconds = time.get();
+    format!(in alloc; "activity {identity} {seconds}")
 }

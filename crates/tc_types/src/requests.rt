@@ -88,7 +88,7 @@ pub struct Form {
     pub outcome: Outcome,
 }
 
-/// The part of a request that flies.
+/// What a person asks for with a request, and its name on board.
 #[derive(Clone, Copy, Debug, PartialEq, Eq)]
 pub struct Body {
     /// Its name on board.
@@ -106,7 +106,7 @@ pub struct Body {
 pub struct Request {
     /// Its number, in order of entry.
     pub number: RequestNumber,
-    /// The part that flies.
+    /// What it asks for.
     pub body: Body,
     /// Whether it wants two approvers.
     pub critical: bool,

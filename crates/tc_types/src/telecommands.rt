@@ -1,4 +1,4 @@
-//! What the spacecraft takes from the link.
+//! What flies to the spacecraft, and what it takes from the link.
 use crate::activities::Activity;
 use crate::numbers::{Offset, RequestNumber};
 use crate::requests::{Ack, Identity, Outcome};
@@ -32,6 +32,17 @@ pub enum Task {
     Plain(Outcome),
     /// A command of the on-board schedule.
     Schedule(ScheduleCommand),
+}
+
+/// The part of a request that flies.
+#[derive(Clone, Copy, Debug, PartialEq, Eq)]
+pub struct Payload {
+    /// Its name on board.
+    pub identity: Identity,
+    /// The reports of success that it asks for.
+    pub ack: Ack,
+    /// What it asks.
+    pub task: Task,
 }
 
 /// A request on board.

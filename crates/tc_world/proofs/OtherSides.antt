@@ -1,7 +1,7 @@
 -- What the FARM, the spacecraft and the links do to a session, and what is taken from the downlink.
 use Rattle.std.proofs.Common.{◌≡◌, ◌⊎◌, inl, inr, ℕ, ◌+◌, ◌%◌, ◌<◌, ◌≤◌, Bool, true, Some, List, [], ◌∷◌, ◌++◌, length, slice_get, refl, sym, ◌∙◌, ap, subst, arith}
 use Rattle.std.proofs.lemmas.List.{append-nil, length-append}
-use Rattle.tc_types.specs.declared.requests.Body.{Body}
+use Rattle.tc_types.specs.declared.telecommands.Payload.{Payload}
 use Rattle.tc_types.specs.declared.frames.Frame.{Frame}
 use Rattle.tc_types.specs.declared.frames.Frame.TheVariants.{Ad, Unlock, SetVr}
 use Rattle.tc_types.specs.declared.reports.Report.{Report}
@@ -88,11 +88,11 @@ request_of (Ad number request body) = request
 request_of Unlock = 0
 request_of (SetVr v) = 0
 
-same_number : (n m q r : ℕ) (b c : Body) → Ad n q b ≡ Ad m r c → n ≡ m
+same_number : (n m q r : ℕ) (b c : Payload) → Ad n q b ≡ Ad m r c → n ≡ m
 unfolding number_of
 same_number n m q r b c e = ap number_of e
 
-same_request : (n m q r : ℕ) (b c : Body) → Ad n q b ≡ Ad m r c → q ≡ r
+same_request : (n m q r : ℕ) (b c : Payload) → Ad n q b ≡ Ad m r c → q ≡ r
 unfolding request_of
 same_request n m q r b c e = ap request_of e
 
@@ -168,7 +168,7 @@ accepts w farm request rest ns n others rs sub frames none number there next kep
     )
 
 -- a type-AD frame arrives
-ad_boards : (w : Bare) (number request : ℕ) (body : Body) (room : Bool) (verdict : Verdict) (farm : FarmView) (rest : List Frame)
+ad_boards : (w : Bare) (number request : ℕ) (body : Payload) (room : Bool) (verdict : Verdict) (farm : FarmView) (rest : List Frame)
     (ns : List ℕ) (n : ℕ) (others rs : List ℕ)
     → Says verdict w.farm (Ad number request body) room farm
     → IsSublist (n ∷ others) ns → AreFrames w.newest.base w.newest.sent rest others → HasNoSetVr rest

@@ -4,19 +4,24 @@ use tc_fop::signals;
 use tc_types::directives::Directive;
 use tc_types::numbers::RequestNumber;
 use tc_types::reports::{Report, Telemetry};
-use tc_types::requests::Body;
+use tc_types::telecommands::Payload;
 
 /// What happens to the link. Control words come from its own FARM alone: no event puts one of another's.
 #[derive(Clone, Copy, Debug, PartialEq, Eq)]
 pub enum Event {
     /// A request is offered to the FOP.
-    Offer { request: RequestNumber, body: Body },
+    Offer {
+        request: RequestNumber,
+        body: Payload,
+    },
     /// The FOP gets a directive.
     Directive(Directive),
     /// One tick of the FOP's timer.
     Tick,
     /// The FARM gets the first frame of the uplink; `free_buffer` says whether a buffer is free for it.
-    Uplink { free_buffer: bool },
+    Uplink {
+        free_buffer: bool,
+    },
     /// The frame at this place of the uplink is lost, from 0 for the oldest.
     LoseUp(usize),
     /// A buffer became free on board.

@@ -34,7 +34,7 @@ use tc_types::frames::Frame;
 use tc_types::numbers::RequestNumber;
 use tc_types::refusals::Refusal;
 use tc_types::reports::Report;
-use tc_types::requests::Body;
+use tc_types::telecommands::Payload;
 
 /// What a call of the FOP writes to: the FOP, the uplink, the newest session, and the marks of the requests that were
 /// sent in some session.
@@ -182,7 +182,7 @@ impl<U: Carrier<Frame> + Drop, D: Carrier<Report> + Drop, A: Allocator + Copy + 
     pub(crate) fn offer(
         &mut self,
         request: RequestNumber,
-        body: Body,
+        body: Payload,
     ) -> Result<Indications<A>, Refusal>
         ensures happens { IfOk result (λ answer. Happens U.kind D.kind (Event.Offer request body) self.old self.new answer) }
         ensures refused { IfErr result (λ refusal. IsRefused (Event.Offer request body) self.old refusal × IsAsBefore U.kind D.kind self.old self.new) }

@@ -14,10 +14,11 @@ use tc_farm::farms::Farm;
 use tc_fop::fops::Fop;
 use tc_types::directives::Directive;
 use tc_types::frames::Frame;
-use tc_types::numbers::{Apid, RequestNumber, SequenceCount, Service, Subtype};
+use tc_types::numbers::{Apid, RequestNumber, SequenceCount};
 use tc_types::refusals::Refusal;
 use tc_types::reports::Report;
-use tc_types::requests::{Ack, Body, Command, Identity, Outcome};
+use tc_types::requests::{Ack, Identity, Outcome};
+use tc_types::telecommands::{Payload, Task};
 use tc_world::carriers::Carrier;
 use tc_world::events::Event;
 use tc_world::list_carriers::ListCarrier;
@@ -109,8 +110,8 @@ fn identity(rt: &impl Abort, n: u32) -> Identity {
 }
 
 /// The part of request `n` that flies.
-fn body(rt: &impl Abort, n: u32) -> Body {
-    Body {
+fn body(rt: &impl Abort, n: u32) -> Payload {
+    Payload {
         identity: identity(rt, n),
         ack: Ack {
             acceptance: true,
@@ -118,11 +119,7 @@ fn body(rt: &impl Abort, n: u32) -> Body {
             progress: false,
             completion: true,
         },
-        command: Command::Plain {
-            service: Service::new(8).expect(rt, "a service"),
-            subtype: Subtype::new(1).expect(rt, "a subtype"),
-        },
-        outcome: Outcome::Completes,
+        task: Task::Plain(Outcome::Completes),
     }
 }
 

@@ -11,7 +11,7 @@ use tc_types::directives::Directive;
 use tc_types::frames::Frame;
 use tc_types::numbers::RequestNumber;
 use tc_types::refusals::Refusal;
-use tc_types::requests::Body;
+use tc_types::telecommands::Payload;
 
 /// The end on board.
 pub trait OnBoard {
@@ -84,7 +84,7 @@ pub trait OnGround {
     type Out: PutsOut + Drop;
 
     /// Offers a request.
-    fn offers(&mut self, request: RequestNumber, body: Body) -> Result<Self::Out, Refusal>;
+    fn offers(&mut self, request: RequestNumber, body: Payload) -> Result<Self::Out, Refusal>;
 
     /// Carries out a directive.
     fn carries_out(&mut self, directive: Directive) -> Result<Self::Out, Refusal>;
@@ -108,7 +108,7 @@ pub trait OnGround {
 impl<A: Allocator + Copy + Drop> OnGround for Fop<A> {
     type Out = Output<A>;
 
-    fn offers(&mut self, request: RequestNumber, body: Body) -> Result<Output<A>, Refusal> {
+    fn offers(&mut self, request: RequestNumber, body: Payload) -> Result<Output<A>, Refusal> {
         self.offer(request, body)
     }
 

@@ -1,5 +1,5 @@
 -- Counts of 0 were put behind.
-use Rattle.std.proofs.Common.{◌≡◌, ℕ, ◌≤◌, List, length, vec_len, vec_capacity}
+use Rattle.std.proofs.Common.{◌≡◌, ◌≤◌, List, length, vec_len, vec_capacity}
 use Rattle.tc_types.specs.declared.requests.Request.{Request}
 use Rattle.tc_book.specs.Places.{AreCounted}
 use Rattle.tc_book.proofs.counts.reserve_counts.Given as goal
