@@ -4,7 +4,7 @@ use Rattle.std.proofs.Common.{◌≡◌, ℕ, ◌+◌, true, false, Option, Some
 use Rattle.std.specs.Prelude.{codes}
 use Rattle.std.specs.Fmt.{digits}
 use Rattle.tc_types.specs.declared.requests.Form.{Form}
-use Rattle.tc_types.specs.declared.requests.Command.TheVariants.{Plain, EnableSchedule}
+use Rattle.tc_types.specs.declared.requests.Command.TheVariants.{Plain, InsertActivity}
 use Rattle.tc_types.specs.declared.requests.Outcome.TheVariants.{Completes}
 use Rattle.tc_types.specs.declared.places.Place.TheVariants.{Approved, Queued, Sent, Withdrawn}
 use Rattle.tc_types.specs.declared.causes.Cause.TheVariants as cause
@@ -12,6 +12,8 @@ use Rattle.tc_types.specs.declared.refusals.Refusal.TheVariants as refusal
 use Rattle.tc_types.specs.declared.reports.Report.TheVariants as report
 use Rattle.tc_types.specs.declared.reports.Telemetry.TheVariants as telemetry
 use Rattle.tc_types.specs.declared.reports.Verification.TheVariants as verification
+use Rattle.tc_types.specs.declared.telecommands.Task.TheVariants as task
+use Rattle.tc_board.specs.Mirror.{no_mirror}
 use Rattle.tc_types.specs.declared.acts.LinkAct.{LinkAct}
 use Rattle.tc_types.specs.declared.acts.LinkAct.TheVariants as link_act
 use Rattle.tc_types.specs.declared.acts.Act.TheVariants as act
@@ -75,7 +77,7 @@ sent n book = moved ann (queued n book) (want n Sent cause.Transmit)
 -- the reply to an act on the link that told these
 abbrev flown : Book → LinkAct → List Indication → Reply
 flown book given all =
-    act_reply (first_of book (act.Link given) all) all (drop (length book.history) (heard_all ann all (acted ann (act.Link given) book)).history)
+    act_reply (first_of (desk_of book) (act.Link given) all) all (drop (length book.history) (heard_all ann no_mirror all (acted ann (act.Link given) book)).history)
 
 -- a released request is sent at once
 pub release-replied : flown (approved 1 with_two) (link_act.Release 1) (Fop (signal.Sent 1) ∷ []) ≡
@@ -84,7 +86,7 @@ unfolding digits
 release-replied = refl
 
 -- the frame is taken on board, or is not, or was a control command
-pub up-replied : flown (sent 1 with_two) link_act.Up (Farm (verdict.Accepted 1 (record { identity = record { apid = 5; count = 0 }; ack = entry.ack; command = entry.command; outcome = entry.outcome })) ∷ [])
+pub up-replied : flown (sent 1 with_two) link_act.Up (Farm (verdict.Accepted 1 (record { identity = record { apid = 5; count = 0 }; ack = entry.ack; task = task.Plain entry.outcome })) ∷ [])
     ++ flown (sent 1 with_two) link_act.Up (Farm verdict.Discarded ∷ []) ++ flown (sent 1 with_two) link_act.Up (Farm verdict.Control ∷ []) ++ flown (sent 1 with_two) link_act.Up [] ≡
     codes "ok accepted 1" ∷ codes "ok discarded" ∷ codes "ok control" ∷ codes "ok nothing" ∷ []
 unfolding digits
@@ -106,7 +108,7 @@ abbrev one_expected : ℕ
 one_expected = 17563649
 
 abbrev after_report : Book
-after_report = heard_all ann (Received (report.Telemetry (telemetry.Verification verification.Accepted 1 (record { apid = 5; count = 0 }))) ∷ []) (sent 1 with_two)
+after_report = heard_all ann no_mirror (Received (report.Telemetry (telemetry.Verification verification.Accepted 1 (record { apid = 5; count = 0 }))) ∷ []) (sent 1 with_two)
 
 pub late-word : flown after_report link_act.Down (Received (report.Word one_expected) ∷ Fop (signal.Confirmed 1) ∷ []) ≡ codes "ok clcw 010c0001" ∷ []
 unfolding digits
@@ -130,17 +132,17 @@ limit-replied = refl
 abbrev view : FopView
 view = record { state = Active; vs = 0; nn = 0; sent = 0; waiting = 0; count = 1; timer = 0; k = 10; t1 = 10; limit = 3 }
 
--- a command of the on-board schedule that is approved
-abbrev scheduling : Book
-scheduling = approved 1 (with_entry ann empty_book (record entry { command = EnableSchedule }))
+-- an insert that is approved, and its activity is not
+abbrev inserting : Book
+inserting = approved 2 (with_entry ann (with_entry ann empty_book entry) (record entry { command = InsertActivity 1 100 }))
 
 abbrev refused : Book → FopView → ℕ → Option refusal.the_data
-refused book fop n = first_refusal (link_tests book fop (link_act.Release n))
+refused book fop n = first_refusal (link_tests book fop 0 (link_act.Release n))
 
 pub release-refused :
     refused with_two (record view { state = Initial }) 3 ∷ refused with_two (record view { state = Initial }) 1
     ∷ refused (moved ann with_two (want 1 Withdrawn cause.Withdraw)) (record view { state = Initial }) 1
-    ∷ refused scheduling (record view { state = Initial }) 1
+    ∷ refused inserting (record view { state = Initial }) 2
     ∷ refused (approved 1 with_two) (record view { state = Initial; waiting = 1 }) 1
     ∷ refused (approved 1 with_two) (record view { waiting = 1 }) 1
     ∷ refused (approved 1 with_two) view 1 ∷ [] ≡

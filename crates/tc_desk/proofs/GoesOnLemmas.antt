@@ -1,5 +1,5 @@
 -- What an act makes of the book goes on from the book before it.
-use Rattle.std.proofs.Common.{◌≡◌, ℕ, Bool, true, false, if◌then◌else◌, List, [], ◌∷◌, ◌++◌, length, drop, sym, ◌∙◌, ap, subst, append_assoc, append-nil}
+use Rattle.std.proofs.Common.{◌≡◌, ℕ, Bool, true, false, if◌then◌else◌, Option, Some, None, fold, List, [], ◌∷◌, ◌++◌, length, drop, sym, ◌∙◌, ap, subst, append_assoc, append-nil}
 use Rattle.std.proofs.Math.Seq.{drop-append_seam}
 use Rattle.tc_types.specs.declared.places.Place.{Place}
 use Rattle.tc_types.specs.declared.places.Place.TheVariants as place
@@ -8,6 +8,12 @@ use Rattle.tc_types.specs.declared.causes.Cause.TheVariants as cause
 use Rattle.tc_types.specs.declared.reports.Report.{Report}
 use Rattle.tc_types.specs.declared.reports.Report.TheVariants as report
 use Rattle.tc_types.specs.declared.reports.Telemetry.TheVariants as telemetry
+use Rattle.std.specs.List.{list_any}
+use Rattle.tc_types.specs.declared.reports.Verification.{Verification}
+use Rattle.tc_types.specs.declared.requests.Command.{Command}
+use Rattle.tc_types.specs.declared.requests.Command.TheVariants as command
+use Rattle.tc_types.specs.declared.requests.Request.{Request}
+use Rattle.tc_board.specs.Mirror.{MirrorState, is_listed_of}
 use Rattle.tc_types.specs.declared.acts.LinkAct.{LinkAct}
 use Rattle.tc_types.specs.declared.acts.LinkAct.TheVariants as act
 use Rattle.tc_types.specs.Lawful.{is_lawful}
@@ -17,9 +23,11 @@ use Rattle.tc_world.specs.declared.events.Indication.{Indication}
 use Rattle.tc_world.specs.declared.events.Indication.TheVariants as said
 use Rattle.tc_book.specs.declared.stamps.Stamp.{Stamp}
 use Rattle.tc_book.specs.Batch.{HasBehind, GoesOn}
-use Rattle.tc_book.specs.Book.{Book, place_in, stands, moved, want}
+use Rattle.tc_book.specs.Book.{Book, place_in, stands, request_at, moved, want}
+use Rattle.tc_book.specs.Places.{numbers_from}
 use Rattle.tc_desk.specs.Acts.{released}
-use Rattle.tc_desk.specs.Effects.{tried, reported, received, heard, heard_all}
+use Rattle.tc_desk.specs.Commands.{activity_at}
+use Rattle.tc_desk.specs.Effects.{tried, followed, tried_with, reported, is_completed, is_failed, inserted, deleted, removed, emptied, besides, besides_at, received, heard, heard_all}
 
 -- one list, and more behind it
 behind : {X : Type 0} (xs ys : List X) → HasBehind xs (xs ++ ys)
@@ -59,29 +67,87 @@ tried-goes_on stamp book n places to c = by_test stamp book n to c (stands book 
 reported-goes_on : (stamp : Stamp) (book : Book) (n : ℕ) (to : Place) → GoesOn book (reported stamp book n to)
 reported-goes_on stamp book n to = by_test stamp book n to cause.Report (is_lawful (place_in book n) to cause.Report)
 
-received-goes_on : (stamp : Stamp) (book : Book) (item : Report) → GoesOn book (received stamp book item)
-received-goes_on stamp book (report.Word word) = same-goes_on book
-received-goes_on stamp book (report.Telemetry (telemetry.Verification v n identity)) = reported-goes_on stamp book n (stage_of_verification v)
-received-goes_on stamp book (report.Telemetry (telemetry.Summary summary)) = same-goes_on book
+-- a step that is made or not
+if-goes_on : (book after : Book) (t : Bool) → GoesOn book after → GoesOn book (if t then after else book)
+if-goes_on book after true on = on
+if-goes_on book after false on = same-goes_on book
 
-heard-goes_on : (stamp : Stamp) (book : Book) (i : Indication) → GoesOn book (heard stamp book i)
-heard-goes_on stamp book (said.Fop (signal.Sent n)) = tried-goes_on stamp book n (place.Queued ∷ []) place.Sent cause.Transmit
-heard-goes_on stamp book (said.Fop (signal.Confirmed n)) = tried-goes_on stamp book n (place.Sent ∷ []) place.Confirmed cause.Confirm
-heard-goes_on stamp book (said.Fop (signal.GivenBack n)) = tried-goes_on stamp book n (place.Queued ∷ []) place.Approved cause.GiveBack
-heard-goes_on stamp book (said.Fop (signal.InDoubt n)) = tried-goes_on stamp book n (place.Sent ∷ []) place.Doubtful cause.Doubt
-heard-goes_on stamp book (said.Fop (signal.Alert kind)) = same-goes_on book
-heard-goes_on stamp book (said.Fop signal.Started) = same-goes_on book
-heard-goes_on stamp book (said.Farm v) = same-goes_on book
-heard-goes_on stamp book (said.Received item) = received-goes_on stamp book item
-heard-goes_on stamp book said.Lost = same-goes_on book
+followed-goes_on : (stamp : Stamp) (book : Book) (activity : Option ℕ) (places : List Place) (to : Place) (c : Cause) → GoesOn book (followed stamp book activity places to c)
+followed-goes_on stamp book None places to c = same-goes_on book
+followed-goes_on stamp book (Some n) places to c = tried-goes_on stamp book n places to c
 
-heard_all-goes_on : (stamp : Stamp) (all : List Indication) (book : Book) → GoesOn book (heard_all stamp all book)
-heard_all-goes_on stamp [] book = same-goes_on book
-heard_all-goes_on stamp (i ∷ all) book =
-    on_and_on book (heard stamp book i) (heard_all stamp all (heard stamp book i)) (heard-goes_on stamp book i) (heard_all-goes_on stamp all (heard stamp book i))
+tried_with-goes_on : (stamp : Stamp) (book : Book) (n : ℕ) (places : List Place) (to : Place) (c : Cause) → GoesOn book (tried_with stamp book n places to c)
+tried_with-goes_on stamp book n places to c =
+    let after : Book = moved stamp book (want n to c) in
+    let behind_it : Book = followed stamp after (activity_at book n) (place.Riding ∷ []) to c in
+    if-goes_on book behind_it (stands book n places)
+    (on_and_on book after behind_it (moved-goes_on stamp book n to c) (followed-goes_on stamp after (activity_at book n) (place.Riding ∷ []) to c))
+
+removed-goes_on : (stamp : Stamp) (mirror : MirrorState) (book : Book) (n : ℕ) → GoesOn book (removed stamp mirror book n)
+removed-goes_on stamp mirror book n =
+    if-goes_on book (tried stamp book n (place.Scheduled ∷ []) place.Deleted cause.Reset) (list_any (is_listed_of n) mirror.activities)
+    (tried-goes_on stamp book n (place.Scheduled ∷ []) place.Deleted cause.Reset)
+
+all_removed-goes_on : (stamp : Stamp) (mirror : MirrorState) (ns : List ℕ) (book : Book) → GoesOn book (fold (removed stamp mirror) book ns)
+all_removed-goes_on stamp mirror [] book = same-goes_on book
+all_removed-goes_on stamp mirror (n ∷ ns) book =
+    on_and_on book (removed stamp mirror book n) (fold (removed stamp mirror) (removed stamp mirror book n) ns) (removed-goes_on stamp mirror book n) (all_removed-goes_on stamp mirror ns (removed stamp mirror book n))
+
+inserted-goes_on : (stamp : Stamp) (v : Verification) (target : ℕ) (book : Book) → GoesOn book (inserted stamp v target book)
+inserted-goes_on stamp v target book = by_tests (is_completed v) (is_failed v)
+  where
+    places : List Place
+    places = place.Riding ∷ place.Doubtful ∷ []
+
+    by_tests : (done fails : Bool) → GoesOn book (if done then tried stamp book target places place.Scheduled cause.Insert else (if fails then tried stamp book target places place.Failed cause.Insert else book))
+    by_tests true fails = tried-goes_on stamp book target places place.Scheduled cause.Insert
+    by_tests false true = tried-goes_on stamp book target places place.Failed cause.Insert
+    by_tests false false = same-goes_on book
+
+besides-goes_on : (stamp : Stamp) (mirror : MirrorState) (v : Verification) (given : Command) (book : Book) → GoesOn book (besides stamp mirror v given book)
+besides-goes_on stamp mirror v (command.Plain service subtype) book = same-goes_on book
+besides-goes_on stamp mirror v command.EnableSchedule book = same-goes_on book
+besides-goes_on stamp mirror v command.DisableSchedule book = same-goes_on book
+besides-goes_on stamp mirror v command.ResetSchedule book =
+    if-goes_on book (emptied stamp mirror book) (is_completed v) (all_removed-goes_on stamp mirror (numbers_from 1 book.requests) book)
+besides-goes_on stamp mirror v (command.InsertActivity target time) book = inserted-goes_on stamp v target book
+besides-goes_on stamp mirror v (command.DeleteActivity target) book =
+    if-goes_on book (deleted stamp target book) (is_completed v) (tried-goes_on stamp book target (place.Riding ∷ place.Scheduled ∷ place.Doubtful ∷ []) place.Deleted cause.Delete)
+besides-goes_on stamp mirror v (command.ShiftActivity target offset) book = same-goes_on book
+besides-goes_on stamp mirror v (command.ShiftAll offset) book = same-goes_on book
+besides-goes_on stamp mirror v command.SummarizeAll book = same-goes_on book
+
+besides_at-goes_on : (stamp : Stamp) (mirror : MirrorState) (v : Verification) (request : Option Request) (book : Book) → GoesOn book (besides_at stamp mirror v request book)
+besides_at-goes_on stamp mirror v None book = same-goes_on book
+besides_at-goes_on stamp mirror v (Some request) book = besides-goes_on stamp mirror v request.body.command book
+
+received-goes_on : (stamp : Stamp) (mirror : MirrorState) (book : Book) (item : Report) → GoesOn book (received stamp mirror book item)
+received-goes_on stamp mirror book (report.Word word) = same-goes_on book
+received-goes_on stamp mirror book (report.Telemetry (telemetry.Verification v n identity)) =
+    let after : Book = reported stamp book n (stage_of_verification v) in
+    on_and_on book after (besides_at stamp mirror v (request_at book n) after) (reported-goes_on stamp book n (stage_of_verification v)) (besides_at-goes_on stamp mirror v (request_at book n) after)
+received-goes_on stamp mirror book (report.Telemetry (telemetry.Summary summary)) = same-goes_on book
+
+heard-goes_on : (stamp : Stamp) (mirror : MirrorState) (book : Book) (i : Indication) → GoesOn book (heard stamp mirror book i)
+heard-goes_on stamp mirror book (said.Fop (signal.Sent n)) = tried-goes_on stamp book n (place.Queued ∷ []) place.Sent cause.Transmit
+heard-goes_on stamp mirror book (said.Fop (signal.Confirmed n)) = tried-goes_on stamp book n (place.Sent ∷ []) place.Confirmed cause.Confirm
+heard-goes_on stamp mirror book (said.Fop (signal.GivenBack n)) = tried_with-goes_on stamp book n (place.Queued ∷ []) place.Approved cause.GiveBack
+heard-goes_on stamp mirror book (said.Fop (signal.InDoubt n)) = tried_with-goes_on stamp book n (place.Sent ∷ []) place.Doubtful cause.Doubt
+heard-goes_on stamp mirror book (said.Fop (signal.Alert kind)) = same-goes_on book
+heard-goes_on stamp mirror book (said.Fop signal.Started) = same-goes_on book
+heard-goes_on stamp mirror book (said.Farm v) = same-goes_on book
+heard-goes_on stamp mirror book (said.Received item) = received-goes_on stamp mirror book item
+heard-goes_on stamp mirror book said.Lost = same-goes_on book
+
+heard_all-goes_on : (stamp : Stamp) (mirror : MirrorState) (all : List Indication) (book : Book) → GoesOn book (heard_all stamp mirror all book)
+heard_all-goes_on stamp mirror [] book = same-goes_on book
+heard_all-goes_on stamp mirror (i ∷ all) book =
+    on_and_on book (heard stamp mirror book i) (heard_all stamp mirror all (heard stamp mirror book i)) (heard-goes_on stamp mirror book i) (heard_all-goes_on stamp mirror all (heard stamp mirror book i))
 
 released-goes_on : (stamp : Stamp) (given : LinkAct) (book : Book) → GoesOn book (released stamp given book)
-released-goes_on stamp (act.Release n) book = moved-goes_on stamp book n place.Queued cause.Release
+released-goes_on stamp (act.Release n) book =
+    let after : Book = moved stamp book (want n place.Queued cause.Release) in
+    on_and_on book after (followed stamp after (activity_at book n) (place.Approved ∷ []) place.Riding cause.Release) (moved-goes_on stamp book n place.Queued cause.Release) (followed-goes_on stamp after (activity_at book n) (place.Approved ∷ []) place.Riding cause.Release)
 released-goes_on stamp (act.Direct given) book = same-goes_on book
 released-goes_on stamp act.Tick book = same-goes_on book
 released-goes_on stamp act.Up book = same-goes_on book
@@ -89,8 +155,10 @@ released-goes_on stamp (act.LoseUp place) book = same-goes_on book
 released-goes_on stamp (act.LoseDown place) book = same-goes_on book
 released-goes_on stamp act.Clcw book = same-goes_on book
 released-goes_on stamp act.Down book = same-goes_on book
+released-goes_on stamp act.Work book = same-goes_on book
+released-goes_on stamp (act.Clock time) book = same-goes_on book
 
 -- what an act on the link does to the book: its own rows, and those of what it hears
-pub flown-goes_on : (stamp : Stamp) (given : LinkAct) (all : List Indication) (old new : Book) → new ≡ heard_all stamp all (released stamp given old) → GoesOn old new
-flown-goes_on stamp given all old new e =
-    subst (GoesOn old) (sym e) (on_and_on old (released stamp given old) (heard_all stamp all (released stamp given old)) (released-goes_on stamp given old) (heard_all-goes_on stamp all (released stamp given old)))
+pub flown-goes_on : (stamp : Stamp) (mirror : MirrorState) (given : LinkAct) (all : List Indication) (old new : Book) → new ≡ heard_all stamp mirror all (released stamp given old) → GoesOn old new
+flown-goes_on stamp mirror given all old new e =
+    subst (GoesOn old) (sym e) (on_and_on old (released stamp given old) (heard_all stamp mirror all (released stamp given old)) (released-goes_on stamp given old) (heard_all-goes_on stamp mirror all (released stamp given old)))

@@ -1,8 +1,10 @@
 pub mod GoesOnLemmas
 pub mod StillLemmas
 pub mod PutLemmas
+pub mod EmptyLemmas
 pub mod BoardingLemmas
 pub mod TiedLemmas
 pub mod TiedActs
 pub mod WorkedCases
 pub mod FlownCases
+pub mod ScheduleCases

@@ -1,5 +1,6 @@
--- A report is put on the downlink.
-use Rattle.std.proofs.Common.{◌≡◌, Ok, Err, Result, IsOk, IfOk, List, [], ◌∷◌, refl, subst}
+-- Reports are put on the downlink, and a buffer is told to be free.
+use Rattle.std.proofs.Common.{◌≡◌, ℕ, ◌+◌, ◌<◌, Ok, Err, Result, IsOk, IfOk, List, [], ◌∷◌, ◌++◌, length, take, get_or, refl, sym, subst}
+use Rattle.std.proofs.lemmas.List.{take_more}
 use Rattle.tc_types.specs.declared.frames.Frame.{Frame}
 use Rattle.tc_types.specs.declared.refusals.Refusal.{Refusal}
 use Rattle.tc_types.specs.declared.reports.Report.{Report}
@@ -9,7 +10,7 @@ use Rattle.tc_world.specs.declared.events.Indication.{Indication}
 use Rattle.tc_world.specs.Links.{Kind}
 use Rattle.tc_world.specs.Telling.{TellsRequests}
 use Rattle.tc_world.specs.World.{Whole, Happens}
-use Rattle.tc_desk.specs.Machine.{PutsDown}
+use Rattle.tc_desk.specs.Machine.{Happened, PutsDown}
 
 -- of a put that was not refused nothing is told
 pub put_down : {U D : Type 0} (up : Kind U Frame) (down : Kind D Report) (item : Telemetry) (old new : Whole U D) (all : List Indication)
@@ -24,3 +25,24 @@ pub put_answered : {X U D : Type 0} (up : Kind U Frame) (down : Kind D Report) (
     → PutsDown up down (item ∷ []) old new
 put_answered up down item old new items (Ok answer) there happens tells = put_down up down item old new (items answer) happens tells
 put_answered up down item old new items (Err refused) there happens tells = cc
+
+-- one more behind the others
+puts_push : {U D : Type 0} (up : Kind U Frame) (down : Kind D Report) (old mid new : Whole U D) (items : List Telemetry) (item : Telemetry)
+    → PutsDown up down items old mid → PutsDown up down (item ∷ []) mid new → PutsDown up down (items ++ item ∷ []) old new
+puts_push up down old mid new [] item all put = subst (λ w. PutsDown up down (item ∷ []) w new) all put
+puts_push up down old mid new (first ∷ items) item all put = (all.0, all.1, puts_push up down all.0 mid new items item all.2 put)
+
+-- one more turn of a loop over the reports
+pub puts_more : {U D : Type 0} (up : Kind U Frame) (down : Kind D Report) (old mid new : Whole U D) (items : List Telemetry) (k : ℕ) (d : Telemetry)
+    → k < length items → PutsDown up down (take k items) old mid → PutsDown up down (get_or items k d ∷ []) mid new → PutsDown up down (take (k + 1) items) old new
+puts_more up down old mid new items k d within all put =
+    subst (λ xs. PutsDown up down xs old new) (sym (take_more items k d within)) (puts_push up down old mid new (take k items) (get_or items k d) all put)
+
+-- of a release that was not refused nothing is told
+pub free_answered : {X U D : Type 0} (up : Kind U Frame) (down : Kind D Report) (old new : Whole U D) (items : X → List Indication) (result : Result X Refusal)
+    → IsOk result → IfOk result (λ (answer : X). Happens up down event.Release old new (items answer)) → IfOk result (λ (answer : X). TellsRequests event.Release old new (items answer))
+    → Happened up down event.Release old new []
+free_answered up down old new items (Ok answer) there happens tells =
+    let none : items answer ≡ [] = happens.1 in
+    record { happens = subst (Happens up down event.Release old new) none happens; tells = subst (TellsRequests event.Release old new) none tells }
+free_answered up down old new items (Err refused) there happens tells = cc

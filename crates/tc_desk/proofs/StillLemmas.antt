@@ -1,9 +1,10 @@
 -- The book hears nothing of events at which no request moves.
-use Rattle.std.proofs.Common.{◌≡◌, Bool, true, false, MatchBool, List, [], ◌∷◌, map, refl, sym, ◌∙◌, ap, ⊎_elim}
+use Rattle.std.proofs.Common.{◌≡◌, Bool, true, false, MatchBool, List, [], ◌∷◌, map, refl, sym, ◌∙◌, ap, subst, inl, inr, ⊎_elim}
 use Rattle.std.specs.List.{list_any}
 use Rattle.tc_types.specs.declared.frames.Frame.{Frame}
 use Rattle.tc_types.specs.declared.directives.Directive.{Directive}
 use Rattle.tc_types.specs.declared.reports.Report.{Report}
+use Rattle.tc_types.specs.declared.reports.Report.TheVariants as report
 use Rattle.tc_fop.specs.declared.signals.Indication.{Indication as Signal}
 use Rattle.tc_fop.specs.declared.signals.Indication.TheVariants as signal
 use Rattle.tc_fop.specs.Machine.{Action, output}
@@ -13,47 +14,107 @@ use Rattle.tc_world.specs.declared.events.Event.TheVariants as event
 use Rattle.tc_world.specs.declared.events.Indication.{Indication}
 use Rattle.tc_world.specs.declared.events.Indication.TheVariants as said
 use Rattle.tc_world.specs.Links.{Kind}
-use Rattle.tc_world.specs.World.{Whole, Happens, IsIdle, Boards, Begins, Carries, told_of_loss, may_move, tells_move}
+use Rattle.tc_world.specs.World.{Whole, Happens, Hears, Lands, IsIdle, Boards, Begins, Carries, told_of_loss, may_move, tells_move}
 use Rattle.tc_book.specs.declared.stamps.Stamp.{Stamp}
 use Rattle.tc_book.specs.Book.{Book}
-use Rattle.tc_desk.specs.Effects.{heard_all}
+use Rattle.tc_board.specs.Mirror.{MirrorState}
+use Rattle.tc_desk.specs.Asks.{brings_down}
+use Rattle.tc_desk.specs.Effects.{heard_all, tells_report, ComesAlone}
 
 -- signals of which none tells a move
-signals_still : (stamp : Stamp) (book : Book) (signals : List Signal) → list_any tells_move (map said.Fop signals) ≡ false → heard_all stamp (map said.Fop signals) book ≡ book
-signals_still stamp book [] still = refl
-signals_still stamp book (signal.Sent n ∷ signals) still = cc
-signals_still stamp book (signal.Confirmed n ∷ signals) still = cc
-signals_still stamp book (signal.GivenBack n ∷ signals) still = cc
-signals_still stamp book (signal.InDoubt n ∷ signals) still = cc
-signals_still stamp book (signal.Alert kind ∷ signals) still = signals_still stamp book signals still
-signals_still stamp book (signal.Started ∷ signals) still = signals_still stamp book signals still
+signals_still : (stamp : Stamp) (mirror : MirrorState) (book : Book) (signals : List Signal) → list_any tells_move (map said.Fop signals) ≡ false → heard_all stamp mirror (map said.Fop signals) book ≡ book
+signals_still stamp mirror book [] still = refl
+signals_still stamp mirror book (signal.Sent n ∷ signals) still = cc
+signals_still stamp mirror book (signal.Confirmed n ∷ signals) still = cc
+signals_still stamp mirror book (signal.GivenBack n ∷ signals) still = cc
+signals_still stamp mirror book (signal.InDoubt n ∷ signals) still = cc
+signals_still stamp mirror book (signal.Alert kind ∷ signals) still = signals_still stamp mirror book signals still
+signals_still stamp mirror book (signal.Started ∷ signals) still = signals_still stamp mirror book signals still
 
 -- a list that is what the FOP tells
-told_still : (stamp : Stamp) (book : Book) (signals : List Signal) (all : List Indication) → all ≡ map said.Fop signals → list_any tells_move all ≡ false → heard_all stamp all book ≡ book
-told_still stamp book signals all e still =
-    ap (λ l. heard_all stamp l book) e ∙ signals_still stamp book signals (ap (λ l. list_any tells_move l) (sym e) ∙ still)
+told_still : (stamp : Stamp) (mirror : MirrorState) (book : Book) (signals : List Signal) (all : List Indication) → all ≡ map said.Fop signals → list_any tells_move all ≡ false → heard_all stamp mirror all book ≡ book
+told_still stamp mirror book signals all e still =
+    ap (λ l. heard_all stamp mirror l book) e ∙ signals_still stamp mirror book signals (ap (λ l. list_any tells_move l) (sym e) ∙ still)
 
-loss_still : (stamp : Stamp) (book : Book) (found : Bool) → heard_all stamp (told_of_loss found) book ≡ book
-loss_still stamp book true = refl
-loss_still stamp book false = refl
+loss_still : (stamp : Stamp) (mirror : MirrorState) (book : Book) (found : Bool) → heard_all stamp mirror (told_of_loss found) book ≡ book
+loss_still stamp mirror book true = refl
+loss_still stamp mirror book false = refl
 
-directed_still : {U D : Type 0} (up : Kind U Frame) (down : Kind D Report) (given : Directive) (actions : List Action) (old new : Whole U D) (all : List Indication) (stamp : Stamp) (book : Book) (starts : Bool)
-    → list_any tells_move all ≡ false → MatchBool starts (Begins up down given actions old new all) (Carries up actions old new all) → heard_all stamp all book ≡ book
-directed_still up down given actions old new all stamp book true still begins = told_still stamp book (output actions old.fop).indications all begins.answered still
-directed_still up down given actions old new all stamp book false still carries = told_still stamp book (output actions old.fop).indications all carries.answered still
+directed_still : {U D : Type 0} (up : Kind U Frame) (down : Kind D Report) (given : Directive) (actions : List Action) (old new : Whole U D) (all : List Indication) (stamp : Stamp) (mirror : MirrorState) (book : Book) (starts : Bool)
+    → list_any tells_move all ≡ false → MatchBool starts (Begins up down given actions old new all) (Carries up actions old new all) → heard_all stamp mirror all book ≡ book
+directed_still up down given actions old new all stamp mirror book true still begins = told_still stamp mirror book (output actions old.fop).indications all begins.answered still
+directed_still up down given actions old new all stamp mirror book false still carries = told_still stamp mirror book (output actions old.fop).indications all carries.answered still
 
-pub silent : {U D : Type 0} (up : Kind U Frame) (down : Kind D Report) (given : Event) (old new : Whole U D) (all : List Indication) (stamp : Stamp) (book : Book)
-    → may_move given ≡ false → list_any tells_move all ≡ false → Happens up down given old new all → heard_all stamp all book ≡ book
-silent up down (event.Offer request body) old new all stamp book quiet still h = cc
-silent up down (event.Directive given) old new all stamp book quiet still h = directed_still up down given h.0 old new all stamp book (is_initiation given) still h.2
-silent up down event.Tick old new all stamp book quiet still h = cc
-silent up down (event.Uplink free_buffer) old new all stamp book quiet still h = ⊎_elim
-    (λ (idle : (up.content old.up ≡ []) × IsIdle up down old new all). ap (λ l. heard_all stamp l book) idle.1.answered)
-    (λ (boards : Boards up free_buffer old new all). ap (λ l. heard_all stamp l book) boards.answered)
+pub silent : {U D : Type 0} (up : Kind U Frame) (down : Kind D Report) (given : Event) (old new : Whole U D) (all : List Indication) (stamp : Stamp) (mirror : MirrorState) (book : Book)
+    → may_move given ≡ false → list_any tells_move all ≡ false → Happens up down given old new all → heard_all stamp mirror all book ≡ book
+silent up down (event.Offer request body) old new all stamp mirror book quiet still h = cc
+silent up down (event.Directive given) old new all stamp mirror book quiet still h = directed_still up down given h.0 old new all stamp mirror book (is_initiation given) still h.2
+silent up down event.Tick old new all stamp mirror book quiet still h = cc
+silent up down (event.Uplink free_buffer) old new all stamp mirror book quiet still h = ⊎_elim
+    (λ (idle : (up.content old.up ≡ []) × IsIdle up down old new all). ap (λ l. heard_all stamp mirror l book) idle.1.answered)
+    (λ (boards : Boards up free_buffer old new all). ap (λ l. heard_all stamp mirror l book) boards.answered)
     h
-silent up down (event.LoseUp place) old new all stamp book quiet still h = ap (λ l. heard_all stamp l book) h.answered ∙ loss_still stamp book h.found
-silent up down event.Release old new all stamp book quiet still h = ap (λ l. heard_all stamp l book) h.1
-silent up down event.Clcw old new all stamp book quiet still h = ap (λ l. heard_all stamp l book) h.2.answered
-silent up down (event.Put item) old new all stamp book quiet still h = ap (λ l. heard_all stamp l book) h.answered
-silent up down event.Downlink old new all stamp book quiet still h = cc
-silent up down (event.LoseDown place) old new all stamp book quiet still h = ap (λ l. heard_all stamp l book) h.answered ∙ loss_still stamp book h.found
+silent up down (event.LoseUp place) old new all stamp mirror book quiet still h = ap (λ l. heard_all stamp mirror l book) h.answered ∙ loss_still stamp mirror book h.found
+silent up down event.Release old new all stamp mirror book quiet still h = ap (λ l. heard_all stamp mirror l book) h.1
+silent up down event.Clcw old new all stamp mirror book quiet still h = ap (λ l. heard_all stamp mirror l book) h.2.answered
+silent up down (event.Put item) old new all stamp mirror book quiet still h = ap (λ l. heard_all stamp mirror l book) h.answered
+silent up down event.Downlink old new all stamp mirror book quiet still h = cc
+silent up down (event.LoseDown place) old new all stamp mirror book quiet still h = ap (λ l. heard_all stamp mirror l book) h.answered ∙ loss_still stamp mirror book h.found
+
+-- ---- reports come down alone
+
+signals_no_report : (signals : List Signal) → list_any tells_report (map said.Fop signals) ≡ false
+signals_no_report [] = refl
+signals_no_report (signal ∷ signals) = signals_no_report signals
+
+told_no_report : (signals : List Signal) (all : List Indication) → all ≡ map said.Fop signals → list_any tells_report all ≡ false
+told_no_report signals all e = ap (λ l. list_any tells_report l) e ∙ signals_no_report signals
+
+loss_no_report : (found : Bool) → list_any tells_report (told_of_loss found) ≡ false
+loss_no_report true = refl
+loss_no_report false = refl
+
+directed_no_report : {U D : Type 0} (up : Kind U Frame) (down : Kind D Report) (given : Directive) (actions : List Action) (old new : Whole U D) (all : List Indication) (starts : Bool)
+    → MatchBool starts (Begins up down given actions old new all) (Carries up actions old new all) → list_any tells_report all ≡ false
+directed_no_report up down given actions old new all true begins = told_no_report (output actions old.fop).indications all begins.answered
+directed_no_report up down given actions old new all false carries = told_no_report (output actions old.fop).indications all carries.answered
+
+pub no_report : {U D : Type 0} (up : Kind U Frame) (down : Kind D Report) (given : Event) (old new : Whole U D) (all : List Indication)
+    → brings_down given ≡ false → Happens up down given old new all → list_any tells_report all ≡ false
+no_report up down (event.Offer request body) old new all quiet h = told_no_report (output h.0 old.fop).indications all h.3.answered
+no_report up down (event.Directive given) old new all quiet h = directed_no_report up down given h.0 old new all (is_initiation given) h.2
+no_report up down event.Tick old new all quiet h = told_no_report (output h.0 old.fop).indications all h.2.answered
+no_report up down (event.Uplink free_buffer) old new all quiet h = ⊎_elim
+    (λ (idle : (up.content old.up ≡ []) × IsIdle up down old new all). ap (λ l. list_any tells_report l) idle.1.answered)
+    (λ (boards : Boards up free_buffer old new all). ap (λ l. list_any tells_report l) boards.answered)
+    h
+no_report up down (event.LoseUp place) old new all quiet h = ap (λ l. list_any tells_report l) h.answered ∙ loss_no_report h.found
+no_report up down event.Release old new all quiet h = ap (λ l. list_any tells_report l) h.1
+no_report up down event.Clcw old new all quiet h = ap (λ l. list_any tells_report l) h.2.answered
+no_report up down (event.Put item) old new all quiet h = ap (λ l. list_any tells_report l) h.answered
+no_report up down event.Downlink old new all quiet h = cc
+no_report up down (event.LoseDown place) old new all quiet h = ap (λ l. list_any tells_report l) h.answered ∙ loss_no_report h.found
+
+-- what comes down
+landed_alone : {U D : Type 0} (up : Kind U Frame) (item : Report) (old new : Whole U D) (all : List Indication) → Hears up item old new all → ComesAlone all
+landed_alone up (report.Word word) old new all h =
+    inl (ap (λ l. list_any tells_report l) h.6 ∙ told_no_report (output h.1 old.fop).indications h.2 h.5.answered)
+landed_alone up (report.Telemetry item) old new all h = inr (item, h.2)
+
+pub comes_alone : {U D : Type 0} (up : Kind U Frame) (down : Kind D Report) (given : Event) (old new : Whole U D) (all : List Indication) → Happens up down given old new all → ComesAlone all
+comes_alone up down given old new all h = by_event given refl
+  where
+    by_event : (e : Event) → given ≡ e → ComesAlone all
+    by_event (event.Offer request body) same = inl (no_report up down given old new all (ap brings_down same) h)
+    by_event (event.Directive directive) same = inl (no_report up down given old new all (ap brings_down same) h)
+    by_event event.Tick same = inl (no_report up down given old new all (ap brings_down same) h)
+    by_event (event.Uplink free_buffer) same = inl (no_report up down given old new all (ap brings_down same) h)
+    by_event (event.LoseUp place) same = inl (no_report up down given old new all (ap brings_down same) h)
+    by_event event.Release same = inl (no_report up down given old new all (ap brings_down same) h)
+    by_event event.Clcw same = inl (no_report up down given old new all (ap brings_down same) h)
+    by_event (event.Put item) same = inl (no_report up down given old new all (ap brings_down same) h)
+    by_event (event.LoseDown place) same = inl (no_report up down given old new all (ap brings_down same) h)
+    by_event event.Downlink same = ⊎_elim
+        (λ (idle : (down.content old.down ≡ []) × IsIdle up down old new all). inl (ap (λ l. list_any tells_report l) idle.1.answered))
+        (λ (lands : Lands up down old new all). landed_alone up lands.item (record old { down = lands.left }) new all lands.heard)
+        (subst (λ e. Happens up down e old new all) same h)

@@ -39,15 +39,17 @@ use Rattle.tc_book.specs.Book.{Book, place_in, request_at, moved, want, with_app
 use Rattle.tc_book.specs.Good.{IsGoodBook}
 use Rattle.tc_book.specs.Acts.{first_refusal, tests_of as book_tests, acted as book_acted, completes}
 use Rattle.tc_desk.specs.declared.firsts.First.{First}
+use Rattle.tc_board.specs.Mirror.{MirrorState, no_mirror}
+use Rattle.tc_desk.specs.Commands.{activity_at, payload_of}
 use Rattle.tc_desk.specs.State.{State}
 use Rattle.tc_desk.specs.Asks.{offer_at, event_of, has_buffer, taken_in, reports_after}
 use Rattle.tc_desk.specs.Effects.{heard_all}
 use Rattle.tc_desk.specs.Acts.{link_tests, refusal_of, released, acted}
-use Rattle.tc_desk.specs.Machine.{Passes, PutsDown, Boards, Flies, Does, StaysSame, Answers}
+use Rattle.tc_desk.specs.Machine.{Passes, PutsDown, Reports, Boards, Flies, Does, StaysSame, Answers}
 use Rattle.tc_desk.specs.Parts.{event_asked, link_refuses, Responds}
 use Rattle.tc_desk.specs.Tied.{gone_places, StandsAt, AreTied, IsTied}
 use Rattle.tc_book.proofs.GoodLemmas.{next_nowhere}
-use Rattle.tc_desk.proofs.TiedLemmas.{each_map, moved_keeps, moved_there, only, heard_tied, Waits, Gone}
+use Rattle.tc_desk.proofs.TiedLemmas.{each_map, moved_keeps, moved_there, only, heard_tied, Waits, Gone, BothKept, then_kept, follow_kept}
 
 -- ---- tests
 
@@ -105,25 +107,25 @@ none_waits m e = by_waiting m.waiting e
 -- ---- what the link tells
 
 -- what the book hears of an event keeps the tie
-told_tied : {U D : Type 0} (stamp : Stamp) (given : Event) (w v : Whole U D) (all : List Indication) (book : Book) → TellsRequests given w v all
+told_tied : {U D : Type 0} (stamp : Stamp) (mirror : MirrorState) (given : Event) (w v : Whole U D) (all : List Indication) (book : Book) → TellsRequests given w v all
     → length (waiting_requests w.fop ++ offered_by given) ≤ 1 → Waits book (waiting_requests w.fop ++ offered_by given) → Gone book (all_sent w)
-    → AreTied (heard_all stamp all book) (waiting_requests v.fop) (all_sent v)
-told_tied stamp given w v all book tells few waits gone =
-    subst (λ sent. AreTied (heard_all stamp all book) (waiting_requests v.fop) sent) (sym tells.sent)
-    (heard_tied stamp all book (waiting_requests w.fop ++ offered_by given) (waiting_requests v.fop) (all_sent w) tells.waits few waits gone)
+    → AreTied (heard_all stamp mirror all book) (waiting_requests v.fop) (all_sent v)
+told_tied stamp mirror given w v all book tells few waits gone =
+    subst (λ sent. AreTied (heard_all stamp mirror all book) (waiting_requests v.fop) sent) (sym tells.sent)
+    (heard_tied stamp mirror all book (waiting_requests w.fop ++ offered_by given) (waiting_requests v.fop) (all_sent w) tells.waits few waits gone)
 
 -- of an event that offers nothing
-told_tied_alone : {U D : Type 0} (stamp : Stamp) (given : Event) (w v : Whole U D) (all : List Indication) (book : Book) → offered_by given ≡ [] → TellsRequests given w v all
-    → AreTied book (waiting_requests w.fop) (all_sent w) → AreTied (heard_all stamp all book) (waiting_requests v.fop) (all_sent v)
-told_tied_alone stamp given w v all book none tells tied =
+told_tied_alone : {U D : Type 0} (stamp : Stamp) (mirror : MirrorState) (given : Event) (w v : Whole U D) (all : List Indication) (book : Book) → offered_by given ≡ [] → TellsRequests given w v all
+    → AreTied book (waiting_requests w.fop) (all_sent w) → AreTied (heard_all stamp mirror all book) (waiting_requests v.fop) (all_sent v)
+told_tied_alone stamp mirror given w v all book none tells tied =
     let same : waiting_requests w.fop ++ offered_by given ≡ waiting_requests w.fop = ap (λ l. waiting_requests w.fop ++ l) none ∙ append-nil (waiting_requests w.fop) in
-    told_tied stamp given w v all book tells (subst (λ l. length l ≤ 1) (sym same) (one_waits w.fop)) (subst (Waits book) (sym same) tied.waits) tied.sent
+    told_tied stamp mirror given w v all book tells (subst (λ l. length l ≤ 1) (sym same) (one_waits w.fop)) (subst (Waits book) (sym same) tied.waits) tied.sent
 
 -- nothing was asked of the link
-alone_tied : {U D : Type 0} (stamp : Stamp) (w v : Whole U D) (all : List Indication) (book : Book) → (v ≡ w) × (all ≡ []) → AreTied book (waiting_requests w.fop) (all_sent w)
-    → AreTied (heard_all stamp all book) (waiting_requests v.fop) (all_sent v)
-alone_tied stamp w v all book same tied =
-    subst (λ (l : List Indication). AreTied (heard_all stamp l book) (waiting_requests v.fop) (all_sent v)) (sym same.1)
+alone_tied : {U D : Type 0} (stamp : Stamp) (mirror : MirrorState) (w v : Whole U D) (all : List Indication) (book : Book) → (v ≡ w) × (all ≡ []) → AreTied book (waiting_requests w.fop) (all_sent w)
+    → AreTied (heard_all stamp mirror all book) (waiting_requests v.fop) (all_sent v)
+alone_tied stamp mirror w v all book same tied =
+    subst (λ (l : List Indication). AreTied (heard_all stamp mirror l book) (waiting_requests v.fop) (all_sent v)) (sym same.1)
     (subst (λ x. AreTied book (waiting_requests x.fop) (all_sent x)) (sym same.0) tied)
 
 -- a link that is as before
@@ -136,14 +138,20 @@ puts_tied : {U D : Type 0} (up : Kind U Frame) (down : Kind D Report) (stamp : S
     → AreTied book (waiting_requests w.fop) (all_sent w) → AreTied book (waiting_requests v.fop) (all_sent v)
 puts_tied up down stamp [] w v book puts tied = subst (λ x. AreTied book (waiting_requests x.fop) (all_sent x)) (sym puts) tied
 puts_tied up down stamp (item ∷ items) w v book puts tied =
-    puts_tied up down stamp items puts.0 v book puts.2 (told_tied_alone stamp (event.Put item) w puts.0 [] book refl puts.1.tells tied)
+    puts_tied up down stamp items puts.0 v book puts.2 (told_tied_alone stamp no_mirror (event.Put item) w puts.0 [] book refl puts.1.tells tied)
+
+-- the same where room was made before
+reports_tied : {U D : Type 0} (up : Kind U Frame) (down : Kind D Report) (stamp : Stamp) (items : List Telemetry) (w v : Whole U D) (book : Book) → Reports up down items w v
+    → AreTied book (waiting_requests w.fop) (all_sent w) → AreTied book (waiting_requests v.fop) (all_sent v)
+reports_tied up down stamp items w v book reports tied =
+    puts_tied up down stamp items reports.ready v book reports.put (before_tied up down w reports.ready book reports.readied tied)
 
 -- a frame that comes on board, and the report that it makes
 boards_tied : {U D : Type 0} (up : Kind U Frame) (down : Kind D Report) (stamp : Stamp) (old new : State U D) (all : List Indication) → Boards up down old new all → IsTied old
-    → AreTied (heard_all stamp all old.book) (waiting_requests new.world.fop) (all_sent new.world)
+    → AreTied (heard_all stamp old.mirror all old.book) (waiting_requests new.world.fop) (all_sent new.world)
 boards_tied up down stamp old new all boards tied =
-    puts_tied up down stamp (reports_after (taken_in all)) boards.carried new.world (heard_all stamp all old.book) boards.reports
-    (told_tied_alone stamp (event.Uplink (has_buffer old.board)) boards.ready boards.carried all old.book refl boards.frame.tells
+    puts_tied up down stamp (reports_after (taken_in all)) boards.carried new.world (heard_all stamp old.mirror all old.book) boards.reports
+    (told_tied_alone stamp old.mirror (event.Uplink (has_buffer old.board)) boards.ready boards.carried all old.book refl boards.frame.tells
     (before_tied up down old.world boards.ready old.book boards.readied tied))
 
 -- ---- the acts' own rows
@@ -198,52 +206,71 @@ book_tied stamp (book_act.Close n) book waits sent good passes tied =
     (not_here place.Queued open_places (place_in book n) place.Closed here refl)
     (λ h. refl) tied
 
--- a request that is released: it waits, or is told at once
-own_released : (stamp : Stamp) (book : Book) (n : ℕ) (waits sent : List ℕ) → StandsAt (place.Approved ∷ []) book n → AreTied book waits sent
-    → AreTied (released stamp (link_act.Release n) book) waits sent
-own_released stamp book n waits sent here tied =
-    own_tied stamp book n place.Queued cause.Release waits sent (λ h. refl) (not_there place.Approved gone_places (place_in book n) place.Queued here refl) tied
+-- a request that is released: it waits, or is told at once; and its activity rides
+own_released : (stamp : Stamp) (book : Book) (n : ℕ) → StandsAt (place.Approved ∷ []) book n → BothKept book (released stamp (link_act.Release n) book)
+own_released stamp book n here =
+    let after : Book = moved stamp book (want n place.Queued cause.Release) in
+    then_kept book after (released stamp (link_act.Release n) book)
+    (record {
+      waits = λ m. moved_keeps stamp book n place.Queued cause.Release (place.Queued ∷ []) m (λ h. refl);
+      sent = λ m. moved_keeps stamp book n place.Queued cause.Release gone_places m (not_there place.Approved gone_places (place_in book n) place.Queued here refl);
+    })
+    (follow_kept stamp after (activity_at book n) place.Approved place.Riding cause.Release refl refl)
+
+released_waits : (stamp : Stamp) (book : Book) (n : ℕ) → StandsAt (place.Queued ∷ []) (released stamp (link_act.Release n) book) n
+released_waits stamp book n =
+    let after : Book = moved stamp book (want n place.Queued cause.Release) in
+    let kept = follow_kept stamp after (activity_at book n) place.Approved place.Riding cause.Release refl refl in
+    kept.waits n (moved_there stamp book n place.Queued cause.Release (place.Queued ∷ []) refl)
 
 release_tied : {U D : Type 0} (up : Kind U Frame) (down : Kind D Report) (stamp : Stamp) (n : ℕ) (old : State U D) (v : Whole U D) (all : List Indication) (asked : Option Request)
-    → Passes up down (offer_at n asked) old.world v all
+    → Passes up down (offer_at old.book n asked) old.world v all
     → StandsAt (place.Approved ∷ []) old.book n → waiting_requests old.world.fop ≡ [] → IsTied old
-    → AreTied (heard_all stamp all (released stamp (link_act.Release n) old.book)) (waiting_requests v.fop) (all_sent v)
+    → AreTied (heard_all stamp old.mirror all (released stamp (link_act.Release n) old.book)) (waiting_requests v.fop) (all_sent v)
 release_tied up down stamp n old v all None passes here none tied =
-    alone_tied stamp old.world v all (released stamp (link_act.Release n) old.book) passes (own_released stamp old.book n _ _ here tied)
+    let kept = own_released stamp old.book n here in
+    alone_tied stamp old.mirror old.world v all (released stamp (link_act.Release n) old.book) passes
+    (record { waits = each_map _ _ _ kept.waits tied.waits; sent = each_map _ _ _ kept.sent tied.sent })
 release_tied up down stamp n old v all (Some request) passes here none tied =
     let after : Book = released stamp (link_act.Release n) old.book in
-    let own = own_released stamp old.book n _ _ here tied in
+    let kept = own_released stamp old.book n here in
     let waits : waiting_requests old.world.fop ++ n ∷ [] ≡ n ∷ [] = ap (λ l. l ++ n ∷ []) none in
-    told_tied stamp (event.Offer n request.body) old.world v all after passes.tells
+    told_tied stamp old.mirror (event.Offer n (payload_of old.book request.body)) old.world v all after passes.tells
     (subst (λ l. length l ≤ 1) (sym waits) (omega arith))
-    (subst (Waits after) (sym waits) (moved_there stamp old.book n place.Queued cause.Release (place.Queued ∷ []) refl, tt))
-    own.sent
+    (subst (Waits after) (sym waits) (released_waits stamp old.book n, tt))
+    (each_map _ _ _ kept.sent tied.sent)
 
 -- an act on the link keeps it
 flight_tied : {U D : Type 0} (up : Kind U Frame) (down : Kind D Report) (stamp : Stamp) (given : LinkAct) (old new : State U D) (all : List Indication)
     → refusal_of stamp old (act.Link given) ≡ None → Flies up down given old new all → IsTied old
-    → AreTied (heard_all stamp all (released stamp given old.book)) (waiting_requests new.world.fop) (all_sent new.world)
+    → AreTied (heard_all stamp old.mirror all (released stamp given old.book)) (waiting_requests new.world.fop) (all_sent new.world)
 unfolding NoneHolds
 flight_tied up down stamp (link_act.Release n) old new all passes flies tied =
-    let tests = none_holds (link_tests old.book (view_of old.world.fop) (link_act.Release n)) passes in
+    let tests = none_holds (link_tests old.book (view_of old.world.fop) old.board.time (link_act.Release n)) passes in
     release_tied up down stamp n old new.world all (request_at old.book n) flies.0 (not_false _ tests.1.1.0) (none_waits old.world.fop (not_false _ tests.1.1.1.1.1.0)) tied
-flight_tied up down stamp (link_act.Direct given) old new all passes flies tied = told_tied_alone stamp (event.Directive given) old.world new.world all old.book refl flies.0.tells tied
-flight_tied up down stamp link_act.Tick old new all passes flies tied = told_tied_alone stamp event.Tick old.world new.world all old.book refl flies.0.tells tied
+flight_tied up down stamp (link_act.Direct given) old new all passes flies tied = told_tied_alone stamp old.mirror (event.Directive given) old.world new.world all old.book refl flies.0.tells tied
+flight_tied up down stamp link_act.Tick old new all passes flies tied = told_tied_alone stamp old.mirror event.Tick old.world new.world all old.book refl flies.0.tells tied
 flight_tied up down stamp link_act.Up old new all passes flies tied = boards_tied up down stamp old new all flies tied
-flight_tied up down stamp (link_act.LoseUp place) old new all passes flies tied = told_tied_alone stamp (event.LoseUp place) old.world new.world all old.book refl flies.0.tells tied
-flight_tied up down stamp (link_act.LoseDown place) old new all passes flies tied = told_tied_alone stamp (event.LoseDown place) old.world new.world all old.book refl flies.0.tells tied
-flight_tied up down stamp link_act.Clcw old new all passes flies tied = told_tied_alone stamp event.Clcw old.world new.world all old.book refl flies.0.tells tied
-flight_tied up down stamp link_act.Down old new all passes flies tied = told_tied_alone stamp event.Downlink old.world new.world all old.book refl flies.0.tells tied
+flight_tied up down stamp (link_act.LoseUp place) old new all passes flies tied = told_tied_alone stamp old.mirror (event.LoseUp place) old.world new.world all old.book refl flies.0.tells tied
+flight_tied up down stamp (link_act.LoseDown place) old new all passes flies tied = told_tied_alone stamp old.mirror (event.LoseDown place) old.world new.world all old.book refl flies.0.tells tied
+flight_tied up down stamp link_act.Clcw old new all passes flies tied = told_tied_alone stamp old.mirror event.Clcw old.world new.world all old.book refl flies.0.tells tied
+flight_tied up down stamp link_act.Down old new all passes flies tied = told_tied_alone stamp old.mirror event.Downlink old.world new.world all old.book refl flies.0.tells tied
+flight_tied up down stamp link_act.Work old new all passes flies tied =
+    subst (λ l. AreTied (heard_all stamp old.mirror l old.book) (waiting_requests new.world.fop) (all_sent new.world)) (sym flies.silent)
+    (told_tied_alone stamp old.mirror event.Release flies.reported new.world [] old.book refl flies.free.tells (reports_tied up down stamp _ old.world flies.reported old.book flies.reports tied))
+flight_tied up down stamp (link_act.Clock time) old new all passes flies tied =
+    subst (λ l. AreTied (heard_all stamp old.mirror l old.book) (waiting_requests new.world.fop) (all_sent new.world)) (sym flies.silent)
+    (reports_tied up down stamp flies.items old.world new.world old.book flies.reports tied)
 
 -- an act keeps it
 went_tied : {U D : Type 0} (up : Kind U Frame) (down : Kind D Report) (stamp : Stamp) (given : Act) (old new : State U D) (all : List Indication) (first : First)
     → IsGoodBook old.book → refusal_of stamp old given ≡ None → Does up down stamp given old new all first → IsTied old
-    → AreTied (heard_all stamp all (acted stamp given old.book)) (waiting_requests new.world.fop) (all_sent new.world)
+    → AreTied (heard_all stamp old.mirror all (acted stamp given old.book)) (waiting_requests new.world.fop) (all_sent new.world)
 went_tied up down stamp (act.Book given) old new all first good passes does tied =
-    alone_tied stamp old.world new.world all (book_acted stamp given old.book) (does.link.0, does.link.2) (book_tied stamp given old.book _ _ good passes tied)
+    alone_tied stamp old.mirror old.world new.world all (book_acted stamp given old.book) (does.link.0, does.link.3) (book_tied stamp given old.book _ _ good passes tied)
 went_tied up down stamp (act.Link given) old new all first good passes does tied = flight_tied up down stamp given old new all passes does.link tied
 went_tied {U} {D} up down stamp (act.Ask asked) old new all first good passes does tied =
-    alone_tied stamp old.world new.world all old.book (ap (λ (at : State U D). at.world) does.link.0, does.link.1) tied
+    alone_tied stamp old.mirror old.world new.world all old.book (ap (λ (at : State U D). at.world) does.link.0, does.link.1) tied
 
 does_tied : {U D : Type 0} (up : Kind U Frame) (down : Kind D Report) (stamp : Stamp) (given : Act) (old new : State U D) (all : List Indication) (first : First)
     → IsGoodBook old.book → refusal_of stamp old given ≡ None → Does up down stamp given old new all first → IsTied old → IsTied new
@@ -284,11 +311,11 @@ unknown_to_link at n tied here =
     (none_of (place.Queued ∷ []) at.book n (waiting_requests at.world.fop) (only place.Approved (place.Queued ∷ []) (place_in at.book n) here) tied.waits)
 
 -- the link refuses nothing that the tests of a release let pass
-release_agrees : {U D : Type 0} (stamp : Stamp) (at : State U D) (n : ℕ) (request : Option Request) → IsTied at → refusal_of stamp at (act.Link (link_act.Release n)) ≡ None → link_refuses (offer_at n request) at.world ≡ None
+release_agrees : {U D : Type 0} (stamp : Stamp) (at : State U D) (n : ℕ) (request : Option Request) → IsTied at → refusal_of stamp at (act.Link (link_act.Release n)) ≡ None → link_refuses (offer_at at.book n request) at.world ≡ None
 unfolding NoneHolds
 release_agrees stamp at n None tied passes = refl
 release_agrees stamp at n (Some request) tied passes =
-    let tests = none_holds (link_tests at.book (view_of at.world.fop) (link_act.Release n)) passes in
+    let tests = none_holds (link_tests at.book (view_of at.world.fop) at.board.time (link_act.Release n)) passes in
     let unknown : is_known n at.world ≡ false = unknown_to_link at n tied (not_false _ tests.1.1.0) in
     let taking : is_taking at.world.fop.state ≡ true = not_false _ tests.1.1.1.1.0 in
     let free : is_some at.world.fop.waiting ≡ false = none_there at.world.fop.waiting (not_false _ tests.1.1.1.1.1.0) in
@@ -299,28 +326,30 @@ release_agrees stamp at n (Some request) tied passes =
     none_there (Some w) h = cc
 
 -- nor of a directive
-directive_agrees : (book : Book) (m : Machine) (given : Directive) → first_refusal (link_tests book (view_of m) (link_act.Direct given)) ≡ None → refusal_in (directed m given) ≡ None
+directive_agrees : (book : Book) (m : Machine) (now : ℕ) (given : Directive) → first_refusal (link_tests book (view_of m) now (link_act.Direct given)) ≡ None → refusal_in (directed m given) ≡ None
 unfolding NoneHolds
-directive_agrees book m directive.InitiateNone e = let tests = none_holds (link_tests book (view_of m) (link_act.Direct directive.InitiateNone)) e in let here : is_initial m.state ≡ true = not_false _ tests.0 in rw here refl
-directive_agrees book m directive.InitiateCheck e = let tests = none_holds (link_tests book (view_of m) (link_act.Direct directive.InitiateCheck)) e in let here : is_initial m.state ≡ true = not_false _ tests.0 in rw here refl
-directive_agrees book m directive.InitiateUnlock e = let tests = none_holds (link_tests book (view_of m) (link_act.Direct directive.InitiateUnlock)) e in let here : is_initial m.state ≡ true = not_false _ tests.0 in rw here refl
-directive_agrees book m (directive.InitiateSetVr v) e = let tests = none_holds (link_tests book (view_of m) (link_act.Direct (directive.InitiateSetVr v))) e in let here : is_initial m.state ≡ true = not_false _ tests.0 in rw here refl
-directive_agrees book m directive.Terminate e = refl
-directive_agrees book m (directive.SetVs v) e = let tests = none_holds (link_tests book (view_of m) (link_act.Direct (directive.SetVs v))) e in let here : is_initial m.state ≡ true = not_false _ tests.0 in rw here refl
-directive_agrees book m (directive.SetK k) e = let tests = none_holds (link_tests book (view_of m) (link_act.Direct (directive.SetK k))) e in let here : (k == 0) ≡ false = tests.0 in rw here refl
-directive_agrees book m (directive.SetT1 t1) e = let tests = none_holds (link_tests book (view_of m) (link_act.Direct (directive.SetT1 t1))) e in let here : (t1 == 0) ≡ false = tests.0 in rw here refl
-directive_agrees book m (directive.SetLimit limit) e = let tests = none_holds (link_tests book (view_of m) (link_act.Direct (directive.SetLimit limit))) e in let here : (limit == 0) ≡ false = tests.0 in rw here refl
+directive_agrees book m now directive.InitiateNone e = let tests = none_holds (link_tests book (view_of m) now (link_act.Direct directive.InitiateNone)) e in let here : is_initial m.state ≡ true = not_false _ tests.0 in rw here refl
+directive_agrees book m now directive.InitiateCheck e = let tests = none_holds (link_tests book (view_of m) now (link_act.Direct directive.InitiateCheck)) e in let here : is_initial m.state ≡ true = not_false _ tests.0 in rw here refl
+directive_agrees book m now directive.InitiateUnlock e = let tests = none_holds (link_tests book (view_of m) now (link_act.Direct directive.InitiateUnlock)) e in let here : is_initial m.state ≡ true = not_false _ tests.0 in rw here refl
+directive_agrees book m now (directive.InitiateSetVr v) e = let tests = none_holds (link_tests book (view_of m) now (link_act.Direct (directive.InitiateSetVr v))) e in let here : is_initial m.state ≡ true = not_false _ tests.0 in rw here refl
+directive_agrees book m now directive.Terminate e = refl
+directive_agrees book m now (directive.SetVs v) e = let tests = none_holds (link_tests book (view_of m) now (link_act.Direct (directive.SetVs v))) e in let here : is_initial m.state ≡ true = not_false _ tests.0 in rw here refl
+directive_agrees book m now (directive.SetK k) e = let tests = none_holds (link_tests book (view_of m) now (link_act.Direct (directive.SetK k))) e in let here : (k == 0) ≡ false = tests.0 in rw here refl
+directive_agrees book m now (directive.SetT1 t1) e = let tests = none_holds (link_tests book (view_of m) now (link_act.Direct (directive.SetT1 t1))) e in let here : (t1 == 0) ≡ false = tests.0 in rw here refl
+directive_agrees book m now (directive.SetLimit limit) e = let tests = none_holds (link_tests book (view_of m) now (link_act.Direct (directive.SetLimit limit))) e in let here : (limit == 0) ≡ false = tests.0 in rw here refl
 
 -- where no test of an act on the link holds, the link refuses nothing
 flight_agrees : {U D : Type 0} (stamp : Stamp) (at : State U D) (given : LinkAct) → IsTied at → refusal_of stamp at (act.Link given) ≡ None → link_refuses (event_of at given) at.world ≡ None
 flight_agrees stamp at (link_act.Release n) tied passes = release_agrees stamp at n (request_at at.book n) tied passes
-flight_agrees stamp at (link_act.Direct given) tied passes = directive_agrees at.book at.world.fop given passes
+flight_agrees stamp at (link_act.Direct given) tied passes = directive_agrees at.book at.world.fop at.board.time given passes
 flight_agrees stamp at link_act.Tick tied passes = refl
 flight_agrees stamp at link_act.Up tied passes = refl
 flight_agrees stamp at (link_act.LoseUp place) tied passes = refl
 flight_agrees stamp at (link_act.LoseDown place) tied passes = refl
 flight_agrees stamp at link_act.Clcw tied passes = refl
 flight_agrees stamp at link_act.Down tied passes = refl
+flight_agrees stamp at link_act.Work tied passes = refl
+flight_agrees stamp at (link_act.Clock time) tied passes = refl
 
 agrees : {U D : Type 0} (stamp : Stamp) (at : State U D) (given : Act) → IsTied at → refusal_of stamp at given ≡ None → link_refuses (event_asked at given) at.world ≡ None
 agrees stamp at (act.Book given) tied passes = refl

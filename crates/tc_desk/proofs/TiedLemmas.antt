@@ -1,11 +1,14 @@
 -- The tie between book and link is kept by what the book hears.
-use Rattle.std.proofs.Common.{◌≡◌, ℕ, ◌+◌, ◌≤◌, ◌==◌, Bool, true, false, if◌then◌else◌, Option, Some, None, List, [], ◌∷◌, ◌++◌, length, refl, sym, ◌∙◌, ap, subst, append_assoc, append-nil, arith}
+use Rattle.std.proofs.Common.{◌≡◌, ℕ, ◌+◌, ◌≤◌, ◌==◌, Bool, true, false, if◌then◌else◌, Option, Some, None, List, [], ◌∷◌, ◌++◌, length, fold, refl, sym, ◌∙◌, ap, subst, append_assoc, append-nil, arith}
 use Rattle.std.proofs.lemmas.Bool.Decides.{nat_tests}
 use Rattle.std.specs.List.{flat_map, list_any}
 use Rattle.tc_types.specs.declared.places.Place.{Place}
 use Rattle.tc_types.specs.declared.places.Place.TheVariants as place
 use Rattle.tc_types.specs.declared.causes.Cause.{Cause}
 use Rattle.tc_types.specs.declared.causes.Cause.TheVariants as cause
+use Rattle.tc_types.specs.declared.requests.Request.{Request}
+use Rattle.tc_types.specs.declared.requests.Command.{Command}
+use Rattle.tc_types.specs.declared.requests.Command.TheVariants as command
 use Rattle.tc_types.specs.declared.reports.Report.TheVariants as report
 use Rattle.tc_types.specs.declared.reports.Telemetry.TheVariants as telemetry
 use Rattle.tc_types.specs.declared.reports.Verification.{Verification}
@@ -18,9 +21,12 @@ use Rattle.tc_world.specs.declared.events.Indication.TheVariants as said
 use Rattle.tc_world.specs.Kept.{Each}
 use Rattle.tc_world.specs.Telling.{leaves_said, sent_said}
 use Rattle.tc_book.specs.declared.stamps.Stamp.{Stamp}
-use Rattle.tc_book.specs.Book.{Book, place_in, moved, want, row_of}
+use Rattle.tc_book.specs.Book.{Book, place_in, stands, request_at, moved, want, row_of}
+use Rattle.tc_book.specs.Places.{numbers_from}
 use Rattle.tc_book.proofs.HistoryLemmas.{place_of-snoc}
-use Rattle.tc_desk.specs.Effects.{tried, reported, heard_all}
+use Rattle.tc_board.specs.Mirror.{MirrorState, is_listed_of}
+use Rattle.tc_desk.specs.Commands.{activity_at}
+use Rattle.tc_desk.specs.Effects.{tried, followed, tried_with, reported, is_completed, is_failed, inserted, deleted, removed, emptied, besides, besides_at, heard_all}
 use Rattle.tc_desk.specs.Tied.{gone_places, StandsAt, AreTied}
 
 -- ---- lists of requests
@@ -123,49 +129,173 @@ pub record BothKept (old new : Book) : Type 0 where
   pub waits : (m : ℕ) → StandsAt (place.Queued ∷ []) old m → StandsAt (place.Queued ∷ []) new m
   pub sent : (m : ℕ) → StandsAt gone_places old m → StandsAt gone_places new m
 
+same_kept : (book : Book) → BothKept book book
+same_kept book = record { waits = λ m h. h; sent = λ m h. h }
+
+pub then_kept : (a b c : Book) → BothKept a b → BothKept b c → BothKept a c
+then_kept a b c first second = record { waits = λ m h. second.waits m (first.waits m h); sent = λ m h. second.sent m (first.sent m h) }
+
+if_kept : (book after : Book) (t : Bool) → BothKept book after → BothKept book (if t then after else book)
+if_kept book after true kept = kept
+if_kept book after false kept = same_kept book
+
+-- a move from any of these places
+tried_from : (stamp : Stamp) (book : Book) (n : ℕ) (places : List Place) (to : Place) (c : Cause) (good : List Place) (m : ℕ)
+    → (is_among places (place_in book n) ≡ true → StandsAt good book n → is_one_of good to ≡ true) → StandsAt good book m → StandsAt good (tried stamp book n places to c) m
+tried_from stamp book n places to c good m may stands = by_test (is_among places (place_in book n)) refl
+  where
+    by_test : (t : Bool) → is_among places (place_in book n) ≡ t → StandsAt good (if t then moved stamp book (want n to c) else book) m
+    by_test true e = moved_keeps stamp book n to c good m (may e) stands
+    by_test false e = stands
+
+-- one that is not from Queued, and goes to where those are that were sent
+gone_kept : (stamp : Stamp) (book : Book) (n : ℕ) (places : List Place) (to : Place) (c : Cause) → is_one_of places place.Queued ≡ false → is_one_of gone_places to ≡ true
+    → BothKept book (tried stamp book n places to c)
+gone_kept stamp book n places to c out gone = record {
+  waits = λ m. tried_from stamp book n places to c (place.Queued ∷ []) m (λ e here. let no : true ≡ false = sym e ∙ only place.Queued places (place_in book n) here ∙ out in cc);
+  sent = λ m. tried_from stamp book n places to c gone_places m (λ e here. gone);
+}
+
+-- one from a place where neither stand
+apart_kept : (stamp : Stamp) (book : Book) (n : ℕ) (q to : Place) (c : Cause) → is_one_of (place.Queued ∷ []) q ≡ false → is_one_of gone_places q ≡ false
+    → BothKept book (tried stamp book n (q ∷ []) to c)
+apart_kept stamp book n q to c waits sent = record {
+  waits = λ m. tried_keeps stamp book n q to c (place.Queued ∷ []) m (λ h. let no : true ≡ false = sym h ∙ waits in cc);
+  sent = λ m. tried_keeps stamp book n q to c gone_places m (λ h. let no : true ≡ false = sym h ∙ sent in cc);
+}
+
+-- an activity that rides, or is to ride
+pub follow_kept : (stamp : Stamp) (book : Book) (activity : Option ℕ) (q to : Place) (c : Cause) → is_one_of (place.Queued ∷ []) q ≡ false → is_one_of gone_places q ≡ false
+    → BothKept book (followed stamp book activity (q ∷ []) to c)
+follow_kept stamp book None q to c waits sent = same_kept book
+follow_kept stamp book (Some n) q to c waits sent = apart_kept stamp book n q to c waits sent
+
+-- ---- reports of commands of the schedule
+
+removed_kept : (stamp : Stamp) (mirror : MirrorState) (book : Book) (n : ℕ) → BothKept book (removed stamp mirror book n)
+removed_kept stamp mirror book n =
+    if_kept book (tried stamp book n (place.Scheduled ∷ []) place.Deleted cause.Reset) (list_any (is_listed_of n) mirror.activities)
+    (gone_kept stamp book n (place.Scheduled ∷ []) place.Deleted cause.Reset refl refl)
+
+all_removed_kept : (stamp : Stamp) (mirror : MirrorState) (ns : List ℕ) (book : Book) → BothKept book (fold (removed stamp mirror) book ns)
+all_removed_kept stamp mirror [] book = same_kept book
+all_removed_kept stamp mirror (n ∷ ns) book =
+    then_kept book (removed stamp mirror book n) (fold (removed stamp mirror) (removed stamp mirror book n) ns) (removed_kept stamp mirror book n) (all_removed_kept stamp mirror ns (removed stamp mirror book n))
+
+inserted_kept : (stamp : Stamp) (v : Verification) (target : ℕ) (book : Book) → BothKept book (inserted stamp v target book)
+inserted_kept stamp v target book = by_tests (is_completed v) (is_failed v)
+  where
+    places : List Place
+    places = place.Riding ∷ place.Doubtful ∷ []
+
+    by_tests : (done fails : Bool) → BothKept book (if done then tried stamp book target places place.Scheduled cause.Insert else (if fails then tried stamp book target places place.Failed cause.Insert else book))
+    by_tests true fails = gone_kept stamp book target places place.Scheduled cause.Insert refl refl
+    by_tests false true = gone_kept stamp book target places place.Failed cause.Insert refl refl
+    by_tests false false = same_kept book
+
+besides_kept : (stamp : Stamp) (mirror : MirrorState) (v : Verification) (given : Command) (book : Book) → BothKept book (besides stamp mirror v given book)
+besides_kept stamp mirror v (command.Plain service subtype) book = same_kept book
+besides_kept stamp mirror v command.EnableSchedule book = same_kept book
+besides_kept stamp mirror v command.DisableSchedule book = same_kept book
+besides_kept stamp mirror v command.ResetSchedule book = if_kept book (emptied stamp mirror book) (is_completed v) (all_removed_kept stamp mirror (numbers_from 1 book.requests) book)
+besides_kept stamp mirror v (command.InsertActivity target time) book = inserted_kept stamp v target book
+besides_kept stamp mirror v (command.DeleteActivity target) book =
+    if_kept book (deleted stamp target book) (is_completed v) (gone_kept stamp book target (place.Riding ∷ place.Scheduled ∷ place.Doubtful ∷ []) place.Deleted cause.Delete refl refl)
+besides_kept stamp mirror v (command.ShiftActivity target offset) book = same_kept book
+besides_kept stamp mirror v (command.ShiftAll offset) book = same_kept book
+besides_kept stamp mirror v command.SummarizeAll book = same_kept book
+
+besides_at_kept : (stamp : Stamp) (mirror : MirrorState) (v : Verification) (request : Option Request) (book : Book) → BothKept book (besides_at stamp mirror v request book)
+besides_at_kept stamp mirror v None book = same_kept book
+besides_at_kept stamp mirror v (Some request) book = besides_kept stamp mirror v request.body.command book
+
 reported_kept : (stamp : Stamp) (book : Book) (n : ℕ) (v : Verification) → BothKept book (reported stamp book n (stage_of_verification v))
 reported_kept stamp book n v = record {
   waits = λ m. reported_keeps stamp book n (stage_of_verification v) (place.Queued ∷ []) m (λ lawful here. let no : true ≡ false = sym lawful ∙ queued_stays (place_in book n) (stage_of_verification v) here in cc);
   sent = λ m. reported_keeps stamp book n (stage_of_verification v) gone_places m (λ lawful here. stage_gone v);
 }
 
+told_kept : (stamp : Stamp) (mirror : MirrorState) (book : Book) (n : ℕ) (v : Verification) → BothKept book (besides_at stamp mirror v (request_at book n) (reported stamp book n (stage_of_verification v)))
+told_kept stamp mirror book n v =
+    then_kept book (reported stamp book n (stage_of_verification v)) (besides_at stamp mirror v (request_at book n) (reported stamp book n (stage_of_verification v)))
+    (reported_kept stamp book n v) (besides_at_kept stamp mirror v (request_at book n) (reported stamp book n (stage_of_verification v)))
+
+-- ---- an insert that is in doubt or given back, and its activity
+
+doubted_kept : (stamp : Stamp) (book : Book) (n : ℕ) → BothKept book (tried_with stamp book n (place.Sent ∷ []) place.Doubtful cause.Doubt)
+doubted_kept stamp book n = by_test (stands book n (place.Sent ∷ [])) refl
+  where
+    after : Book
+    after = moved stamp book (want n place.Doubtful cause.Doubt)
+
+    behind_it : Book
+    behind_it = followed stamp after (activity_at book n) (place.Riding ∷ []) place.Doubtful cause.Doubt
+
+    own : is_among (place.Sent ∷ []) (place_in book n) ≡ true → BothKept book after
+    own e = record {
+      waits = λ m. moved_keeps stamp book n place.Doubtful cause.Doubt (place.Queued ∷ []) m (λ s. let no : true ≡ false = sym s ∙ only place.Sent (place.Queued ∷ []) (place_in book n) e in cc);
+      sent = λ m. moved_keeps stamp book n place.Doubtful cause.Doubt gone_places m (λ s. refl);
+    }
+
+    by_test : (t : Bool) → stands book n (place.Sent ∷ []) ≡ t → BothKept book (if t then behind_it else book)
+    by_test true e = then_kept book after behind_it (own e) (follow_kept stamp after (activity_at book n) place.Riding place.Doubtful cause.Doubt refl refl)
+    by_test false e = same_kept book
+
+-- of one that is given back only that those that were sent do not return
+given_back_kept : (stamp : Stamp) (book : Book) (n m : ℕ) → StandsAt gone_places book m → StandsAt gone_places (tried_with stamp book n (place.Queued ∷ []) place.Approved cause.GiveBack) m
+given_back_kept stamp book n m h = by_test (stands book n (place.Queued ∷ [])) refl
+  where
+    after : Book
+    after = moved stamp book (want n place.Approved cause.GiveBack)
+
+    behind_it : Book
+    behind_it = followed stamp after (activity_at book n) (place.Riding ∷ []) place.Approved cause.GiveBack
+
+    own : is_among (place.Queued ∷ []) (place_in book n) ≡ true → StandsAt gone_places after m
+    own e = moved_keeps stamp book n place.Approved cause.GiveBack gone_places m (λ s. let no : true ≡ false = sym s ∙ only place.Queued gone_places (place_in book n) e in cc) h
+
+    rides : BothKept after behind_it
+    rides = follow_kept stamp after (activity_at book n) place.Riding place.Approved cause.GiveBack refl refl
+
+    by_test : (t : Bool) → stands book n (place.Queued ∷ []) ≡ t → StandsAt gone_places (if t then behind_it else book) m
+    by_test true e = rides.sent m (own e)
+    by_test false e = h
+
 -- ---- what the book hears
 
 -- what the book hears keeps the tie
-pub heard_tied : (stamp : Stamp) (all : List Indication) (book : Book) (waits rest sent : List ℕ)
+pub heard_tied : (stamp : Stamp) (mirror : MirrorState) (all : List Indication) (book : Book) (waits rest sent : List ℕ)
     → waits ≡ flat_map leaves_said all ++ rest → length waits ≤ 1 → Waits book waits → Gone book sent
-    → AreTied (heard_all stamp all book) rest (sent ++ flat_map sent_said all)
-heard_tied stamp [] book waits rest sent e few w g = record { waits = subst (Waits book) e w; sent = subst (Gone book) (sym (append-nil sent)) g }
-heard_tied stamp (said.Farm v ∷ all) book waits rest sent e few w g = heard_tied stamp all book waits rest sent e few w g
-heard_tied stamp (said.Lost ∷ all) book waits rest sent e few w g = heard_tied stamp all book waits rest sent e few w g
-heard_tied stamp (said.Received (report.Word word) ∷ all) book waits rest sent e few w g = heard_tied stamp all book waits rest sent e few w g
-heard_tied stamp (said.Received (report.Telemetry (telemetry.Summary summary)) ∷ all) book waits rest sent e few w g = heard_tied stamp all book waits rest sent e few w g
-heard_tied stamp (said.Received (report.Telemetry (telemetry.Verification v n identity)) ∷ all) book waits rest sent e few w g =
-    let kept = reported_kept stamp book n v in
-    heard_tied stamp all (reported stamp book n (stage_of_verification v)) waits rest sent e few
+    → AreTied (heard_all stamp mirror all book) rest (sent ++ flat_map sent_said all)
+heard_tied stamp mirror [] book waits rest sent e few w g = record { waits = subst (Waits book) e w; sent = subst (Gone book) (sym (append-nil sent)) g }
+heard_tied stamp mirror (said.Farm v ∷ all) book waits rest sent e few w g = heard_tied stamp mirror all book waits rest sent e few w g
+heard_tied stamp mirror (said.Lost ∷ all) book waits rest sent e few w g = heard_tied stamp mirror all book waits rest sent e few w g
+heard_tied stamp mirror (said.Received (report.Word word) ∷ all) book waits rest sent e few w g = heard_tied stamp mirror all book waits rest sent e few w g
+heard_tied stamp mirror (said.Received (report.Telemetry (telemetry.Summary summary)) ∷ all) book waits rest sent e few w g = heard_tied stamp mirror all book waits rest sent e few w g
+heard_tied stamp mirror (said.Received (report.Telemetry (telemetry.Verification v n identity)) ∷ all) book waits rest sent e few w g =
+    let kept = told_kept stamp mirror book n v in
+    heard_tied stamp mirror all (besides_at stamp mirror v (request_at book n) (reported stamp book n (stage_of_verification v))) waits rest sent e few
     (each_map _ _ waits kept.waits w) (each_map _ _ sent kept.sent g)
-heard_tied stamp (said.Fop (signal.Alert kind) ∷ all) book waits rest sent e few w g = heard_tied stamp all book waits rest sent e few w g
-heard_tied stamp (said.Fop signal.Started ∷ all) book waits rest sent e few w g = heard_tied stamp all book waits rest sent e few w g
-heard_tied stamp (said.Fop (signal.Confirmed n) ∷ all) book waits rest sent e few w g =
+heard_tied stamp mirror (said.Fop (signal.Alert kind) ∷ all) book waits rest sent e few w g = heard_tied stamp mirror all book waits rest sent e few w g
+heard_tied stamp mirror (said.Fop signal.Started ∷ all) book waits rest sent e few w g = heard_tied stamp mirror all book waits rest sent e few w g
+heard_tied stamp mirror (said.Fop (signal.Confirmed n) ∷ all) book waits rest sent e few w g =
     let after : Book = tried stamp book n (place.Sent ∷ []) place.Confirmed cause.Confirm in
-    heard_tied stamp all after waits rest sent e few
+    heard_tied stamp mirror all after waits rest sent e few
     (each_map _ _ waits (λ m. tried_keeps stamp book n place.Sent place.Confirmed cause.Confirm (place.Queued ∷ []) m (λ h. cc)) w)
     (each_map _ _ sent (λ m. tried_keeps stamp book n place.Sent place.Confirmed cause.Confirm gone_places m (λ h. refl)) g)
-heard_tied stamp (said.Fop (signal.InDoubt n) ∷ all) book waits rest sent e few w g =
-    let after : Book = tried stamp book n (place.Sent ∷ []) place.Doubtful cause.Doubt in
-    heard_tied stamp all after waits rest sent e few
-    (each_map _ _ waits (λ m. tried_keeps stamp book n place.Sent place.Doubtful cause.Doubt (place.Queued ∷ []) m (λ h. cc)) w)
-    (each_map _ _ sent (λ m. tried_keeps stamp book n place.Sent place.Doubtful cause.Doubt gone_places m (λ h. refl)) g)
-heard_tied stamp (said.Fop (signal.GivenBack n) ∷ all) book waits rest sent e few w g =
-    let after : Book = tried stamp book n (place.Queued ∷ []) place.Approved cause.GiveBack in
+heard_tied stamp mirror (said.Fop (signal.InDoubt n) ∷ all) book waits rest sent e few w g =
+    let kept = doubted_kept stamp book n in
+    heard_tied stamp mirror all (tried_with stamp book n (place.Sent ∷ []) place.Doubtful cause.Doubt) waits rest sent e few
+    (each_map _ _ waits kept.waits w) (each_map _ _ sent kept.sent g)
+heard_tied stamp mirror (said.Fop (signal.GivenBack n) ∷ all) book waits rest sent e few w g =
     let none : flat_map leaves_said all ++ rest ≡ [] = nothing_behind n waits (flat_map leaves_said all ++ rest) few e in
-    heard_tied stamp all after [] rest sent (sym none) (omega arith) tt
-    (each_map _ _ sent (λ m. tried_keeps stamp book n place.Queued place.Approved cause.GiveBack gone_places m (λ h. cc)) g)
-heard_tied stamp (said.Fop (signal.Sent n) ∷ all) book waits rest sent e few w g =
+    heard_tied stamp mirror all (tried_with stamp book n (place.Queued ∷ []) place.Approved cause.GiveBack) [] rest sent (sym none) (omega arith) tt
+    (each_map _ _ sent (given_back_kept stamp book n) g)
+heard_tied stamp mirror (said.Fop (signal.Sent n) ∷ all) book waits rest sent e few w g =
     let after : Book = tried stamp book n (place.Queued ∷ []) place.Sent cause.Transmit in
     let none : flat_map leaves_said all ++ rest ≡ [] = nothing_behind n waits (flat_map leaves_said all ++ rest) few e in
     let at_queued : StandsAt (place.Queued ∷ []) book n = (subst (Waits book) e w).0 in
     let still : Gone after sent = each_map _ _ sent (λ m. tried_keeps stamp book n place.Queued place.Sent cause.Transmit gone_places m (λ h. refl)) g in
     let fresh : Gone after (n ∷ []) = (tried_there stamp book n place.Queued place.Sent cause.Transmit gone_places refl at_queued, tt) in
-    let tied = heard_tied stamp all after [] rest (sent ++ n ∷ []) (sym none) (omega arith) tt (each_behind (StandsAt gone_places after) sent (n ∷ []) still fresh) in
-    record { waits = tied.waits; sent = subst (Gone (heard_all stamp all after)) (append_assoc sent (n ∷ []) (flat_map sent_said all)) tied.sent }
+    let tied = heard_tied stamp mirror all after [] rest (sent ++ n ∷ []) (sym none) (omega arith) tt (each_behind (StandsAt gone_places after) sent (n ∷ []) still fresh) in
+    record { waits = tied.waits; sent = subst (Gone (heard_all stamp mirror all after)) (append_assoc sent (n ∷ []) (flat_map sent_said all)) tied.sent }

@@ -13,17 +13,21 @@ use Rattle.tc_types.specs.declared.acts.Line.{Line}
 use Rattle.tc_types.specs.declared.acts.BookAct.TheVariants.{Close, Enter, Withdraw}
 use Rattle.tc_types.specs.declared.acts.Act.{Act}
 use Rattle.tc_types.specs.declared.acts.Act.TheVariants as act
+use Rattle.tc_types.specs.declared.acts.Query.{Query}
 use Rattle.tc_types.specs.declared.acts.Query.TheVariants as query
+use Rattle.tc_types.specs.History.{entered, counts_of, rows_past}
+use Rattle.tc_types.specs.Lines.{places_line}
 use Rattle.tc_types.specs.Grammar.{line_text}
 use Rattle.tc_book.specs.declared.stamps.Stamp.{Stamp}
 use Rattle.tc_types.specs.declared.frames.Frame.{Frame}
 use Rattle.tc_types.specs.declared.reports.Report.{Report}
-use Rattle.tc_book.specs.Book.{Book, empty_book, moved, want, with_entry}
+use Rattle.tc_book.specs.Book.{Book, empty_book, moved, place_in, request_at, want, with_entry}
 use Rattle.tc_world.specs.InFlight.{InFlight, listed}
 use Rattle.tc_desk.specs.State.{State, new_desk}
 use Rattle.tc_desk.specs.Acts.{refusal_of, acted, first_of}
 use Rattle.tc_desk.specs.Machine.{stamp_of}
-use Rattle.tc_desk.specs.Replies.{Reply, act_reply, query_reply, refusal_reply}
+use Rattle.tc_desk.specs.StatusLines.{status_lines, status_of}
+use Rattle.tc_desk.specs.Replies.{Reply, Replies, act_reply, history_lines, request_lines, refusal_reply}
 
 abbrev first_entry : Form
 first_entry = record {
@@ -54,10 +58,25 @@ idle = record { content = []; covered = 0 }
 abbrev desk_of : Book → State (InFlight Frame) (InFlight Report)
 desk_of book = record (new_desk (record { window = 20; channel = 3 }) idle idle) { book = book }
 
+-- the reply to a question, where it is not of the schedule
+abbrev told : Book → Query → Reply
+told book query.Places = places_line (length (entered book.history)) (counts_of book.history) ∷ []
+told book (query.History n after) = history_lines n (rows_past n after book.history)
+told book (query.Request n) = request_lines (request_at book n) (place_in book n)
+told book query.Link = status_lines (status_of listed listed (desk_of book))
+told book query.Schedule = []
+
+told-replies : (book : Book) (asked : Query) → (asked ≡ query.Schedule → ⊥) → Replies listed listed (desk_of book) asked (told book asked)
+told-replies book query.Places other = refl
+told-replies book (query.History n after) other = refl
+told-replies book (query.Request n) other = refl
+told-replies book query.Link other = refl
+told-replies book query.Schedule other = absurd (other refl)
+
 -- the reply where no test holds
 abbrev served : Book → Stamp → Act → Reply
-served book stamp (act.Ask asked) = query_reply listed listed (desk_of book) asked
-served book stamp given = act_reply (first_of book given []) [] (drop (length book.history) (acted stamp given book).history)
+served book stamp (act.Ask asked) = told book asked
+served book stamp given = act_reply (first_of (desk_of book) given []) [] (drop (length book.history) (acted stamp given book).history)
 
 -- a line's reply, and the book after it, where memory is not refused
 abbrev step : Option Refusal → Book → Stamp → Act → Reply × Book

@@ -1,14 +1,14 @@
 -- What each kind of act is refused for, what it makes of the book by itself, and how its reply begins. An act on the book
 -- alone is the book's matter.
-use Rattle.std.specs.Prelude.{◌==◌, Bool, true, false, not, ◌&&◌, Option, Some, None, is_some, List, [], ◌∷◌, count_by}
+use Rattle.std.specs.Prelude.{ℕ, ◌==◌, nat_lt, Bool, true, false, not, ◌&&◌, Option, Some, None, is_some, List, [], ◌∷◌, count_by}
 use Rattle.tc_types.specs.declared.activities.ListedActivity.{ListedActivity}
-use Rattle.tc_types.specs.declared.places.Place.TheVariants.{Entered, Approved, Queued}
+use Rattle.tc_types.specs.declared.places.Place.TheVariants.{Entered, Approved, Queued, Riding}
 use Rattle.tc_types.specs.declared.causes.Cause.TheVariants as cause
 use Rattle.tc_types.specs.declared.refusals.Refusal.{Refusal}
 use Rattle.tc_types.specs.declared.refusals.Refusal.TheVariants.{UnknownRequest, NotApproved, WrongPlace, BadActivity, ServiceNotActive, WaitQueueFull, BadDirective, DeskFull}
 use Rattle.tc_types.specs.declared.directives.Directive.{Directive}
 use Rattle.tc_types.specs.declared.directives.Directive.TheVariants as directive
-use Rattle.tc_types.specs.declared.requests.Request.{Request}
+use Rattle.tc_types.specs.declared.requests.Identity.{Identity}
 use Rattle.tc_types.specs.declared.reports.Report.TheVariants as report
 use Rattle.tc_types.specs.declared.reports.Telemetry.{Telemetry}
 use Rattle.tc_types.specs.declared.reports.Telemetry.TheVariants as telemetry
@@ -17,7 +17,6 @@ use Rattle.tc_types.specs.declared.acts.LinkAct.TheVariants as link_act
 use Rattle.tc_types.specs.declared.acts.Act.{Act}
 use Rattle.tc_types.specs.declared.acts.Act.TheVariants as act
 use Rattle.tc_types.specs.declared.acts.Query.{Query}
-use Rattle.tc_types.specs.Schedule.{is_schedule}
 use Rattle.tc_farm.specs.declared.farms.Verdict.TheVariants as verdict
 use Rattle.tc_fop.specs.declared.signals.FopState.{FopState}
 use Rattle.tc_fop.specs.declared.views.FopView.{FopView}
@@ -26,20 +25,22 @@ use Rattle.tc_fop.specs.Views.{view_of}
 use Rattle.tc_world.specs.declared.events.Indication.{Indication}
 use Rattle.tc_world.specs.declared.events.Indication.TheVariants as said
 use Rattle.tc_world.specs.World.{is_terminate}
+use Rattle.tc_board.specs.Board.{BoardState, oldest_of}
 use Rattle.tc_book.specs.declared.stamps.Stamp.{Stamp}
 use Rattle.tc_book.specs.declared.firsts.First.TheVariants as book_first
-use Rattle.tc_book.specs.Book.{Book, stands, is_unknown, has_all_rows, request_at, want, moved}
+use Rattle.tc_book.specs.Book.{Book, stands, is_unknown, has_all_rows, want, moved}
 use Rattle.tc_book.specs.Acts as on_book
 use Rattle.tc_desk.specs.declared.firsts.First.{First}
 use Rattle.tc_desk.specs.declared.firsts.First.TheVariants as first
 use Rattle.tc_desk.specs.State.{State}
+use Rattle.tc_desk.specs.Commands.{activity_at, may_not_ride}
+use Rattle.tc_desk.specs.Effects.{followed}
 
 -- ---- the tests of each act, in order, with the refusal that each gives
 
--- the request commands the on-board schedule: it is not released yet
-abbrev pub commands_schedule : Option Request → Bool
-commands_schedule None = false
-commands_schedule (Some request) = is_schedule request.body.command
+-- the request is an insert whose activity is not approved
+abbrev pub has_bad_activity : Book → ℕ → Bool
+has_bad_activity book n = may_not_ride book (activity_at book n)
 
 -- an initiation and a new V(S) are taken in S6 alone, and 0 is no setting
 abbrev pub is_bad_directive : FopState → Directive → Bool
@@ -53,28 +54,30 @@ is_bad_directive state (directive.SetK k) = k == 0
 is_bad_directive state (directive.SetT1 t1) = t1 == 0
 is_bad_directive state (directive.SetLimit limit) = limit == 0
 
--- of a book and a FOP
-abbrev pub link_tests : Book → FopView → LinkAct → List (Bool × Refusal)
-link_tests book fop (link_act.Release n) =
+-- of a book, a FOP, and the spacecraft's time
+abbrev pub link_tests : Book → FopView → ℕ → LinkAct → List (Bool × Refusal)
+link_tests book fop now (link_act.Release n) =
     (is_unknown book n, UnknownRequest)
     ∷ (stands book n (Entered ∷ []), NotApproved)
     ∷ (not (stands book n (Approved ∷ [])), WrongPlace)
-    ∷ (commands_schedule (request_at book n), BadActivity)
+    ∷ (has_bad_activity book n, BadActivity)
     ∷ (not (is_taking fop.state), ServiceNotActive)
     ∷ (not (fop.waiting == 0), WaitQueueFull)
     ∷ (has_all_rows book, DeskFull)
     ∷ []
-link_tests book fop (link_act.Direct given) = (is_bad_directive fop.state given, BadDirective) ∷ (is_terminate given && has_all_rows book, DeskFull) ∷ []
-link_tests book fop link_act.Tick = (has_all_rows book, DeskFull) ∷ []
-link_tests book fop link_act.Up = []
-link_tests book fop (link_act.LoseUp place) = []
-link_tests book fop (link_act.LoseDown place) = []
-link_tests book fop link_act.Clcw = []
-link_tests book fop link_act.Down = (has_all_rows book, DeskFull) ∷ []
+link_tests book fop now (link_act.Direct given) = (is_bad_directive fop.state given, BadDirective) ∷ (is_terminate given && has_all_rows book, DeskFull) ∷ []
+link_tests book fop now link_act.Tick = (has_all_rows book, DeskFull) ∷ []
+link_tests book fop now link_act.Up = []
+link_tests book fop now (link_act.LoseUp place) = []
+link_tests book fop now (link_act.LoseDown place) = []
+link_tests book fop now link_act.Clcw = []
+link_tests book fop now link_act.Down = (has_all_rows book, DeskFull) ∷ []
+link_tests book fop now link_act.Work = []
+link_tests book fop now (link_act.Clock time) = (nat_lt time now, BadDirective) ∷ []
 
 abbrev pub tests_of : {U D : Type 0} → Stamp → State U D → Act → List (Bool × Refusal)
 tests_of stamp at (act.Book given) = on_book.tests_of stamp at.book given
-tests_of stamp at (act.Link given) = link_tests at.book (view_of at.world.fop) given
+tests_of stamp at (act.Link given) = link_tests at.book (view_of at.world.fop) at.board.time given
 tests_of stamp at (act.Ask asked) = on_book.query_tests at.book asked
 
 -- what the first test that holds says
@@ -88,7 +91,7 @@ question_refusal at asked = on_book.first_refusal (on_book.query_tests at.book a
 -- ---- the act's own rows
 
 abbrev pub released : Stamp → LinkAct → Book → Book
-released stamp (link_act.Release n) book = moved stamp book (want n Queued cause.Release)
+released stamp (link_act.Release n) book = followed stamp (moved stamp book (want n Queued cause.Release)) (activity_at book n) (Approved ∷ []) Riding cause.Release
 released stamp (link_act.Direct given) book = book
 released stamp link_act.Tick book = book
 released stamp link_act.Up book = book
@@ -96,6 +99,8 @@ released stamp (link_act.LoseUp place) book = book
 released stamp (link_act.LoseDown place) book = book
 released stamp link_act.Clcw book = book
 released stamp link_act.Down book = book
+released stamp link_act.Work book = book
+released stamp (link_act.Clock time) book = book
 
 abbrev pub acted : Stamp → Act → Book → Book
 acted stamp (act.Book given) book = on_book.acted stamp given book
@@ -142,20 +147,27 @@ first_of_loss (said.Farm given ∷ others) = first.Nothing
 first_of_loss (said.Received item ∷ others) = first.Nothing
 first_of_loss (said.Lost ∷ others) = first.Lost
 
-abbrev pub first_told : LinkAct → List Indication → First
-first_told (link_act.Release n) all = plain
-first_told (link_act.Direct given) all = plain
-first_told link_act.Tick all = plain
-first_told link_act.Up all = first_of_up all
-first_told (link_act.LoseUp place) all = first_of_loss all
-first_told (link_act.LoseDown place) all = first_of_loss all
-first_told link_act.Clcw all = plain
-first_told link_act.Down all = first_of_down all
+-- which request was carried out
+abbrev pub first_of_work : Option Identity → First
+first_of_work None = first.Nothing
+first_of_work (Some identity) = first.Worked identity
 
-abbrev pub first_of : Book → Act → List Indication → First
-first_of book (act.Book given) all = first.Book (on_book.first_of book given)
-first_of book (act.Link given) all = first_told given all
-first_of book (act.Ask asked) all = plain
+abbrev pub first_told : BoardState → LinkAct → List Indication → First
+first_told board (link_act.Release n) all = plain
+first_told board (link_act.Direct given) all = plain
+first_told board link_act.Tick all = plain
+first_told board link_act.Up all = first_of_up all
+first_told board (link_act.LoseUp place) all = first_of_loss all
+first_told board (link_act.LoseDown place) all = first_of_loss all
+first_told board link_act.Clcw all = plain
+first_told board link_act.Down all = first_of_down all
+first_told board link_act.Work all = first_of_work (oldest_of board.buffer)
+first_told board (link_act.Clock time) all = first.Now time
+
+abbrev pub first_of : {U D : Type 0} → State U D → Act → List Indication → First
+first_of at (act.Book given) all = first.Book (on_book.first_of at.book given)
+first_of at (act.Link given) all = first_told at.board given all
+first_of at (act.Ask asked) all = plain
 
 -- a question changes nothing
 abbrev pub is_question : Act → Bool

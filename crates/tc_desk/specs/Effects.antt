@@ -1,46 +1,129 @@
--- What the book hears of the link: each indication, and each report that was read, is one equation.
-use Rattle.std.specs.Prelude.{ℕ, if◌then◌else◌, List, [], ◌∷◌, fold}
+-- What the book hears of the link: each indication, and each report that was read, is one equation. Where an insert moves, its
+-- activity follows.
+use Rattle.std.specs.Prelude.{◌≡◌, ◌⊎◌, ℕ, Bool, true, false, if◌then◌else◌, Option, Some, None, List, [], ◌∷◌, fold}
+use Rattle.std.specs.List.{list_any}
 use Rattle.tc_types.specs.declared.places.Place.{Place}
 use Rattle.tc_types.specs.declared.places.Place.TheVariants as place
 use Rattle.tc_types.specs.declared.causes.Cause.{Cause}
 use Rattle.tc_types.specs.declared.causes.Cause.TheVariants as cause
 use Rattle.tc_types.specs.declared.reports.Report.{Report}
 use Rattle.tc_types.specs.declared.reports.Report.TheVariants as report
+use Rattle.tc_types.specs.declared.reports.Telemetry.{Telemetry}
 use Rattle.tc_types.specs.declared.reports.Telemetry.TheVariants as telemetry
-use Rattle.tc_types.specs.Lawful.{is_lawful}
+use Rattle.tc_types.specs.declared.reports.Verification.{Verification}
+use Rattle.tc_types.specs.declared.requests.Command.{Command}
+use Rattle.tc_types.specs.declared.requests.Command.TheVariants as command
+use Rattle.tc_types.specs.declared.requests.Request.{Request}
+use Rattle.tc_types.specs.Lawful.{is_lawful, is_one_of}
 use Rattle.tc_types.specs.Stages.{stage_of_verification}
 use Rattle.tc_fop.specs.declared.signals.Indication.TheVariants as signal
 use Rattle.tc_world.specs.declared.events.Indication.{Indication}
 use Rattle.tc_world.specs.declared.events.Indication.TheVariants as said
+use Rattle.tc_board.specs.Mirror.{MirrorState, is_listed_of}
 use Rattle.tc_book.specs.declared.stamps.Stamp.{Stamp}
-use Rattle.tc_book.specs.Book.{Book, place_in, stands, want, moved}
+use Rattle.tc_book.specs.Book.{Book, place_in, stands, request_at, want, moved}
+use Rattle.tc_book.specs.Places.{numbers_from}
+use Rattle.tc_desk.specs.Commands.{activity_at}
 
 -- the request is moved, if it stands at one of these places
 abbrev pub tried : Stamp → Book → ℕ → List Place → Place → Cause → Book
 tried stamp book n places to why = if stands book n places then moved stamp book (want n to why) else book
 
+-- the same of an activity, where there is one
+abbrev pub followed : Stamp → Book → Option ℕ → List Place → Place → Cause → Book
+followed stamp book None places to why = book
+followed stamp book (Some n) places to why = tried stamp book n places to why
+
+-- the request is moved, if it stands at one of these places; and its activity, if it rides with it
+abbrev pub tried_with : Stamp → Book → ℕ → List Place → Place → Cause → Book
+tried_with stamp book n places to why =
+    if stands book n places then followed stamp (moved stamp book (want n to why)) (activity_at book n) (place.Riding ∷ []) to why
+    else book
+
+-- ---- reports
+
 -- the request of a report goes to the place that the report asks for, if that is lawful
 abbrev pub reported : Stamp → Book → ℕ → Place → Book
 reported stamp book n to = if is_lawful (place_in book n) to cause.Report then moved stamp book (want n to cause.Report) else book
 
+abbrev pub is_completed : Verification → Bool
+is_completed v = is_one_of (place.Completed ∷ []) (stage_of_verification v)
+
+abbrev pub is_failed : Verification → Bool
+is_failed v = is_one_of (place.Failed ∷ []) (stage_of_verification v)
+
+-- a completed insert schedules its activity, a failed one fails it
+abbrev pub inserted : Stamp → Verification → ℕ → Book → Book
+inserted stamp v target book =
+    if is_completed v then tried stamp book target (place.Riding ∷ place.Doubtful ∷ []) place.Scheduled cause.Insert
+    else if is_failed v then tried stamp book target (place.Riding ∷ place.Doubtful ∷ []) place.Failed cause.Insert
+    else book
+
+-- a completed delete deletes its target
+abbrev pub deleted : Stamp → ℕ → Book → Book
+deleted stamp target book = tried stamp book target (place.Riding ∷ place.Scheduled ∷ place.Doubtful ∷ []) place.Deleted cause.Delete
+
+-- a request that stands in a mirror is deleted, if it is scheduled
+abbrev pub removed : Stamp → MirrorState → Book → ℕ → Book
+removed stamp mirror book n = if list_any (is_listed_of n) mirror.activities then tried stamp book n (place.Scheduled ∷ []) place.Deleted cause.Reset else book
+
+-- a completed reset deletes what stood in the mirror and is scheduled, in order of number
+abbrev pub emptied : Stamp → MirrorState → Book → Book
+emptied stamp mirror book = fold (removed stamp mirror) book (numbers_from 1 book.requests)
+
+-- what a report on a request with this command moves besides
+abbrev pub besides : Stamp → MirrorState → Verification → Command → Book → Book
+besides stamp mirror v (command.Plain service subtype) book = book
+besides stamp mirror v command.EnableSchedule book = book
+besides stamp mirror v command.DisableSchedule book = book
+besides stamp mirror v command.ResetSchedule book = if is_completed v then emptied stamp mirror book else book
+besides stamp mirror v (command.InsertActivity target time) book = inserted stamp v target book
+besides stamp mirror v (command.DeleteActivity target) book = if is_completed v then deleted stamp target book else book
+besides stamp mirror v (command.ShiftActivity target offset) book = book
+besides stamp mirror v (command.ShiftAll offset) book = book
+besides stamp mirror v command.SummarizeAll book = book
+
+abbrev pub besides_at : Stamp → MirrorState → Verification → Option Request → Book → Book
+besides_at stamp mirror v None book = book
+besides_at stamp mirror v (Some request) book = besides stamp mirror v request.body.command book
+
+-- a report of the spacecraft; the mirror is as it was before the report was read
+abbrev pub told : Stamp → MirrorState → Book → Telemetry → Book
+told stamp mirror book (telemetry.Verification v n identity) =
+    besides_at stamp mirror v (request_at book n) (reported stamp book n (stage_of_verification v))
+told stamp mirror book (telemetry.Summary summary) = book
+
 -- what came down
-abbrev pub received : Stamp → Book → Report → Book
-received stamp book (report.Word word) = book
-received stamp book (report.Telemetry (telemetry.Verification v n identity)) = reported stamp book n (stage_of_verification v)
-received stamp book (report.Telemetry (telemetry.Summary summary)) = book
+abbrev pub received : Stamp → MirrorState → Book → Report → Book
+received stamp mirror book (report.Word word) = book
+received stamp mirror book (report.Telemetry item) = told stamp mirror book item
+
+-- ---- indications
 
 -- Sent and GivenBack act on a request at Queued, Confirmed and InDoubt on one at Sent. At another place they make no row.
-abbrev pub heard : Stamp → Book → Indication → Book
-heard stamp book (said.Fop (signal.Sent n)) = tried stamp book n (place.Queued ∷ []) place.Sent cause.Transmit
-heard stamp book (said.Fop (signal.Confirmed n)) = tried stamp book n (place.Sent ∷ []) place.Confirmed cause.Confirm
-heard stamp book (said.Fop (signal.GivenBack n)) = tried stamp book n (place.Queued ∷ []) place.Approved cause.GiveBack
-heard stamp book (said.Fop (signal.InDoubt n)) = tried stamp book n (place.Sent ∷ []) place.Doubtful cause.Doubt
-heard stamp book (said.Fop (signal.Alert kind)) = book
-heard stamp book (said.Fop signal.Started) = book
-heard stamp book (said.Farm verdict) = book
-heard stamp book (said.Received item) = received stamp book item
-heard stamp book said.Lost = book
+abbrev pub heard : Stamp → MirrorState → Book → Indication → Book
+heard stamp mirror book (said.Fop (signal.Sent n)) = tried stamp book n (place.Queued ∷ []) place.Sent cause.Transmit
+heard stamp mirror book (said.Fop (signal.Confirmed n)) = tried stamp book n (place.Sent ∷ []) place.Confirmed cause.Confirm
+heard stamp mirror book (said.Fop (signal.GivenBack n)) = tried_with stamp book n (place.Queued ∷ []) place.Approved cause.GiveBack
+heard stamp mirror book (said.Fop (signal.InDoubt n)) = tried_with stamp book n (place.Sent ∷ []) place.Doubtful cause.Doubt
+heard stamp mirror book (said.Fop (signal.Alert kind)) = book
+heard stamp mirror book (said.Fop signal.Started) = book
+heard stamp mirror book (said.Farm verdict) = book
+heard stamp mirror book (said.Received item) = received stamp mirror book item
+heard stamp mirror book said.Lost = book
+
+-- a report of the spacecraft came down
+abbrev pub tells_report : Indication → Bool
+tells_report (said.Fop i) = false
+tells_report (said.Farm verdict) = false
+tells_report (said.Received (report.Word word)) = false
+tells_report (said.Received (report.Telemetry item)) = true
+tells_report said.Lost = false
+
+-- a report comes down alone, and else none does
+abbrev pub ComesAlone : List Indication → Type 0
+ComesAlone all = (list_any tells_report all ≡ false) ⊎ ((item : Telemetry) × (all ≡ said.Received (report.Telemetry item) ∷ []))
 
 -- all that the link told, in order
-abbrev pub heard_all : Stamp → List Indication → Book → Book
-heard_all stamp all book = fold (heard stamp) book all
+abbrev pub heard_all : Stamp → MirrorState → List Indication → Book → Book
+heard_all stamp mirror all book = fold (heard stamp mirror) book all

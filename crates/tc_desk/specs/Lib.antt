@@ -1,4 +1,5 @@
 pub mod State
+pub mod Commands
 pub mod Asks
 pub mod Effects
 pub mod Acts

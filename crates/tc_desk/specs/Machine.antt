@@ -1,6 +1,6 @@
 -- The desk machine: what is answered to whom, and what becomes of the desk. It is a relation: what the link tells is not
 -- decided by the desk alone, nor where memory is refused.
-use Rattle.std.specs.Prelude.{◌≡◌, ◌⊎◌, Option, Some, None, Ok, Err, Result, List, [], ◌∷◌, length, drop}
+use Rattle.std.specs.Prelude.{◌≡◌, ◌⊎◌, ℕ, Option, Some, None, Ok, Err, Result, List, [], ◌∷◌, length, drop}
 use Rattle.tc_types.specs.declared.frames.Frame.{Frame}
 use Rattle.tc_types.specs.declared.moves.Move.{Move}
 use Rattle.tc_types.specs.declared.refusals.Refusal.{Refusal}
@@ -18,13 +18,14 @@ use Rattle.tc_world.specs.declared.events.Indication.{Indication}
 use Rattle.tc_world.specs.Links.{Kind}
 use Rattle.tc_world.specs.Telling.{TellsRequests}
 use Rattle.tc_world.specs.World.{Whole, Happens, IsAsBefore}
+use Rattle.tc_board.specs.Board.{work_reports, worked, ClockReports, clocked}
 use Rattle.tc_book.specs.declared.stamps.Stamp.{Stamp}
 use Rattle.tc_desk.specs.declared.firsts.First.{First}
 use Rattle.tc_desk.specs.State.{State}
-use Rattle.tc_desk.specs.Asks.{event_of, has_buffer, taken_in, board_after, reports_after}
+use Rattle.tc_desk.specs.Asks.{event_of, has_buffer, taken_in, board_after, reports_after, mirror_by}
 use Rattle.tc_desk.specs.Effects.{heard_all}
 use Rattle.tc_desk.specs.Acts.{refusal_of, acted, first_of}
-use Rattle.tc_desk.specs.Replies.{Reply, query_reply, act_reply, refusal_reply}
+use Rattle.tc_desk.specs.Replies.{Reply, Replies, act_reply, refusal_reply}
 
 -- ---- what an act makes of the link and the spacecraft
 
@@ -52,22 +53,51 @@ pub record Boards {U D : Type 0} (up : Kind U Frame) (down : Kind D Report) (old
   pub carried : Whole U D
   pub frame : Happened up down (event.Uplink (has_buffer old.board)) ready carried all
   pub board : new.board ≡ board_after (taken_in all) old.board
+  pub mirror : new.mirror ≡ old.mirror
   pub reports : PutsDown up down (reports_after (taken_in all)) carried new.world
 
--- an act on the link is one event, and the spacecraft is told of what comes on board alone
+-- The spacecraft made these reports, and they were put on the downlink, in order, where room was made before.
+pub record Reports {U D : Type 0} (up : Kind U Frame) (down : Kind D Report) (items : List Telemetry) (old new : Whole U D) : Type 0 where
+  pub ready : Whole U D
+  pub readied : IsAsBefore up down old ready
+  pub put : PutsDown up down items ready new
+
+-- The spacecraft carried out the oldest request of its buffer, if there was one, and reported it; and then the FARM was told
+-- that a buffer is free.
+pub record Works {U D : Type 0} (up : Kind U Frame) (down : Kind D Report) (old new : State U D) (all : List Indication) : Type 0 where
+  pub reported : Whole U D
+  pub reports : Reports up down (work_reports old.board old.board.buffer) old.world reported
+  pub free : Happened up down event.Release reported new.world []
+  pub board : new.board ≡ worked old.board old.board.buffer
+  pub mirror : new.mirror ≡ old.mirror
+  pub silent : all ≡ []
+
+-- The spacecraft's time went on, and what fell due by it was released and reported.
+pub record Clocks {U D : Type 0} (up : Kind U Frame) (down : Kind D Report) (time : ℕ) (old new : State U D) (all : List Indication) : Type 0 where
+  pub items : List Telemetry
+  pub due : ClockReports time old.board.schedule items
+  pub reports : Reports up down items old.world new.world
+  pub board : new.board ≡ clocked time old.board
+  pub mirror : new.mirror ≡ old.mirror
+  pub silent : all ≡ []
+
+-- an act on the link is one event, and the spacecraft is told of what comes on board alone, the mirror of what comes down
 abbrev pub Flies : {U D : Type 0} → Kind U Frame → Kind D Report → LinkAct → State U D → State U D → List Indication → Type 0
-Flies up down (link_act.Release n) old new all = Passes up down (event_of old (link_act.Release n)) old.world new.world all × (new.board ≡ old.board)
-Flies up down (link_act.Direct given) old new all = Passes up down (event_of old (link_act.Direct given)) old.world new.world all × (new.board ≡ old.board)
-Flies up down link_act.Tick old new all = Passes up down (event_of old link_act.Tick) old.world new.world all × (new.board ≡ old.board)
+Flies up down (link_act.Release n) old new all = Passes up down (event_of old (link_act.Release n)) old.world new.world all × (new.board ≡ old.board) × (new.mirror ≡ old.mirror)
+Flies up down (link_act.Direct given) old new all = Passes up down (event_of old (link_act.Direct given)) old.world new.world all × (new.board ≡ old.board) × (new.mirror ≡ old.mirror)
+Flies up down link_act.Tick old new all = Passes up down (event_of old link_act.Tick) old.world new.world all × (new.board ≡ old.board) × (new.mirror ≡ old.mirror)
 Flies up down link_act.Up old new all = Boards up down old new all
-Flies up down (link_act.LoseUp place) old new all = Passes up down (event_of old (link_act.LoseUp place)) old.world new.world all × (new.board ≡ old.board)
-Flies up down (link_act.LoseDown place) old new all = Passes up down (event_of old (link_act.LoseDown place)) old.world new.world all × (new.board ≡ old.board)
-Flies up down link_act.Clcw old new all = Passes up down (event_of old link_act.Clcw) old.world new.world all × (new.board ≡ old.board)
-Flies up down link_act.Down old new all = Passes up down (event_of old link_act.Down) old.world new.world all × (new.board ≡ old.board)
+Flies up down (link_act.LoseUp place) old new all = Passes up down (event_of old (link_act.LoseUp place)) old.world new.world all × (new.board ≡ old.board) × (new.mirror ≡ old.mirror)
+Flies up down (link_act.LoseDown place) old new all = Passes up down (event_of old (link_act.LoseDown place)) old.world new.world all × (new.board ≡ old.board) × (new.mirror ≡ old.mirror)
+Flies up down link_act.Clcw old new all = Passes up down (event_of old link_act.Clcw) old.world new.world all × (new.board ≡ old.board) × (new.mirror ≡ old.mirror)
+Flies up down link_act.Down old new all =
+    Passes up down (event_of old link_act.Down) old.world new.world all × (new.board ≡ old.board) × (new.mirror ≡ mirror_by old.book all old.mirror)
+Flies up down link_act.Work old new all = Works up down old new all
+Flies up down (link_act.Clock time) old new all = Clocks up down time old new all
 
 -- an act on the book alone asks nothing
 abbrev pub Goes : {U D : Type 0} → Kind U Frame → Kind D Report → Act → State U D → State U D → List Indication → Type 0
-Goes up down (act.Book given) old new all = (new.world ≡ old.world) × (new.board ≡ old.board) × (all ≡ [])
+Goes up down (act.Book given) old new all = (new.world ≡ old.world) × (new.board ≡ old.board) × (new.mirror ≡ old.mirror) × (all ≡ [])
 Goes up down (act.Link given) old new all = Flies up down given old new all
 Goes up down (act.Ask asked) old new all = (new ≡ old) × (all ≡ [])
 
@@ -77,14 +107,15 @@ Goes up down (act.Ask asked) old new all = (new ≡ old) × (all ≡ [])
 -- of what the link told, and the reply begins as the act says.
 pub record Does {U D : Type 0} (up : Kind U Frame) (down : Kind D Report) (stamp : Stamp) (given : Act) (old new : State U D) (all : List Indication) (first : First) : Type 0 where
   pub link : Goes up down given old new all
-  pub book : new.book ≡ heard_all stamp all (acted stamp given old.book)
-  pub begins : first ≡ first_of old.book given all
+  pub book : new.book ≡ heard_all stamp old.mirror all (acted stamp given old.book)
+  pub begins : first ≡ first_of old given all
 
 -- nothing changed; at most a link has more room
 pub record StaysSame {U D : Type 0} (up : Kind U Frame) (down : Kind D Report) (old new : State U D) : Type 0 where
   pub book : new.book ≡ old.book
   pub world : IsAsBefore up down old.world new.world
   pub board : new.board ≡ old.board
+  pub mirror : new.mirror ≡ old.mirror
 
 -- Why an act is refused: the first of its tests that holds says so, or memory was refused where none holds. Nothing
 -- changed.
@@ -112,7 +143,7 @@ pub record Carries {U D : Type 0} (up : Kind U Frame) (down : Kind D Report) (ol
 -- an act or a question that no test refuses, and its reply
 abbrev pub Serves : {U D : Type 0} → Kind U Frame → Kind D Report → State U D → Stamp → Act → Reply → State U D → Type 0
 Serves up down old stamp (act.Ask asked) reply new =
-    (refusal_of stamp old (act.Ask asked) ≡ None) × (reply ≡ query_reply up down old asked) × (new ≡ old)
+    (refusal_of stamp old (act.Ask asked) ≡ None) × Replies up down old asked reply × (new ≡ old)
 Serves up down old stamp given reply new = Carries up down old stamp given reply new
 
 -- One step of the desk machine: an act or a question is served, or refused.

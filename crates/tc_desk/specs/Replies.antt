@@ -1,5 +1,5 @@
 -- The lines of a reply.
-use Rattle.std.specs.Prelude.{ℕ, nat_lt, Option, Some, None, List, [], ◌∷◌, ◌++◌, length, map, take, codes}
+use Rattle.std.specs.Prelude.{◌≡◌, ℕ, nat_lt, Bool, IsPermutation, IsSortedBy, Option, Some, None, List, [], ◌∷◌, ◌++◌, length, map, take, codes}
 use Rattle.std.specs.List.{filter_map}
 use Rattle.tc_types.specs.declared.frames.Frame.{Frame}
 use Rattle.tc_types.specs.declared.moves.Move.{Move}
@@ -7,14 +7,17 @@ use Rattle.tc_types.specs.declared.places.Place.{Place}
 use Rattle.tc_types.specs.declared.refusals.Refusal.{Refusal}
 use Rattle.tc_types.specs.declared.reports.Report.{Report}
 use Rattle.tc_types.specs.declared.requests.Request.{Request}
+use Rattle.tc_types.specs.declared.activities.ListedActivity.{ListedActivity}
 use Rattle.tc_types.specs.declared.acts.Query.{Query}
 use Rattle.tc_types.specs.declared.acts.Query.TheVariants as query
 use Rattle.tc_types.specs.History.{entered, counts_of, rows_past}
 use Rattle.tc_types.specs.Lines.{entered_line, approvals_line, history_line, move_line, places_line, refusal_line}
-use Rattle.tc_types.specs.LinkLines.{accepted_line, word_line, verified_line, summarized_line}
+use Rattle.tc_types.specs.LinkLines.{accepted_line, word_line, verified_line, summarized_line, worked_line, time_line, mirror_line, activity_line}
 use Rattle.tc_types.specs.RequestLine.{request_line}
 use Rattle.tc_world.specs.declared.events.Indication.{Indication}
 use Rattle.tc_world.specs.Links.{Kind}
+use Rattle.tc_board.specs.Schedule.{is_before}
+use Rattle.tc_board.specs.Mirror.{MirrorState}
 use Rattle.tc_book.specs.declared.firsts.First.{First as BookFirst}
 use Rattle.tc_book.specs.declared.firsts.First.TheVariants as book_first
 use Rattle.tc_book.specs.Book.{place_in, request_at}
@@ -47,6 +50,8 @@ first_line first.Lost = codes "ok lost"
 first_line (first.Word word) = word_line word
 first_line (first.Verified verification identity) = verified_line verification identity
 first_line (first.Summarized enabled count) = summarized_line enabled count
+first_line (first.Worked identity) = worked_line identity
+first_line (first.Now time) = time_line time
 
 -- the reply to an act: its first line, a line for each start and alert that the link told, and one for each row that it made
 abbrev pub act_reply : First → List Indication → List Move → Reply
@@ -67,9 +72,21 @@ abbrev pub request_lines : Option Request → Option Place → Reply
 request_lines None at = []
 request_lines (Some request) at = request_line request at ∷ []
 
+-- the lines of a schedule whose activities are shown in this order
+abbrev pub schedule_lines : Bool → List ListedActivity → Reply
+schedule_lines enabled shown = mirror_line enabled (length shown) ∷ map (λ (a : ListedActivity). activity_line a.identity a.time) shown
+
+-- the activities of a mirror are shown by time, application process and count
+pub record ShowsSchedule (mirror : MirrorState) (told : Reply) : Type 0 where
+  pub shown : List ListedActivity
+  pub all : IsPermutation mirror.activities shown
+  pub ordered : IsSortedBy (λ a b. is_before a.time a.identity b.time b.identity) shown
+  pub reply : told ≡ schedule_lines mirror.enabled shown
+
 -- the reply to a question
-abbrev pub query_reply : {U D : Type 0} → Kind U Frame → Kind D Report → State U D → Query → Reply
-query_reply up down at query.Places = places_line (length (entered at.book.history)) (counts_of at.book.history) ∷ []
-query_reply up down at (query.History n after) = history_lines n (rows_past n after at.book.history)
-query_reply up down at (query.Request n) = request_lines (request_at at.book n) (place_in at.book n)
-query_reply up down at query.Link = status_lines (status_of up down at)
+abbrev pub Replies : {U D : Type 0} → Kind U Frame → Kind D Report → State U D → Query → Reply → Type 0
+Replies up down at query.Places reply = reply ≡ places_line (length (entered at.book.history)) (counts_of at.book.history) ∷ []
+Replies up down at (query.History n after) reply = reply ≡ history_lines n (rows_past n after at.book.history)
+Replies up down at (query.Request n) reply = reply ≡ request_lines (request_at at.book n) (place_in at.book n)
+Replies up down at query.Link reply = reply ≡ status_lines (status_of up down at)
+Replies up down at query.Schedule reply = ShowsSchedule at.mirror reply

@@ -1,10 +1,11 @@
--- What a desk is made of: its book, its link and the rehearsal spacecraft.
+-- What a desk is made of: its book, its link, the rehearsal spacecraft, and the mirror of its schedule.
 use Rattle.std.specs.Prelude.{◌≤◌, true, []}
 use Rattle.tc_farm.specs.Farm.{IsWindowWidth, new_farm}
 use Rattle.tc_fop.specs.Calls.{new_machine}
 use Rattle.tc_world.specs.Logs.{blank}
 use Rattle.tc_world.specs.World.{Whole}
 use Rattle.tc_board.specs.Board.{BoardState, new_board}
+use Rattle.tc_board.specs.Mirror.{MirrorState, no_mirror}
 use Rattle.tc_book.specs.Book.{Book, empty_book}
 use Rattle.tc_desk.specs.declared.configs.Config.{Config}
 
@@ -16,6 +17,8 @@ pub record State (U D : Type 0) : Type 0 where
   pub book : Book
   pub world : Whole U D
   pub board : BoardState
+  -- the on-board schedule, as the reports that were read tell it
+  pub mirror : MirrorState
 
 -- a link where nothing happened yet, over these carriers: K = 10, T1_Initial = 10 ticks, Transmission_Limit = 3
 abbrev pub new_world : {U D : Type 0} → Config → U → D → Whole U D
@@ -32,4 +35,4 @@ new_world config up down = record {
 
 -- a desk where nothing happened yet: the spacecraft's time is 0
 abbrev pub new_desk : {U D : Type 0} → Config → U → D → State U D
-new_desk config up down = record { book = empty_book; world = new_world config up down; board = new_board 0 }
+new_desk config up down = record { book = empty_book; world = new_world config up down; board = new_board 0; mirror = no_mirror }

@@ -1,6 +1,7 @@
 //! The acts, a file each: its tests in order, the room that it takes, the one event that may be refused, and then what cannot
 //! fail.
 pub mod clcw;
+pub mod clock;
 pub mod direct;
 pub mod down;
 pub mod lose;
@@ -8,3 +9,4 @@ pub mod on_book;
 pub mod release;
 pub mod tick;
 pub mod up;
+pub mod work;

@@ -1,6 +1,6 @@
 //! The first line of a reply.
 use tc_book::firsts;
-use tc_types::numbers::RequestNumber;
+use tc_types::numbers::{Moment, RequestNumber};
 use tc_types::reports::Verification;
 use tc_types::requests::Identity;
 
@@ -31,4 +31,8 @@ pub enum First {
         enabled: bool,
         count: u32,
     },
+    /// `ok work APID/COUNT`: the spacecraft carried out this request.
+    Worked(Identity),
+    /// `ok now T`: the spacecraft's time.
+    Now(Moment),
 }

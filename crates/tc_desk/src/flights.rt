@@ -2,11 +2,13 @@
 ghost use Rattle.std.specs.Prelude.{◌≡◌, ◌+◌, ◌<◌, ◌≤◌, ◌^◌, false, IfOk, OnOk, length};
 ghost use Rattle.std.specs.List.{list_any};
 ghost use Rattle.tc_world.specs.World.{may_move, tells_move, puts_down};
+ghost use Rattle.tc_board.specs.Mirror.{MirrorState};
 ghost use Rattle.tc_book.specs.Batch.{HasRoomFor, batch_rows};
 ghost use Rattle.tc_book.specs.Book.{Book, has_all_rows};
 ghost use Rattle.tc_book.specs.declared.stamps.Stamp.{Stamp};
 ghost use Rattle.tc_desk.specs.Acts.{plain};
-ghost use Rattle.tc_desk.specs.Effects.{heard_all};
+ghost use Rattle.tc_desk.specs.Asks.{brings_down};
+ghost use Rattle.tc_desk.specs.Effects.{heard_all, tells_report, ComesAlone};
 ghost use Rattle.tc_desk.specs.Parts.{Asked};
 
 use crate::firsts::First;
@@ -22,8 +24,8 @@ use tc_world::events::Event;
 use tc_world::indications::Indications;
 use tc_world::worlds::World;
 
-/// The most rows that what the link tells of one event makes: one for each of 258 indications.
-pub(crate) const MOST_ROWS: usize = 258;
+/// The most rows that what the link tells of one event makes, where no report comes down: two for each of 258 indications.
+pub(crate) const MOST_ROWS: usize = 516;
 
 /// `ok` alone.
 pub(crate) const PLAIN: First = First::Book(firsts::First::Plain);
@@ -47,7 +49,7 @@ fn fly<U: Carrier<Frame> + Drop, D: Carrier<Report> + Drop, A: Allocator + Copy 
     event: Event,
     rows: usize,
 ) -> Result<Flight<A>, Refusal>
-    requires few { rows ≤ 300 }
+    requires few { rows ≤ 70000 }
     ensures asked { Asked U.kind D.kind (λ flight. flight.said) event world.old world.new result }
     ensures still { may_move event ≡ false → IfOk result (λ flight. list_any tells_move flight.said ≡ false) }
     ensures book { records.new.book ≡ records.old.book }
@@ -75,10 +77,12 @@ pub(crate) fn ask<U: Carrier<Frame> + Drop, D: Carrier<Report> + Drop, A: Alloca
     event: Event,
     rows: usize,
 ) -> Result<Flight<A>, Refusal>
-    requires few { rows ≤ 300 }
+    requires few { rows ≤ 70000 }
     requires rows { has_all_rows records.old.book ≡ false }
     ensures asked { Asked U.kind D.kind (λ flight. flight.said) event world.old world.new result }
     ensures book { records.new.book ≡ records.old.book }
+    ensures alone { IfOk result (λ flight. ComesAlone flight.said) }
+    ensures no_report { brings_down event ≡ false → IfOk result (λ flight. list_any tells_report flight.said ≡ false) }
     ensures plain { IfOk result (λ flight. flight.first ≡ plain) }
     ensures most { IfOk result (λ flight. length flight.said ≤ 258) }
     ensures room { OnOk result (length records.new.book.history + rows ≤ records.new.most_rows) }
@@ -99,7 +103,7 @@ pub(crate) fn pass<U: Carrier<Frame> + Drop, D: Carrier<Report> + Drop, A: Alloc
     requires still { may_move event ≡ false }
     ensures asked { Asked U.kind D.kind (λ flight. flight.said) event world.old world.new result }
     ensures kept_room { puts_down event ≡ false → D.covered world.old.down ≤ D.covered world.new.down }
-    ensures heard { IfOk result (λ flight. (stamp : Stamp) (book : Book) → heard_all stamp flight.said book ≡ book) }
+    ensures heard { IfOk result (λ flight. (stamp : Stamp) (mirror : MirrorState) (book : Book) → heard_all stamp mirror flight.said book ≡ book) }
     ensures book { records.new.book ≡ records.old.book }
     ensures plain { IfOk result (λ flight. flight.first ≡ plain) }
     ensures moves { IfOk result (λ flight. HasRoomFor 0 flight.draft.moves) }

@@ -5,12 +5,16 @@
 #![tactic(auto)]
 
 mod acts;
+mod commands;
 pub mod configs;
 pub mod desks;
 pub mod dones;
+mod downlinks;
 pub mod firsts;
 mod flights;
 mod hearing;
+mod moving;
 mod parts;
+mod reporting;
 pub mod status_texts;
 pub mod statuses;

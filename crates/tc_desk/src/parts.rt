@@ -17,6 +17,7 @@ use crate::flights::Flight;
 use std::alloc::Allocator;
 use std::marker::Model;
 use tc_board::boards::Board;
+use tc_board::mirrors::Mirror;
 use tc_book::drafts::Draft;
 use tc_book::records::Records;
 use tc_book::stamps::Stamp;
@@ -42,7 +43,7 @@ const LIMIT: u8 = 3;
 /// The spacecraft's time, as a desk is made.
 const START: u32 = 0;
 
-/// The book, the link and the spacecraft. What ties them is the desk's.
+/// The book, the link, the spacecraft, and the mirror of its schedule. What ties them is the desk's.
 #[derive(Drop)]
 pub(crate) struct Parts<
     U: Carrier<Frame> + Drop,
@@ -53,6 +54,7 @@ pub(crate) struct Parts<
     pub(crate) records: Records<A>,
     pub(crate) world: World<U, D, A>,
     pub(crate) board: Board<A>,
+    pub(crate) mirror: Mirror<A>,
 }
 
 impl<U: Carrier<Frame> + Drop, D: Carrier<Report> + Drop, A: Allocator + Copy + Drop> Model
@@ -61,7 +63,7 @@ impl<U: Carrier<Frame> + Drop, D: Carrier<Report> + Drop, A: Allocator + Copy + 
 
     ghost Value = { State U D };
 
-    ghost view = { λ p. record { book = p.records.book; world = p.world; board = p.board } };
+    ghost view = { λ p. record { book = p.records.book; world = p.world; board = p.board; mirror = p.mirror.told } };
 }
 
 impl<U: Carrier<Frame> + Drop, D: Carrier<Report> + Drop, A: Allocator + Copy + Drop> Parts<
@@ -92,6 +94,7 @@ impl<U: Carrier<Frame> + Drop, D: Carrier<Report> + Drop, A: Allocator + Copy + 
             records: Records::new(alloc),
             world: World::new(alloc, fop, farm, up, down, config.channel)?,
             board,
+            mirror: Mirror::new(alloc),
         })
     }
 
@@ -109,6 +112,8 @@ impl<U: Carrier<Frame> + Drop, D: Carrier<Report> + Drop, A: Allocator + Copy + 
             LinkAct::LoseDown { place } => self.lose_down(stamp, place),
             LinkAct::Clcw => self.clcw(stamp),
             LinkAct::Down => self.down(stamp),
+            LinkAct::Work => self.work(stamp),
+            LinkAct::Clock { time } => self.clock(stamp, time),
         }
     }
 

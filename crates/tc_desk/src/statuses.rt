@@ -1,6 +1,8 @@
-//! What the question `link` tells.
+//! What the questions `link` and `schedule` tell.
+use std::alloc::Allocator;
 use tc_farm::farms::FarmView;
 use tc_fop::views::FopView;
+use tc_types::activities::ListedActivity;
 
 /// How the FOP, the FARM and the carriers stand.
 #[derive(Clone, Copy, Debug, PartialEq, Eq)]
@@ -16,4 +18,13 @@ pub struct LinkStatus {
     /// Whether every start so far was good: at each initiation nothing was in flight, and at each without check both sides
     /// agreed.
     pub clean: bool,
+}
+
+/// The on-board schedule, as the reports that were read tell it.
+#[derive(Drop)]
+pub struct KnownSchedule<A: Allocator + Copy + Drop> {
+    /// Whether it is enabled.
+    pub enabled: bool,
+    /// Its activities, by time, application process and count.
+    pub activities: Vec<ListedActivity, A>,
 }

@@ -4,18 +4,24 @@ ghost use Rattle.tc_types.specs.declared.acts.Act.TheVariants as act;
 ghost use Rattle.tc_types.specs.declared.acts.LinkAct.TheVariants as link_act;
 ghost use Rattle.tc_book.specs.Batch.{HoldsRoom};
 ghost use Rattle.tc_desk.specs.Acts.{is_there, first_of_down, first_of_report};
+ghost use Rattle.tc_board.specs.Mirror.{HasRoom};
+ghost use Rattle.tc_desk.specs.Asks.{command_told, command_down, mirror_read};
 ghost use Rattle.tc_desk.specs.Parts.{Responds};
 
+use crate::commands::command_at;
 use crate::firsts::First;
 use crate::flights::{Flight, MOST_ROWS, ask};
-use crate::hearing::hear_all;
+use crate::hearing::hear_down;
 use crate::parts::Parts;
 use std::alloc::Allocator;
+use tc_board::mirrors::Mirror;
+use tc_book::records::{MOST_REQUESTS, Records};
 use tc_book::stamps::Stamp;
 use tc_types::activities::Summary;
 use tc_types::frames::Frame;
 use tc_types::refusals::Refusal;
 use tc_types::reports::{Report, Telemetry};
+use tc_types::telecommands::ScheduleCommand;
 use tc_world::carriers::Carrier;
 use tc_world::events::{Event, Indication};
 
@@ -61,6 +67,49 @@ fn first_of_down(said: &[Indication]) -> First
     }
 }
 
+/// The command that flew with the request of a report.
+fn command_told<A: Allocator + Copy + Drop>(
+    records: &Records<A>,
+    item: &Report,
+) -> Option<ScheduleCommand>
+    ensures { result ≡ command_told records.now.book item.now }
+{
+    match item {
+        Report::Telemetry(Telemetry::Verification { request, .. }) => {
+            command_at(records, request.get())
+        }
+        Report::Word(_) | Report::Telemetry(Telemetry::Summary(_)) => None,
+    }
+}
+
+/// The same of what came down.
+fn command_down<A: Allocator + Copy + Drop>(
+    records: &Records<A>,
+    said: &[Indication],
+) -> Option<ScheduleCommand>
+    ensures { result ≡ command_down records.now.book said.now }
+{
+    match said.first() {
+        Some(Indication::Received(item)) => command_told(records, item),
+        None | Some(Indication::Fop(_) | Indication::Farm(_) | Indication::Lost) => None,
+    }
+}
+
+/// What came down is read into the mirror, which has room.
+fn read<A: Allocator + Copy + Drop>(
+    mirror: &mut Mirror<A>,
+    command: Option<ScheduleCommand>,
+    said: &[Indication],
+)
+    requires { HasRoom mirror.old }
+    ensures { mirror.new.told ≡ mirror_read command said.now mirror.old.told }
+{
+    if let Some(Indication::Received(item)) = said.first() {
+        let is_read = mirror.take(item, command).is_ok();
+        prove!(is_read);
+    }
+}
+
 impl<U: Carrier<Frame> + Drop, D: Carrier<Report> + Drop, A: Allocator + Copy + Drop> Parts<
     U,
     D,
@@ -74,15 +123,24 @@ impl<U: Carrier<Frame> + Drop, D: Carrier<Report> + Drop, A: Allocator + Copy + 
         if self.records.has_all_rows() {
             return Err(Refusal::DeskFull);
         }
+        self.mirror.reserve()?;
+        let most = MOST_ROWS + self.mirror.count().min(MOST_REQUESTS);
         let flight = ask(
             &mut self.records,
             &mut self.world,
             self.alloc,
             Event::Downlink,
-            MOST_ROWS,
+            most,
         )?;
         let first = first_of_down(flight.said.as_slice());
-        hear_all(&mut self.records, &stamp, flight.said.as_slice());
+        let command = command_down(&self.records, flight.said.as_slice());
+        hear_down(
+            &mut self.records,
+            &stamp,
+            &self.mirror,
+            flight.said.as_slice(),
+        );
+        read(&mut self.mirror, command, flight.said.as_slice());
         Ok(Flight { first, ..flight })
     }
 }

@@ -2,15 +2,18 @@
 ghost use Rattle.std.specs.Prelude.{◌≡◌, IfOk};
 ghost use Rattle.tc_types.specs.declared.acts.Act.TheVariants as act;
 ghost use Rattle.tc_types.specs.declared.acts.LinkAct.TheVariants as link_act;
-ghost use Rattle.tc_types.specs.Schedule.{is_schedule};
 ghost use Rattle.tc_book.specs.Batch.{HoldsRoom};
 ghost use Rattle.tc_fop.specs.Calls.{is_taking};
+ghost use Rattle.tc_desk.specs.Commands.{may_not_ride};
 ghost use Rattle.tc_desk.specs.Parts.{Responds};
 
+use crate::commands::{activity_at, payload_of};
 use crate::flights::{Flight, MOST_ROWS, ask};
 use crate::hearing::hear_all;
+use crate::moving::follow;
 use crate::parts::Parts;
 use std::alloc::Allocator;
+use tc_book::records::Records;
 use tc_book::stamps::Stamp;
 use tc_fop::signals::FopState;
 use tc_types::causes::Cause;
@@ -18,7 +21,6 @@ use tc_types::frames::Frame;
 use tc_types::places::Place;
 use tc_types::refusals::Refusal;
 use tc_types::reports::Report;
-use tc_types::requests::{Command, Request};
 use tc_world::carriers::Carrier;
 use tc_world::events::Event;
 
@@ -32,11 +34,14 @@ fn is_taking(state: FopState) -> bool
     )
 }
 
-/// Whether a request commands the on-board schedule.
-fn commands_schedule(request: &Request) -> bool
-    ensures { result ≡ is_schedule request.now.body.command }
+/// Whether an activity may not ride: there is one, and it is not approved.
+fn may_not_ride<A: Allocator + Copy + Drop>(records: &Records<A>, activity: Option<u32>) -> bool
+    ensures { result ≡ may_not_ride records.now.book activity }
 {
-    !matches!(request.body.command, Command::Plain { .. })
+    match activity {
+        None => false,
+        Some(target) => !records.stands(target, &[Place::Approved]),
+    }
 }
 
 impl<U: Carrier<Frame> + Drop, D: Carrier<Report> + Drop, A: Allocator + Copy + Drop> Parts<
@@ -61,7 +66,8 @@ impl<U: Carrier<Frame> + Drop, D: Carrier<Report> + Drop, A: Allocator + Copy + 
         if !self.records.stands(n, &[Place::Approved]) {
             return Err(Refusal::WrongPlace);
         }
-        if commands_schedule(&request) {
+        let activity = activity_at(&self.records, n);
+        if may_not_ride(&self.records, activity) {
             return Err(Refusal::BadActivity);
         }
         let view = self.world.fop_view();
@@ -76,17 +82,14 @@ impl<U: Carrier<Frame> + Drop, D: Carrier<Report> + Drop, A: Allocator + Copy + 
         }
         let event = Event::Offer {
             request: number,
-            body: request.body,
+            body: payload_of(&self.records, &request.body),
         };
-        let flight = ask(
-            &mut self.records,
-            &mut self.world,
-            self.alloc,
-            event,
-            1 + MOST_ROWS,
-        )?;
+        let most = 2 + MOST_ROWS;
+        let flight = ask(&mut self.records, &mut self.world, self.alloc, event, most)?;
+        let (from, to, cause) = ([Place::Approved], Place::Riding, Cause::Release);
         self.records
             .record(stamp, number, Place::Queued, Cause::Release);
+        follow(&mut self.records, &stamp, activity, &from, to, cause);
         hear_all(&mut self.records, &stamp, flight.said.as_slice());
         Ok(flight)
     }

@@ -1,5 +1,5 @@
 //! The act `up`: the first frame of the uplink comes on board.
-ghost use Rattle.std.specs.Prelude.{◌≡◌, ◌<◌, [], ◌∷◌, true, is_some, length, IfOk};
+ghost use Rattle.std.specs.Prelude.{◌≡◌, ◌<◌, true, is_some, length, IfOk};
 ghost use Rattle.tc_types.specs.declared.acts.Act.TheVariants as act;
 ghost use Rattle.tc_types.specs.declared.acts.LinkAct.TheVariants as link_act;
 ghost use Rattle.tc_book.specs.Batch.{HoldsRoom};
@@ -8,6 +8,7 @@ ghost use Rattle.tc_desk.specs.Asks.{telecommand_of, taken_in, board_after, repo
 ghost use Rattle.tc_desk.specs.Machine.{PutsDown};
 ghost use Rattle.tc_desk.specs.Parts.{Responds};
 
+use crate::downlinks::put_down;
 use crate::firsts::First;
 use crate::flights::{Flight, pass};
 use crate::parts::Parts;
@@ -17,12 +18,10 @@ use tc_farm::farms::Verdict;
 use tc_types::frames::Frame;
 use tc_types::numbers::RequestNumber;
 use tc_types::refusals::Refusal;
-use tc_types::reports::{Report, Telemetry};
-use tc_types::requests::Body;
-use tc_types::telecommands::{Task, Telecommand};
+use tc_types::reports::Report;
+use tc_types::telecommands::{Payload, Telecommand};
 use tc_world::carriers::Carrier;
 use tc_world::events::{Event, Indication};
-use tc_world::worlds::World;
 
 /// How the reply to `up` begins.
 fn first_of_up(said: &[Indication]) -> First
@@ -38,15 +37,15 @@ fn first_of_up(said: &[Indication]) -> First
     }
 }
 
-/// A plain request as it comes on board.
-fn telecommand_of(request: RequestNumber, body: &Body) -> Telecommand
+/// A request as it comes on board.
+fn telecommand_of(request: RequestNumber, body: &Payload) -> Telecommand
     ensures { result ≡ telecommand_of request body.now }
 {
     Telecommand {
         request,
         identity: body.identity,
         ack: body.ack,
-        task: Task::Plain(body.outcome),
+        task: body.task,
     }
 }
 
@@ -60,18 +59,6 @@ fn taken_in(said: &[Indication]) -> Option<Telecommand>
         }
         _ => None,
     }
-}
-
-/// Puts a report on the downlink, where there is room.
-fn put_down<U: Carrier<Frame> + Drop, D: Carrier<Report> + Drop, A: Allocator + Copy + Drop>(
-    world: &mut World<U, D, A>,
-    report: Telemetry,
-)
-    requires { 0 < D.covered world.old.down }
-    ensures { PutsDown U.kind D.kind (report ∷ []) world.old world.new }
-{
-    let is_put = world.step(Event::Put(report)).is_ok();
-    prove!(is_put);
 }
 
 impl<U: Carrier<Frame> + Drop, D: Carrier<Report> + Drop, A: Allocator + Copy + Drop> Parts<
@@ -103,6 +90,7 @@ impl<U: Carrier<Frame> + Drop, D: Carrier<Report> + Drop, A: Allocator + Copy + 
         ensures board { self.new.board ≡ board_after taken self.old.board }
         ensures reports { PutsDown U.kind D.kind (reports_after taken) self.old.world self.new.world }
         ensures book { self.new.book ≡ self.old.book }
+        ensures mirror { self.new.mirror ≡ self.old.mirror }
     {
         if let Some(request) = taken {
             if let Some(report) = self.board.accept(request) {

@@ -8,4 +8,4 @@ pub returns-in-Some-accept-clause-reports : goal.returns-in-Some-accept-clause-r
 returns-in-Some-accept-clause-reports g c =
     subst (λ items. PutsDown g.U.Carrier.kind g.D.Carrier.kind items c.args.self.now.world c.put_down.new.world)
     (c.in-Some-accept.ensures.reports ∙ sym (ap reports_after c.in-Some.is))
-    (rw (← c.self.view_is) c.put_down.ensures)
+    (rw (← c.self.view_is) c.put_down.ensures.put)

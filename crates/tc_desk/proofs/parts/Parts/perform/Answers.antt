@@ -4,4 +4,4 @@ use Rattle.tc_desk.proofs.parts.Parts.perform.Goals as goal
 
 pub returns-in_ok-flight-in-Link-clause-goes_on : goal.returns-in_ok-flight-in-Link-clause-goes_on
 returns-in_ok-flight-in-Link-clause-goes_on g c =
-    flown-goes_on c.args.stamp c.in-Link.given c.in_ok-flight-in-Link.flight.said c.args.self.now.book c.fly.new.self.book c.in_ok-flight-in-Link.ensures.answers.1.book
+    flown-goes_on c.args.stamp c.args.self.now.mirror c.in-Link.given c.in_ok-flight-in-Link.flight.said c.args.self.now.book c.fly.new.self.book c.in_ok-flight-in-Link.ensures.answers.1.book

@@ -19,5 +19,5 @@ returns-clause-answers g c =
           c.in_ok-flight.flight.said c.first_of_up-first.result c.taken_in-taken.result c.room-free_buffer.result
           c.in_ok-reserve.ensures.same c.room-free_buffer.ensures c.in_ok-flight.ensures.asked
           (c.taken_in-taken.ensures ∙ ap taken_in c.as_slice-2.ensures) c.deliver.ensures.board c.deliver.ensures.reports
-          (c.deliver.ensures.book ∙ c.pass.ensures.book) (c.in_ok-flight.ensures.heard c.args.stamp _) (c.first_of_up-first.ensures ∙ ap first_of_up c.as_slice.ensures),
+          c.deliver.ensures.mirror (c.deliver.ensures.book ∙ c.pass.ensures.book) (c.in_ok-flight.ensures.heard c.args.stamp c.self.inside.mirror.told c.self.inside.records.book) (c.first_of_up-first.ensures ∙ ap first_of_up c.as_slice.ensures),
     )

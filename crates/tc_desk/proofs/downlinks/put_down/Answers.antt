@@ -1,8 +1,8 @@
 -- A put that has its room is not refused.
 use Rattle.tc_desk.proofs.PutLemmas.{put_answered}
-use Rattle.tc_desk.proofs.acts.up.put_down.Goals as goal
+use Rattle.tc_desk.proofs.downlinks.put_down.Goals as goal
 
-pub returns : goal.returns
-returns g c =
+pub returns-clause-put : goal.returns-clause-put
+returns-clause-put g c =
     put_answered g.U.Carrier.kind g.D.Carrier.kind c.args.report c.args.world.now c.step.new.self _
     c.step.result (c.step.ensures.spared c.requires) c.step.ensures.happens c.step.ensures.requests

@@ -1,0 +1,16 @@
+-- What the calls of `clock` make is one step of it.
+use Rattle.std.proofs.Common.{◌≡◌, nat_lt, false, refl, subst, arith}
+use Rattle.std.proofs.lemmas.Bool.Decides.{nat_tests}
+use Rattle.tc_desk.specs.Machine.{PutsDown}
+use Rattle.tc_desk.proofs.BoardingLemmas.{went_on}
+use Rattle.tc_desk.proofs.parts.Parts.clock.Goals as goal
+
+pub returns-clause-answers : goal.returns-clause-answers
+returns-clause-answers g c =
+    rw (← c.self.view_is) (
+      let on_time : nat_lt c.args.time c.self.inside.board.time ≡ false = grind (arith, nat_tests, c.get.ensures.value, c.get-2.ensures.value, c.now.ensures, c.if-get.false) in rw on_time refl,
+      went_on g.U.Carrier.kind g.D.Carrier.kind c.args.stamp c.args.time _ _ c.reserve.new.self c.none.result c.in_ok-reports.reports.items
+          c.in_ok-reserve.ensures.same c.in_ok-reports.ensures.reports
+          (subst (λ items. PutsDown g.U.Carrier.kind g.D.Carrier.kind items c.reserve.new.self c.put_all.new.world) c.deref.ensures.value c.put_all.ensures)
+          c.in_ok-reports.ensures.after c.none.ensures refl c.in_ok-draft.ensures.book,
+    )

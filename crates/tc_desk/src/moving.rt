@@ -1,0 +1,106 @@
+//! Moves that are made only where they may be: what the link tells, and what follows from it.
+ghost use Rattle.std.specs.Prelude.{◌≡◌, ◌+◌, ◌<◌, ◌≤◌, [], ◌∷◌, Option, true, length};
+ghost use Rattle.tc_types.specs.declared.places.Place.{Place};
+ghost use Rattle.tc_types.specs.declared.places.Place.TheVariants.{Riding};
+ghost use Rattle.tc_types.specs.Lawful.{is_among, is_lawful};
+ghost use Rattle.tc_desk.specs.Effects.{tried, followed, tried_with, reported};
+
+use crate::commands::activity_at;
+use std::alloc::Allocator;
+use tc_book::records::Records;
+use tc_book::stamps::Stamp;
+use tc_types::causes::Cause;
+use tc_types::lawful::is_lawful;
+use tc_types::numbers::RequestNumber;
+use tc_types::places::Place;
+
+/// Moves request `n`, if it stands at one of these places.
+pub(crate) fn try_move<A: Allocator + Copy + Drop>(
+    records: &mut Records<A>,
+    stamp: &Stamp,
+    n: u32,
+    places: &[Place],
+    to: Place,
+    cause: Cause,
+)
+    requires room { length records.old.book.history < records.old.most_rows }
+    requires lawful { (at : Option Place) → is_among places.now at ≡ true → is_lawful at to cause ≡ true }
+    ensures book { records.new.book ≡ tried stamp.now records.old.book n places.now to cause }
+    ensures rows_kept { records.old.most_rows ≤ records.new.most_rows }
+    ensures rows { length records.new.book.history ≤ length records.old.book.history + 1 }
+    ensures requests { records.new.book.requests ≡ records.old.book.requests }
+    ensures approvals { records.new.book.approvals ≡ records.old.book.approvals }
+{
+    let Some(request) = records.number_of(n) else {
+        return;
+    };
+    if records.stands(n, places) {
+        records.record(*stamp, request, to, cause);
+    }
+}
+
+/// Moves an activity, where there is one, if it stands at one of these places.
+pub(crate) fn follow<A: Allocator + Copy + Drop>(
+    records: &mut Records<A>,
+    stamp: &Stamp,
+    activity: Option<u32>,
+    places: &[Place],
+    to: Place,
+    cause: Cause,
+)
+    requires room { length records.old.book.history < records.old.most_rows }
+    requires lawful { (at : Option Place) → is_among places.now at ≡ true → is_lawful at to cause ≡ true }
+    ensures book { records.new.book ≡ followed stamp.now records.old.book activity places.now to cause }
+    ensures rows_kept { records.old.most_rows ≤ records.new.most_rows }
+    ensures rows { length records.new.book.history ≤ length records.old.book.history + 1 }
+    ensures requests { records.new.book.requests ≡ records.old.book.requests }
+    ensures approvals { records.new.book.approvals ≡ records.old.book.approvals }
+{
+    if let Some(n) = activity {
+        try_move(records, stamp, n, places, to, cause);
+    }
+}
+
+/// Moves a request, if it stands at one of these places; and its activity, if it rides with it.
+pub(crate) fn try_move_with<A: Allocator + Copy + Drop>(
+    records: &mut Records<A>,
+    stamp: &Stamp,
+    request: RequestNumber,
+    places: &[Place],
+    to: Place,
+    cause: Cause,
+)
+    requires room { length records.old.book.history + 1 < records.old.most_rows }
+    requires lawful { (at : Option Place) → is_among places.now at ≡ true → is_lawful at to cause ≡ true }
+    requires rides { (at : Option Place) → is_among (Riding ∷ []) at ≡ true → is_lawful at to cause ≡ true }
+    ensures book { records.new.book ≡ tried_with stamp.now records.old.book request places.now to cause }
+    ensures rows_kept { records.old.most_rows ≤ records.new.most_rows }
+    ensures rows { length records.new.book.history ≤ length records.old.book.history + 2 }
+    ensures requests { records.new.book.requests ≡ records.old.book.requests }
+    ensures approvals { records.new.book.approvals ≡ records.old.book.approvals }
+{
+    if records.stands(request.get(), places) {
+        let activity = activity_at(records, request.get());
+        records.record(*stamp, request, to, cause);
+        follow(records, stamp, activity, &[Place::Riding], to, cause);
+    }
+}
+
+/// Moves the request of a report to the place that the report asks for, if that is lawful.
+pub(crate) fn report<A: Allocator + Copy + Drop>(
+    records: &mut Records<A>,
+    stamp: &Stamp,
+    request: RequestNumber,
+    to: Place,
+)
+    requires room { length records.old.book.history < records.old.most_rows }
+    ensures book { records.new.book ≡ reported stamp.now records.old.book request to }
+    ensures rows_kept { records.old.most_rows ≤ records.new.most_rows }
+    ensures rows { length records.new.book.history ≤ length records.old.book.history + 1 }
+    ensures requests { records.new.book.requests ≡ records.old.book.requests }
+    ensures approvals { records.new.book.approvals ≡ records.old.book.approvals }
+{
+    if is_lawful(records.place_of(request.get()), to, Cause::Report) {
+        records.record(*stamp, request, to, Cause::Report);
+    }
+}
