@@ -30,7 +30,7 @@ use Rattle.tc_desk.specs.declared.configs.Config.{Config}
 use Rattle.tc_desk.specs.declared.firsts.First.{First}
 use Rattle.tc_desk.specs.Acts.{is_question, refusal_of}
 use Rattle.tc_desk.specs.Machine.{Carries, DeskStep, Does, Refuses, Serves, StaysSame, rows_new}
-use Rattle.tc_desk.specs.Replies.{Reply, act_reply, history_lines, query_reply, refusal_reply, request_lines}
+use Rattle.tc_desk.specs.Replies.{Reply, act_reply, history_lines, Replies, refusal_reply, request_lines}
 use Rattle.tc_room.specs.Joined.{HasImage, IsJoined, IsKept}
 use Rattle.tc_room.specs.Answers.{IsUnread}
 use Rattle.tc_room.specs.Room.{FailsStore, IsNewDesk, ListState, RoomStep, Standing}
@@ -68,7 +68,7 @@ carried old new stamp given first said rows acts free does are = inl (by_kind gi
 
 -- a question that the tables answered
 pub answered : (desk : ListState) (stamp : Stamp) (asked : Query) (reply : Reply) → refusal_of stamp desk (act.Ask asked) ≡ None
-    → reply ≡ query_reply listed listed desk asked → DeskStep listed listed desk stamp (act.Ask asked) reply desk
+    → Replies listed listed desk asked reply → DeskStep listed listed desk stamp (act.Ask asked) reply desk
 answered desk stamp asked reply free same = inl (free, same, refl)
 
 -- a request that the desk found is told
@@ -81,7 +81,7 @@ request_told desk stamp n found request is unknown some = answered desk stamp (q
 
 -- a question that is refused leaves all as it was
 pub stays : (desk : ListState) → StaysSame listed listed desk desk
-stays desk = record { book = refl; world = record { up = refl; down = refl; rest = refl }; board = refl }
+stays desk = record { book = refl; world = record { up = refl; down = refl; rest = refl }; board = refl; mirror = refl }
 
 -- a request that it did not find is unknown
 pub request_unknown : (desk : ListState) (stamp : Stamp) (n : ℕ) (found : Option Request) → is_none found ≡ is_unknown desk.book n → found ≡ None
