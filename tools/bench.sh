@@ -10,15 +10,15 @@
 # multiples of the user time of the bare store and of that of the C library in memory.
 #
 # Less is measured where these words are set: COUNTS, how many requests are entered; HALF, how many are entered and then
-# withdrawn; FLIGHTS, how many fly, each in six acts; STORE_ROWS, of how many moves questions are asked on the bare store;
-# ROOM_COUNTS, of how many requests that were entered and withdrawn in the room. No more than 4 can fly: so many the buffer on
-# board holds, and nothing is worked from it yet.
+# withdrawn; FLIGHTS, how many fly, each in seven acts; NIGHTS, how many nights of 60 activities pass; STORE_ROWS, of how many
+# moves questions are asked on the bare store; ROOM_COUNTS, of how many requests that were entered and withdrawn in the room.
 set -eu -o pipefail
 top=$(cd "$(dirname "$(readlink -f "$0")")/.." && pwd)
 runs=${1:-5}
 counts=${COUNTS:-1000 10000 30000 60000}
 half=${HALF:-20000}
-flights=${FLIGHTS:-4}
+flights=${FLIGHTS:-20000}
+nights=${NIGHTS:-100}
 store_rows=${STORE_ROWS:-1000 900000}
 room_counts=${ROOM_COUNTS:-500 65535}
 began="$(date -u +%F), $(nproc) cores, a load of $(cut -d ' ' -f 1 /proc/loadavg) before it began"
@@ -136,9 +136,11 @@ if (($(stat -c %s "$work/script") <= 1048576)); then
     timed "the same, a script" $((half * 2)) "places $half: 0 0 0 0 0 0 0 0 0 0 0 0 $half 0 0" "$program" run "$work/script"
 fi
 rows "the same, the bare store"
-timed "acts, flights of six, the room" $((flights * 6)) "$flights" "$bare" "$flights" room-flights
-timed "the same rows, the bare store" $((flights * 6)) "$flights" "$bare" "$flights" store-flights
+timed "acts, flights of seven, the room" $((flights * 7)) "$flights" "$bare" "$flights" room-flights
+timed "the same rows, the bare store" $((flights * 7)) "$flights" "$bare" "$flights" store-flights
 rows "the same rows, the bare store"
+timed "acts, nights of 721, the room" $((nights * 721)) $((nights * 120 + 1)) "$bare" "$nights" room-nights
+rows "none"
 
 echo
 echo '| Asked of | `places`, microseconds | `history`, microseconds | MB |'

@@ -85,6 +85,55 @@ request 1 5/0 8/1 ---c no - - ok ann Confirmed
 places 1: 0 0 0 0 1 0 0 0 0 0 0 0 0 0 0
 TEXT
 )$'\n'
+night=$(cat <<'TEXT'
+ok request 1 5/0
+move 1 100 ann 1 - Entered enter
+ok request 2 5/1
+move 2 100 ann 2 - Entered enter
+ok request 3 5/2
+move 3 100 ann 3 - Entered enter
+ok approvals 1 of 1
+move 4 110 bob 1 Entered Approved approve
+ok approvals 1 of 1
+move 5 120 bob 2 Entered Approved approve
+ok approvals 1 of 1
+move 6 130 bob 3 Entered Approved approve
+ok
+started
+ok
+move 7 150 ann 2 Approved Queued release
+move 8 150 ann 1 Approved Riding release
+move 9 150 ann 2 Queued Sent transmit
+ok accepted 2
+ok work 5/1
+ok tm 1,7 5/1 step 0 code 0
+move 10 180 ann 2 Sent Completed report
+move 11 180 ann 1 Riding Scheduled insert
+ok
+move 12 190 ann 3 Approved Queued release
+move 13 190 ann 3 Queued Sent transmit
+ok accepted 3
+ok work 5/2
+ok tm 1,7 5/2 step 0 code 0
+move 14 220 ann 3 Sent Completed report
+mirror enabled 1
+activity 5/0 600
+ok now 600
+ok tm 1,1 5/0 step 0 code 0
+move 15 250 ann 1 Scheduled Accepted report
+ok tm 1,7 5/0 step 0 code 0
+move 16 260 ann 1 Accepted Completed report
+mirror enabled 0
+history 1: 6
+move 1 100 ann 1 - Entered enter
+move 4 110 bob 1 Entered Approved approve
+move 8 150 ann 1 Approved Riding release
+move 11 180 ann 1 Riding Scheduled insert
+move 15 250 ann 1 Scheduled Accepted report
+move 16 260 ann 1 Accepted Completed report
+places 3: 0 0 0 0 0 0 0 0 0 3 0 0 0 0 0
+TEXT
+)$'\n'
 loss=$(cat <<'TEXT'
 ok request 1 5/0
 move 1 100 ann 1 - Entered enter
@@ -150,6 +199,7 @@ check "the first run" 0 "$first" "" run "$top/examples/first-run.tc"
 check "an approval" 0 "$approval" "" run "$top/examples/approval.tc"
 check "a first pass" 0 "$pass" "" run "$top/examples/first-pass.tc"
 check "a lost frame" 0 "$loss" "" run "$top/examples/lost-frame.tc"
+check "a night of the schedule" 0 "$night" "" run "$top/examples/night.tc"
 fop='fop S6 vs 0 nn 0 sent 0 wait 0 count 1 timer 0 k 10 t1 10 limit 3'
 link='link up 0 down 0 premise kept'
 word=$'ok\nok clcw 01'

@@ -1,6 +1,6 @@
 //! Acts in turn, and how many of them there were a second in the first tenth and in the last.
 use crate::clocks::a_second;
-use crate::subjects::{ACTS_OF_FLIGHT, Subject};
+use crate::subjects::{ACTS_OF_FLIGHT, ACTS_OF_NIGHT, Subject};
 use std::alloc::Global;
 use std::rt::Clock;
 use std::time::{Duration, Instant};
@@ -14,6 +14,8 @@ enum Acts {
     Withdraw { count: u32 },
     /// It flies.
     Fly,
+    /// It is a night, of which so many pass.
+    Spend,
 }
 
 /// How many acts that is with each request.
@@ -21,6 +23,7 @@ fn acts_each(acts: Acts) -> u32 {
     match acts {
         Acts::Enter | Acts::Withdraw { .. } => 1,
         Acts::Fly => ACTS_OF_FLIGHT,
+        Acts::Spend => ACTS_OF_NIGHT,
     }
 }
 
@@ -30,6 +33,7 @@ fn acts_on<S: Subject>(subject: &mut S, acts: Acts, place: u32) -> Option<()> {
         Acts::Enter => subject.enters(place),
         Acts::Withdraw { count } => subject.withdraws(place, count),
         Acts::Fly => subject.flies(place),
+        Acts::Spend => subject.spends(place),
     }
 }
 
@@ -103,4 +107,19 @@ pub fn flights_text<R: Clock, S: Subject>(
     let rates = rates_text(rt, alloc, subject, Acts::Fly, count)?;
     let [_, _, _, _, confirmed, ..] = subject.counted()?;
     format!(in alloc; "{rates}{confirmed}\n").ok()
+}
+
+/// The link is started and the schedule enabled, and so many nights pass. Tells the rates, and how many requests then stand at
+/// Completed.
+pub fn nights_text<R: Clock, S: Subject>(
+    rt: &R,
+    alloc: Global,
+    subject: &mut S,
+    count: u32,
+) -> Option<String> {
+    subject.starts()?;
+    subject.enables()?;
+    let rates = rates_text(rt, alloc, subject, Acts::Spend, count)?;
+    let [_, _, _, _, _, _, _, _, _, completed, ..] = subject.counted()?;
+    format!(in alloc; "{rates}{completed}\n").ok()
 }

@@ -8,7 +8,7 @@ use tc_types::requests::{Ack, Body, Command, Form, Identity, Outcome, Request};
 use tc_types::rows::{PlacedRequest, Row, Tally};
 
 /// How many application processes there are, in turn.
-const PROCESSES: u32 = 10;
+pub const PROCESSES: u32 = 10;
 
 /// Who enters.
 pub const AUTHOR: &[u8] = b"a";

@@ -15,7 +15,7 @@ mod stores;
 mod subjects;
 mod words;
 
-use crate::acts::{entries_text, flights_text, moves_text};
+use crate::acts::{entries_text, flights_text, moves_text, nights_text};
 use crate::reads::{filled, reads_text, requests_in};
 use crate::stores::history_text;
 use crate::subjects::Subject;
@@ -63,6 +63,7 @@ fn shown<R: Clock + AllocGlobal>(rt: &R, asked: Asked) -> Option<String> {
         Kind::Room => entries_of_room(rt, count),
         Kind::RoomMoves => moves_of_room(rt, count),
         Kind::RoomFlights => flights_of_room(rt, count),
+        Kind::RoomNights => nights_of_room(rt, count),
         Kind::RoomReads => reads_of_room(rt, count),
     }
 }
@@ -94,6 +95,12 @@ fn moves_of_room<R: Clock + AllocGlobal>(rt: &R, count: u32) -> Option<String> {
 fn flights_of_room<R: Clock + AllocGlobal>(rt: &R, count: u32) -> Option<String> {
     let mut room = Room::opened(rt.alloc())?;
     flights_text(rt, rt.alloc(), &mut room, count)
+}
+
+/// Nights of the on-board schedule in a room.
+fn nights_of_room<R: Clock + AllocGlobal>(rt: &R, count: u32) -> Option<String> {
+    let mut room = Room::opened(rt.alloc())?;
+    nights_text(rt, rt.alloc(), &mut room, count)
 }
 
 /// Questions in a room with so many moves.

@@ -1,6 +1,6 @@
 //! The room.
-use crate::entries::{AUTHOR, OTHER, form_of};
-use crate::subjects::Subject;
+use crate::entries::{AUTHOR, OTHER, PROCESSES, form_of};
+use crate::subjects::{ACTIVITIES, Subject};
 use std::alloc::Global;
 use tc_desk::configs::Config;
 use tc_room::rooms::Room;
@@ -8,14 +8,18 @@ use tc_types::acts::{Act, BookAct, LinkAct};
 use tc_types::directives::Directive;
 use tc_types::entries::Entry;
 use tc_types::names::Name;
-use tc_types::numbers::Moment;
+use tc_types::numbers::{Apid, Moment, Service, Subtype};
 use tc_types::places::PLACES;
+use tc_types::requests::{Ack, Command, Form, Outcome};
 
 /// How its desk is made.
 const CONFIG: Config = Config {
     window: 20,
     channel: 3,
 };
+
+/// How long a night is, in seconds.
+const NIGHT: u32 = 86_400;
 
 /// An act on the book.
 fn does(room: &mut Room, by: &[u8], act: BookAct) -> Option<()> {
@@ -31,6 +35,57 @@ fn asks(room: &mut Room, act: LinkAct) -> Option<()> {
         Ok(_) => Some(()),
         Err(_) => None,
     }
+}
+
+/// A plain request.
+fn plain() -> Option<Command> {
+    Some(Command::Plain {
+        service: Service::new(8)?,
+        subtype: Subtype::new(1)?,
+    })
+}
+
+/// A request of one of ten application processes in turn, which asks for its completion, and for its acceptance where that is
+/// said.
+fn commands(room: &mut Room, place: u32, command: Command, acceptance: bool) -> Option<()> {
+    let apid = Apid::new((place % PROCESSES) as u16)?;
+    let entry = Entry::new(Form {
+        apid,
+        ack: Ack {
+            acceptance,
+            start: false,
+            progress: false,
+            completion: true,
+        },
+        critical: false,
+        command,
+        outcome: Outcome::Completes,
+    })?;
+    does(room, AUTHOR, BookAct::Enter(entry))
+}
+
+/// A command of the schedule is approved, flies, is carried out and confirmed, and its completion is read.
+fn carries(room: &mut Room, request: u32) -> Option<()> {
+    does(room, OTHER, BookAct::Approve { request })?;
+    asks(room, LinkAct::Release { request })?;
+    asks(room, LinkAct::Up)?;
+    asks(room, LinkAct::Work)?;
+    asks(room, LinkAct::Clcw)?;
+    asks(room, LinkAct::Down)?;
+    asks(room, LinkAct::Down)
+}
+
+/// A request and, behind it, the insert of it for this time: both are entered and approved, and the insert is carried out.
+fn inserts(room: &mut Room, target: u32, time: Moment) -> Option<()> {
+    commands(room, target, plain()?, true)?;
+    commands(
+        room,
+        target,
+        Command::InsertActivity { target, time },
+        false,
+    )?;
+    does(room, OTHER, BookAct::Approve { request: target })?;
+    carries(room, target.checked_add(1)?)
 }
 
 impl Subject for Room {
@@ -59,7 +114,31 @@ impl Subject for Room {
         asks(self, LinkAct::Release { request })?;
         asks(self, LinkAct::Up)?;
         asks(self, LinkAct::Clcw)?;
-        asks(self, LinkAct::Down)
+        asks(self, LinkAct::Down)?;
+        asks(self, LinkAct::Work)
+    }
+
+    fn enables(&mut self) -> Option<()> {
+        commands(self, 0, Command::EnableSchedule, false)?;
+        carries(self, 1)
+    }
+
+    fn spends(&mut self, night: u32) -> Option<()> {
+        let due = Moment::new(night.checked_add(1)?.checked_mul(NIGHT)?)?;
+        for place in 0..ACTIVITIES {
+            let target = night
+                .checked_mul(ACTIVITIES)?
+                .checked_add(place)?
+                .checked_mul(2)?
+                .checked_add(2)?;
+            inserts(self, target, due)?;
+        }
+        asks(self, LinkAct::Clock { time: due })?;
+        for _ in 0..ACTIVITIES {
+            asks(self, LinkAct::Down)?;
+            asks(self, LinkAct::Down)?;
+        }
+        Some(())
     }
 
     fn counted(&mut self) -> Option<[u32; PLACES]> {

@@ -41,7 +41,16 @@ impl Subject for Tables<MemStore> {
         self.write(&[]).ok()?;
         self.write(&[]).ok()?;
         let confirmed: ConfirmationRows = flights::confirmation_rows(place)?;
-        self.write(&confirmed).ok()
+        self.write(&confirmed).ok()?;
+        self.write(&[]).ok()
+    }
+
+    fn enables(&mut self) -> Option<()> {
+        None
+    }
+
+    fn spends(&mut self, _night: u32) -> Option<()> {
+        None
     }
 
     fn counted(&mut self) -> Option<[u32; PLACES]> {

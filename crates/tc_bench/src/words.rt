@@ -20,6 +20,8 @@ pub enum Kind {
     StoreFlights,
     /// So many requests fly in the room.
     RoomFlights,
+    /// So many nights of the on-board schedule pass in the room.
+    RoomNights,
     /// Questions are asked of the bare store with so many moves.
     StoreReads,
     /// Questions are asked of the room where so many requests were entered and then withdrawn.
@@ -45,6 +47,7 @@ fn read_kind(word: &str) -> Option<Kind> {
         "room-moves" => Some(Kind::RoomMoves),
         "store-flights" => Some(Kind::StoreFlights),
         "room-flights" => Some(Kind::RoomFlights),
+        "room-nights" => Some(Kind::RoomNights),
         "store-reads" => Some(Kind::StoreReads),
         "room-reads" => Some(Kind::RoomReads),
         _ => None,
