@@ -153,12 +153,10 @@ agree_kept p q (x ∷ xs) all =
     ap (λ t. cond (not t) (x ∷ filter (λ a. not (p a)) xs) (filter (λ a. not (p a)) xs)) all.0
     ∙ ap (λ l. cond (not (q x)) (x ∷ l) l) (agree_kept p q xs all.1)
 
--- what falls due are activities as the desk inserts them
-due_all : (roll : Roll) (now : ℕ) (s : ScheduleState) (due : List Activity) → AllByRecursion (IsActivityOf roll) s.activities → FallDue now s due → AllByRecursion (IsActivityOf roll) due
-due_all roll now s due all falls =
-    recursion_from_All (IsActivityOf roll) due
-    (All-permutation (IsActivityOf roll) (filter (is_due now) s.activities) due falls.all
-    (All-from_recursion (IsActivityOf roll) (filter (is_due now) s.activities) (each_filtered (IsActivityOf roll) (is_due now) s.activities all)))
+-- what holds of each activity of a schedule holds of each that falls due
+pub due_each : (P : Activity → Type 0) (now : ℕ) (s : ScheduleState) (due : List Activity) → AllByRecursion P s.activities → FallDue now s due → AllByRecursion P due
+due_each P now s due all falls =
+    recursion_from_All P due (All-permutation P (filter (is_due now) s.activities) due falls.all (All-from_recursion P (filter (is_due now) s.activities) (each_filtered P (is_due now) s.activities all)))
 
 -- an activity of a schedule has the number of one that falls due exactly if it falls due itself
 due_tells : (roll : Roll) (now : ℕ) (s : ScheduleState) (due : List Activity) → AllByRecursion (IsActivityOf roll) s.activities → IsSchedule s.activities → FallDue now s due
@@ -173,7 +171,7 @@ pub clock_follows : (roll : Roll) (now : ℕ) (s : ScheduleState) (reports : Lis
     → read_all roll (mirror_of s) reports ≡ mirror_of (after_due now s)
 clock_follows roll now s reports all is makes =
     ap (read_all roll (mirror_of s)) makes.are
-    ∙ due_read roll s.enabled makes.due (mirror_of s) (due_all roll now s makes.due all makes.falls)
+    ∙ due_read roll s.enabled makes.due (mirror_of s) (due_each (IsActivityOf roll) now s makes.due all makes.falls)
     ∙ same_mirror s.enabled _ _
     (filter-listed (λ l. not (is_among makes.due l)) s.activities
     ∙ ap (map listed) (agree_kept (λ a. has_number a makes.due) (is_due now) s.activities (due_tells roll now s makes.due all is makes.falls)))

@@ -2,9 +2,11 @@ mod DueLemmas
 mod FollowLemmas
 mod LoopLemmas
 mod MirrorLemmas
+pub mod NameLemmas
 mod PlaceLemmas
+pub mod RollLemmas
 mod SortLemmas
 mod SoundLemmas
 mod StepLemmas
-mod SummaryLemmas
+pub mod SummaryLemmas
 mod WorkedCases

@@ -166,25 +166,23 @@ command_sound now Summarize s is passes = is
 shifted_named : (roll : Roll) (offset : ℤ) (a : Activity) → IsActivityOf roll a → IsActivityOf roll (shifted offset a)
 shifted_named roll offset a is = record { rides = is.rides; named = is.named; plain = is.plain; acknowledged = is.acknowledged }
 
--- a command leaves activities as the desk inserts them
-command_named : (roll : Roll) (command : ScheduleCommand) (s : ScheduleState) → AllByRecursion (IsActivityOf roll) (inserted (Some command)) → AllByRecursion (IsActivityOf roll) s.activities
-    → AllByRecursion (IsActivityOf roll) (commanded command s).activities
-command_named roll Enable s new all = all
-command_named roll Disable s new all = all
-command_named roll Reset s new all = tt
-command_named roll (Insert a) s new all = each_appended (IsActivityOf roll) s.activities a all new.0
-command_named roll (Delete target) s new all = each_filtered (IsActivityOf roll) (λ a. not (is_of target a)) s.activities all
-command_named roll (Shift target offset) s new all =
-    each_mapped (IsActivityOf roll) (λ a. cond (is_of target a) (shifted offset a) a) s.activities
-    (each_weaker (IsActivityOf roll) (λ a. IsActivityOf roll (cond (is_of target a) (shifted offset a) a)) (λ a is. by_test a (is_of target a) is) s.activities all)
+-- a command keeps what holds of each activity, whatever its time
+pub command_each : (P : Activity → Type 0) → ((offset : ℤ) (a : Activity) → P a → P (shifted offset a)) → (command : ScheduleCommand) (s : ScheduleState) → AllByRecursion P (inserted (Some command)) → AllByRecursion P s.activities
+    → AllByRecursion P (commanded command s).activities
+command_each P later Enable s new all = all
+command_each P later Disable s new all = all
+command_each P later Reset s new all = tt
+command_each P later (Insert a) s new all = each_appended P s.activities a all new.0
+command_each P later (Delete target) s new all = each_filtered P (λ a. not (is_of target a)) s.activities all
+command_each P later (Shift target offset) s new all =
+    each_mapped P (λ a. cond (is_of target a) (shifted offset a) a) s.activities
+    (each_weaker P (λ a. P (cond (is_of target a) (shifted offset a) a)) (λ a is. by_test a (is_of target a) is) s.activities all)
   where
-    by_test : (a : Activity) (t : Bool) → IsActivityOf roll a → IsActivityOf roll (cond t (shifted offset a) a)
-    by_test a true is = shifted_named roll offset a is
+    by_test : (a : Activity) (t : Bool) → P a → P (cond t (shifted offset a) a)
+    by_test a true is = later offset a is
     by_test a false is = is
-command_named roll (ShiftAll offset) s new all =
-    each_mapped (IsActivityOf roll) (shifted offset) s.activities
-    (each_weaker (IsActivityOf roll) (λ a. IsActivityOf roll (shifted offset a)) (shifted_named roll offset) s.activities all)
-command_named roll Summarize s new all = all
+command_each P later (ShiftAll offset) s new all = each_mapped P (shifted offset) s.activities (each_weaker P (λ a. P (shifted offset a)) (later offset) s.activities all)
+command_each P later Summarize s new all = all
 
 -- ---- the spacecraft
 
@@ -197,7 +195,7 @@ task_sound roll now (Schedule command) s new all is = by_failure (failure_of now
     by_failure : (failure : Option Fault) → failure_of now command s ≡ failure
         → AllByRecursion (IsActivityOf roll) (after_command failure command s).activities × IsSchedule (after_command failure command s).activities
     by_failure (Some fault) e = (all, is)
-    by_failure None e = (command_named roll command s new all, command_sound now command s is e)
+    by_failure None e = (command_each (IsActivityOf roll) (shifted_named roll) command s new all, command_sound now command s is e)
 
 -- a new spacecraft
 pub new_sound : (roll : Roll) (time : ℕ) → IsBoardOf roll (new_board time)

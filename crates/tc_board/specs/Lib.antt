@@ -3,3 +3,4 @@ pub mod Reports
 pub mod Board
 pub mod Mirror
 pub mod Follows
+pub mod Names

@@ -1,7 +1,7 @@
 -- The tie between book and link is kept by what the book hears.
-use Rattle.std.proofs.Common.{◌≡◌, ℕ, ◌+◌, ◌≤◌, ◌==◌, Bool, true, false, if◌then◌else◌, Option, Some, None, List, [], ◌∷◌, ◌++◌, length, fold, refl, sym, ◌∙◌, ap, subst, append_assoc, append-nil, arith}
+use Rattle.std.proofs.Common.{◌≡◌, ℕ, ◌+◌, ◌≤◌, ◌==◌, Bool, true, false, if◌then◌else◌, Option, Some, None, List, [], ◌∷◌, ◌++◌, length, fold, refl, sym, ◌∙◌, ap, subst, append-nil, arith}
 use Rattle.std.proofs.lemmas.Bool.Decides.{nat_tests}
-use Rattle.std.specs.List.{flat_map, list_any}
+use Rattle.std.specs.List.{list_any}
 use Rattle.tc_types.specs.declared.places.Place.{Place}
 use Rattle.tc_types.specs.declared.places.Place.TheVariants as place
 use Rattle.tc_types.specs.declared.causes.Cause.{Cause}
@@ -26,8 +26,8 @@ use Rattle.tc_book.specs.Places.{numbers_from}
 use Rattle.tc_book.proofs.HistoryLemmas.{place_of-snoc}
 use Rattle.tc_board.specs.Mirror.{MirrorState, is_listed_of}
 use Rattle.tc_desk.specs.Commands.{activity_at}
-use Rattle.tc_desk.specs.Effects.{tried, followed, tried_with, reported, is_completed, is_failed, inserted, deleted, removed, emptied, besides, besides_at, heard_all}
-use Rattle.tc_desk.specs.Tied.{gone_places, StandsAt, AreTied}
+use Rattle.tc_desk.specs.Effects.{tried, followed, tried_with, reported, is_completed, is_failed, inserted, deleted, removed, emptied, besides, besides_at, heard}
+use Rattle.tc_desk.specs.Places.{gone_places, StandsAt}
 
 -- ---- lists of requests
 
@@ -35,12 +35,12 @@ pub each_map : (P Q : ℕ → Type 0) (xs : List ℕ) → ((n : ℕ) → P n →
 each_map P Q [] f all = tt
 each_map P Q (x ∷ xs) f all = (f x all.0, each_map P Q xs f all.1)
 
-each_behind : (P : ℕ → Type 0) (xs ys : List ℕ) → Each P xs → Each P ys → Each P (xs ++ ys)
+pub each_behind : (P : ℕ → Type 0) (xs ys : List ℕ) → Each P xs → Each P ys → Each P (xs ++ ys)
 each_behind P [] ys all more = more
 each_behind P (x ∷ xs) ys all more = (all.0, each_behind P xs ys all.1 more)
 
 -- no request waits behind one
-nothing_behind : (n : ℕ) (xs ys : List ℕ) → length xs ≤ 1 → xs ≡ n ∷ ys → ys ≡ []
+pub nothing_behind : (n : ℕ) (xs ys : List ℕ) → length xs ≤ 1 → xs ≡ n ∷ ys → ys ≡ []
 nothing_behind n xs [] few e = refl
 nothing_behind n xs (y ∷ ys) few e = let long : length xs ≡ length ys + 2 = ap length e ∙ omega arith in absurd (omega (arith, long, few))
 
@@ -53,7 +53,7 @@ Gone book ns = Each (StandsAt gone_places book) ns
 -- ---- moves
 
 -- where a request stands after a move
-place_moved : (stamp : Stamp) (book : Book) (n : ℕ) (to : Place) (c : Cause) (m : ℕ)
+pub place_moved : (stamp : Stamp) (book : Book) (n : ℕ) (to : Place) (c : Cause) (m : ℕ)
     → place_in (moved stamp book (want n to c)) m ≡ (if n == m then Some to else place_in book m)
 place_moved stamp book n to c m = place_of-snoc book.history (row_of stamp book.history (want n to c)) m
 
@@ -87,7 +87,7 @@ tried_keeps stamp book n q to c good m may stands = by_test (is_among (q ∷ [])
     by_test true e = moved_keeps stamp book n to c good m (λ s. may (sym (only q good (place_in book n) e) ∙ s)) stands
     by_test false e = stands
 
-tried_there : (stamp : Stamp) (book : Book) (n : ℕ) (q to : Place) (c : Cause) (good : List Place) → is_one_of good to ≡ true → StandsAt (q ∷ []) book n → StandsAt good (tried stamp book n (q ∷ []) to c) n
+pub tried_there : (stamp : Stamp) (book : Book) (n : ℕ) (q to : Place) (c : Cause) (good : List Place) → is_one_of good to ≡ true → StandsAt (q ∷ []) book n → StandsAt good (tried stamp book n (q ∷ []) to c) n
 tried_there stamp book n q to c good h stands =
     subst (λ t. StandsAt good (if t then moved stamp book (want n to c) else book) n) (sym stands) (moved_there stamp book n to c good h)
 
@@ -263,39 +263,48 @@ given_back_kept stamp book n m h = by_test (stands book n (place.Queued ∷ []))
 
 -- ---- what the book hears
 
--- what the book hears keeps the tie
-pub heard_tied : (stamp : Stamp) (mirror : MirrorState) (all : List Indication) (book : Book) (waits rest sent : List ℕ)
-    → waits ≡ flat_map leaves_said all ++ rest → length waits ≤ 1 → Waits book waits → Gone book sent
-    → AreTied (heard_all stamp mirror all book) rest (sent ++ flat_map sent_said all)
-heard_tied stamp mirror [] book waits rest sent e few w g = record { waits = subst (Waits book) e w; sent = subst (Gone book) (sym (append-nil sent)) g }
-heard_tied stamp mirror (said.Farm v ∷ all) book waits rest sent e few w g = heard_tied stamp mirror all book waits rest sent e few w g
-heard_tied stamp mirror (said.Lost ∷ all) book waits rest sent e few w g = heard_tied stamp mirror all book waits rest sent e few w g
-heard_tied stamp mirror (said.Received (report.Word word) ∷ all) book waits rest sent e few w g = heard_tied stamp mirror all book waits rest sent e few w g
-heard_tied stamp mirror (said.Received (report.Telemetry (telemetry.Summary summary)) ∷ all) book waits rest sent e few w g = heard_tied stamp mirror all book waits rest sent e few w g
-heard_tied stamp mirror (said.Received (report.Telemetry (telemetry.Verification v n identity)) ∷ all) book waits rest sent e few w g =
-    let kept = told_kept stamp mirror book n v in
-    heard_tied stamp mirror all (besides_at stamp mirror v (request_at book n) (reported stamp book n (stage_of_verification v))) waits rest sent e few
-    (each_map _ _ waits kept.waits w) (each_map _ _ sent kept.sent g)
-heard_tied stamp mirror (said.Fop (signal.Alert kind) ∷ all) book waits rest sent e few w g = heard_tied stamp mirror all book waits rest sent e few w g
-heard_tied stamp mirror (said.Fop signal.Started ∷ all) book waits rest sent e few w g = heard_tied stamp mirror all book waits rest sent e few w g
-heard_tied stamp mirror (said.Fop (signal.Confirmed n) ∷ all) book waits rest sent e few w g =
-    let after : Book = tried stamp book n (place.Sent ∷ []) place.Confirmed cause.Confirm in
-    heard_tied stamp mirror all after waits rest sent e few
-    (each_map _ _ waits (λ m. tried_keeps stamp book n place.Sent place.Confirmed cause.Confirm (place.Queued ∷ []) m (λ h. cc)) w)
-    (each_map _ _ sent (λ m. tried_keeps stamp book n place.Sent place.Confirmed cause.Confirm gone_places m (λ h. refl)) g)
-heard_tied stamp mirror (said.Fop (signal.InDoubt n) ∷ all) book waits rest sent e few w g =
-    let kept = doubted_kept stamp book n in
-    heard_tied stamp mirror all (tried_with stamp book n (place.Sent ∷ []) place.Doubtful cause.Doubt) waits rest sent e few
-    (each_map _ _ waits kept.waits w) (each_map _ _ sent kept.sent g)
-heard_tied stamp mirror (said.Fop (signal.GivenBack n) ∷ all) book waits rest sent e few w g =
-    let none : flat_map leaves_said all ++ rest ≡ [] = nothing_behind n waits (flat_map leaves_said all ++ rest) few e in
-    heard_tied stamp mirror all (tried_with stamp book n (place.Queued ∷ []) place.Approved cause.GiveBack) [] rest sent (sym none) (omega arith) tt
-    (each_map _ _ sent (given_back_kept stamp book n) g)
-heard_tied stamp mirror (said.Fop (signal.Sent n) ∷ all) book waits rest sent e few w g =
+abbrev pub BothTied : Book → List ℕ → List ℕ → Type 0
+BothTied book waits sent = Waits book waits × Gone book sent
+
+kept_both : (old new : Book) (waits sent : List ℕ) → BothKept old new → BothTied old waits sent → BothTied new waits (sent ++ [])
+kept_both old new waits sent kept tied =
+    (each_map _ _ waits kept.waits tied.0, subst (Gone new) (sym (append-nil sent)) (each_map _ _ sent kept.sent tied.1))
+
+-- who waits alone, and who was sent, after one that waited was sent
+sends_both : (stamp : Stamp) (book : Book) (n : ℕ) (sent : List ℕ) → BothTied book (n ∷ []) sent
+    → BothTied (tried stamp book n (place.Queued ∷ []) place.Sent cause.Transmit) [] (sent ++ n ∷ [])
+sends_both stamp book n sent tied =
     let after : Book = tried stamp book n (place.Queued ∷ []) place.Sent cause.Transmit in
-    let none : flat_map leaves_said all ++ rest ≡ [] = nothing_behind n waits (flat_map leaves_said all ++ rest) few e in
-    let at_queued : StandsAt (place.Queued ∷ []) book n = (subst (Waits book) e w).0 in
-    let still : Gone after sent = each_map _ _ sent (λ m. tried_keeps stamp book n place.Queued place.Sent cause.Transmit gone_places m (λ h. refl)) g in
-    let fresh : Gone after (n ∷ []) = (tried_there stamp book n place.Queued place.Sent cause.Transmit gone_places refl at_queued, tt) in
-    let tied = heard_tied stamp mirror all after [] rest (sent ++ n ∷ []) (sym none) (omega arith) tt (each_behind (StandsAt gone_places after) sent (n ∷ []) still fresh) in
-    record { waits = tied.waits; sent = subst (Gone (heard_all stamp mirror all after)) (append_assoc sent (n ∷ []) (flat_map sent_said all)) tied.sent }
+    let still : Gone after sent = each_map _ _ sent (λ m. tried_keeps stamp book n place.Queued place.Sent cause.Transmit gone_places m (λ h. refl)) tied.1 in
+    let fresh : Gone after (n ∷ []) = (tried_there stamp book n place.Queued place.Sent cause.Transmit gone_places refl tied.0.0, tt) in
+    (tt, each_behind (StandsAt gone_places after) sent (n ∷ []) still fresh)
+
+confirms_both : (stamp : Stamp) (book : Book) (n : ℕ) → BothKept book (tried stamp book n (place.Sent ∷ []) place.Confirmed cause.Confirm)
+confirms_both stamp book n = record {
+  waits = λ m. tried_keeps stamp book n place.Sent place.Confirmed cause.Confirm (place.Queued ∷ []) m (λ h. cc);
+  sent = λ m. tried_keeps stamp book n place.Sent place.Confirmed cause.Confirm gone_places m (λ h. refl);
+}
+
+-- one indication: who waits and who was sent
+pub hears_both : (stamp : Stamp) (mirror : MirrorState) (i : Indication) (book : Book) (waits sent : List ℕ) → length (leaves_said i ++ waits) ≤ 1
+    → BothTied book (leaves_said i ++ waits) sent → BothTied (heard stamp mirror book i) waits (sent ++ sent_said i)
+hears_both stamp mirror (said.Farm v) book waits sent few tied = kept_both book book waits sent (same_kept book) tied
+hears_both stamp mirror said.Lost book waits sent few tied = kept_both book book waits sent (same_kept book) tied
+hears_both stamp mirror (said.Received (report.Word word)) book waits sent few tied = kept_both book book waits sent (same_kept book) tied
+hears_both stamp mirror (said.Received (report.Telemetry (telemetry.Summary summary))) book waits sent few tied = kept_both book book waits sent (same_kept book) tied
+hears_both stamp mirror (said.Received (report.Telemetry (telemetry.Verification v n identity))) book waits sent few tied =
+    kept_both book (besides_at stamp mirror v (request_at book n) (reported stamp book n (stage_of_verification v))) waits sent (told_kept stamp mirror book n v) tied
+hears_both stamp mirror (said.Fop (signal.Alert kind)) book waits sent few tied = kept_both book book waits sent (same_kept book) tied
+hears_both stamp mirror (said.Fop signal.Started) book waits sent few tied = kept_both book book waits sent (same_kept book) tied
+hears_both stamp mirror (said.Fop (signal.Confirmed n)) book waits sent few tied =
+    kept_both book (tried stamp book n (place.Sent ∷ []) place.Confirmed cause.Confirm) waits sent (confirms_both stamp book n) tied
+hears_both stamp mirror (said.Fop (signal.InDoubt n)) book waits sent few tied =
+    kept_both book (tried_with stamp book n (place.Sent ∷ []) place.Doubtful cause.Doubt) waits sent (doubted_kept stamp book n) tied
+hears_both stamp mirror (said.Fop (signal.GivenBack n)) book waits sent few tied =
+    let after : Book = tried_with stamp book n (place.Queued ∷ []) place.Approved cause.GiveBack in
+    let none : waits ≡ [] = nothing_behind n (n ∷ waits) waits few refl in
+    (subst (Waits after) (sym none) tt, subst (Gone after) (sym (append-nil sent)) (each_map _ _ sent (given_back_kept stamp book n) tied.1))
+hears_both stamp mirror (said.Fop (signal.Sent n)) book waits sent few tied =
+    let none : waits ≡ [] = nothing_behind n (n ∷ waits) waits few refl in
+    let alone : BothTied book (n ∷ []) sent = subst (λ l. BothTied book (n ∷ l) sent) none tied in
+    subst (λ l. BothTied (tried stamp book n (place.Queued ∷ []) place.Sent cause.Transmit) l (sent ++ n ∷ [])) (sym none) (sends_both stamp book n sent alone)

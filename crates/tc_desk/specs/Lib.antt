@@ -6,5 +6,12 @@ pub mod Acts
 pub mod StatusLines
 pub mod Replies
 pub mod Machine
+pub mod Downlink
 pub mod Parts
+pub mod Places
+pub mod Riders
+pub mod Rows
 pub mod Tied
+pub mod Headline
+pub mod Followed
+pub mod Standing

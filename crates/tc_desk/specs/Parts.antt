@@ -1,21 +1,26 @@
 -- What the parts of the desk answer: as the desk does, but that the link may still refuse what no test refuses. What ties the
 -- parts rules that out.
-use Rattle.std.specs.Prelude.{◌≡◌, ◌⊎◌, Option, Some, None, Ok, Err, Result, List}
+use Rattle.std.specs.Prelude.{◌≡◌, ◌⊎◌, ℕ, ◌+◌, ◌==◌, Bool, Option, Some, None, Ok, Err, Result, List, length}
 use Rattle.tc_types.specs.declared.frames.Frame.{Frame}
 use Rattle.tc_types.specs.declared.refusals.Refusal.{Refusal}
 use Rattle.tc_types.specs.declared.refusals.Refusal.TheVariants.{Memory}
 use Rattle.tc_types.specs.declared.reports.Report.{Report}
+use Rattle.tc_types.specs.declared.reports.Telemetry.{Telemetry}
+use Rattle.tc_types.specs.declared.acts.LinkAct.{LinkAct}
+use Rattle.tc_types.specs.declared.acts.LinkAct.TheVariants as link_act
 use Rattle.tc_types.specs.declared.acts.Act.{Act}
 use Rattle.tc_types.specs.declared.acts.Act.TheVariants as act
 use Rattle.tc_world.specs.declared.events.Event.{Event}
 use Rattle.tc_world.specs.declared.events.Indication.{Indication}
 use Rattle.tc_world.specs.Links.{Kind}
 use Rattle.tc_world.specs.World.{Whole, IsAsBefore, refusal_of as link_refusal_of}
+use Rattle.tc_board.specs.Board.{work_reports, ClockReports}
 use Rattle.tc_book.specs.declared.stamps.Stamp.{Stamp}
 use Rattle.tc_desk.specs.declared.firsts.First.{First}
 use Rattle.tc_desk.specs.State.{State}
-use Rattle.tc_desk.specs.Asks.{event_of}
+use Rattle.tc_desk.specs.Asks.{event_of, taken_in, reports_after}
 use Rattle.tc_desk.specs.Acts.{refusal_of}
+use Rattle.tc_desk.specs.Downlink.{came_down}
 use Rattle.tc_desk.specs.Machine.{Happened, Does, StaysSame}
 
 -- the event that an act is to the link, if it is one
@@ -44,3 +49,28 @@ pub record IsRefused {U D : Type 0} (up : Kind U Frame) (down : Kind D Report) (
 abbrev pub Responds : {X U D : Type 0} → Kind U Frame → Kind D Report → (X → List Indication) → (X → First) → State U D → Stamp → Act → State U D → Result X Refusal → Type 0
 Responds up down all first old stamp given new (Ok done) = (refusal_of stamp old given ≡ None) × Does up down stamp given old new (all done) (first done)
 Responds up down all first old stamp given new (Err refused) = IsRefused up down stamp given old new refused
+
+-- how many items an act on the link puts on the downlink
+abbrev pub IsPutCount : {U D : Type 0} → State U D → LinkAct → List Indication → ℕ → Type 0
+IsPutCount at (link_act.Release n) all count = count ≡ 0
+IsPutCount at (link_act.Direct given) all count = count ≡ 0
+IsPutCount at link_act.Tick all count = count ≡ 0
+IsPutCount at link_act.Up all count = count ≡ length (reports_after (taken_in all))
+IsPutCount at (link_act.LoseUp place) all count = count ≡ 0
+IsPutCount at (link_act.LoseDown place) all count = count ≡ 0
+IsPutCount at link_act.Clcw all count = count ≡ 1
+IsPutCount at link_act.Down all count = count ≡ 0
+IsPutCount at link_act.Work all count = count ≡ length (work_reports at.board at.board.buffer)
+IsPutCount at (link_act.Clock time) all count = (reports : List Telemetry) → ClockReports time at.board.schedule reports → count ≡ length reports
+
+-- how many any act does
+abbrev pub IsCounted : {U D : Type 0} → State U D → Act → List Indication → ℕ → Type 0
+IsCounted at (act.Book given) all count = count ≡ 0
+IsCounted at (act.Link given) all count = IsPutCount at given all count
+IsCounted at (act.Ask asked) all count = Unit {0}
+
+-- whether as much came down and flies down now as flew there and was put
+pub record IsEven {U D : Type 0} (down : Kind D Report) (old : State U D) (given : Act) (new : State U D) (all : List Indication) (kept : Bool) : Type 0 where
+  pub put : ℕ
+  pub counted : IsCounted old given all put
+  pub even : kept ≡ (length (down.content old.world.down) + put == length (came_down all) + length (down.content new.world.down))

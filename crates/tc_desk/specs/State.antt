@@ -1,5 +1,5 @@
 -- What a desk is made of: its book, its link, the rehearsal spacecraft, and the mirror of its schedule.
-use Rattle.std.specs.Prelude.{◌≤◌, true, []}
+use Rattle.std.specs.Prelude.{ℕ, ◌≤◌, Bool, true, []}
 use Rattle.tc_farm.specs.Farm.{IsWindowWidth, new_farm}
 use Rattle.tc_fop.specs.Calls.{new_machine}
 use Rattle.tc_world.specs.Logs.{blank}
@@ -36,3 +36,14 @@ new_world config up down = record {
 -- a desk where nothing happened yet: the spacecraft's time is 0
 abbrev pub new_desk : {U D : Type 0} → Config → U → D → State U D
 new_desk config up down = record { book = empty_book; world = new_world config up down; board = new_board 0; mirror = no_mirror }
+
+-- A desk: what it is made of; how many rows of the history stood once it was made; and whether all that was put on the downlink
+-- since was read, or flies.
+pub record DeskState (U D : Type 0) : Type 0 where
+  pub parts : State U D
+  pub opened : ℕ
+  pub whole : Bool
+
+-- a desk where nothing happened yet, just made
+abbrev pub made_desk : {U D : Type 0} → Config → U → D → DeskState U D
+made_desk config up down = record { parts = new_desk config up down; opened = 0; whole = true }

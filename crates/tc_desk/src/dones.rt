@@ -17,3 +17,12 @@ pub struct Done<A: Allocator + Copy + Drop> {
     /// The rows of the tables that it made.
     pub batch: Vec<Row, A>,
 }
+
+/// What it made, and whether nothing of the downlink was lost.
+#[derive(Drop)]
+pub(crate) struct Acted<A: Allocator + Copy + Drop> {
+    /// What it made.
+    pub(crate) done: Done<A>,
+    /// Whether as much came down and flies down now as flew there before and was put.
+    pub(crate) kept: bool,
+}

@@ -37,6 +37,8 @@ pub(crate) struct Flight<A: Allocator + Copy + Drop> {
     pub(crate) first: First,
     /// What the link told.
     pub(crate) said: Indications<A>,
+    /// How many items it put on the downlink.
+    pub(crate) put: usize,
     /// Room for the moves and the batch.
     pub(crate) draft: Draft<A>,
 }
@@ -54,6 +56,7 @@ fn fly<U: Carrier<Frame> + Drop, D: Carrier<Report> + Drop, A: Allocator + Copy 
     ensures still { may_move event ≡ false → IfOk result (λ flight. list_any tells_move flight.said ≡ false) }
     ensures book { records.new.book ≡ records.old.book }
     ensures plain { IfOk result (λ flight. flight.first ≡ plain) }
+    ensures put { IfOk result (λ flight. flight.put ≡ 0) }
     ensures kept_room { puts_down event ≡ false → D.covered world.old.down ≤ D.covered world.new.down }
     ensures most { IfOk result (λ flight. length flight.said ≤ 258) }
     ensures room { OnOk result (length records.new.book.history + rows < 2 ^ 32 → length records.new.book.history + rows ≤ records.new.most_rows) }
@@ -65,6 +68,7 @@ fn fly<U: Carrier<Frame> + Drop, D: Carrier<Report> + Drop, A: Allocator + Copy 
     Ok(Flight {
         first: PLAIN,
         said,
+        put: 0,
         draft,
     })
 }
@@ -84,6 +88,7 @@ pub(crate) fn ask<U: Carrier<Frame> + Drop, D: Carrier<Report> + Drop, A: Alloca
     ensures alone { IfOk result (λ flight. ComesAlone flight.said) }
     ensures no_report { brings_down event ≡ false → IfOk result (λ flight. list_any tells_report flight.said ≡ false) }
     ensures plain { IfOk result (λ flight. flight.first ≡ plain) }
+    ensures put { IfOk result (λ flight. flight.put ≡ 0) }
     ensures most { IfOk result (λ flight. length flight.said ≤ 258) }
     ensures room { OnOk result (length records.new.book.history + rows ≤ records.new.most_rows) }
     ensures moves { IfOk result (λ flight. HasRoomFor rows flight.draft.moves) }
@@ -106,6 +111,7 @@ pub(crate) fn pass<U: Carrier<Frame> + Drop, D: Carrier<Report> + Drop, A: Alloc
     ensures heard { IfOk result (λ flight. (stamp : Stamp) (mirror : MirrorState) (book : Book) → heard_all stamp mirror flight.said book ≡ book) }
     ensures book { records.new.book ≡ records.old.book }
     ensures plain { IfOk result (λ flight. flight.first ≡ plain) }
+    ensures put { IfOk result (λ flight. flight.put ≡ 0) }
     ensures moves { IfOk result (λ flight. HasRoomFor 0 flight.draft.moves) }
     ensures batch { IfOk result (λ flight. HasRoomFor (batch_rows 0 0) flight.draft.batch) }
 {

@@ -13,6 +13,7 @@ mod downlinks;
 pub mod firsts;
 mod flights;
 mod hearing;
+pub mod laws;
 mod moving;
 mod parts;
 mod reporting;

@@ -1,5 +1,5 @@
-//! The parts of the desk: its book, its link and the rehearsal spacecraft, and the acts on them.
-ghost use Rattle.std.specs.Prelude.{◌≡◌, ◌⊎◌, false, IfErr, IfOk, OnOk, []};
+//! The parts of the desk: its book, its link, the rehearsal spacecraft and the mirror of its schedule, and the acts on them.
+ghost use Rattle.std.specs.Prelude.{◌≡◌, ◌⊎◌, ◌+◌, ◌==◌, true, false, length, IfErr, IfOk, OnOk, []};
 ghost use Rattle.tc_types.specs.declared.refusals.Refusal.TheVariants.{BadDirective, Memory};
 ghost use Rattle.tc_types.specs.declared.acts.Act.TheVariants as act;
 ghost use Rattle.tc_types.specs.Tables.{applied};
@@ -9,10 +9,12 @@ ghost use Rattle.tc_book.specs.Batch.{GoesOn, HoldsRoom};
 ghost use Rattle.tc_desk.specs.State.{IsConfig, new_desk};
 ghost use Rattle.tc_desk.specs.Acts.{is_question};
 ghost use Rattle.tc_desk.specs.Machine.{rows_new};
-ghost use Rattle.tc_desk.specs.Parts.{Responds};
+ghost use Rattle.tc_world.specs.Window.{IsClaimed};
+ghost use Rattle.tc_desk.specs.Downlink.{came_down};
+ghost use Rattle.tc_desk.specs.Parts.{IsCounted, IsEven, IsPutCount, Responds};
 
 use crate::configs::Config;
-use crate::dones::Done;
+use crate::dones::{Acted, Done};
 use crate::flights::Flight;
 use std::alloc::Allocator;
 use std::marker::Model;
@@ -29,6 +31,7 @@ use tc_types::numbers::Moment;
 use tc_types::refusals::Refusal;
 use tc_types::reports::Report;
 use tc_world::carriers::Carrier;
+use tc_world::events::Indication;
 use tc_world::worlds::World;
 
 /// K, the FOP sliding window width, as a desk is made.
@@ -55,6 +58,23 @@ pub(crate) struct Parts<
     pub(crate) world: World<U, D, A>,
     pub(crate) board: Board<A>,
     pub(crate) mirror: Mirror<A>,
+}
+
+/// How many items came down.
+fn count_down(said: &[Indication]) -> usize
+    ensures { result ≡ length (came_down said.now) }
+{
+    match said.first() {
+        Some(Indication::Received(_)) => 1,
+        None | Some(Indication::Fop(_) | Indication::Farm(_) | Indication::Lost) => 0,
+    }
+}
+
+/// Whether two counts are together as much as two others.
+fn is_even(before: usize, put: usize, came: usize, after: usize) -> bool
+    ensures { result ≡ (before + put == came + after) }
+{
+    before as u128 + put as u128 == came as u128 + after as u128
 }
 
 impl<U: Carrier<Frame> + Drop, D: Carrier<Report> + Drop, A: Allocator + Copy + Drop> Model
@@ -101,6 +121,7 @@ impl<U: Carrier<Frame> + Drop, D: Carrier<Report> + Drop, A: Allocator + Copy + 
     /// Carries an act on the link out.
     fn fly(&mut self, stamp: Stamp, given: LinkAct) -> Result<Flight<A>, Refusal>
         ensures answers { Responds U.kind D.kind (λ flight. flight.said) (λ flight. flight.first) self.old stamp (act.Link given) self.new result }
+        ensures put { IfOk result (λ flight. IsPutCount self.old given flight.said flight.put) }
         ensures room { IfOk result (λ flight. HoldsRoom self.old.book self.new.book flight.draft.moves flight.draft.batch) }
     {
         match given {
@@ -121,6 +142,7 @@ impl<U: Carrier<Frame> + Drop, D: Carrier<Report> + Drop, A: Allocator + Copy + 
     fn perform(&mut self, stamp: Stamp, act: Act) -> Result<Flight<A>, Refusal>
         requires { is_question act ≡ false }
         ensures answers { Responds U.kind D.kind (λ flight. flight.said) (λ flight. flight.first) self.old stamp act self.new result }
+        ensures put { IfOk result (λ flight. IsCounted self.old act flight.said flight.put) }
         ensures room { IfOk result (λ flight. HoldsRoom self.old.book self.new.book flight.draft.moves flight.draft.batch) }
         ensures goes_on { OnOk result (GoesOn self.old.book self.new.book) }
     {
@@ -135,22 +157,39 @@ impl<U: Carrier<Frame> + Drop, D: Carrier<Report> + Drop, A: Allocator + Copy + 
     }
 
     /// An act of a person at a moment: it is carried out, and its moves and its batch are filled in.
-    pub(crate) fn act(&mut self, stamp: Stamp, act: Act) -> Result<Done<A>, Refusal>
+    pub(crate) fn act(&mut self, stamp: Stamp, act: Act) -> Result<Acted<A>, Refusal>
         requires { is_question act ≡ false }
-        ensures answers { Responds U.kind D.kind (λ done. done.said) (λ done. done.first) self.old stamp act self.new result }
-        ensures moves { IfOk result (λ done. done.moves.items ≡ rows_new self.old self.new) }
-        ensures batch { IfOk result (λ done. applied done.batch.items (image_of self.old.book) ≡ image_of self.new.book) }
+        ensures answers { Responds U.kind D.kind (λ acted. acted.done.said) (λ acted. acted.done.first) self.old stamp act self.new result }
+        ensures kept { IfOk result (λ acted. IsEven D.kind self.old act self.new acted.done.said acted.kept) }
+        ensures moves { IfOk result (λ acted. acted.done.moves.items ≡ rows_new self.old self.new) }
+        ensures batch { IfOk result (λ acted. applied acted.done.batch.items (image_of self.old.book) ≡ image_of self.new.book) }
         ensures good_before { IsGoodBook self.old.book }
         ensures good { IsGoodBook self.new.book }
+        ensures claims { IfOk result (λ acted. self.new.world.clean ≡ true → IsClaimed self.new.world) }
     {
+        let before = self.world.down_len();
         let mark = self.records.mark();
-        let Flight { first, said, draft } = self.perform(stamp, act)?;
+        let Flight {
+            first,
+            said,
+            put,
+            draft,
+        } = self.perform(stamp, act)?;
         let Draft { moves, batch, .. } = self.records.fill(mark, draft);
-        Ok(Done {
+        let kept = is_even(
+            before,
+            put,
+            count_down(said.as_slice()),
+            self.world.down_len(),
+        );
+        let done = Done {
             first,
             said,
             moves,
             batch,
-        })
+        };
+        // read for the proof alone: what the link claims of its sessions
+        let _clean = self.world.clean();
+        Ok(Acted { done, kept })
     }
 }

@@ -1,5 +1,5 @@
 -- The steps of a room.
-use Rattle.std.proofs.Common.{◌≡◌, ◌∙◌, ◌⊎◌, inl, inr, ℕ, zero, suc, nat_lt, map, take, [], ◌∷◌, arith, Bool, true, false, Option, Some, None, Result, Ok, Err, List, refl, sym, ap, subst, length}
+use Rattle.std.proofs.Common.{◌≡◌, ◌∙◌, inl, inr, ℕ, zero, suc, nat_lt, map, take, [], ◌∷◌, arith, Bool, true, false, Option, Some, None, Result, Ok, Err, List, refl, sym, ap, subst, length}
 use Rattle.std.specs.Prelude.{◌≢◌, ◌≤◌, ◌↔◌, is_none}
 use Rattle.std.proofs.lemmas.List.{length-map, length-take}
 use Rattle.std.proofs.lemmas.Bool.Decides.{nat_tests}
@@ -33,7 +33,7 @@ use Rattle.tc_desk.specs.Machine.{Carries, DeskStep, Does, Refuses, Serves, Stay
 use Rattle.tc_desk.specs.Replies.{Reply, act_reply, history_lines, Replies, refusal_reply, request_lines}
 use Rattle.tc_room.specs.Joined.{HasImage, IsJoined, IsKept}
 use Rattle.tc_room.specs.Answers.{IsUnread}
-use Rattle.tc_room.specs.Room.{FailsStore, IsNewDesk, ListState, RoomStep, Standing}
+use Rattle.tc_room.specs.Room.{IsNewDesk, ListState, RoomStep, Standing}
 
 -- a room goes on: its flag, as its view told it
 pub goes_on : (inside view : Standing) (told : Bool) → inside ≡ view → told ≡ view.stopped → told ≡ false → inside.stopped ≡ false

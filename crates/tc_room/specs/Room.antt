@@ -1,5 +1,5 @@
 -- The room: a desk whose book stands in tables too, until the tables fail.
-use Rattle.std.specs.Prelude.{◌≡◌, ◌⊎◌, Bool, true, false, None, MatchBool, Result, Ok, Err, []}
+use Rattle.std.specs.Prelude.{◌≡◌, ◌⊎◌, ℕ, Bool, true, false, None, MatchBool, Result, Ok, Err, []}
 use Rattle.sqlite_trees.specs.declared.memory.MemStore.{MemStore}
 use Rattle.sqlite.specs.Held.{Held}
 use Rattle.tc_types.specs.declared.frames.Frame.{Frame}
@@ -28,12 +28,15 @@ IsNewDesk config desk = (up : InFlight Frame) × (down : InFlight Report) × (up
 -- where a room stands: its desk, its tables, and whether it has stopped
 pub record Standing : Type 0 where
   pub desk : State (InFlight Frame) (InFlight Report)
+  -- how many rows of the history stood once the desk was made
+  pub opened : ℕ
   pub tables : Held MemStore
   pub stopped : Bool
 
 -- a room that was just opened: nothing happened on its desk yet, and its tables hold nothing
 pub record IsJustOpened (config : Config) (room : Standing) : Type 0 where
   pub desk : IsNewDesk config room.desk
+  pub opened : room.opened ≡ 0
   pub tables : HasImage room.tables (image_of room.desk.book)
   pub going : room.stopped ≡ false
 

@@ -20,8 +20,9 @@ pub type ListDesk = Desk<ListCarrier<Frame, Global>, ListCarrier<Report, Global>
 /// Makes a desk where nothing happened yet. Fails with `Config` exactly where the window is not even and 2 to 254 or the
 /// channel is above 63; else with `Memory` where that is refused.
 pub fn make_desk(alloc: Global, config: Config) -> Result<ListDesk, OpenFault>
-    ensures made { IfOk result (λ desk. IsNewDesk config desk) }
-    ensures good { IfOk result (λ desk. IsGoodBook desk.book) }
+    ensures made { IfOk result (λ desk. IsNewDesk config desk.parts) }
+    ensures opened { IfOk result (λ desk. desk.opened ≡ 0) }
+    ensures good { IfOk result (λ desk. IsGoodBook desk.parts.book) }
     ensures config { IfOk result (λ desk. IsConfig config) }
     ensures refused { IfErr result (λ fault. (fault ≡ OpenFault.Config) ↔ (¬ IsConfig config)) }
     ensures cause { IfErr result (λ fault. fault ≢ OpenFault.Tables NotEmpty) }

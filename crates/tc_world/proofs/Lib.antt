@@ -27,3 +27,7 @@ pub mod Flying
 pub mod Tells
 pub mod Stills
 pub mod MarkLemmas
+pub mod AllLists
+pub mod PayloadQueues
+pub mod PayloadCalls
+pub mod Payloads

@@ -14,3 +14,4 @@ pub mod Runs
 pub mod Told
 pub mod Marks
 pub mod Sides
+pub mod Payloads

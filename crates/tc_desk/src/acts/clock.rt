@@ -3,7 +3,7 @@ ghost use Rattle.std.specs.Prelude.{◌≡◌, IfOk};
 ghost use Rattle.tc_types.specs.declared.acts.Act.TheVariants as act;
 ghost use Rattle.tc_types.specs.declared.acts.LinkAct.TheVariants as link_act;
 ghost use Rattle.tc_book.specs.Batch.{HoldsRoom};
-ghost use Rattle.tc_desk.specs.Parts.{Responds};
+ghost use Rattle.tc_desk.specs.Parts.{IsPutCount, Responds};
 
 use crate::downlinks::put_all;
 use crate::firsts::First;
@@ -31,6 +31,7 @@ impl<U: Carrier<Frame> + Drop, D: Carrier<Report> + Drop, A: Allocator + Copy + 
     /// The spacecraft's time is now this one, and what falls due by it is released: its reports are put on the downlink.
     pub(crate) fn clock(&mut self, stamp: Stamp, time: Moment) -> Result<Flight<A>, Refusal>
         ensures answers { Responds U.kind D.kind (λ flight. flight.said) (λ flight. flight.first) self.old stamp (act.Link (link_act.Clock time)) self.new result }
+        ensures put { IfOk result (λ flight. IsPutCount self.old (link_act.Clock time) flight.said flight.put) }
         ensures room { IfOk result (λ flight. HoldsRoom self.old.book self.new.book flight.draft.moves flight.draft.batch) }
     {
         if time.get() < self.board.now().get() {
@@ -43,6 +44,7 @@ impl<U: Carrier<Frame> + Drop, D: Carrier<Report> + Drop, A: Allocator + Copy + 
         Ok(Flight {
             first: First::Now(time),
             said: Indications::none(self.alloc),
+            put: reports.len(),
             draft,
         })
     }

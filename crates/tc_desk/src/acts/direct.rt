@@ -6,7 +6,7 @@ ghost use Rattle.tc_book.specs.Batch.{HoldsRoom};
 ghost use Rattle.tc_fop.specs.Calls.{is_initial};
 ghost use Rattle.tc_world.specs.World.{is_terminate};
 ghost use Rattle.tc_desk.specs.Acts.{is_bad_directive};
-ghost use Rattle.tc_desk.specs.Parts.{Responds};
+ghost use Rattle.tc_desk.specs.Parts.{IsPutCount, Responds};
 
 use crate::flights::{Flight, MOST_ROWS, ask, pass};
 use crate::hearing::hear_all;
@@ -53,6 +53,7 @@ impl<U: Carrier<Frame> + Drop, D: Carrier<Report> + Drop, A: Allocator + Copy + 
     /// The FOP gets a directive.
     pub(crate) fn direct(&mut self, stamp: Stamp, given: Directive) -> Result<Flight<A>, Refusal>
         ensures answers { Responds U.kind D.kind (λ flight. flight.said) (λ flight. flight.first) self.old stamp (act.Link (link_act.Direct given)) self.new result }
+        ensures put { IfOk result (λ flight. IsPutCount self.old (link_act.Direct given) flight.said flight.put) }
         ensures room { IfOk result (λ flight. HoldsRoom self.old.book self.new.book flight.draft.moves flight.draft.batch) }
     {
         match given {
@@ -64,6 +65,7 @@ impl<U: Carrier<Frame> + Drop, D: Carrier<Report> + Drop, A: Allocator + Copy + 
     /// The FOP ends its service.
     fn terminate(&mut self, stamp: Stamp) -> Result<Flight<A>, Refusal>
         ensures answers { Responds U.kind D.kind (λ flight. flight.said) (λ flight. flight.first) self.old stamp (act.Link (link_act.Direct Directive.Terminate)) self.new result }
+        ensures put { IfOk result (λ flight. IsPutCount self.old (link_act.Direct Directive.Terminate) flight.said flight.put) }
         ensures room { IfOk result (λ flight. HoldsRoom self.old.book self.new.book flight.draft.moves flight.draft.batch) }
     {
         if self.records.has_all_rows() {
@@ -85,6 +87,7 @@ impl<U: Carrier<Frame> + Drop, D: Carrier<Report> + Drop, A: Allocator + Copy + 
     fn set(&mut self, stamp: Stamp, given: Directive) -> Result<Flight<A>, Refusal>
         requires { is_terminate given ≡ false }
         ensures answers { Responds U.kind D.kind (λ flight. flight.said) (λ flight. flight.first) self.old stamp (act.Link (link_act.Direct given)) self.new result }
+        ensures put { IfOk result (λ flight. IsPutCount self.old (link_act.Direct given) flight.said flight.put) }
         ensures room { IfOk result (λ flight. HoldsRoom self.old.book self.new.book flight.draft.moves flight.draft.batch) }
     {
         if is_bad_directive(self.world.fop_view().state, &given) {

@@ -6,7 +6,7 @@ ghost use Rattle.tc_book.specs.Batch.{HoldsRoom};
 ghost use Rattle.tc_desk.specs.Acts.{is_there, first_of_down, first_of_report};
 ghost use Rattle.tc_board.specs.Mirror.{HasRoom};
 ghost use Rattle.tc_desk.specs.Asks.{command_told, command_down, mirror_read};
-ghost use Rattle.tc_desk.specs.Parts.{Responds};
+ghost use Rattle.tc_desk.specs.Parts.{IsPutCount, Responds};
 
 use crate::commands::command_at;
 use crate::firsts::First;
@@ -118,6 +118,7 @@ impl<U: Carrier<Frame> + Drop, D: Carrier<Report> + Drop, A: Allocator + Copy + 
     /// The first item of the downlink comes to the desk.
     pub(crate) fn down(&mut self, stamp: Stamp) -> Result<Flight<A>, Refusal>
         ensures answers { Responds U.kind D.kind (λ flight. flight.said) (λ flight. flight.first) self.old stamp (act.Link link_act.Down) self.new result }
+        ensures put { IfOk result (λ flight. IsPutCount self.old link_act.Down flight.said flight.put) }
         ensures room { IfOk result (λ flight. HoldsRoom self.old.book self.new.book flight.draft.moves flight.draft.batch) }
     {
         if self.records.has_all_rows() {

@@ -4,7 +4,7 @@ ghost use Rattle.tc_types.specs.declared.acts.Act.TheVariants as act;
 ghost use Rattle.tc_types.specs.declared.acts.LinkAct.TheVariants as link_act;
 ghost use Rattle.tc_book.specs.Batch.{HoldsRoom};
 ghost use Rattle.tc_desk.specs.Acts.{first_of_loss};
-ghost use Rattle.tc_desk.specs.Parts.{Responds};
+ghost use Rattle.tc_desk.specs.Parts.{IsPutCount, Responds};
 
 use crate::firsts::First;
 use crate::flights::{Flight, pass};
@@ -37,6 +37,7 @@ impl<U: Carrier<Frame> + Drop, D: Carrier<Report> + Drop, A: Allocator + Copy + 
     /// The item at this place of the uplink is lost.
     pub(crate) fn lose_up(&mut self, stamp: Stamp, place: u32) -> Result<Flight<A>, Refusal>
         ensures answers { Responds U.kind D.kind (λ flight. flight.said) (λ flight. flight.first) self.old stamp (act.Link (link_act.LoseUp place)) self.new result }
+        ensures put { IfOk result (λ flight. IsPutCount self.old (link_act.LoseUp place) flight.said flight.put) }
         ensures room { IfOk result (λ flight. HoldsRoom self.old.book self.new.book flight.draft.moves flight.draft.batch) }
     {
         let event = Event::LoseUp(place as usize);
@@ -48,6 +49,7 @@ impl<U: Carrier<Frame> + Drop, D: Carrier<Report> + Drop, A: Allocator + Copy + 
     /// The item at this place of the downlink is lost.
     pub(crate) fn lose_down(&mut self, stamp: Stamp, place: u32) -> Result<Flight<A>, Refusal>
         ensures answers { Responds U.kind D.kind (λ flight. flight.said) (λ flight. flight.first) self.old stamp (act.Link (link_act.LoseDown place)) self.new result }
+        ensures put { IfOk result (λ flight. IsPutCount self.old (link_act.LoseDown place) flight.said flight.put) }
         ensures room { IfOk result (λ flight. HoldsRoom self.old.book self.new.book flight.draft.moves flight.draft.batch) }
     {
         let event = Event::LoseDown(place as usize);

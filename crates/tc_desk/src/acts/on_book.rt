@@ -25,6 +25,7 @@ impl<U: Carrier<Frame> + Drop, D: Carrier<Report> + Drop, A: Allocator + Copy + 
     /// Carries an act on the book out.
     pub(crate) fn on_book(&mut self, stamp: Stamp, given: BookAct) -> Result<Flight<A>, Refusal>
         ensures answers { Responds U.kind D.kind (λ flight. flight.said) (λ flight. flight.first) self.old stamp (act.Book given) self.new result }
+        ensures put { IfOk result (λ flight. flight.put ≡ 0) }
         ensures room { IfOk result (λ flight. HoldsRoom self.old.book self.new.book flight.draft.moves flight.draft.batch) }
         ensures goes_on { OnOk result (GoesOn self.old.book self.new.book) }
     {
@@ -32,6 +33,7 @@ impl<U: Carrier<Frame> + Drop, D: Carrier<Report> + Drop, A: Allocator + Copy + 
         Ok(Flight {
             first: First::Book(draft.first),
             said: Indications::none(self.alloc),
+            put: 0,
             draft,
         })
     }

@@ -5,7 +5,7 @@ ghost use Rattle.tc_types.specs.declared.acts.LinkAct.TheVariants as link_act;
 ghost use Rattle.tc_book.specs.Batch.{HoldsRoom};
 ghost use Rattle.tc_fop.specs.Calls.{is_taking};
 ghost use Rattle.tc_desk.specs.Commands.{may_not_ride};
-ghost use Rattle.tc_desk.specs.Parts.{Responds};
+ghost use Rattle.tc_desk.specs.Parts.{IsPutCount, Responds};
 
 use crate::commands::{activity_at, payload_of};
 use crate::flights::{Flight, MOST_ROWS, ask};
@@ -52,6 +52,7 @@ impl<U: Carrier<Frame> + Drop, D: Carrier<Report> + Drop, A: Allocator + Copy + 
     /// Releases a request: it is offered to the FOP.
     pub(crate) fn release(&mut self, stamp: Stamp, n: u32) -> Result<Flight<A>, Refusal>
         ensures answers { Responds U.kind D.kind (λ flight. flight.said) (λ flight. flight.first) self.old stamp (act.Link (link_act.Release n)) self.new result }
+        ensures put { IfOk result (λ flight. IsPutCount self.old (link_act.Release n) flight.said flight.put) }
         ensures room { IfOk result (λ flight. HoldsRoom self.old.book self.new.book flight.draft.moves flight.draft.batch) }
     {
         let Some(number) = self.records.number_of(n) else {

@@ -3,7 +3,7 @@ ghost use Rattle.std.specs.Prelude.{◌≡◌, IfOk};
 ghost use Rattle.tc_types.specs.declared.acts.Act.TheVariants as act;
 ghost use Rattle.tc_types.specs.declared.acts.LinkAct.TheVariants as link_act;
 ghost use Rattle.tc_book.specs.Batch.{HoldsRoom};
-ghost use Rattle.tc_desk.specs.Parts.{Responds};
+ghost use Rattle.tc_desk.specs.Parts.{IsPutCount, Responds};
 
 use crate::flights::{Flight, MOST_ROWS, ask};
 use crate::hearing::hear_all;
@@ -24,6 +24,7 @@ impl<U: Carrier<Frame> + Drop, D: Carrier<Report> + Drop, A: Allocator + Copy + 
     /// One tick of the FOP's timer.
     pub(crate) fn tick(&mut self, stamp: Stamp) -> Result<Flight<A>, Refusal>
         ensures answers { Responds U.kind D.kind (λ flight. flight.said) (λ flight. flight.first) self.old stamp (act.Link link_act.Tick) self.new result }
+        ensures put { IfOk result (λ flight. IsPutCount self.old link_act.Tick flight.said flight.put) }
         ensures room { IfOk result (λ flight. HoldsRoom self.old.book self.new.book flight.draft.moves flight.draft.batch) }
     {
         if self.records.has_all_rows() {

@@ -6,7 +6,7 @@ ghost use Rattle.tc_book.specs.Batch.{HoldsRoom};
 ghost use Rattle.tc_desk.specs.Acts.{first_of_up};
 ghost use Rattle.tc_desk.specs.Asks.{telecommand_of, taken_in, board_after, reports_after};
 ghost use Rattle.tc_desk.specs.Machine.{PutsDown};
-ghost use Rattle.tc_desk.specs.Parts.{Responds};
+ghost use Rattle.tc_desk.specs.Parts.{IsPutCount, Responds};
 
 use crate::downlinks::put_down;
 use crate::firsts::First;
@@ -70,6 +70,7 @@ impl<U: Carrier<Frame> + Drop, D: Carrier<Report> + Drop, A: Allocator + Copy + 
     /// since the FARM accepts nothing without.
     pub(crate) fn up(&mut self, stamp: Stamp) -> Result<Flight<A>, Refusal>
         ensures answers { Responds U.kind D.kind (λ flight. flight.said) (λ flight. flight.first) self.old stamp (act.Link link_act.Up) self.new result }
+        ensures put { IfOk result (λ flight. IsPutCount self.old link_act.Up flight.said flight.put) }
         ensures room { IfOk result (λ flight. HoldsRoom self.old.book self.new.book flight.draft.moves flight.draft.batch) }
     {
         self.world.reserve(1)?;
@@ -78,15 +79,20 @@ impl<U: Carrier<Frame> + Drop, D: Carrier<Report> + Drop, A: Allocator + Copy + 
         let flight = pass(&mut self.records, &mut self.world, self.alloc, event)?;
         let first = first_of_up(flight.said.as_slice());
         let taken = taken_in(flight.said.as_slice());
-        self.deliver(taken);
-        Ok(Flight { first, ..flight })
+        let put = self.deliver(taken);
+        Ok(Flight {
+            first,
+            put,
+            ..flight
+        })
     }
 
     /// A request, if one was taken, comes to the spacecraft, which has a buffer free. The report that this makes at once is put
-    /// on the downlink, where there is room.
-    fn deliver(&mut self, taken: Option<Telecommand>)
+    /// on the downlink, where there is room. Says how many reports that were: one, or none.
+    fn deliver(&mut self, taken: Option<Telecommand>) -> usize
         requires buffer { is_some taken ≡ true → length self.old.board.buffer < 4 }
         requires room { 0 < D.covered self.old.world.down }
+        ensures count { result ≡ length (reports_after taken) }
         ensures board { self.new.board ≡ board_after taken self.old.board }
         ensures reports { PutsDown U.kind D.kind (reports_after taken) self.old.world self.new.world }
         ensures book { self.new.book ≡ self.old.book }
@@ -95,7 +101,9 @@ impl<U: Carrier<Frame> + Drop, D: Carrier<Report> + Drop, A: Allocator + Copy + 
         if let Some(request) = taken {
             if let Some(report) = self.board.accept(request) {
                 put_down(&mut self.world, report);
+                return 1;
             }
         }
+        0
     }
 }

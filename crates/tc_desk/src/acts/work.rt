@@ -4,7 +4,7 @@ ghost use Rattle.tc_types.specs.declared.acts.Act.TheVariants as act;
 ghost use Rattle.tc_types.specs.declared.acts.LinkAct.TheVariants as link_act;
 ghost use Rattle.tc_book.specs.Batch.{HoldsRoom};
 ghost use Rattle.tc_desk.specs.Acts.{first_of_work};
-ghost use Rattle.tc_desk.specs.Parts.{Responds};
+ghost use Rattle.tc_desk.specs.Parts.{IsPutCount, Responds};
 
 use crate::downlinks::{free_buffer, put_all};
 use crate::firsts::First;
@@ -43,6 +43,7 @@ impl<U: Carrier<Frame> + Drop, D: Carrier<Report> + Drop, A: Allocator + Copy + 
     /// that a buffer is free.
     pub(crate) fn work(&mut self, stamp: Stamp) -> Result<Flight<A>, Refusal>
         ensures answers { Responds U.kind D.kind (λ flight. flight.said) (λ flight. flight.first) self.old stamp (act.Link link_act.Work) self.new result }
+        ensures put { IfOk result (λ flight. IsPutCount self.old link_act.Work flight.said flight.put) }
         ensures room { IfOk result (λ flight. HoldsRoom self.old.book self.new.book flight.draft.moves flight.draft.batch) }
     {
         let draft = make_room(&mut self.records, self.alloc, firsts::First::Plain, 0, 0)?;
@@ -54,6 +55,7 @@ impl<U: Carrier<Frame> + Drop, D: Carrier<Report> + Drop, A: Allocator + Copy + 
         Ok(Flight {
             first,
             said: Indications::none(self.alloc),
+            put: reports.len(),
             draft,
         })
     }

@@ -1,13 +1,8 @@
--- The activities of the mirror are shown in their order.
-use Rattle.std.proofs.Common.{ap}
-use Rattle.tc_desk.specs.Replies.{schedule_lines}
+-- The activities of the mirror, in their order.
 use Rattle.tc_desk.proofs.desks.Desk.schedule.Goals as goal
 
-pub returns-clause-shown : goal.returns-clause-shown
-returns-clause-shown g c =
-    rw (← c.self.view_is, ← c.self-inside.view_is) (record {
-      shown = c.in_ok-activities.activities.items;
-      all = c.in_ok-activities.ensures.all;
-      ordered = c.in_ok-activities.ensures.ordered;
-      reply = ap (λ enabled. schedule_lines enabled c.in_ok-activities.activities.items) c.is_enabled.ensures;
-    })
+pub returns-clause-enabled : goal.returns-clause-enabled
+returns-clause-enabled g c = rw (← c.self.view_is, ← c.self-inside.view_is) c.is_enabled.ensures
+
+pub returns-clause-all : goal.returns-clause-all
+returns-clause-all g c = rw (← c.self.view_is, ← c.self-inside.view_is) c.in_ok-activities.ensures.all

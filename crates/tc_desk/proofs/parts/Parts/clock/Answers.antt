@@ -1,7 +1,10 @@
 -- What the calls of `clock` make is one step of it.
-use Rattle.std.proofs.Common.{◌≡◌, nat_lt, false, refl, subst, arith}
+use Rattle.std.proofs.Common.{◌≡◌, ◌∙◌, nat_lt, false, length, refl, sym, ap, subst, arith}
 use Rattle.std.proofs.lemmas.Bool.Decides.{nat_tests}
+use Rattle.tc_board.specs.Board.{ClockReports}
+use Rattle.tc_desk.specs.State.{State}
 use Rattle.tc_desk.specs.Machine.{PutsDown}
+use Rattle.tc_board.proofs.NameLemmas.{clock_count}
 use Rattle.tc_desk.proofs.BoardingLemmas.{went_on}
 use Rattle.tc_desk.proofs.parts.Parts.clock.Goals as goal
 
@@ -14,3 +17,9 @@ returns-clause-answers g c =
           (subst (λ items. PutsDown g.U.Carrier.kind g.D.Carrier.kind items c.reserve.new.self c.put_all.new.world) c.deref.ensures.value c.put_all.ensures)
           c.in_ok-reports.ensures.after c.none.ensures refl c.in_ok-draft.ensures.book,
     )
+
+-- as many reports as any list of what falls due has
+pub returns-clause-put : goal.returns-clause-put
+returns-clause-put g c = λ reports due.
+    c.len.ensures ∙ sym c.deref.ensures.len ∙ ap length c.deref.ensures.value ∙ clock_count c.args.time c.self.inside.board.schedule c.in_ok-reports.reports.items reports c.in_ok-reports.ensures.reports
+    (subst (λ (at : State g.row.U.Denot g.row.D.Denot). ClockReports c.args.time at.board.schedule reports) (sym c.self.view_is) due)

@@ -5,8 +5,8 @@ use Rattle.tc_desk.specs.Asks.{taken_in}
 use Rattle.tc_desk.proofs.BoardingLemmas.{came_up}
 use Rattle.tc_desk.proofs.parts.Parts.up.Goals as goal
 
-pub deliver-requires-clause-room : goal.deliver-requires-clause-room
-deliver-requires-clause-room g c =
+pub deliver-put-requires-clause-room : goal.deliver-put-requires-clause-room
+deliver-put-requires-clause-room g c =
     let room = c.in_ok-reserve.ensures.room in
     let kept = c.pass.ensures.kept_room refl in
     omega (arith, room, kept)
@@ -15,9 +15,9 @@ pub returns-clause-answers : goal.returns-clause-answers
 returns-clause-answers g c =
     rw (← c.self.view_is) (
       refl,
-      came_up g.U.Carrier.kind g.D.Carrier.kind c.args.stamp _ c.deliver.new.self c.reserve.new.self c.pass.new.world
+      came_up g.U.Carrier.kind g.D.Carrier.kind c.args.stamp _ c.deliver-put.new.self c.reserve.new.self c.pass.new.world
           c.in_ok-flight.flight.said c.first_of_up-first.result c.taken_in-taken.result c.room-free_buffer.result
           c.in_ok-reserve.ensures.same c.room-free_buffer.ensures c.in_ok-flight.ensures.asked
-          (c.taken_in-taken.ensures ∙ ap taken_in c.as_slice-2.ensures) c.deliver.ensures.board c.deliver.ensures.reports
-          c.deliver.ensures.mirror (c.deliver.ensures.book ∙ c.pass.ensures.book) (c.in_ok-flight.ensures.heard c.args.stamp c.self.inside.mirror.told c.self.inside.records.book) (c.first_of_up-first.ensures ∙ ap first_of_up c.as_slice.ensures),
+          (c.taken_in-taken.ensures ∙ ap taken_in c.as_slice-2.ensures) c.deliver-put.ensures.board c.deliver-put.ensures.reports
+          c.deliver-put.ensures.mirror (c.deliver-put.ensures.book ∙ c.pass.ensures.book) (c.in_ok-flight.ensures.heard c.args.stamp c.self.inside.mirror.told c.self.inside.records.book) (c.first_of_up-first.ensures ∙ ap first_of_up c.as_slice.ensures),
     )

@@ -1,0 +1,74 @@
+-- What stands of a desk between two acts stands after each.
+use Rattle.std.proofs.Common.{◌∷◌, [], ◌∙◌, ap, Option, ◌≡◌, true, None, List, sym, subst}
+use Rattle.tc_types.specs.declared.frames.Frame.{Frame}
+use Rattle.tc_types.specs.declared.reports.Report.{Report}
+use Rattle.tc_types.specs.declared.reports.Report.TheVariants as report
+use Rattle.tc_types.specs.declared.reports.Telemetry.TheVariants as telemetry
+use Rattle.tc_types.specs.declared.telecommands.ScheduleCommand.{ScheduleCommand}
+use Rattle.tc_types.specs.declared.acts.Act.{Act}
+use Rattle.tc_world.specs.declared.events.Indication.{Indication}
+use Rattle.tc_world.specs.Links.{Kind}
+use Rattle.tc_world.specs.Window.{IsClaimed}
+use Rattle.tc_world.proofs.Bridge.{OnlyLoses}
+use Rattle.tc_board.specs.Schedule.{ScheduleState, IsSchedule, summary_of}
+use Rattle.tc_board.specs.Mirror.{MirrorState, mirror_after, mirror_of}
+use Rattle.tc_book.specs.declared.stamps.Stamp.{Stamp}
+use Rattle.tc_book.specs.Good.{IsGoodBook}
+use Rattle.tc_desk.specs.declared.firsts.First.{First}
+use Rattle.tc_desk.specs.declared.configs.Config.{Config}
+use Rattle.tc_desk.specs.Downlink.{came_down, KeepsWhole}
+use Rattle.tc_desk.specs.Followed.{mirror_through}
+use Rattle.tc_desk.specs.State.{made_desk, State, DeskState}
+use Rattle.tc_desk.specs.Acts.{refusal_of}
+use Rattle.tc_desk.specs.Machine.{Does, StaysSame}
+use Rattle.tc_desk.specs.Headline.{TakenOnce}
+use Rattle.tc_desk.specs.Tied.{IsTied}
+use Rattle.tc_desk.specs.Standing.{IsStanding}
+use Rattle.tc_desk.proofs.DownLemmas.{does_down}
+use Rattle.tc_desk.proofs.FollowLaws.{FollowsSteps}
+use Rattle.tc_desk.proofs.FollowedActs.{does_followed, same_followed, made_followed}
+use Rattle.tc_desk.proofs.ReadActs.{does_read}
+use Rattle.tc_desk.proofs.RunLemmas.{new_tied, new_claims}
+use Rattle.tc_desk.proofs.TiedActs.{does_tied, same_tied}
+use Rattle.tc_desk.proofs.HeadlineLemmas.{same_claims, taken_once}
+
+-- an act that was carried out
+pub does_stand : {U D : Type 0} (up : Kind U Frame) (down : Kind D Report) (stamp : Stamp) (given : Act) (old new : DeskState U D) (all : List Indication) (first : First)
+    → FollowsSteps → OnlyLoses up → OnlyLoses down → IsGoodBook old.parts.book → IsGoodBook new.parts.book
+    → refusal_of stamp old.parts given ≡ None → Does up down stamp given old.parts new.parts all first → new.opened ≡ old.opened
+    → (new.parts.world.clean ≡ true → IsClaimed new.parts.world) → KeepsWhole down given old new all → IsStanding up down old → IsStanding up down new
+does_stand up down stamp given old new all first law ul dl good goes_on passes does opened claims whole stands =
+    let tied : IsTied new.opened new.parts = subst (λ o. IsTied o new.parts) (sym opened) (does_tied old.opened up down stamp given old.parts new.parts all first good passes does stands.tied) in
+    record {
+      tied = tied;
+      claims = claims;
+      followed = does_followed up down stamp given old new all first law ul dl good goes_on passes does stands.tied tied whole (does_down up down ul dl stamp given old.parts new.parts all first does) stands.followed;
+    }
+
+-- one that was refused
+pub same_stand : {U D : Type 0} (up : Kind U Frame) (down : Kind D Report) (old new : DeskState U D) → StaysSame up down old.parts new.parts → new.opened ≡ old.opened → new.whole ≡ old.whole
+    → IsStanding up down old → IsStanding up down new
+same_stand up down old new same opened whole stands = record {
+  tied = subst (λ o. IsTied o new.parts) (sym opened) (same_tied old.opened up down old.parts new.parts same stands.tied);
+  claims = same_claims up down old.parts.world new.parts.world same.world stands.claims;
+  followed = same_followed up down old new same whole stands.followed;
+}
+
+-- while every start was good, what the rows call confirmed was taken on board once
+pub stands_once : {U D : Type 0} (up : Kind U Frame) (down : Kind D Report) (desk : DeskState U D) → IsStanding up down desk → desk.parts.world.clean ≡ true → TakenOnce desk.opened desk.parts
+stands_once up down desk stands clean = taken_once desk.opened desk.parts stands.tied (stands.claims clean)
+
+-- of a desk that was just made
+pub made_stands : {U D : Type 0} (up : Kind U Frame) (down : Kind D Report) (config : Config) (u : U) (d : D) → up.content u ≡ [] → down.content d ≡ [] → IsStanding up down (made_desk config u d)
+made_stands up down config u d empty_up empty_down = record {
+  tied = new_tied config u d;
+  claims = λ clean. new_claims config u d;
+  followed = made_followed up down config u d empty_up empty_down;
+}
+
+-- a summary that was read makes the mirror what it carries
+pub summary_read : {U D : Type 0} (up : Kind U Frame) (down : Kind D Report) (stamp : Stamp) (given : Act) (old new : State U D) (all : List Indication) (first : First)
+    → ((before : MirrorState) (command : Option ScheduleCommand) (s : ScheduleState) → IsSchedule s.activities → mirror_after before (report.Telemetry (telemetry.Summary (summary_of s)), command) ≡ mirror_of s)
+    → Does up down stamp given old new all first → (s : ScheduleState) → IsSchedule s.activities → came_down all ≡ report.Telemetry (telemetry.Summary (summary_of s)) ∷ [] → new.mirror ≡ mirror_of s
+summary_read up down stamp given old new all first law does s is came =
+    does_read up down stamp given old new all first does ∙ ap (λ items. mirror_through new.book items old.mirror) came ∙ law old.mirror None s is
