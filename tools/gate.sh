@@ -62,5 +62,6 @@ part "the program runs" sh -c './tcdesk run - </dev/null >/dev/null'
 part "program cases" tools/program_cases.sh
 part "streams that fail" tools/stream_cases.sh
 part "memory refused" tools/fail_alloc.sh
+part "memory refused to a load" tools/fail_load.sh
 table
 echo "gate: all parts passed"

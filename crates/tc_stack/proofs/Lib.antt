@@ -1,2 +1,6 @@
 pub mod ApprovalLemmas
+pub mod CommandLemmas
+mod StackCases
+pub mod StackRowLemmas
+pub mod TextLemmas
 mod WorkedCases

@@ -1,5 +1,5 @@
 -- The definitions carried out on a critical request of ann, which bob and eve approve.
-use Rattle.std.proofs.Common.{◌≡◌, ℕ, Bool, true, false, Some, None, List, [], ◌∷◌, codes, refl}
+use Rattle.std.proofs.Common.{◌≡◌, ℕ, true, false, Some, List, codes, refl}
 use Rattle.tc_types.specs.declared.refusals.Refusal.TheVariants.{SamePerson, ApprovedAlready}
 use Rattle.tc_stack.specs.Approvals.{ApprovalState, unapproved, approved, refusal_of, is_complete}
 

@@ -1,5 +1,5 @@
 -- One person more, whom no test refuses.
-use Rattle.std.proofs.Common.{◌≡◌, ℕ, List, sym, subst, ◌∙◌, false}
+use Rattle.std.proofs.Common.{◌≡◌, sym, subst, ◌∙◌, false}
 use Rattle.std.specs.List.{list_any}
 use Rattle.tc_stack.specs.Approvals.{ApprovalState, IsApproval, is_same_person, is_complete}
 use Rattle.tc_stack.specs.Given.{persons_of}

@@ -1,0 +1,278 @@
+//! A plain reader of stacks: what is wrong with records of fields, and whether rows are those that the fields say. Which texts are
+//! instants it knows from a list.
+use super::Told;
+use super::written::{Fields, at, number_of};
+use tc_csv::faults::Rule;
+use tc_stack::stacks::StackRow;
+use tc_types::requests::Command;
+
+/// Texts that stand in the column of times, and the second that each says, if it says a whole one that the desk knows.
+pub const INSTANTS: [(&[u8], Option<u32>); 9] = [
+    (b"2031-05-04T10:00:00Z", Some(1_935_655_200)),
+    (b"2031-05-04T12:00:00+02:00", Some(1_935_655_200)),
+    (b"1970-01-01T00:00:00Z", Some(0)),
+    (b"2099-12-31T23:59:59.00Z", Some(4_102_444_799)),
+    (b"2028-02-29T23:59:59Z", Some(1_835_481_599)),
+    (b"2100-01-01T00:00:00Z", None),
+    (b"2031-05-04T10:00:00.5Z", None),
+    (b"2031-02-29T10:00:00Z", None),
+    (b"2031-05-04", None),
+];
+
+/// The second that a field says, if it says one.
+fn instant(field: &[u8]) -> Option<u32> {
+    for known in &INSTANTS {
+        if known.0 == field {
+            return known.1;
+        }
+    }
+    None
+}
+
+/// The seconds that a field says, if it says some that a shift may have.
+fn seconds(field: &[u8]) -> Option<i64> {
+    let (is_back, digits) = match field.split_first() {
+        Some((b'-', digits)) => (true, digits),
+        _ => (false, field),
+    };
+    let count = number_of(digits)?;
+    if count > 4_102_444_799 || (is_back && count == 0) {
+        return None;
+    }
+    let ahead = i64::from(count);
+    Some(if is_back {
+        0_i64.saturating_sub(ahead)
+    } else {
+        ahead
+    })
+}
+
+/// Whether a field is a number from `least` to `most`.
+fn is_within(field: &[u8], least: u32, most: u32) -> bool {
+    match number_of(field) {
+        Some(number) => number >= least && number <= most,
+        None => false,
+    }
+}
+
+/// Whether a row's command is of service 11 and of this subtype.
+fn is_schedule(fields: &Fields, subtype: &[u8]) -> bool {
+    at(fields, 2) == b"11".as_slice() && at(fields, 3) == subtype
+}
+
+/// Whether a row's command names a line.
+fn names_a_line(fields: &Fields) -> bool {
+    is_schedule(fields, b"4") || is_schedule(fields, b"5") || is_schedule(fields, b"7")
+}
+
+/// Whether a field is one of these.
+fn is_among(field: &[u8], words: &[&[u8]]) -> bool {
+    words.iter().any(|word| *word == field)
+}
+
+/// The first rule of service, subtype, target and time that a row breaks.
+fn command_rule(line: u32, fields: &Fields) -> Option<Rule> {
+    let scheduled: [&[u8]; 8] = [b"1", b"2", b"3", b"4", b"5", b"7", b"15", b"17"];
+    let subtype = at(fields, 3);
+    let target = at(fields, 4);
+    let time = at(fields, 5);
+    let is_eleven = at(fields, 2) == b"11".as_slice();
+    let is_shift = is_schedule(fields, b"7") || is_schedule(fields, b"15");
+    if !is_within(at(fields, 2), 1, 255) {
+        Some(Rule::Service)
+    } else if !is_within(subtype, 1, 255) || (is_eleven && !is_among(subtype, &scheduled)) {
+        Some(Rule::Subtype)
+    } else if names_a_line(fields) && !is_within(target, 1, line.saturating_sub(1)) {
+        Some(Rule::Target)
+    } else if !names_a_line(fields) && !target.is_empty() {
+        Some(Rule::Target)
+    } else if is_schedule(fields, b"4") {
+        if instant(time).is_some() {
+            None
+        } else {
+            Some(Rule::Time)
+        }
+    } else if is_shift {
+        if seconds(time).is_some() {
+            None
+        } else {
+            Some(Rule::Time)
+        }
+    } else if time.is_empty() {
+        None
+    } else {
+        Some(Rule::Time)
+    }
+}
+
+/// Whether a field is four flags, with the last one set where it has to be.
+fn is_ack(field: &[u8], wants_completion: bool) -> bool {
+    match field {
+        [acceptance, start, progress, completion] => {
+            let is_spelled = (*acceptance == b'a' || *acceptance == b'-')
+                && (*start == b's' || *start == b'-')
+                && (*progress == b'p' || *progress == b'-');
+            let is_last = *completion == b'c' || (*completion == b'-' && !wants_completion);
+            is_spelled && is_last
+        }
+        _ => false,
+    }
+}
+
+/// The outcomes that the random texts have.
+pub const OUTCOMES: [&[u8]; 8] = [
+    b"ok",
+    b"ok/9",
+    b"refuse/16",
+    b"halt/1/255",
+    b"OK",
+    b"ok/0",
+    b"fail/15",
+    b"",
+];
+
+/// The first rule that a row breaks.
+fn row_rule(line: u32, fields: &Fields) -> Option<Rule> {
+    let is_eleven = at(fields, 2) == b"11".as_slice();
+    let after = at(fields, 8);
+    if fields.len() != 10 {
+        return Some(Rule::FieldCount);
+    }
+    if number_of(at(fields, 0)) != Some(line) {
+        return Some(Rule::Line);
+    }
+    if !is_within(at(fields, 1), 0, 2047) {
+        return Some(Rule::Apid);
+    }
+    if let Some(rule) = command_rule(line, fields) {
+        return Some(rule);
+    }
+    if !is_ack(at(fields, 6), is_eleven) {
+        Some(Rule::Ack)
+    } else if !is_among(at(fields, 7), &[b"yes", b"no"]) {
+        Some(Rule::Critical)
+    } else if !after.is_empty() && !is_within(after, 1, line.saturating_sub(1)) {
+        Some(Rule::After)
+    } else if !is_among(
+        at(fields, 9),
+        if is_eleven {
+            &OUTCOMES[..1]
+        } else {
+            &OUTCOMES[..4]
+        },
+    ) {
+        Some(Rule::Outcome)
+    } else {
+        None
+    }
+}
+
+/// Whether the target of a row is one that may not be one.
+fn is_barred(rows: &[Fields], fields: &Fields) -> bool {
+    if !names_a_line(fields) {
+        return false;
+    }
+    let place = number_of(at(fields, 4)).unwrap_or(0).saturating_sub(1);
+    match rows.get(place as usize) {
+        Some(named) => {
+            let is_asked = at(named, 6).first() == Some(&b'a');
+            at(named, 2) == b"11".as_slice() || (is_schedule(fields, b"4") && !is_asked)
+        }
+        None => false,
+    }
+}
+
+/// The first row that breaks a rule of its own.
+fn row_fault(rows: &[Fields]) -> Option<Told> {
+    let mut line = 0_u32;
+    for fields in rows {
+        line = line.saturating_add(1);
+        if let Some(rule) = row_rule(line, fields) {
+            return Some((line, rule));
+        }
+    }
+    None
+}
+
+/// The first row whose target may not be one.
+fn target_fault(rows: &[Fields]) -> Option<Told> {
+    let mut line = 0_u32;
+    for fields in rows {
+        line = line.saturating_add(1);
+        if is_barred(rows, fields) {
+            return Some((line, Rule::TargetRow));
+        }
+    }
+    None
+}
+
+/// What is wrong with these rows, under a header that is right or not.
+pub fn fault(has_header: bool, rows: &[Fields]) -> Option<Told> {
+    if rows.len() > 200 {
+        return Some((201, Rule::RowCount));
+    }
+    if !has_header {
+        return Some((0, Rule::Header));
+    }
+    if rows.is_empty() {
+        return Some((1, Rule::SomeRow));
+    }
+    match row_fault(rows) {
+        Some(told) => Some(told),
+        None => target_fault(rows),
+    }
+}
+
+/// Whether a command is what a row says.
+fn is_command(command: Command, fields: &Fields) -> bool {
+    let line = number_of(at(fields, 4));
+    match command {
+        Command::Plain { service, subtype } => {
+            number_of(at(fields, 2)) == Some(u32::from(service.get()))
+                && number_of(at(fields, 3)) == Some(u32::from(subtype.get()))
+        }
+        Command::EnableSchedule => is_schedule(fields, b"1"),
+        Command::DisableSchedule => is_schedule(fields, b"2"),
+        Command::ResetSchedule => is_schedule(fields, b"3"),
+        Command::InsertActivity { target, time } => {
+            is_schedule(fields, b"4")
+                && line == Some(target)
+                && instant(at(fields, 5)) == Some(time.get())
+        }
+        Command::DeleteActivity { target } => is_schedule(fields, b"5") && line == Some(target),
+        Command::ShiftActivity { target, offset } => {
+            is_schedule(fields, b"7")
+                && line == Some(target)
+                && seconds(at(fields, 5)) == Some(offset.get())
+        }
+        Command::ShiftAll { offset } => {
+            is_schedule(fields, b"15") && seconds(at(fields, 5)) == Some(offset.get())
+        }
+        Command::SummarizeAll => is_schedule(fields, b"17"),
+    }
+}
+
+/// Whether a row is what its fields say, but for its outcome.
+fn is_row(row: &StackRow, fields: &Fields) -> bool {
+    let form = row.entry.form();
+    let ack = at(fields, 6);
+    number_of(at(fields, 1)) == Some(u32::from(form.apid.get()))
+        && is_command(form.command, fields)
+        && form.ack.acceptance == (ack.first() == Some(&b'a'))
+        && form.ack.completion == (ack.last() == Some(&b'c'))
+        && form.critical == (at(fields, 7) == b"yes".as_slice())
+        && row.after == number_of(at(fields, 8))
+}
+
+/// Whether rows are what these fields say.
+pub fn are_rows(rows: &[StackRow], given: &[Fields]) -> bool {
+    if rows.len() != given.len() {
+        return false;
+    }
+    for place in 0..rows.len() {
+        if !is_row(&rows[place], &given[place]) {
+            return false;
+        }
+    }
+    true
+}

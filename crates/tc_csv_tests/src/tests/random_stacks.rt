@@ -1,0 +1,207 @@
+//! Random texts of stacks: rows with a field that is wrong now and then, written in the ways in which spreadsheets write them, beside
+//! the plain reader, which sees the fields as they were before they were written.
+use super::Told;
+use super::dice::Dice;
+use super::plain_stacks::{INSTANTS, OUTCOMES, are_rows, fault};
+use super::stack_texts::{is_judged, stack};
+use super::written::{Fields, Headers, field, number, write_text};
+use std::alloc::Global;
+use std::test::Fail;
+use tc_csv::faults::Rule;
+use tc_types::readers::is;
+
+/// How many texts there are.
+const TEXTS: u32 = 5_000;
+
+/// The header, and one in another order.
+const HEADERS: Headers = Headers {
+    right: b"line,apid,service,subtype,target,time,ack,critical,after,outcome",
+    wrong: b"line,apid,service,subtype,time,target,ack,critical,after,outcome",
+};
+
+/// Application processes: good ones, and behind them bad ones.
+const APIDS: [&[u8]; 6] = [b"5", b"0", b"2047", b"2048", b"", b"+5"];
+
+/// Services of plain commands, likewise.
+const SERVICES: [&[u8]; 6] = [b"8", b"1", b"255", b"0", b"256", b"08"];
+
+/// Subtypes of schedule commands, likewise.
+const SUBTYPES: [&[u8]; 11] = [
+    b"4", b"5", b"7", b"15", b"1", b"2", b"3", b"17", b"6", b"0", b"",
+];
+
+/// Seconds of shifts, likewise.
+const OFFSETS: [&[u8]; 7] = [
+    b"60",
+    b"-60",
+    b"0",
+    b"4102444799",
+    b"-0",
+    b"4102444800",
+    b"1.5",
+];
+
+/// The reports that are asked for, likewise.
+const ACKS: [&[u8]; 6] = [b"a--c", b"aspc", b"---c", b"----", b"c---", b"a--c "];
+
+/// Whether two persons are wanted, likewise.
+const CRITICALS: [&[u8]; 4] = [b"yes", b"no", b"", b"y"];
+
+/// The number of a line: mostly one before this one, now and then any, or nothing.
+fn line_field(alloc: Global, dice: &mut Dice, line: u32) -> Option<Vec<u8>> {
+    if dice.one_in(200) {
+        return field(alloc, b"");
+    }
+    let said = if dice.one_in(200) {
+        dice.roll(20)
+    } else {
+        dice.roll(line.saturating_sub(1)).saturating_add(1)
+    };
+    number(alloc, dice, said)
+}
+
+/// The four fields of a plain command.
+fn plain(alloc: Global, dice: &mut Dice, fields: &mut Fields) -> Option<()> {
+    fields.push(field(alloc, dice.pick(&SERVICES, 3))?).ok()?;
+    fields.push(field(alloc, dice.pick(&SERVICES, 3))?).ok()?;
+    fields.push(field(alloc, dice.pick(&[b"", b"1"], 1))?).ok()?;
+    fields.push(field(alloc, dice.pick(&[b"", b"60"], 1))?).ok()
+}
+
+/// An instant: mostly a good one.
+fn instant(dice: &mut Dice) -> &'static [u8] {
+    let most = if dice.one_in(60) { 9 } else { 5 };
+    match INSTANTS.get(dice.roll(most) as usize) {
+        Some(known) => known.0,
+        None => b"",
+    }
+}
+
+/// The four fields of a schedule command.
+fn scheduling(alloc: Global, dice: &mut Dice, line: u32, fields: &mut Fields) -> Option<()> {
+    let subtype = dice.pick(&SUBTYPES, if line == 1 { 0 } else { 8 });
+    let names_a_line = is(subtype, b"4") || is(subtype, b"5") || is(subtype, b"7");
+    fields.push(field(alloc, b"11")?).ok()?;
+    fields.push(field(alloc, subtype)?).ok()?;
+    fields
+        .push(if names_a_line {
+            line_field(alloc, dice, line)?
+        } else {
+            field(alloc, b"")?
+        })
+        .ok()?;
+    let time = if is(subtype, b"4") {
+        instant(dice)
+    } else if is(subtype, b"7") || is(subtype, b"15") {
+        dice.pick(&OFFSETS, 4)
+    } else {
+        b""
+    };
+    fields.push(field(alloc, time)?).ok()
+}
+
+/// The fields of a row, mostly ten.
+fn row(alloc: Global, dice: &mut Dice, line: u32) -> Option<Fields> {
+    let mut fields = Vec::new(alloc);
+    fields.push(number(alloc, dice, line)?).ok()?;
+    fields.push(field(alloc, dice.pick(&APIDS, 3))?).ok()?;
+    let is_plain = line == 1 || !dice.one_in(4);
+    if is_plain {
+        plain(alloc, dice, &mut fields)?;
+    } else {
+        scheduling(alloc, dice, line, &mut fields)?;
+    }
+    fields.push(field(alloc, dice.pick(&ACKS, 3))?).ok()?;
+    fields.push(field(alloc, dice.pick(&CRITICALS, 2))?).ok()?;
+    if line > 1 && dice.one_in(3) {
+        fields.push(line_field(alloc, dice, line)?).ok()?;
+    } else {
+        fields.push(field(alloc, b"")?).ok()?;
+    }
+    let outcomes = if is_plain { 4 } else { 1 };
+    fields
+        .push(field(alloc, dice.pick(&OUTCOMES, outcomes))?)
+        .ok()?;
+    if dice.one_in(300) {
+        fields.push(field(alloc, b"")?).ok()?;
+    }
+    Some(fields)
+}
+
+/// Rows: mostly a few, now and then some two hundred.
+fn rows(alloc: Global, dice: &mut Dice) -> Option<Vec<Fields>> {
+    let count = if dice.one_in(100) {
+        dice.roll(6).saturating_add(197)
+    } else {
+        dice.roll(8)
+    };
+    let mut made = Vec::new(alloc);
+    for index in 0..count {
+        made.push(row(alloc, dice, index.saturating_add(1))?).ok()?;
+    }
+    Some(made)
+}
+
+/// Whether a text is judged so, and, where it spells a stack, has these rows.
+fn is_read(alloc: Global, text: &[u8], told: Option<Told>, rows: &[Fields]) -> bool {
+    if !is_judged(alloc, text, told) {
+        return false;
+    }
+    match stack(alloc, text) {
+        Some(read) => told.is_none() && are_rows(read.rows(), rows),
+        None => told.is_some(),
+    }
+}
+
+/// What was seen of the texts.
+#[derive(Clone, Copy)]
+struct Seen {
+    good: u32,
+    bad: u32,
+    long: u32,
+    barred: u32,
+}
+
+/// What is seen of one text more; none where it is judged otherwise than by the plain reader.
+fn see(alloc: Global, dice: &mut Dice, seen: Seen) -> Option<Seen> {
+    let rows = rows(alloc, dice)?;
+    let mut text = Vec::new(alloc);
+    let has_header = write_text(dice, &HEADERS, rows.as_slice(), &mut text)?;
+    let told = fault(has_header, rows.as_slice());
+    if !is_read(alloc, text.as_slice(), told, rows.as_slice()) {
+        return None;
+    }
+    let mut next = seen;
+    match told {
+        None => next.good = seen.good.saturating_add(1),
+        Some((201, _)) => next.long = seen.long.saturating_add(1),
+        Some((_, Rule::TargetRow)) => next.barred = seen.barred.saturating_add(1),
+        Some(_) => next.bad = seen.bad.saturating_add(1),
+    }
+    Some(next)
+}
+
+/// What is seen of all texts.
+fn see_all(alloc: Global) -> Option<Seen> {
+    let mut dice = Dice::new(8);
+    let mut seen = Seen {
+        good: 0,
+        bad: 0,
+        long: 0,
+        barred: 0,
+    };
+    for _ in 0..TEXTS {
+        seen = see(alloc, &mut dice, seen)?;
+    }
+    Some(seen)
+}
+
+#[test]
+fn random_stacks_are_read_as_the_plain_reader_reads_them(rt: HostRuntime) -> Result<(), Fail> {
+    let seen = see_all(rt.alloc()).expect(&rt, "texts that are judged alike");
+    assert!(rt; seen.good > 999);
+    assert!(rt; seen.bad > 499);
+    assert!(rt; seen.long > 9);
+    assert!(rt; seen.barred > 99);
+    Ok(())
+}

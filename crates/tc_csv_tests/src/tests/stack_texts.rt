@@ -1,0 +1,441 @@
+//! Texts of stacks as people and spreadsheets write them, good ones and bad ones.
+use super::{Told, is_agreed};
+use std::alloc::Global;
+use std::test::Fail;
+use tc_csv::faults::Rule;
+use tc_stack::readers::{read_stack, why_no_stack};
+use tc_stack::stacks::Stack;
+use tc_types::requests::Command;
+
+/// The stack that a text spells, if it spells one.
+pub fn stack(alloc: Global, text: &[u8]) -> Option<Stack> {
+    read_stack(alloc, text).ok()
+}
+
+/// Whether a text has this fault, or none, and is refused so.
+pub fn is_judged(alloc: Global, text: &[u8], told: Option<Told>) -> bool {
+    let refused = read_stack(alloc, text).err();
+    is_agreed(why_no_stack(alloc, text), refused, told)
+}
+
+/// The header.
+const HEADER: &[u8] = b"line,apid,service,subtype,target,time,ack,critical,after,outcome\n";
+
+/// Rows under the header, and what is wrong with them.
+#[derive(Clone, Copy)]
+struct Case {
+    rows: &'static [u8],
+    told: Option<Told>,
+}
+
+/// The rows.
+const CASES: [Case; 66] = [
+    Case {
+        rows: b"1,5,8,1,,,---c,no,,ok\n2,5,8,2,,,---c,no,1,ok\n",
+        told: None,
+    },
+    Case {
+        rows: b"1,5,8,1,,,---c,yes,,ok\n",
+        told: None,
+    },
+    Case {
+        rows: b"1,0,1,255,,,asp-,no,,refuse/16\n2,2047,255,1,,,----,yes,,halt/9/255\n",
+        told: None,
+    },
+    Case {
+        rows: b"1,5,8,1,,,a--c,no,,ok\n2,5,11,4,1,2031-05-04T10:00:00Z,---c,no,,ok\n",
+        told: None,
+    },
+    Case {
+        rows: b"1,5,8,1,,,a--c,no,,ok\n2,5,11,4,1,2031-05-04T12:00:00+02:00,---c,no,,ok\n",
+        told: None,
+    },
+    Case {
+        rows: b"1,5,8,1,,,a--c,no,,ok\n2,5,11,4,1,2031-05-04T10:00:00.000Z,---c,no,,ok\n",
+        told: None,
+    },
+    Case {
+        rows: b"1,5,8,1,,,a--c,no,,ok\n2,5,11,4,1,1970-01-01T00:00:00Z,---c,no,,ok\n",
+        told: None,
+    },
+    Case {
+        rows: b"1,5,8,1,,,a--c,no,,ok\n2,5,11,4,1,2099-12-31T23:59:59Z,---c,no,,ok\n",
+        told: None,
+    },
+    Case {
+        rows: b"1,5,8,1,,,a--c,no,,ok\n2,5,11,4,1,2028-02-29T23:59:59Z,---c,no,,ok\n",
+        told: None,
+    },
+    Case {
+        rows: b"1,5,8,1,,,a--c,no,,ok\n2,5,11,4,1,2031-05-04 10:00:00Z,---c,no,,ok\n",
+        told: None,
+    },
+    Case {
+        rows: b"1,5,8,1,,,a--c,no,,ok\n2,5,11,5,1,,---c,no,,ok\n",
+        told: None,
+    },
+    Case {
+        rows: b"1,5,8,1,,,a--c,no,,ok\n2,5,11,7,1,-60,---c,no,,ok\n",
+        told: None,
+    },
+    Case {
+        rows: b"1,5,8,1,,,a--c,no,,ok\n2,5,11,15,,60,---c,no,,ok\n",
+        told: None,
+    },
+    Case {
+        rows: b"1,5,8,1,,,a--c,no,,ok\n2,5,11,15,,0,---c,no,,ok\n",
+        told: None,
+    },
+    Case {
+        rows: b"1,5,8,1,,,a--c,no,,ok\n2,5,11,1,,,---c,no,,ok\n",
+        told: None,
+    },
+    Case {
+        rows: b"1,5,8,1,,,a--c,no,,ok\n2,5,11,2,,,---c,no,,ok\n",
+        told: None,
+    },
+    Case {
+        rows: b"1,5,8,1,,,a--c,no,,ok\n2,5,11,3,,,---c,no,,ok\n",
+        told: None,
+    },
+    Case {
+        rows: b"1,5,8,1,,,a--c,no,,ok\n2,5,11,17,,,---c,no,,ok\n",
+        told: None,
+    },
+    Case {
+        rows: b"1,5,8,1,,,a--c,no,,ok\n2,5,8,1,,,----,no,,ok\n3,5,11,5,2,,---c,no,,ok\n",
+        told: None,
+    },
+    Case {
+        rows: b"1,5,8,1,,,---c,no,\n",
+        told: Some((1, Rule::FieldCount)),
+    },
+    Case {
+        rows: b"1,5,8,1,,,---c,no,,ok,\n",
+        told: Some((1, Rule::FieldCount)),
+    },
+    Case {
+        rows: b"0,5,8,1,,,---c,no,,ok\n",
+        told: Some((1, Rule::Line)),
+    },
+    Case {
+        rows: b"2,5,8,1,,,---c,no,,ok\n",
+        told: Some((1, Rule::Line)),
+    },
+    Case {
+        rows: b"01,5,8,1,,,---c,no,,ok\n",
+        told: Some((1, Rule::Line)),
+    },
+    Case {
+        rows: b" 1,5,8,1,,,---c,no,,ok\n",
+        told: Some((1, Rule::Line)),
+    },
+    Case {
+        rows: b"one,5,8,1,,,---c,no,,ok\n",
+        told: Some((1, Rule::Line)),
+    },
+    Case {
+        rows: b",5,8,1,,,---c,no,,ok\n",
+        told: Some((1, Rule::Line)),
+    },
+    Case {
+        rows: b"1,5,8,1,,,a--c,no,,ok\n3,5,8,1,,,---c,no,,ok\n",
+        told: Some((2, Rule::Line)),
+    },
+    Case {
+        rows: b"1,2048,8,1,,,---c,no,,ok\n",
+        told: Some((1, Rule::Apid)),
+    },
+    Case {
+        rows: b"1,-1,8,1,,,---c,no,,ok\n",
+        told: Some((1, Rule::Apid)),
+    },
+    Case {
+        rows: b"1,,8,1,,,---c,no,,ok\n",
+        told: Some((1, Rule::Apid)),
+    },
+    Case {
+        rows: b"1,05,8,1,,,---c,no,,ok\n",
+        told: Some((1, Rule::Apid)),
+    },
+    Case {
+        rows: b"1,5,0,1,,,---c,no,,ok\n",
+        told: Some((1, Rule::Service)),
+    },
+    Case {
+        rows: b"1,5,256,1,,,---c,no,,ok\n",
+        told: Some((1, Rule::Service)),
+    },
+    Case {
+        rows: b"1,5,,1,,,---c,no,,ok\n",
+        told: Some((1, Rule::Service)),
+    },
+    Case {
+        rows: b"1,5,\xff,1,,,---c,no,,ok\n",
+        told: Some((1, Rule::Service)),
+    },
+    Case {
+        rows: b"1,5,8,0,,,---c,no,,ok\n",
+        told: Some((1, Rule::Subtype)),
+    },
+    Case {
+        rows: b"1,5,8,256,,,---c,no,,ok\n",
+        told: Some((1, Rule::Subtype)),
+    },
+    Case {
+        rows: b"1,5,11,6,,,---c,no,,ok\n",
+        told: Some((1, Rule::Subtype)),
+    },
+    Case {
+        rows: b"1,5,11,16,,,---c,no,,ok\n",
+        told: Some((1, Rule::Subtype)),
+    },
+    Case {
+        rows: b"1,5,8,1,1,,---c,no,,ok\n",
+        told: Some((1, Rule::Target)),
+    },
+    Case {
+        rows: b"1,5,8,1,-,,---c,no,,ok\n",
+        told: Some((1, Rule::Target)),
+    },
+    Case {
+        rows: b"1,5,8,1,,,a--c,no,,ok\n2,5,11,4,0,2031-05-04T10:00:00Z,---c,no,,ok\n3,5,8,1,,,a---,no,,ok\n",
+        told: Some((2, Rule::Target)),
+    },
+    Case {
+        rows: b"1,5,8,1,,,a--c,no,,ok\n2,5,11,4,2,2031-05-04T10:00:00Z,---c,no,,ok\n3,5,8,1,,,a---,no,,ok\n",
+        told: Some((2, Rule::Target)),
+    },
+    Case {
+        rows: b"1,5,8,1,,,a--c,no,,ok\n2,5,11,4,3,2031-05-04T10:00:00Z,---c,no,,ok\n3,5,8,1,,,a---,no,,ok\n",
+        told: Some((2, Rule::Target)),
+    },
+    Case {
+        rows: b"1,5,8,1,,,a--c,no,,ok\n2,5,11,4,,2031-05-04T10:00:00Z,---c,no,,ok\n3,5,8,1,,,a---,no,,ok\n",
+        told: Some((2, Rule::Target)),
+    },
+    Case {
+        rows: b"1,5,8,1,,,a--c,no,,ok\n2,5,11,4,1,,---c,no,,ok\n",
+        told: Some((2, Rule::Time)),
+    },
+    Case {
+        rows: b"1,5,8,1,,,a--c,no,,ok\n2,5,11,4,1,2031-05-04T10:00:00.5Z,---c,no,,ok\n",
+        told: Some((2, Rule::Time)),
+    },
+    Case {
+        rows: b"1,5,8,1,,,a--c,no,,ok\n2,5,11,4,1,2100-01-01T00:00:00Z,---c,no,,ok\n",
+        told: Some((2, Rule::Time)),
+    },
+    Case {
+        rows: b"1,5,8,1,,,a--c,no,,ok\n2,5,11,4,1,1969-12-31T23:59:59Z,---c,no,,ok\n",
+        told: Some((2, Rule::Time)),
+    },
+    Case {
+        rows: b"1,5,8,1,,,a--c,no,,ok\n2,5,11,4,1,2031-05-04,---c,no,,ok\n",
+        told: Some((2, Rule::Time)),
+    },
+    Case {
+        rows: b"1,5,8,1,,,a--c,no,,ok\n2,5,11,4,1,2031-05-04T10:00:00,---c,no,,ok\n",
+        told: Some((2, Rule::Time)),
+    },
+    Case {
+        rows: b"1,5,8,1,,,a--c,no,,ok\n2,5,11,4,1,2031-02-29T10:00:00Z,---c,no,,ok\n",
+        told: Some((2, Rule::Time)),
+    },
+    Case {
+        rows: b"1,5,8,1,,,a--c,no,,ok\n2,5,11,4,1,1935741600,---c,no,,ok\n",
+        told: Some((2, Rule::Time)),
+    },
+    Case {
+        rows: b"1,5,8,1,,,a--c,no,,ok\n2,5,11,5,1,60,---c,no,,ok\n",
+        told: Some((2, Rule::Time)),
+    },
+    Case {
+        rows: b"1,5,11,15,,-0,---c,no,,ok\n",
+        told: Some((1, Rule::Time)),
+    },
+    Case {
+        rows: b"1,5,8,1,,,asp,no,,ok\n",
+        told: Some((1, Rule::Ack)),
+    },
+    Case {
+        rows: b"1,5,11,1,,,asp-,no,,ok\n",
+        told: Some((1, Rule::Ack)),
+    },
+    Case {
+        rows: b"1,5,8,1,,,---c,Yes,,ok\n",
+        told: Some((1, Rule::Critical)),
+    },
+    Case {
+        rows: b"1,5,8,1,,,---c,no,1,ok\n",
+        told: Some((1, Rule::After)),
+    },
+    Case {
+        rows: b"1,5,8,1,,,a--c,no,,ok\n2,5,8,1,,,---c,no,0,ok\n",
+        told: Some((2, Rule::After)),
+    },
+    Case {
+        rows: b"1,5,8,1,,,---c,no,,OK\n",
+        told: Some((1, Rule::Outcome)),
+    },
+    Case {
+        rows: b"1,5,11,1,,,---c,no,,ok/1\n",
+        told: Some((1, Rule::Outcome)),
+    },
+    Case {
+        rows: b"1,5,8,1,,,---c,no,,ok\n2,5,11,4,1,2031-05-04T10:00:00Z,---c,no,,ok\n",
+        told: Some((2, Rule::TargetRow)),
+    },
+    Case {
+        rows: b"1,5,11,1,,,a--c,no,,ok\n2,5,11,5,1,,---c,no,,ok\n",
+        told: Some((2, Rule::TargetRow)),
+    },
+    Case {
+        rows: b"1,5,11,1,,,a--c,no,,ok\n2,5,11,5,1,,---c,no,,ok\n3,5,8,1,,,---c,no,,no\n",
+        told: Some((3, Rule::Outcome)),
+    },
+];
+
+/// The header with these rows behind it; none where memory was refused.
+fn text(alloc: Global, rows: &[u8]) -> Option<Vec<u8>> {
+    let mut made = Vec::new(alloc);
+    made.extend_from_slice(HEADER).ok()?;
+    made.extend_from_slice(rows).ok()?;
+    Some(made)
+}
+
+/// How many of the texts are judged as is written beside their rows.
+fn judged(alloc: Global) -> usize {
+    let mut count = 0_usize;
+    for case in &CASES {
+        let is_right = match text(alloc, case.rows) {
+            Some(text) => is_judged(alloc, text.as_slice(), case.told),
+            None => false,
+        };
+        if is_right {
+            count = count.saturating_add(1);
+        }
+    }
+    count
+}
+
+#[test]
+fn each_row_is_judged(rt: HostRuntime) -> Result<(), Fail> {
+    assert!(rt; judged(rt.alloc()) == CASES.len());
+    Ok(())
+}
+
+/// Texts with another beginning or end, and what is wrong with them.
+const TEXTS: [(&[u8], Option<Told>); 9] = [
+    (b"", Some((0, Rule::Header))),
+    (
+        b"line,apid,service,subtype,target,time,ack,critical,after,outcome",
+        Some((1, Rule::SomeRow)),
+    ),
+    (
+        b"line,apid,service,subtype,target,time,ack,critical,after,outcome\r\n\r\n",
+        Some((1, Rule::SomeRow)),
+    ),
+    (
+        b"line,apid,service,subtype,time,target,ack,critical,after,outcome\n1,5,8,1,,,---c,no,,ok\n",
+        Some((0, Rule::Header)),
+    ),
+    (
+        b"line,apid,service,subtype,target,time,ack,critical,after\n1,5,8,1,,,---c,no,\n",
+        Some((0, Rule::Header)),
+    ),
+    (
+        b"\xef\xbb\xbf\xef\xbb\xbfline,apid,service,subtype,target,time,ack,critical,after,outcome\n1,5,8,1,,,---c,no,,ok\n",
+        Some((0, Rule::Header)),
+    ),
+    (
+        b"\xef\xbb\xbfline,apid,service,subtype,target,time,ack,critical,after,outcome\r\n1,5,8,1,,,---c,no,,ok\r\n2,5,8,2,,,---c,no,1,ok\r\n",
+        None,
+    ),
+    (
+        b"\n\"line\",apid,service,subtype,target,time,ack,critical,after,outcome\n\n\"1\",5,8,1,,,---c,no,,\"ok\"",
+        None,
+    ),
+    (
+        b"line;apid;service;subtype;target;time;ack;critical;after;outcome\n1;5;8;1;;;---c;no;;ok\n",
+        Some((0, Rule::Header)),
+    ),
+];
+
+/// How many of these are judged so.
+fn judged_whole(alloc: Global) -> usize {
+    let mut count = 0_usize;
+    for case in &TEXTS {
+        if is_judged(alloc, case.0, case.1) {
+            count = count.saturating_add(1);
+        }
+    }
+    count
+}
+
+#[test]
+fn each_text_of_a_stack_is_judged(rt: HostRuntime) -> Result<(), Fail> {
+    assert!(rt; judged_whole(rt.alloc()) == TEXTS.len());
+    Ok(())
+}
+
+/// Whether the two rows of the first case are read as what they say.
+fn reads_the_two(alloc: Global) -> bool {
+    let Some(text) = text(alloc, CASES[0].rows) else {
+        return false;
+    };
+    let Some(read) = stack(alloc, text.as_slice()) else {
+        return false;
+    };
+    match read.rows() {
+        [first, second] => {
+            let is_plain = matches!(second.entry.command(), Command::Plain { .. });
+            is_plain && first.after.is_none() && second.after == Some(1)
+        }
+        _ => false,
+    }
+}
+
+/// Whether the insert of a text is read with this line and this time.
+fn reads_the_insert(alloc: Global) -> bool {
+    let rows = b"1,5,8,1,,,a--c,no,,ok\n2,5,11,4,1,2031-05-04T12:00:00+02:00,---c,no,,ok\n";
+    let Some(text) = text(alloc, rows) else {
+        return false;
+    };
+    let Some(read) = stack(alloc, text.as_slice()) else {
+        return false;
+    };
+    match read.rows() {
+        [_, second] => match second.entry.command() {
+            Command::InsertActivity { target, time } => target == 1 && time.get() == 1_935_655_200,
+            _ => false,
+        },
+        _ => false,
+    }
+}
+
+#[test]
+fn two_rows_are_read(rt: HostRuntime) -> Result<(), Fail> {
+    assert!(rt; reads_the_two(rt.alloc()));
+    assert!(rt; reads_the_insert(rt.alloc()));
+    Ok(())
+}
+
+/// A text with so many rows, all alike but for their numbers.
+fn rows_text(alloc: Global, count: u32) -> Option<Vec<u8>> {
+    let mut made = text(alloc, b"")?;
+    for line in 1..=count {
+        let row = format!(in alloc; "{line},5,8,1,,,---c,no,,ok\n").ok()?;
+        made.extend_from_slice(row.as_bytes()).ok()?;
+    }
+    Some(made)
+}
+
+#[test]
+fn a_stack_has_200_rows_at_most(rt: HostRuntime) -> Result<(), Fail> {
+    let most = rows_text(rt.alloc(), 200).expect(&rt, "a text");
+    assert!(rt; is_judged(rt.alloc(), most.as_slice(), None));
+    let more = rows_text(rt.alloc(), 201).expect(&rt, "a text");
+    assert!(rt; is_judged(rt.alloc(), more.as_slice(), Some((201, Rule::RowCount))));
+    Ok(())
+}

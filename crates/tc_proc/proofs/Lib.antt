@@ -1,0 +1,4 @@
+pub mod ExecutionLemmas
+pub mod RowLemmas
+pub mod StepTextLemmas
+pub mod WorkedCases

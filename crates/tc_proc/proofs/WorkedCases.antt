@@ -1,0 +1,65 @@
+-- The definitions carried out on a procedure of two steps, of which the second wants a second person and releases request 1.
+use Rattle.std.proofs.Common.{◌≡◌, ℕ, true, false, Option, Some, None, List, [], ◌∷◌, codes, refl}
+use Rattle.std.specs.Fmt.{digits}
+use Rattle.csv.specs.Machine.{next_record}
+use Rattle.csv.specs.Reading.{records_from, strip_bom}
+use Rattle.tc_types.specs.declared.refusals.Refusal.TheVariants.{StepOutOfOrder, Countersign}
+use Rattle.tc_csv.specs.Tables.{records_of, header}
+use Rattle.tc_proc.specs.declared.procedures.Step.{Step}
+use Rattle.tc_proc.specs.declared.records.Record.{Record}
+use Rattle.tc_proc.specs.declared.records.Verdict.{Verdict}
+use Rattle.tc_proc.specs.declared.records.Verdict.TheVariants.{Done, Failed}
+use Rattle.tc_proc.specs.Procedures.{procedure_columns, step_records}
+use Rattle.tc_proc.specs.Executions.{ExecutionState, begun, next_step, recorded, refusal_of}
+
+abbrev two : List Step
+two =
+    record { text = codes "check power"; is_countersigned = false; request = None }
+    ∷ record { text = codes "switch on"; is_countersigned = true; request = Some 1 } ∷ []
+
+-- its text
+pub spelled : records_of (codes "step,text,second,request\n1,check power,no,\n2,switch on,yes,1\n") ≡ header procedure_columns ∷ step_records 1 two
+unfolding next_record records_from strip_bom digits
+spelled = refl
+
+-- ---- an execution of it
+
+abbrev ann : List ℕ
+ann = codes "ann"
+
+abbrev bob : List ℕ
+bob = codes "bob"
+
+abbrev first : Record
+first = record { step = 1; verdict = Done; by = ann; second = None }
+
+abbrev second : Verdict → Option (List ℕ) → Record
+second verdict other = record { step = 2; verdict = verdict; by = ann; second = other }
+
+pub not_the_first : refusal_of (begun two) (second Done (Some bob)) ≡ Some StepOutOfOrder
+not_the_first = refl
+
+pub one_done : refusal_of (begun two) first ≡ None
+one_done = refl
+
+abbrev after_one : ExecutionState
+after_one = recorded (begun two) first
+
+pub not_again : refusal_of after_one first ≡ Some StepOutOfOrder
+not_again = refl
+
+pub nobody_signs : refusal_of after_one (second Done None) ≡ Some Countersign
+nobody_signs = refl
+
+pub the_actor_signs : refusal_of after_one (second Failed (Some ann)) ≡ Some Countersign
+the_actor_signs = refl
+
+pub bob_signs : refusal_of after_one (second Done (Some bob)) ≡ None
+bob_signs = refl
+
+pub at_its_end : next_step (recorded after_one (second Done (Some bob))) ≡ None
+at_its_end = refl
+
+-- a step that fails ends it
+pub failed : next_step (recorded (begun two) (record { step = 1; verdict = Failed; by = ann; second = None })) ≡ None
+failed = refl

@@ -1,0 +1,5 @@
+use Rattle.tc_proc.proofs.RowLemmas.{spelled_unbroken}
+use Rattle.tc_proc.proofs.readers.read_procedure.Goals as goal
+
+pub returns-in-Err-Wrong-clause-only : goal.returns-in-Err-Wrong-clause-only
+returns-in-Err-Wrong-clause-only c = λ steps spells. absurd (spelled_unbroken c.args.text.now steps c.in-Err-Wrong.fault spells (rw c.in-Err-Wrong.field-0-is at c.in-Err-Wrong.ensures))

@@ -1,0 +1,9 @@
+use Rattle.std.proofs.Common.{map}
+use Rattle.csv.specs.Records.{fields_of}
+use Rattle.tc_csv.proofs.RowLemmas.{rows_behind}
+use Rattle.tc_proc.proofs.RowLemmas.{table_judged}
+use Rattle.tc_proc.proofs.readers.read_steps.Goals as goal
+
+pub returns-in-Ok : goal.returns-in-Ok
+returns-in-Ok c =
+    table_judged c.args.text.now (map fields_of c.in-Ok.records.items) c.steps_of.result c.in-Ok.ensures (rw (c.deref.ensures.value, rows_behind c.in-Ok.records.items) at c.steps_of.ensures)

@@ -1,0 +1,3 @@
+pub mod Executions
+pub mod Procedures
+pub mod StepTexts

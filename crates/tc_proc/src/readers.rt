@@ -1,0 +1,128 @@
+//! The text of a procedure, read.
+ghost use Rattle.std.specs.Prelude.{◌≡◌, ◌⊎◌, ◌≤◌, List, [], Some, true, false, length, map, IfOk, IfErr, IfSome};
+ghost use Rattle.csv.specs.Records.{fields_of};
+ghost use Rattle.tc_types.specs.declared.refusals.Refusal.TheVariants.{Memory};
+ghost use Rattle.tc_types.specs.Numbers.{IsNumber};
+ghost use Rattle.tc_types.specs.Grammar.{Reads};
+ghost use Rattle.tc_csv.specs.declared.faults.Fault.{Fault as SomeFault};
+ghost use Rattle.tc_csv.specs.declared.faults.NotRead.TheVariants.{Wrong};
+ghost use Rattle.tc_csv.specs.declared.faults.Rule.TheVariants.{StepText as TheText};
+ghost use Rattle.tc_csv.specs.Faults.{Judged, FirstBroken, FirstBrokenRow, rule_refusal};
+ghost use Rattle.tc_proc.specs.declared.procedures.Step.{Step as SomeStep};
+ghost use Rattle.tc_proc.specs.StepTexts.{is_step_text};
+ghost use Rattle.tc_proc.specs.Procedures.{IsStep, AreSteps, step_record, step_records, KeepsStep, step_rules, SpellsProcedure, IsProcedureFault, Tells};
+
+use crate::procedures::{MOST_STEPS, Procedure, Step};
+use crate::step_texts::StepText;
+use csv::ByteRecord;
+use std::alloc::Global;
+use tc_csv::columns::Column;
+use tc_csv::faults::{Fault, NotRead, Rule};
+use tc_csv::fields::{field, optional_number};
+use tc_csv::tables::read_table;
+use tc_types::readers::{number, yes_or_no};
+use tc_types::refusals::Refusal;
+
+/// The columns of the text of a procedure.
+const COLUMNS: [Column; 4] = [Column::Step, Column::Text, Column::Second, Column::Request];
+
+/// The fault of a row that breaks this rule.
+fn wrong(row: u32, rule: Rule) -> NotRead
+    ensures { result ≡ Wrong (record { row = row; rule = rule }) }
+{
+    NotRead::Wrong(Fault { row, rule })
+}
+
+/// The text of a step, from its field.
+fn text_of(alloc: Global, row: u32, field: &[u8]) -> Result<StepText, NotRead>
+    ensures { Judged (λ text. (text ≡ field.now) × (is_step_text field.now ≡ true)) (λ fault. (is_step_text field.now ≡ false) × (fault ≡ record { row = row; rule = TheText })) result }
+{
+    match StepText::new(alloc, field) {
+        Ok(Some(text)) => Ok(text),
+        Ok(None) => Err(wrong(row, Rule::StepText)),
+        Err(_) => Err(NotRead::Memory),
+    }
+}
+
+/// The step of a row with this number.
+fn step_of(alloc: Global, row: u32, record: &ByteRecord) -> Result<Step, NotRead>
+    ensures { Judged (λ step. (fields_of record.now ≡ step_record row step) × IsStep step) (λ fault. FirstBroken (KeepsStep row (fields_of record.now)) step_rules fault.rule × (fault.row ≡ row)) result }
+{
+    if record.len() != COLUMNS.len() {
+        return Err(wrong(row, Rule::FieldCount));
+    }
+    if number(field(record, 0)) != Some(row) {
+        return Err(wrong(row, Rule::StepNumber));
+    }
+    let text = text_of(alloc, row, field(record, 1))?;
+    let Some(is_countersigned) = yes_or_no(field(record, 2)) else {
+        return Err(wrong(row, Rule::Second));
+    };
+    let Some(request) = optional_number(field(record, 3)) else {
+        return Err(wrong(row, Rule::StepRequest));
+    };
+    Ok(Step {
+        text,
+        is_countersigned,
+        request,
+    })
+}
+
+/// The steps of these rows.
+fn steps_of(alloc: Global, rows: &[ByteRecord]) -> Result<Vec<Step>, NotRead>
+    requires { length rows.now ≤ 100 }
+    ensures { Judged (λ v. AreSteps (map fields_of rows.now) v.items) (FirstBrokenRow KeepsStep step_rules 1 (map fields_of rows.now)) result }
+{
+    let mut steps = Vec::new(alloc);
+    for (index, record) in rows.iter().enumerate() {
+        match step_of(alloc, index as u32 + 1, record) {
+            Ok(step) => {
+                if steps.push(step).is_err() {
+                    return Err(NotRead::Memory);
+                }
+            }
+            Err(fault) => return Err(fault),
+        }
+    }
+    Ok(steps)
+}
+
+/// The steps of a text of a procedure.
+fn read_steps(alloc: Global, text: &[u8]) -> Result<Vec<Step>, NotRead>
+    ensures { Judged (λ v. SpellsProcedure text.now v.items) (IsProcedureFault text.now) result }
+{
+    match read_table(alloc, text, &COLUMNS, MOST_STEPS) {
+        Ok(records) => steps_of(alloc, &records[1..]),
+        Err(fault) => Err(fault),
+    }
+}
+
+/// The procedure that a text spells: a header `step,text,second,request`, and 1 to 100 rows, each a step.
+///
+/// It is refused with `TooLong` or `BadText` where the text breaks a rule, and with `Memory` where memory was refused.
+pub fn read_procedure(alloc: Global, text: &[u8]) -> Result<Procedure, Refusal>
+    ensures read { IfOk result (λ procedure. SpellsProcedure text.now procedure) }
+    ensures refused { IfErr result (λ why. (why ≡ Memory) ⊎ ((fault : SomeFault) × IsProcedureFault text.now fault × (why ≡ rule_refusal fault.rule))) }
+    ensures only { (steps : List SomeStep) → SpellsProcedure text.now steps → IfErr result (λ why. why ≡ Memory) }
+{
+    match read_steps(alloc, text) {
+        Ok(steps) => Ok(Procedure::of(steps)),
+        Err(NotRead::Wrong(fault)) => Err(fault.rule.refusal()),
+        Err(NotRead::Memory) => Err(Refusal::Memory),
+    }
+}
+
+/// Why a text spells no procedure: the first rule that it breaks, and where; `None` where it spells one.
+///
+/// It is refused for want of memory alone.
+pub fn why_no_procedure(alloc: Global, text: &[u8]) -> Result<Option<Fault>, Refusal>
+    ensures told { IfOk result (Tells text.now) }
+    ensures refused { IfErr result (λ why. why ≡ Memory) }
+    ensures only { (fault : SomeFault) → IsProcedureFault text.now fault → IfOk result (λ told. told ≡ Some fault) }
+{
+    match read_steps(alloc, text) {
+        Ok(_) => Ok(None),
+        Err(NotRead::Wrong(fault)) => Ok(Some(fault)),
+        Err(NotRead::Memory) => Err(Refusal::Memory),
+    }
+}

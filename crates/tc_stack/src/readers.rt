@@ -1,0 +1,158 @@
+//! The text of a stack, read.
+ghost use Rattle.std.specs.Prelude.{◌≡◌, ◌⊎◌, ◌≤◌, List, Some, length, map, IfOk, IfErr};
+ghost use Rattle.csv.specs.Records.{fields_of};
+ghost use Rattle.tc_types.specs.declared.refusals.Refusal.TheVariants.{Memory};
+ghost use Rattle.tc_csv.specs.declared.faults.Fault.{Fault as SomeFault};
+ghost use Rattle.tc_csv.specs.declared.faults.NotRead.TheVariants.{Wrong};
+ghost use Rattle.tc_csv.specs.Faults.{Judged, FirstBrokenRow, rule_refusal};
+ghost use Rattle.tc_csv.specs.Rows.{SpellRows};
+ghost use Rattle.tc_stack.specs.declared.stacks.StackRow.{StackRow as SomeRow};
+ghost use Rattle.tc_stack.specs.Stacks.{named_line, is_barred, names_barred, first_barred};
+ghost use Rattle.tc_stack.specs.StackTexts.{KeepsRow, row_rules, SpellsStack, IsStackFault, Tells};
+ghost use Rattle.tc_stack.specs.RowTexts.{SpellsOnlyRow, IsOnlyStack};
+
+use crate::rows::row_of;
+use crate::stacks::{MOST_ROWS, Stack, StackRow, row_at};
+use csv::ByteRecord;
+use std::alloc::Global;
+use tc_csv::columns::Column;
+use tc_csv::faults::{Fault, NotRead, Rule};
+use tc_csv::tables::read_table;
+use tc_types::entries::Entry;
+use tc_types::refusals::Refusal;
+use tc_types::requests::Command;
+
+/// The columns of the text of a stack.
+const COLUMNS: [Column; 10] = [
+    Column::Line,
+    Column::Apid,
+    Column::Service,
+    Column::Subtype,
+    Column::Target,
+    Column::Time,
+    Column::Ack,
+    Column::Critical,
+    Column::After,
+    Column::Outcome,
+];
+
+/// The fault of a row that breaks this rule.
+fn wrong(row: u32, rule: Rule) -> NotRead
+    ensures { result ≡ Wrong (record { row = row; rule = rule }) }
+{
+    NotRead::Wrong(Fault { row, rule })
+}
+
+/// The rows of these records.
+fn rows_of(alloc: Global, records: &[ByteRecord]) -> Result<Vec<StackRow>, NotRead>
+    requires { length records.now ≤ 200 }
+    ensures { Judged (λ v. SpellRows SpellsOnlyRow 1 (map fields_of records.now) v.items) (FirstBrokenRow KeepsRow row_rules 1 (map fields_of records.now)) result }
+{
+    let mut rows = Vec::new(alloc);
+    for (index, record) in records.iter().enumerate() {
+        match row_of(index as u32 + 1, record) {
+            Ok(row) => {
+                if rows.push(row).is_err() {
+                    return Err(NotRead::Memory);
+                }
+            }
+            Err(rule) => return Err(wrong(index as u32 + 1, rule)),
+        }
+    }
+    Ok(rows)
+}
+
+/// The line that a command names, if it names one.
+fn named_line(command: Command) -> Option<u32>
+    ensures { result ≡ named_line command }
+{
+    match command {
+        Command::InsertActivity { target, .. }
+        | Command::DeleteActivity { target }
+        | Command::ShiftActivity { target, .. } => Some(target),
+        _ => None,
+    }
+}
+
+/// Whether a command may not name this row.
+fn is_barred(command: Command, entry: Entry) -> bool
+    ensures { (row : SomeRow) → row.entry ≡ entry → result ≡ is_barred command (Some row) }
+{
+    let is_insert = matches!(command, Command::InsertActivity { .. });
+    entry.command().is_schedule() || (is_insert && !entry.form().ack.acceptance)
+}
+
+/// Whether the command of a row names one that it may not name.
+fn names_barred(rows: &[StackRow], row: &StackRow) -> bool
+    ensures { result ≡ names_barred rows.now row.now }
+{
+    let Some(line) = named_line(row.entry.command()) else {
+        return false;
+    };
+    match row_at(rows, line) {
+        Some(named) => is_barred(row.entry.command(), named.entry),
+        None => false,
+    }
+}
+
+/// The first line whose command does so.
+fn first_barred(rows: &[StackRow]) -> Option<u32>
+    requires { length rows.now ≤ 200 }
+    ensures { result ≡ first_barred rows.now 1 rows.now }
+{
+    for (index, row) in rows.iter().enumerate() {
+        if names_barred(rows, row) {
+            return Some(index as u32 + 1);
+        }
+    }
+    None
+}
+
+/// The rows of a text of a stack.
+fn read_rows(alloc: Global, text: &[u8]) -> Result<Vec<StackRow>, NotRead>
+    ensures { Judged (λ v. IsOnlyStack text.now v.items) (IsStackFault text.now) result }
+{
+    let records = match read_table(alloc, text, &COLUMNS, MOST_ROWS) {
+        Ok(records) => records,
+        Err(fault) => return Err(fault),
+    };
+    let rows = match rows_of(alloc, &records[1..]) {
+        Ok(rows) => rows,
+        Err(fault) => return Err(fault),
+    };
+    match first_barred(&rows) {
+        None => Ok(rows),
+        Some(line) => Err(wrong(line, Rule::TargetRow)),
+    }
+}
+
+/// The stack that a text spells: a header `line,apid,service,subtype,target,time,ack,critical,after,outcome`, and 1 to 200 rows.
+///
+/// It is refused with `TooLong`, `BadText` or `BadActivity` where the text breaks a rule, in that order, and with `Memory` where
+/// memory was refused.
+pub fn read_stack(alloc: Global, text: &[u8]) -> Result<Stack, Refusal>
+    ensures read { IfOk result (λ stack. SpellsStack text.now stack) }
+    ensures refused { IfErr result (λ why. (why ≡ Memory) ⊎ ((fault : SomeFault) × IsStackFault text.now fault × (why ≡ rule_refusal fault.rule))) }
+    ensures only { (rows : List SomeRow) → SpellsStack text.now rows → IfErr result (λ why. why ≡ Memory) × IfOk result (λ stack. stack ≡ rows) }
+{
+    match read_rows(alloc, text) {
+        Ok(rows) => Ok(Stack::of(rows)),
+        Err(NotRead::Wrong(fault)) => Err(fault.rule.refusal()),
+        Err(NotRead::Memory) => Err(Refusal::Memory),
+    }
+}
+
+/// Why a text spells no stack: the first rule that it breaks, and where; `None` where it spells one.
+///
+/// It is refused for want of memory alone.
+pub fn why_no_stack(alloc: Global, text: &[u8]) -> Result<Option<Fault>, Refusal>
+    ensures told { IfOk result (Tells text.now) }
+    ensures refused { IfErr result (λ why. why ≡ Memory) }
+    ensures only { (fault : SomeFault) → IsStackFault text.now fault → IfOk result (λ told. told ≡ Some fault) }
+{
+    match read_rows(alloc, text) {
+        Ok(_) => Ok(None),
+        Err(NotRead::Wrong(fault)) => Ok(Some(fault)),
+        Err(NotRead::Memory) => Err(Refusal::Memory),
+    }
+}

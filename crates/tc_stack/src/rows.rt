@@ -1,0 +1,158 @@
+//! A row of a stack, read from its fields.
+ghost use Rattle.std.specs.Prelude.{◌≡◌, ◌↔◌, IsTrue, List, ℕ, true, IfOk, IfErr, IfSome, Some, [], ◌∷◌, length, get_or};
+ghost use Rattle.std.specs.Fmt.{decimal};
+ghost use Rattle.csv.specs.Records.{fields_of};
+ghost use Rattle.tc_types.specs.declared.requests.Outcome.TheVariants.{Completes as TheCompletes};
+ghost use Rattle.tc_types.specs.Numbers.{IsApid};
+ghost use Rattle.tc_types.specs.Grammar.{Reads, ack_word, yes_no, outcome_word, IsOutcome};
+ghost use Rattle.tc_types.specs.Schedule.{is_schedule};
+ghost use Rattle.tc_csv.specs.Faults.{FirstBroken};
+ghost use Rattle.tc_csv.specs.Rows.{IsOnly};
+ghost use Rattle.tc_csv.specs.Tables.{number_field};
+ghost use Rattle.tc_stack.specs.Stacks.{IsEarlier};
+ghost use Rattle.tc_stack.specs.StackTexts.{IsScheduling, SpellsRow, KeepsRow, row_rules};
+ghost use Rattle.tc_stack.specs.RowTexts.{place_rules, conduct_rules, ReadsPlace, ReadsConduct};
+
+use crate::commands::command_of;
+use crate::stacks::StackRow;
+use csv::ByteRecord;
+use tc_csv::faults::Rule;
+use tc_csv::fields::{field, optional_number};
+use tc_types::entries::Entry;
+use tc_types::entry_reader;
+use tc_types::numbers::Apid;
+use tc_types::readers::{self, apid, number, yes_or_no};
+use tc_types::requests::{Ack, Command, Form, Outcome};
+
+/// How many fields a row has.
+const FIELDS: usize = 10;
+
+/// Whether a service is that of the on-board schedule.
+fn is_scheduling(service: &[u8]) -> bool
+    ensures { IsTrue result ↔ IsScheduling service.now }
+{
+    number(service) == Some(11)
+}
+
+/// Which reports a command of this service asks for: for one of the on-board schedule, its completion among them.
+fn ack(service: &[u8], field: &[u8]) -> Option<Ack>
+    ensures { Reads ack_word (λ ack. IsScheduling service.now → ack.completion ≡ true) field.now result }
+{
+    let ack = readers::ack(field)?;
+    if is_scheduling(service) && !ack.completion {
+        return None;
+    }
+    Some(ack)
+}
+
+/// How the spacecraft will behave at a command of this service: one of the on-board schedule completes.
+fn outcome(service: &[u8], field: &[u8]) -> Option<Outcome>
+    ensures { Reads outcome_word (λ outcome. IsOutcome outcome × (IsScheduling service.now → outcome ≡ TheCompletes)) field.now result }
+{
+    let outcome = entry_reader::outcome(field)?;
+    if is_scheduling(service) && !matches!(outcome, Outcome::Completes) {
+        return None;
+    }
+    Some(outcome)
+}
+
+/// The line that has to be completed before, if the field is not empty: one before this one.
+fn after(line: u32, field: &[u8]) -> Option<Option<u32>>
+    ensures { Reads number_field (λ after. IfSome after (IsEarlier line)) field.now result }
+{
+    match optional_number(field)? {
+        None => Some(None),
+        Some(named) => {
+            if named != 0 && named < line {
+                Some(Some(named))
+            } else {
+                None
+            }
+        }
+    }
+}
+
+/// The application process of the row on this line.
+fn apid_of(line: u32, record: &ByteRecord) -> Result<Apid, Rule>
+    ensures found { IfOk result (ReadsPlace line (fields_of record.now)) }
+    ensures broken { IfErr result (FirstBroken (KeepsRow line (fields_of record.now)) place_rules) }
+{
+    if record.len() != FIELDS {
+        return Err(Rule::FieldCount);
+    }
+    if number(field(record, 0)) != Some(line) {
+        return Err(Rule::Line);
+    }
+    match apid(field(record, 1)) {
+        Some(apid) => Ok(apid),
+        None => Err(Rule::Apid),
+    }
+}
+
+/// What a row asks for, beside its command.
+#[derive(Clone, Copy)]
+struct Conduct {
+    ack: Ack,
+    critical: bool,
+    after: Option<u32>,
+    outcome: Outcome,
+}
+
+/// What the row on this line asks for, beside its command.
+fn conduct_of(line: u32, record: &ByteRecord) -> Result<Conduct, Rule>
+    ensures found { IfOk result (ReadsConduct line (fields_of record.now)) }
+    ensures broken { IfErr result (FirstBroken (KeepsRow line (fields_of record.now)) conduct_rules) }
+{
+    let service = field(record, 2);
+    let Some(ack) = ack(service, field(record, 6)) else {
+        return Err(Rule::Ack);
+    };
+    let Some(critical) = yes_or_no(field(record, 7)) else {
+        return Err(Rule::Critical);
+    };
+    let Some(after) = after(line, field(record, 8)) else {
+        return Err(Rule::After);
+    };
+    let Some(outcome) = outcome(service, field(record, 9)) else {
+        return Err(Rule::Outcome);
+    };
+    Ok(Conduct {
+        ack,
+        critical,
+        after,
+        outcome,
+    })
+}
+
+/// The row on this line.
+pub(crate) fn row_of(line: u32, record: &ByteRecord) -> Result<StackRow, Rule>
+    ensures found { IfOk result (IsOnly (SpellsRow line (fields_of record.now))) }
+    ensures broken { IfErr result (FirstBroken (KeepsRow line (fields_of record.now)) row_rules) }
+{
+    let apid = match apid_of(line, record) {
+        Ok(apid) => apid,
+        Err(rule) => return Err(rule),
+    };
+    let command = match command_of(line, record) {
+        Ok(command) => command,
+        Err(rule) => return Err(rule),
+    };
+    let conduct = match conduct_of(line, record) {
+        Ok(conduct) => conduct,
+        Err(rule) => return Err(rule),
+    };
+    let form = Form {
+        apid,
+        ack: conduct.ack,
+        critical: conduct.critical,
+        command,
+        outcome: conduct.outcome,
+    };
+    match Entry::new(form) {
+        Some(entry) => Ok(StackRow {
+            entry,
+            after: conduct.after,
+        }),
+        None => unreachable!(),
+    }
+}
