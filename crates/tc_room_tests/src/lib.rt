@@ -1,4 +1,4 @@
-//! The tests of tc_store and tc_room, in a crate of their own: the gate proves a crate with tests twice.
+//! The tests of tc_room, in a crate of their own: the gate proves a crate with tests twice.
 #![tactic(auto)]
 
 #[cfg(test)]

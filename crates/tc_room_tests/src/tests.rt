@@ -1,5 +1,4 @@
-//! What no clause says: that calls succeed where there is memory, what lies in the columns, and what a fault or a crash
-//! leaves.
+//! What no clause says: that calls succeed where there is memory, and that a room does what a plain program says.
 use std::process::Abort;
 use tc_desk::configs::Config;
 use tc_types::causes::Cause;
@@ -10,8 +9,6 @@ use tc_types::places::Place;
 
 mod plain;
 mod rooms;
-mod stops;
-mod tables;
 
 /// How each desk is made.
 const CONFIG: Config = Config {
