@@ -58,7 +58,6 @@ pub fn request_of(place: u32) -> Option<Request> {
         },
         critical: form.critical,
         author: Name::read(AUTHOR)?,
-        origin: None,
     })
 }
 

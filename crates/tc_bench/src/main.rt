@@ -9,7 +9,6 @@ mod acts;
 mod clocks;
 mod entries;
 mod flights;
-mod loads;
 mod reads;
 mod rooms;
 mod stores;
@@ -17,7 +16,6 @@ mod subjects;
 mod words;
 
 use crate::acts::{entries_text, flights_text, moves_text, nights_text};
-use crate::loads::loads_text;
 use crate::reads::{filled, reads_text, requests_in};
 use crate::stores::history_text;
 use crate::subjects::Subject;
@@ -66,7 +64,6 @@ fn shown<R: Clock + AllocGlobal>(rt: &R, asked: Asked) -> Option<String> {
         Kind::RoomMoves => moves_of_room(rt, count),
         Kind::RoomFlights => flights_of_room(rt, count),
         Kind::RoomNights => nights_of_room(rt, count),
-        Kind::RoomLoads => loads_of_room(rt, count),
         Kind::RoomReads => reads_of_room(rt, count),
     }
 }
@@ -104,12 +101,6 @@ fn flights_of_room<R: Clock + AllocGlobal>(rt: &R, count: u32) -> Option<String>
 fn nights_of_room<R: Clock + AllocGlobal>(rt: &R, count: u32) -> Option<String> {
     let mut room = Room::opened(rt.alloc())?;
     nights_text(rt, rt.alloc(), &mut room, count)
-}
-
-/// Loads of stacks in a room.
-fn loads_of_room<R: Clock + AllocGlobal>(rt: &R, count: u32) -> Option<String> {
-    let mut room = Room::opened(rt.alloc())?;
-    loads_text(rt, rt.alloc(), &mut room, count)
 }
 
 /// Questions in a room with so many moves.

@@ -15,6 +15,5 @@ pub mod marks;
 mod pushes;
 mod reading;
 pub mod records;
-mod stacks;
 pub mod stamps;
 mod tallies;

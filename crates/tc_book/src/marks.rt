@@ -8,10 +8,8 @@ pub struct Mark {
     pub requests: usize,
     /// How many rows of the history.
     pub rows: usize,
-    /// How many approvals of requests.
+    /// How many approvals.
     pub approvals: usize,
-    /// How many approvals of stacks.
-    pub stack_approvals: usize,
     /// How many requests at each place, in order of number.
     pub tallies: [u32; PLACES],
 }

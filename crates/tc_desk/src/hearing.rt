@@ -28,7 +28,6 @@ fn hear_fop<A: Allocator + Copy + Drop>(
     ensures rows { length records.new.book.history ≤ length records.old.book.history + 2 }
     ensures requests { records.new.book.requests ≡ records.old.book.requests }
     ensures approvals { records.new.book.approvals ≡ records.old.book.approvals }
-    ensures stack_approvals { records.new.book.stack_approvals ≡ records.old.book.stack_approvals }
 {
     match given {
         signals::Indication::Sent(n) => {
@@ -60,7 +59,6 @@ fn hear<A: Allocator + Copy + Drop>(records: &mut Records<A>, stamp: &Stamp, sai
     ensures rows { length records.new.book.history ≤ length records.old.book.history + 2 }
     ensures requests { records.new.book.requests ≡ records.old.book.requests }
     ensures approvals { records.new.book.approvals ≡ records.old.book.approvals }
-    ensures stack_approvals { records.new.book.stack_approvals ≡ records.old.book.stack_approvals }
 {
     match said {
         Indication::Fop(given) => hear_fop(records, stamp, given),
@@ -81,7 +79,6 @@ pub(crate) fn hear_all<A: Allocator + Copy + Drop>(
     ensures rows { length records.new.book.history ≤ length records.old.book.history + 516 }
     ensures requests { records.new.book.requests ≡ records.old.book.requests }
     ensures approvals { records.new.book.approvals ≡ records.old.book.approvals }
-    ensures stack_approvals { records.new.book.stack_approvals ≡ records.old.book.stack_approvals }
 {
     for told in said {
         hear(records, stamp, told);
@@ -101,7 +98,6 @@ pub(crate) fn hear_telemetry<A: Allocator + Copy + Drop>(
     ensures rows { length records.new.book.history ≤ length records.old.book.history + 2 + min (length mirror.now.told.activities) 65535 }
     ensures requests { records.new.book.requests ≡ records.old.book.requests }
     ensures approvals { records.new.book.approvals ≡ records.old.book.approvals }
-    ensures stack_approvals { records.new.book.stack_approvals ≡ records.old.book.stack_approvals }
 {
     match item {
         Telemetry::Summary(_) => {}
@@ -131,7 +127,6 @@ pub(crate) fn hear_down<A: Allocator + Copy + Drop>(
     ensures rows { length records.new.book.history ≤ length records.old.book.history + 516 + min (length mirror.now.told.activities) 65535 }
     ensures requests { records.new.book.requests ≡ records.old.book.requests }
     ensures approvals { records.new.book.approvals ≡ records.old.book.approvals }
-    ensures stack_approvals { records.new.book.stack_approvals ≡ records.old.book.stack_approvals }
 {
     match said.first() {
         Some(Indication::Received(Report::Telemetry(item))) => {

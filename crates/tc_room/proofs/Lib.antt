@@ -1,3 +1,2 @@
 mod MemoryLemmas
 mod RoomLemmas
-pub mod LoadLemmas

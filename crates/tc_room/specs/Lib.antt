@@ -2,4 +2,3 @@ pub mod Answers
 pub mod Joined
 pub mod Replies
 pub mod Room
-pub mod Loads

@@ -11,7 +11,6 @@ pub mod faults;
 mod history;
 mod moves;
 mod requests;
-mod stacks;
 mod steps;
 pub mod tables;
 mod tallies;

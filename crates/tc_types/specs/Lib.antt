@@ -9,7 +9,6 @@ pub mod LinkLines
 pub mod Grammar
 pub mod RequestLine
 pub mod Words
-pub mod Loads
 pub mod Tables
 pub mod Counts
 pub mod Stages
