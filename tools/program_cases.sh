@@ -190,6 +190,44 @@ started
 places 2: 0 0 0 0 1 0 0 0 0 0 0 0 0 0 1
 TEXT
 )$'\n'
+stack=$(cat <<'TEXT'
+ok stack heater 3 1
+move 1 100 ann 1 - Entered enter
+move 2 100 ann 2 - Entered enter
+move 3 100 ann 3 - Entered enter
+ok approvals 1 of 2
+ok approvals 2 of 2
+move 4 120 eve 1 Entered Approved approve
+move 5 120 eve 2 Entered Approved approve
+move 6 120 eve 3 Entered Approved approve
+ok
+started
+refused 7 Interlock
+ok
+move 7 150 ann 1 Approved Queued release
+move 8 150 ann 1 Queued Sent transmit
+ok accepted 1
+ok work 5/0
+refused 7 Interlock
+ok tm 1,7 5/0 step 0 code 0
+move 9 190 ann 1 Sent Completed report
+ok
+move 10 200 ann 2 Approved Queued release
+move 11 200 ann 2 Queued Sent transmit
+ok accepted 2
+ok work 5/1
+ok tm 1,7 5/1 step 0 code 0
+move 12 230 ann 2 Sent Completed report
+request 2 5/1 8/2 ---c yes - - ok ann Completed
+history 2: 5
+move 2 100 ann 2 - Entered enter
+move 5 120 eve 2 Entered Approved approve
+move 10 200 ann 2 Approved Queued release
+move 11 200 ann 2 Queued Sent transmit
+move 12 230 ann 2 Sent Completed report
+places 3: 0 1 0 0 0 0 0 0 0 2 0 0 0 0 0
+TEXT
+)$'\n'
 refused=$'refused 1 BadText\n'
 
 : >input
@@ -200,6 +238,11 @@ check "an approval" 0 "$approval" "" run "$top/examples/approval.tc"
 check "a first pass" 0 "$pass" "" run "$top/examples/first-pass.tc"
 check "a lost frame" 0 "$loss" "" run "$top/examples/lost-frame.tc"
 check "a night of the schedule" 0 "$night" "" run "$top/examples/night.tc"
+# The files that scripts load are named from the folder that the program is run in.
+mkdir examples
+cp "$top"/examples/*.csv examples
+cp "$top"/tools/cases/data/*.csv .
+check "a stack with an interlock" 1 "$stack" "" run "$top/examples/stack.tc"
 fop='fop S6 vs 0 nn 0 sent 0 wait 0 count 1 timer 0 k 10 t1 10 limit 3'
 link='link up 0 down 0 premise kept'
 word=$'ok\nok clcw 01'
@@ -247,6 +290,26 @@ head -c 1048577 /dev/zero | tr '\0' '\n' >large
 check "1,048,577 bytes" 2 "" "tcdesk: cannot use large" run large
 head -c 1048576 /dev/zero | tr '\0' '\n' >largest
 check "1,048,576 bytes" 0 "$none" "" run largest
+# A path that gives no text ends the run: what was printed stands, and the places are not asked for.
+entry='7 ann enter 5 a--c no 8 1 - - ok'
+moved=$'ok request 1 5/0\nmove 1 7 ann 1 - Entered enter\n'
+printf '%s\n0 ann stack s1 missing.csv\n0 ann places\n' "$entry" >unread
+check "a path of no file" 2 "$moved" "tcdesk: cannot use missing.csv" run unread
+printf '%s\n0 ann stack s1 folder\n0 ann places\n' "$entry" >unread
+check "a path of a directory" 2 "$moved" "tcdesk: cannot use folder" run unread
+printf '0 ann stack s1 two.csv\n0 ann stack s1 missing.csv\n' >unread
+loaded=$'ok stack s1 2 1\nmove 1 0 ann 1 - Entered enter\nmove 2 0 ann 2 - Entered enter\n'
+check "a path of no file under a name that is used" 2 "$loaded" "tcdesk: cannot use missing.csv" run unread
+printf '0 ann stack s1 \377\n' >unread
+check "a path that is not UTF-8" 1 "$refused$none" "" run unread
+# A stack has 65,536 bytes at most.
+one_row=$'ok stack s1 1 1\nmove 1 0 ann 1 - Entered enter\nplaces 1: 1 0 0 0 0 0 0 0 0 0 0 0 0 0 0\n'
+echo '0 ann stack s1 filled.csv' >fills
+fill() { { cat critical.csv; head -c $(($1 - $(stat -c %s critical.csv))) /dev/zero | tr '\0' '\n'; } >filled.csv; }
+fill 65536
+check "a stack of 65,536 bytes" 0 "$one_row" "" run fills
+fill 65537
+check "a stack of 65,537 bytes" 1 $'refused 17 TooLong\n'"$none" "" run fills
 "$program" run "$top/examples/first-run.tc" >/dev/full 2>err
 if [[ $? == 2 ]] && grep -qF "tcdesk: cannot use output" err; then
     passed=$((passed + 1))
@@ -276,7 +339,7 @@ else
     cat out err >&2
 fi
 
-# Each script of tools/cases, beside what it prints and, where that is not 0, its status.
+# Each script of tools/cases, beside what it prints and, where that is not 0, its status. What it loads lies in tools/cases/data.
 for script in "$top"/tools/cases/*.tc; do
     case=${script%.tc}
     status=0

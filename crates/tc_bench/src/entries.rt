@@ -58,6 +58,7 @@ pub fn request_of(place: u32) -> Option<Request> {
         },
         critical: form.critical,
         author: Name::read(AUTHOR)?,
+        origin: None,
     })
 }
 

@@ -9,6 +9,7 @@ mod acts;
 mod clocks;
 mod entries;
 mod flights;
+mod loads;
 mod reads;
 mod rooms;
 mod stores;
@@ -16,6 +17,7 @@ mod subjects;
 mod words;
 
 use crate::acts::{entries_text, flights_text, moves_text, nights_text};
+use crate::loads::loads_text;
 use crate::reads::{filled, reads_text, requests_in};
 use crate::stores::history_text;
 use crate::subjects::Subject;
@@ -64,6 +66,7 @@ fn shown<R: Clock + AllocGlobal>(rt: &R, asked: Asked) -> Option<String> {
         Kind::RoomMoves => moves_of_room(rt, count),
         Kind::RoomFlights => flights_of_room(rt, count),
         Kind::RoomNights => nights_of_room(rt, count),
+        Kind::RoomLoads => loads_of_room(rt, count),
         Kind::RoomReads => reads_of_room(rt, count),
     }
 }
@@ -101,6 +104,12 @@ fn flights_of_room<R: Clock + AllocGlobal>(rt: &R, count: u32) -> Option<String>
 fn nights_of_room<R: Clock + AllocGlobal>(rt: &R, count: u32) -> Option<String> {
     let mut room = Room::opened(rt.alloc())?;
     nights_text(rt, rt.alloc(), &mut room, count)
+}
+
+/// Loads of stacks in a room.
+fn loads_of_room<R: Clock + AllocGlobal>(rt: &R, count: u32) -> Option<String> {
+    let mut room = Room::opened(rt.alloc())?;
+    loads_text(rt, rt.alloc(), &mut room, count)
 }
 
 /// Questions in a room with so many moves.

@@ -141,6 +141,16 @@ impl Subject for Room {
         Some(())
     }
 
+    fn loads(&mut self, alloc: Global, number: u32, text: &[u8]) -> Option<()> {
+        let name = format!(in alloc; "s{number}").ok()?;
+        let name = Name::read(name.as_str().as_bytes())?;
+        let (by, moment) = (Name::read(AUTHOR)?, Moment::new(0)?);
+        match self.load_stack(alloc, by, moment, name, text) {
+            Ok(_) => Some(()),
+            Err(_) => None,
+        }
+    }
+
     fn counted(&mut self) -> Option<[u32; PLACES]> {
         Some(self.counts().ok()?.places)
     }

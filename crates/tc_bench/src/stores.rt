@@ -53,6 +53,10 @@ impl Subject for Tables<MemStore> {
         None
     }
 
+    fn loads(&mut self, _alloc: Global, _number: u32, _text: &[u8]) -> Option<()> {
+        None
+    }
+
     fn counted(&mut self) -> Option<[u32; PLACES]> {
         self.counts().ok()
     }

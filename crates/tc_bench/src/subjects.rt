@@ -8,6 +8,9 @@ pub const MOST_TOLD: u32 = 51;
 /// How many acts a flight is: entered, approved, released, up, the control word, down, work.
 pub const ACTS_OF_FLIGHT: u32 = 7;
 
+/// How many rows a stack has that is loaded: the most.
+pub const ROWS_OF_STACK: u32 = 200;
+
 /// How many activities a night of the on-board schedule has.
 pub const ACTIVITIES: u32 = 60;
 
@@ -38,6 +41,9 @@ pub trait Subject: Sized {
     /// That night, from 0: 60 activities are inserted, the time goes past them, and all their reports are read. None where
     /// there is no spacecraft.
     fn spends(&mut self, night: u32) -> Option<()>;
+
+    /// A stack with this text is loaded under the name `s` with this number behind it. None where no text is read.
+    fn loads(&mut self, alloc: Global, number: u32, text: &[u8]) -> Option<()>;
 
     /// How many requests stand at each place.
     fn counted(&mut self) -> Option<[u32; PLACES]>;

@@ -22,6 +22,8 @@ pub enum Kind {
     RoomFlights,
     /// So many nights of the on-board schedule pass in the room.
     RoomNights,
+    /// So many stacks of 200 rows are loaded in the room.
+    RoomLoads,
     /// Questions are asked of the bare store with so many moves.
     StoreReads,
     /// Questions are asked of the room where so many requests were entered and then withdrawn.
@@ -48,6 +50,7 @@ fn read_kind(word: &str) -> Option<Kind> {
         "store-flights" => Some(Kind::StoreFlights),
         "room-flights" => Some(Kind::RoomFlights),
         "room-nights" => Some(Kind::RoomNights),
+        "room-loads" => Some(Kind::RoomLoads),
         "store-reads" => Some(Kind::StoreReads),
         "room-reads" => Some(Kind::RoomReads),
         _ => None,

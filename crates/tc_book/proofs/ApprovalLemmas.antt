@@ -1,19 +1,23 @@
 -- What is kept of the approval of each request: after an entry, and after an approval.
-use Rattle.std.proofs.Common.{◌≡◌, ℕ, ◌+◌, ◌-◌, ◌<◌, ◌≤◌, ◌==◌, Bool, true, false, cond, nat_lt, Option, Some, None, zero, suc, inl, inr, List, [], ◌∷◌, ◌++◌, length, map, filter, set, get_or, refl, sym, ◌∙◌, ap, subst, arith}
+use Rattle.std.proofs.Common.{◌≡◌, ℕ, ◌+◌, ◌-◌, ◌<◌, ◌≤◌, ◌==◌, Bool, true, false, cond, nat_lt, is_some, is_none, Option, Some, None, zero, suc, inl, inr, List, [], ◌∷◌, ◌++◌, length, map, filter, set, get_or, refl, sym, ◌∙◌, ap, subst, arith}
 use Rattle.std.specs.Prelude.{IsSome}
 use Rattle.std.specs.List.{AllByRecursion, slice_get}
-use Rattle.std.specs.Option.{option_map}
+use Rattle.std.specs.Option.{option_map, option_map_or}
 use Rattle.std.proofs.lemmas.List.{map-append, length-append, length-map}
 use Rattle.std.proofs.lemmas.Option.{slice_get_cases}
 use Rattle.std.proofs.lemmas.Bool.Decides.{nat_tests}
 use Rattle.tc_types.specs.declared.requests.Request.{Request}
 use Rattle.tc_types.specs.declared.rows.Approval.{Approval}
-use Rattle.tc_stack.specs.Approvals.{ApprovalState, IsApproval, unapproved, approved, refusal_of, first_refusal}
+use Rattle.tc_types.specs.declared.causes.Cause.TheVariants as cause
+use Rattle.tc_types.specs.declared.moves.Move.{Move}
+use Rattle.tc_types.specs.declared.requests.Origin.{Origin}
+use Rattle.tc_stack.specs.Approvals.{ApprovalState, IsApproval, unapproved, wanted, is_complete, approved, refusal_of, first_refusal}
 use Rattle.tc_stack.proofs.ApprovalLemmas.{unapproved_sound, unrefused_sound}
 use Rattle.tc_types.specs.History.{AllAfter}
-use Rattle.tc_book.specs.Book.{Book, approvers_of, approval_of, approval_at, with_approval, is_unknown, request_in}
+use Rattle.tc_book.specs.Book.{Book, approvers_of, approval_of, approval_at, with_approval, is_unknown, request_in, request_at}
 use Rattle.tc_book.specs.Acts.{approval_tests}
 use Rattle.tc_book.specs.Good.{IsGoodBook, IsGoodRequest}
+use Rattle.tc_book.specs.Stacks.{came_with_stack, came_alone, is_approved_with, is_fully_approved}
 
 -- nobody approved a request that no approval names
 pub nobody_approved : (approvals : List Approval) (n k : ℕ) → AllByRecursion (λ (a : Approval). a.request ≤ k) approvals → k < n → approvers_of approvals n ≡ []
@@ -203,18 +207,57 @@ kept_approved book n person kept d good known is =
     ap (λ l. set l (n - 1) (approved person (get_or l (n - 1) d))) is
     ∙ kept_given book.approvals n person 1 (n - 1) d book.requests (numbered [] book.requests good.requests) (omega (arith, low)) (omega (arith, low, most))
 
+-- a complete approval stays complete with one more
+pub still_complete : (s : ApprovalState) (person : List ℕ) → is_complete s ≡ true → is_complete (approved person s) ≡ true
+still_complete s person full =
+    let len = length-append s.persons (person ∷ []) in
+    let enough : wanted s ≤ length s.persons = grind (arith, nat_tests, full) in
+    let more : wanted s ≤ length (s.persons ++ person ∷ []) = omega (arith, len, enough) in
+    grind (arith, nat_tests, more)
+
+-- what holds of all by one thing holds of all by another that follows from it
+pub all_so : {X : Type 0} (P Q : X → Type 0) (xs : List X) → ((x : X) → P x → Q x) → AllByRecursion P xs → AllByRecursion Q xs
+all_so P Q [] so all = tt
+all_so P Q (x ∷ xs) so all = (so x all.0, all_so P Q xs so all.1)
+
 -- an approval that no test refuses keeps the book good
-pub approved_good : (book : Book) (n : ℕ) (person : List ℕ) → IsGoodBook book → is_unknown book n ≡ false → ((d : ApprovalState) → refusal_of person (get_or (map (approval_of book.approvals) book.requests) (n - 1) d) ≡ None)
+pub approved_good : (book : Book) (n : ℕ) (person : List ℕ) → IsGoodBook book → is_unknown book n ≡ false → came_with_stack book n ≡ false → ((d : ApprovalState) → refusal_of person (get_or (map (approval_of book.approvals) book.requests) (n - 1) d) ≡ None)
     → IsGoodBook (with_approval book n person)
-approved_good book n person good known may = record {
+approved_good book n person good known single may = record {
   history = good.history;
   requests = good.requests;
   few = good.few;
   entered = good.entered;
   named = all_appended (λ (a : Approval). a.request ≤ length book.requests) book.approvals (given_by n person) good.named within.1;
+  alone = all_appended (λ (a : Approval). came_alone book.requests a.request ≡ true) book.approvals (given_by n person) good.alone (by_itself (request_at book n) (known_found book n known) single);
+  stacks_named = good.stacks_named;
   approved = all_before IsApproval (approval_of (with_approval book n person).approvals) book.requests (subst (AllByRecursion IsApproval) made kept_sound);
+  stacks_approved = good.stacks_approved;
+  complete = all_so (λ (m : Move). m.cause ≡ cause.Approve → is_fully_approved book m.request ≡ true) (λ (m : Move). m.cause ≡ cause.Approve → is_fully_approved (with_approval book n person) m.request ≡ true) book.history
+      (λ m was is. by_found (request_at book m.request) (was is)) good.complete;
 }
   where
+    by_itself : (found : Option Request) → IsSome found → option_map_or (λ (r : Request). is_some r.origin) found false ≡ false → option_map_or (λ (r : Request). is_none r.origin) found false ≡ true
+    by_itself None there is = cc
+    by_itself (Some r) there is = by_origin r.origin is
+      where
+        by_origin : (origin : Option Origin) → is_some origin ≡ false → is_none origin ≡ true
+        by_origin None e = refl
+        by_origin (Some o) e = cc
+
+    by_number : (r : Request) (t : Bool) → (n == r.number) ≡ t → is_complete (approval_of book.approvals r) ≡ true → is_complete (approval_of (with_approval book n person).approvals r) ≡ true
+    by_number r true e is = ap is_complete (approval_of-more book.approvals r n person e) ∙ still_complete (approval_of book.approvals r) person is
+    by_number r false e is = ap is_complete (approval_of-other book.approvals r n person e) ∙ is
+
+    by_kind : (r : Request) (origin : Option Origin) → is_approved_with book r origin ≡ true → is_approved_with (with_approval book n person) r origin ≡ true
+    by_kind r None is = by_number r (n == r.number) refl is
+    by_kind r (Some o) is = is
+
+    by_found : (found : Option Request) → option_map_or (λ (r : Request). is_approved_with book r r.origin) found false ≡ true
+        → option_map_or (λ (r : Request). is_approved_with (with_approval book n person) r r.origin) found false ≡ true
+    by_found None never = cc
+    by_found (Some r) is = by_kind r r.origin is
+
     within : (0 < n) × (n ≤ length book.requests)
     within = known_within book n known
 

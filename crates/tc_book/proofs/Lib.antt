@@ -1,5 +1,7 @@
 pub mod HistoryLemmas
+pub mod RequestLemmas
 pub mod GoodLemmas
+pub mod GoesOnLemmas
 pub mod BatchLemmas
 pub mod ConservedLemmas
 pub mod TallyLemmas
@@ -7,3 +9,10 @@ pub mod CountLemmas
 pub mod KeptLemmas
 pub mod CopyLemmas
 pub mod ApprovalLemmas
+pub mod StackLemmas
+pub mod TableLemmas
+pub mod PassingLemmas
+pub mod StepLemmas
+pub mod LoadLemmas
+pub mod RowLemmas
+pub mod ApproveLemmas

@@ -1,11 +1,11 @@
 -- Each act on the book: its tests, with the refusal that each gives, in order; what it does to the book; and the first
 -- line of its reply. An act is one case of each of these. Beside them the tests of each question.
-use Rattle.std.specs.Prelude.{ℕ, ◌+◌, Bool, false, not, ◌||◌, if◌then◌else◌, Option, Some, None, List, [], ◌∷◌, ◌++◌, length}
+use Rattle.std.specs.Prelude.{ℕ, ◌+◌, Bool, false, not, ◌||◌, if◌then◌else◌, Option, Some, None, List, [], ◌∷◌, ◌++◌, length, fold}
 use Rattle.std.specs.Option.{option_map_or}
 use Rattle.tc_types.specs.declared.places.Place.TheVariants.{Entered, Approved, Confirmed, Riding, Scheduled, Accepted, Started, Doubtful, Withdrawn, Closed}
 use Rattle.tc_types.specs.declared.causes.Cause.TheVariants as cause
 use Rattle.tc_types.specs.declared.refusals.Refusal.{Refusal}
-use Rattle.tc_types.specs.declared.refusals.Refusal.TheVariants.{UnknownRequest, WrongPlace, IdentityInUse, DeskFull, BadActivity}
+use Rattle.tc_types.specs.declared.refusals.Refusal.TheVariants.{UnknownRequest, WrongPlace, IdentityInUse, UnknownStack, DeskFull, BadActivity}
 use Rattle.tc_types.specs.declared.requests.Command.{Command}
 use Rattle.tc_types.specs.declared.acts.BookAct.{BookAct}
 use Rattle.tc_types.specs.declared.acts.BookAct.TheVariants as act
@@ -19,6 +19,7 @@ pub use Rattle.tc_stack.specs.Approvals.{first_refusal}
 use Rattle.tc_stack.specs.Approvals.{ApprovalState, approved, is_complete, wanted}
 use Rattle.tc_stack.specs.Approvals as approval
 use Rattle.tc_book.specs.Targets.{target_of, is_bad_activity}
+use Rattle.tc_book.specs.Stacks.{is_loaded, came_with_stack, numbers_in_stack, stack_approval_at, with_stack_approval}
 
 abbrev pub names_unknown : Book → Command → Bool
 names_unknown book given = option_map_or (is_unknown book) (target_of given) false
@@ -29,7 +30,7 @@ bad_activity_at book given n = option_map_or (is_bad_activity given) (request_at
 abbrev pub names_bad_activity : Book → Command → Bool
 names_bad_activity book given = option_map_or (bad_activity_at book given) (target_of given) false
 
--- who may not approve a request: its author, and who approved it already
+-- who may not approve a request or a stack: its author, and who approved it already
 abbrev pub approval_tests : List ℕ → Option ApprovalState → List (Bool × Refusal)
 approval_tests person None = []
 approval_tests person (Some s) = approval.tests_of person s
@@ -59,6 +60,7 @@ tests_of stamp book (act.Withdraw n) =
     ∷ []
 tests_of stamp book (act.Approve n) =
     (is_unknown book n, UnknownRequest)
+    ∷ (came_with_stack book n, UnknownStack)
     ∷ (not (stands book n (Entered ∷ [])), WrongPlace)
     ∷ approval_tests stamp.by (approval_at book n) ++ (has_all_rows book, DeskFull)
     ∷ []
@@ -66,6 +68,10 @@ tests_of stamp book (act.Close n) =
     (is_unknown book n, UnknownRequest)
     ∷ (not (stands book n (Confirmed ∷ Riding ∷ Scheduled ∷ Accepted ∷ Started ∷ Doubtful ∷ [])), WrongPlace)
     ∷ (has_all_rows book, DeskFull)
+    ∷ []
+tests_of stamp book (act.ApproveStack name) =
+    (not (is_loaded book name), UnknownStack)
+    ∷ approval_tests stamp.by (stack_approval_at book name) ++ (has_all_rows book, DeskFull)
     ∷ []
 
 -- the tests of each question
@@ -76,6 +82,14 @@ query_tests book (query.Request n) = (is_unknown book n, UnknownRequest) ∷ []
 query_tests book query.Link = []
 query_tests book query.Schedule = []
 
+-- a row of a stack goes to Approved, if it is still Entered
+abbrev pub row_approved : Stamp → Book → ℕ → Book
+row_approved stamp book n = if stands book n (Entered ∷ []) then moved stamp book (want n Approved cause.Approve) else book
+
+-- each row of a stack, in order of line
+abbrev pub rows_approved : Stamp → List ℕ → Book → Book
+rows_approved stamp name book = fold (row_approved stamp) book (numbers_in_stack name book.requests)
+
 -- what the book becomes where no test holds
 abbrev pub acted : Stamp → BookAct → Book → Book
 acted stamp (act.Enter entry) book = with_entry stamp book entry
@@ -85,6 +99,10 @@ acted stamp (act.Approve n) book =
     then moved stamp (with_approval book n stamp.by) (want n Approved cause.Approve)
     else with_approval book n stamp.by
 acted stamp (act.Close n) book = moved stamp book (want n Closed cause.Close)
+acted stamp (act.ApproveStack name) book =
+    if completes stamp.by (stack_approval_at book name)
+    then rows_approved stamp name (with_stack_approval book name stamp.by)
+    else with_stack_approval book name stamp.by
 
 -- the first line of the reply
 abbrev pub first_of : Book → BookAct → First
@@ -92,3 +110,4 @@ first_of book (act.Enter entry) = first.Entered (length book.requests + 1) (next
 first_of book (act.Withdraw n) = first.Plain
 first_of book (act.Approve n) = approvals_first (approval_at book n)
 first_of book (act.Close n) = first.Plain
+first_of book (act.ApproveStack name) = approvals_first (stack_approval_at book name)

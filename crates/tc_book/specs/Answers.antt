@@ -1,18 +1,26 @@
--- What an act on the book answers.
-use Rattle.std.specs.Prelude.{◌≡◌, ◌⊎◌, Some, None, Ok, Err, Result}
+-- What an act on the book, or a load, answers.
+use Rattle.std.specs.Prelude.{◌≡◌, ◌⊎◌, ℕ, Bool, Some, None, Ok, Err, Result, List}
 use Rattle.tc_types.specs.declared.refusals.Refusal.{Refusal}
 use Rattle.tc_types.specs.declared.refusals.Refusal.TheVariants.{Memory}
 use Rattle.tc_types.specs.declared.acts.BookAct.{BookAct}
+use Rattle.tc_stack.specs.declared.stacks.StackRow.{StackRow}
 use Rattle.tc_book.specs.declared.stamps.Stamp.{Stamp}
 use Rattle.tc_book.specs.declared.firsts.First.{First}
 use Rattle.tc_book.specs.Book.{Book}
 use Rattle.tc_book.specs.Acts.{tests_of, first_refusal, acted, first_of}
+use Rattle.tc_book.specs.Loads.{load_tests, loaded, load_first}
 
--- An act on the book is refused as the first test that holds says, or for want of memory where none holds, and then
--- nothing changed; else the book became what the act makes of it, and the reply begins as it should.
+-- Refused as the first test that holds says, or for want of memory where none holds, and then nothing changed; else the book became
+-- this one, and the reply begins so.
+abbrev pub AnswersBy : {X : Type 0} → (X → First) → List (Bool × Refusal) → Book → First → Book → Book → Result X Refusal → Type 0
+AnswersBy first tests becomes begins old new (Ok done) = (first_refusal tests ≡ None) × (new ≡ becomes) × (first done ≡ begins)
+AnswersBy first tests becomes begins old new (Err refused) =
+    ((first_refusal tests ≡ Some refused) ⊎ ((first_refusal tests ≡ None) × (refused ≡ Memory))) × (new ≡ old)
+
+-- an act on the book
 abbrev pub Answers : {X : Type 0} → (X → First) → Book → Stamp → BookAct → Book → Result X Refusal → Type 0
-Answers first old stamp given new (Ok done) =
-    (first_refusal (tests_of stamp old given) ≡ None) × (new ≡ acted stamp given old) × (first done ≡ first_of old given)
-Answers first old stamp given new (Err refused) =
-    ((first_refusal (tests_of stamp old given) ≡ Some refused) ⊎ ((first_refusal (tests_of stamp old given) ≡ None) × (refused ≡ Memory)))
-    × (new ≡ old)
+Answers first old stamp given new answer = AnswersBy first (tests_of stamp old given) (acted stamp given old) (first_of old given) old new answer
+
+-- the load of a stack
+abbrev pub LoadAnswers : {X : Type 0} → (X → First) → Book → Stamp → List ℕ → List StackRow → Book → Result X Refusal → Type 0
+LoadAnswers first old stamp name rows new answer = AnswersBy first (load_tests stamp old name rows) (loaded stamp name rows old) (load_first old name rows) old new answer

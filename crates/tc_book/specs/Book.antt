@@ -1,5 +1,5 @@
--- The book: the requests that were entered, the history of their moves, and who approved which. Where a request stands
--- is read from the history alone.
+-- The book: the requests that were entered, the history of their moves, and who approved which, or which stack. Where a request
+-- stands is read from the history alone, and which stacks were loaded from the requests.
 use Rattle.std.specs.Prelude.{ℕ, ◌+◌, ◌-◌, ◌%◌, ◌==◌, Bool, not, ◌&&◌, ◌||◌, nat_lt, if◌then◌else◌, Option, None, List, [], ◌∷◌, ◌++◌, length, map, filter, count_by, slice_get}
 use Rattle.std.specs.List.{list_any}
 use Rattle.std.specs.Option.{option_map}
@@ -11,7 +11,9 @@ use Rattle.tc_types.specs.declared.moves.Move.{Move}
 use Rattle.tc_types.specs.declared.requests.Request.{Request}
 use Rattle.tc_types.specs.declared.requests.Identity.{Identity}
 use Rattle.tc_types.specs.declared.requests.Form.{Form}
+use Rattle.tc_types.specs.declared.requests.Origin.{Origin}
 use Rattle.tc_types.specs.declared.rows.Approval.{Approval}
+use Rattle.tc_types.specs.declared.rows.StackApproval.{StackApproval}
 use Rattle.tc_stack.specs.Approvals.{ApprovalState}
 use Rattle.tc_types.specs.Lawful.{is_among, final_places}
 use Rattle.tc_types.specs.History.{place_of}
@@ -20,12 +22,13 @@ use Rattle.tc_book.specs.declared.stamps.Stamp.{Stamp}
 pub record Book : Type 0 where
   pub requests : List Request
   pub history : List Move
-  -- in the order in which they were given
+  -- in the order in which they were given, as those of stacks
   pub approvals : List Approval
+  pub stack_approvals : List StackApproval
 
 -- the book of a desk where nothing happened yet
 abbrev pub empty_book : Book
-empty_book = record { requests = []; history = []; approvals = [] }
+empty_book = record { requests = []; history = []; approvals = []; stack_approvals = [] }
 
 -- where request n stands
 abbrev pub place_in : Book → ℕ → Option Place
@@ -92,9 +95,9 @@ row_of stamp history wanted = record {
 abbrev pub moved : Stamp → Book → Want → Book
 moved stamp book wanted = record book { history = book.history ++ row_of stamp book.history wanted ∷ [] }
 
--- the request that an entry makes
-abbrev pub request_of : Stamp → List Request → Form → Request
-request_of stamp requests entry = record {
+-- the request that an entry makes, by itself or as a row of a stack
+abbrev pub request_of : Stamp → List Request → Option Origin → Form → Request
+request_of stamp requests origin entry = record {
   number = length requests + 1;
   body = record {
     identity = next_identity requests entry.apid;
@@ -104,6 +107,7 @@ request_of stamp requests entry = record {
   };
   critical = entry.critical;
   author = stamp.by;
+  origin = origin;
 }
 
 -- what was written down of a request when it was entered
@@ -117,11 +121,15 @@ form_of request = record {
 }
 
 -- the book with a request entered: it stands at Entered
-abbrev pub with_entry : Stamp → Book → Form → Book
-with_entry stamp book entry = record book {
-  requests = book.requests ++ request_of stamp book.requests entry ∷ [];
+abbrev pub with_request : Stamp → Book → Option Origin → Form → Book
+with_request stamp book origin entry = record book {
+  requests = book.requests ++ request_of stamp book.requests origin entry ∷ [];
   history = book.history ++ row_of stamp book.history (want (length book.requests + 1) Entered cause.Enter) ∷ [];
 }
+
+-- the same of one that is entered by itself
+abbrev pub with_entry : Stamp → Book → Form → Book
+with_entry stamp book entry = with_request stamp book None entry
 
 -- who approved request n, in the order in which they did
 abbrev pub approvers_of : List Approval → ℕ → List (List ℕ)

@@ -1,29 +1,54 @@
--- A book that the desk could have written.
-use Rattle.std.specs.Prelude.{◌≡◌, ◌+◌, ◌≤◌, List, [], length, map}
+-- A book that the desk could have written, as conditions on one table after the other.
+use Rattle.std.specs.Prelude.{◌≡◌, ◌⊎◌, ℕ, ◌+◌, ◌≤◌, true, false, IfSome, IsSomeAnd, List, [], length, map}
 use Rattle.std.specs.List.{AllByRecursion}
+use Rattle.tc_types.specs.declared.causes.Cause.TheVariants.{Approve}
+use Rattle.tc_types.specs.declared.moves.Move.{Move}
 use Rattle.tc_types.specs.declared.rows.Approval.{Approval}
-use Rattle.tc_stack.specs.Approvals.{IsApproval}
+use Rattle.tc_types.specs.declared.rows.StackApproval.{StackApproval}
+use Rattle.tc_types.specs.declared.requests.Origin.{Origin}
 use Rattle.tc_types.specs.declared.requests.Request.{Request}
 use Rattle.tc_types.specs.History.{IsGoodHistory, AllAfter, entered}
 use Rattle.tc_types.specs.Schedule.{KeepsScheduleRule}
-use Rattle.tc_book.specs.Book.{Book, form_of, next_identity, approval_of}
+use Rattle.tc_stack.specs.Approvals.{IsApproval}
+use Rattle.tc_stack.specs.Stacks.{IsEarlier}
+use Rattle.tc_book.specs.Book.{Book, form_of, next_identity, request_in, approval_of}
+use Rattle.tc_book.specs.Stacks.{has_stack, came_alone, stack_approval_at, is_fully_approved}
 use Rattle.tc_book.specs.Targets.{HasGoodTarget}
 
+-- the row on a line goes on with the stack of the request before it, by the same author
+pub record IsNextRow (author : List ℕ) (origin : Origin) (before : Request) : Type 0 where
+  pub by : before.author ≡ author
+  pub stack : IsSomeAnd before.origin (λ (o : Origin). (o.stack ≡ origin.stack) × (origin.line ≡ o.line + 1))
+
+-- The rows of a stack are entered one after the other: line 1 under a name that no stack has, and each other line behind the one
+-- before it. There are at most 200, and a row waits for an earlier line.
+pub record IsGoodOrigin (before : List Request) (author : List ℕ) (origin : Origin) : Type 0 where
+  pub line : ((origin.line ≡ 1) × (has_stack origin.stack before ≡ false)) ⊎ IsSomeAnd (request_in before (length before)) (IsNextRow author origin)
+  pub few : origin.line ≤ 200
+  pub after : IfSome origin.after (IsEarlier origin.line)
+
 -- One request that may follow these: it has the next number, and the next identity of its application process; a
--- schedule command asks for its completion and completes; and the request that a command names was entered before it,
--- is plain, and asks for its acceptance where it is to be inserted.
+-- schedule command asks for its completion and completes; the request that a command names was entered before it,
+-- is plain, and asks for its acceptance where it is to be inserted; and a row of a stack is the next one of it.
 pub record IsGoodRequest (before : List Request) (request : Request) : Type 0 where
   pub number : request.number ≡ length before + 1
   pub identity : request.body.identity ≡ next_identity before request.body.identity.apid
   pub schedule : KeepsScheduleRule (form_of request)
   pub target : HasGoodTarget before request.body.command
+  pub origin : IfSome request.origin (IsGoodOrigin before request.author)
 
--- the history is good, each request may follow those before it, there are no more than a desk takes, those that the
--- history enters are the book's, and each approval is of one of them, and as it can be
+-- The history is good; each request may follow those before it; there are no more than a desk takes; those that the history enters
+-- are the book's. Each approval is of a request that came by itself, or of a stack that was loaded; the approval of each request is as
+-- it can be, and so is that of each stack that somebody approved; and each request that was moved to Approved by its approvers has all
+-- of them that are wanted, or its stack has.
 pub record IsGoodBook (book : Book) : Type 0 where
   pub history : IsGoodHistory book.history
   pub requests : AllAfter IsGoodRequest [] book.requests
   pub few : length book.requests ≤ 65535
   pub entered : entered book.history ≡ map (λ (r : Request). r.number) book.requests
   pub named : AllByRecursion (λ (a : Approval). a.request ≤ length book.requests) book.approvals
+  pub alone : AllByRecursion (λ (a : Approval). came_alone book.requests a.request ≡ true) book.approvals
+  pub stacks_named : AllByRecursion (λ (a : StackApproval). has_stack a.stack book.requests ≡ true) book.stack_approvals
   pub approved : AllByRecursion (λ r. IsApproval (approval_of book.approvals r)) book.requests
+  pub stacks_approved : AllByRecursion (λ (a : StackApproval). IfSome (stack_approval_at book a.stack) IsApproval) book.stack_approvals
+  pub complete : AllByRecursion (λ (m : Move). m.cause ≡ Approve → is_fully_approved book m.request ≡ true) book.history

@@ -1,9 +1,12 @@
 pub mod Book
 pub mod Targets
+pub mod Stacks
 pub mod Good
 pub mod Conserved
 pub mod Records
 pub mod Acts
+pub mod Loads
+pub mod Steps
 pub mod Tables
 pub mod Answers
 pub mod Batch

@@ -7,6 +7,7 @@ use Rattle.tc_types.specs.declared.rows.PlacedRequest.{PlacedRequest}
 use Rattle.tc_types.specs.History.{place_of, count_at}
 use Rattle.tc_types.specs.Tables.{Image, tallies_by}
 use Rattle.tc_book.specs.Book.{Book}
+use Rattle.tc_book.specs.Stacks.{stacks_of}
 
 -- a request where the history leaves it: at Entered, if no row moves it
 abbrev pub placed : List Move → Request → PlacedRequest
@@ -18,4 +19,6 @@ image_of book = record {
   moves = book.history;
   tallies = tallies_by (count_at book.history);
   approvals = book.approvals;
+  stacks = stacks_of book.requests;
+  stack_approvals = book.stack_approvals;
 }

@@ -5,11 +5,14 @@ ghost use Rattle.tc_book.specs.Answers.{Answers};
 ghost use Rattle.tc_book.specs.Batch.{GoesOn, HoldsRoom};
 
 pub mod approve;
+pub mod approve_stack;
 pub mod close;
 pub mod enter;
+pub mod load;
 pub mod withdraw;
 
 use crate::acts::approve::approve;
+use crate::acts::approve_stack::approve_stack;
 use crate::acts::close::close;
 use crate::acts::enter::enter;
 use crate::acts::withdraw::withdraw;
@@ -36,6 +39,7 @@ pub fn perform<A: Allocator + Copy + Drop>(
         BookAct::Withdraw { request } => withdraw(records, alloc, stamp, request),
         BookAct::Approve { request } => approve(records, alloc, stamp, request),
         BookAct::Close { request } => close(records, alloc, stamp, request),
+        BookAct::ApproveStack { stack } => approve_stack(records, alloc, stamp, stack),
     }
 }
 

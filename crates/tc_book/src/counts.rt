@@ -37,6 +37,7 @@ pub(crate) fn reserve_counts<A: Allocator + Copy + Drop>(
 /// How many requests an application process has had.
 pub(crate) fn count_of(counts: &[u32], apid: Apid) -> u32
     ensures value { (requests : List SomeRequest) → AreCounted requests counts.now → result ≡ count_of requests apid }
+    ensures kept { result ≡ slice_index_or counts.now apid 0 }
     ensures within { apid < 2048 }
 {
     let place = usize::from(apid.get());
@@ -45,6 +46,16 @@ pub(crate) fn count_of(counts: &[u32], apid: Apid) -> u32
     } else {
         0
     }
+}
+
+/// The identity of an application process behind so many more requests of it.
+pub(crate) fn identity_behind(counts: &[u32], apid: Apid, more: u32) -> Identity
+    requires few { slice_index_or counts.now apid 0 + more < 4294967296 }
+    ensures { (requests : List SomeRequest) → AreCounted requests counts.now → result ≡ record { apid = apid; count = (count_of requests apid + more) % 16384 } }
+{
+    let next = (count_of(counts, apid) + more) % SEQUENCE_COUNTS;
+    let count = SequenceCount::new(next as u16).unwrap();
+    Identity { apid, count }
 }
 
 /// The next identity of an application process.

@@ -37,12 +37,14 @@ pub fn make_room<A: Allocator + Copy + Drop>(
     ensures batch { IfOk result (λ draft. HasRoomFor (batch_rows requests rows) draft.batch) }
     ensures requests { OnOk result (length records.new.book.requests + requests ≤ 65535 → length records.new.book.requests + requests ≤ records.new.most_requests) }
     ensures approvals { OnOk result (length records.new.book.approvals < records.new.most_approvals) }
+    ensures stack_approvals { OnOk result (length records.new.book.stack_approvals < records.new.most_stack_approvals) }
     ensures rows { OnOk result (length records.new.book.history + rows < 2 ^ 32 → length records.new.book.history + rows ≤ records.new.most_rows) }
 {
     let Ok(moves) = Vec::with_capacity(alloc, rows) else {
         return Err(Refusal::Memory);
     };
-    let Ok(batch) = Vec::with_capacity(alloc, requests + rows + rows + PLACES + 1) else {
+    let most_rows = requests + requests + rows + rows + PLACES + 2;
+    let Ok(batch) = Vec::with_capacity(alloc, most_rows) else {
         return Err(Refusal::Memory);
     };
     match records.reserve(requests, rows) {

@@ -1,4 +1,5 @@
 //! The first line of a reply.
+use tc_types::names::Name;
 use tc_types::numbers::RequestNumber;
 use tc_types::requests::Identity;
 
@@ -11,6 +12,12 @@ pub enum First {
     Entered {
         request: RequestNumber,
         identity: Identity,
+    },
+    /// `ok stack NAME ROWS FIRSTREQUEST`: a stack was loaded, and its first row became this request.
+    Loaded {
+        name: Name,
+        rows: u32,
+        first: RequestNumber,
     },
     /// `ok approvals I of M`: so many approved, and so many are wanted.
     Approvals {

@@ -15,5 +15,6 @@ pub mod marks;
 mod pushes;
 mod reading;
 pub mod records;
+mod stacks;
 pub mod stamps;
 mod tallies;

@@ -8,8 +8,10 @@ pub struct Mark {
     pub requests: usize,
     /// How many rows of the history.
     pub rows: usize,
-    /// How many approvals.
+    /// How many approvals of requests.
     pub approvals: usize,
+    /// How many approvals of stacks.
+    pub stack_approvals: usize,
     /// How many requests at each place, in order of number.
     pub tallies: [u32; PLACES],
 }

@@ -1,6 +1,6 @@
 -- The loop over the lines of a script.
 use Rattle.std.proofs.Common.{◌≡◌, ◌∙◌, ◌+◌, ◌-◌, ◌<◌, ℕ, Bool, true, false, Option, Some, None, List, [], ◌∷◌, ◌++◌, refl, sym, ap, subst, ◌⊎◌, inl, inr, append_assoc, append-nil, arith, length, take, drop, take-append-drop}
-use Rattle.std.specs.Prelude.{◌≢◌, ◌||◌, IfErr, IfSome, IsErrAnd, MatchBool, Result, Ok, Err, if◌then◌else◌}
+use Rattle.std.specs.Prelude.{◌≢◌, ◌||◌, IfErr, IfSome, IsErrAnd, IsOkAnd, ◌↔◌, MatchBool, Result, Ok, Err, if◌then◌else◌}
 use Rattle.std.proofs.Math.Seq.{take-add, take-length}
 use Rattle.std.proofs.lemmas.Bool.{ne_eqb}
 use Rattle.std.proofs.lemmas.List.{length-drop}
@@ -13,10 +13,13 @@ use Rattle.tc_types.specs.declared.acts.Act.TheVariants as act
 use Rattle.tc_types.specs.declared.acts.Query.TheVariants as query
 use Rattle.tc_types.specs.History.{counts_of, entered}
 use Rattle.tc_types.specs.Lines.{places_line}
-use Rattle.tc_book.specs.declared.stamps.Stamp.{Stamp}
-use Rattle.tc_types.specs.declared.refusals.Refusal.TheVariants.{Stopped}
+use Rattle.tc_types.specs.Grammar.{HasLongAct}
+use Rattle.tc_types.specs.Loads.{LoadLine, SpellsLoad, line_of}
+use Rattle.tc_types.specs.declared.loads.Load.{Load}
+use Rattle.tc_types.specs.declared.refusals.Refusal.{Refusal}
+use Rattle.tc_types.specs.declared.refusals.Refusal.TheVariants.{Stopped, TooLong}
 use Rattle.tc_desk.specs.Replies.{Reply, refusal_reply}
-use Rattle.tc_room.specs.Answers.{AnswersLine, AsksPlaces}
+use Rattle.tc_room.specs.Answers.{AsksPlaces}
 use Rattle.tc_room.specs.Joined.{IsKept}
 use Rattle.tc_room.specs.Replies.{ended, is_refused}
 use Rattle.tc_room.specs.Room.{FailsStore, IsJustOpened, Standing, StepsDesk}
@@ -24,34 +27,51 @@ use Rattle.tc_desk.specs.declared.configs.Config as configs
 use Rattle.tc_room.specs.declared.memory.OpenFault.{OpenFault}
 use Rattle.tc_room.specs.declared.memory.OpenFault.TheVariants as opening
 use Rattle.tc_cli.specs.declared.script.ScriptFault.{ScriptFault}
-use Rattle.tc_cli.specs.declared.script.ScriptFault.TheVariants.{Script, Output, Memory, Tables, Config}
-use Rattle.tc_cli.specs.Script.{fault_of}
-use Rattle.tc_cli.specs.Run.{AnswersNext, IsAnswered, IsCutShort, LeavesPart, Stops, StopsAfter, StopsAtOnce, TakesFront, TakesLine, TakesLines, is_skipped, script_lines}
+use Rattle.tc_cli.specs.declared.script.ScriptFault.TheVariants.{Script, Output, Memory, Tables, Config, Path}
+use Rattle.tc_cli.specs.Files.{FileText, Gives}
+use Rattle.tc_cli.specs.Script.{fault_of, written_counts}
+use Rattle.tc_cli.specs.Run.{AnswersNext, AnswersScriptLine, IsAnswered, IsCutShort, IsLoadLine, LeavesPart, LoadsNext, Stops, StopsAfter, TakesFront, TakesLine, TakesLines, is_skipped, script_lines}
 
--- What was written so far are the replies to the lines that were taken.
-pub record HasRun (start : Standing) (lines : List (List ℕ)) (old : Option (List ℕ)) (at : Standing) (left : List (List ℕ)) (new : Option (List ℕ)) (refused : Bool) : Type 0 where
+-- What was written so far are the replies to the lines that were taken, with the files that were given meanwhile.
+pub record HasRun (start : Standing) (lines : List (List ℕ)) (gave : Option (List FileText)) (old : Option (List ℕ)) (at : Standing) (left : List (List ℕ)) (gives : Option (List FileText)) (new : Option (List ℕ)) (refused : Bool) : Type 0 where
+  pub files : List FileText
   pub replies : List Reply
-  pub taken : TakesFront start lines replies at left
+  pub taken : TakesFront start lines files replies at left
+  pub given : Gives gave gives files
   pub written : Appends old new (flat_map ended replies)
   pub refusals : refused ≡ list_any is_refused replies
 
-pub has_run-start : (start : Standing) (lines : List (List ℕ)) (w : Option (List ℕ)) → HasRun start lines w start lines w false
-has_run-start start lines w = record { replies = []; taken = ([], refl, (refl, refl)); written = Appends-nil w; refusals = refl }
+-- ---- the files that were given
+
+pub gives_none : (p : Option (List FileText)) → Gives p p []
+gives_none None = tt
+gives_none (Some all) = sym (append-nil all)
+
+gives_more : (a b c : Option (List FileText)) (xs ys : List FileText) → Gives a b xs → Gives b c ys → Gives a c (xs ++ ys)
+gives_more None b c xs ys first second = tt
+gives_more (Some a) None c xs ys first second = absurd first
+gives_more (Some a) (Some b) None xs ys first second = absurd second
+gives_more (Some a) (Some b) (Some c) xs ys first second = second ∙ ap (λ (l : List FileText). l ++ ys) first ∙ append_assoc a xs ys
+
+-- ---- the lines that were taken
+
+pub has_run-start : (start : Standing) (lines left : List (List ℕ)) (p : Option (List FileText)) (w : Option (List ℕ)) → left ≡ lines → HasRun start lines p w start left p w false
+has_run-start start lines left p w all = record { files = []; replies = []; taken = ([], sym all, (refl, refl, refl)); given = gives_none p; written = Appends-nil w; refusals = refl }
 
 -- one more line is taken behind those before
-takes_lines-snoc : (old : Standing) (front : List (List ℕ)) (replies : List Reply) (mid : Standing) (line : List ℕ) (now : List Reply) (new : Standing)
-    → TakesLines old front replies mid → TakesLine mid line now new → TakesLines old (front ++ line ∷ []) (replies ++ now) new
-takes_lines-snoc old [] replies mid line now new (none, same) takes =
-    (now, new, [], subst (λ (s : Standing). TakesLine s line now new) same takes, (refl, refl), rw none (sym (append-nil now)))
-takes_lines-snoc old (x ∷ xs) replies mid line now new (first, next, later, takes_first, goes, are) takes =
-    (first, next, later ++ now, takes_first, takes_lines-snoc next xs later mid line now new goes takes, rw are (append_assoc first later now))
+takes_lines-snoc : (old : Standing) (front : List (List ℕ)) (files : List FileText) (replies : List Reply) (mid : Standing) (line : List ℕ) (given : List FileText) (now : List Reply) (new : Standing)
+    → TakesLines old front files replies mid → TakesLine mid line given now new → TakesLines old (front ++ line ∷ []) (files ++ given) (replies ++ now) new
+takes_lines-snoc old [] files replies mid line given now new (no_files, none, same) takes =
+    (now, new, [], given, [], subst (λ (s : Standing). TakesLine s line given now new) same takes, (refl, refl, refl), rw none (sym (append-nil now)), rw no_files (sym (append-nil given)))
+takes_lines-snoc old (x ∷ xs) files replies mid line given now new (first, next, later, first_files, others, takes_first, goes, are, files_are) takes =
+    (first, next, later ++ now, first_files, others ++ given, takes_first, takes_lines-snoc next xs others later mid line given now new goes takes, rw are (append_assoc first later now), rw files_are (append_assoc first_files others given))
 
-takes_front-step : (start : Standing) (lines : List (List ℕ)) (replies : List Reply) (at : Standing) (left : List (List ℕ)) (line : List ℕ) (others : List (List ℕ)) (now : List Reply) (next : Standing)
-    → TakesFront start lines replies at left → left ≡ line ∷ others → TakesLine at line now next → TakesFront start lines (replies ++ now) next others
-takes_front-step start lines replies at left line others now next (front, whole, takes) is_line goes = (
+takes_front-step : (start : Standing) (lines : List (List ℕ)) (files : List FileText) (replies : List Reply) (at : Standing) (left : List (List ℕ)) (line : List ℕ) (others : List (List ℕ)) (given : List FileText) (now : List Reply) (next : Standing)
+    → TakesFront start lines files replies at left → left ≡ line ∷ others → TakesLine at line given now next → TakesFront start lines (files ++ given) (replies ++ now) next others
+takes_front-step start lines files replies at left line others given now next (front, whole, takes) is_line goes = (
   front ++ line ∷ [],
   whole ∙ ap (λ (ls : List (List ℕ)). front ++ ls) is_line ∙ sym (append_assoc front (line ∷ []) others),
-  takes_lines-snoc start front replies at line now next takes goes,
+  takes_lines-snoc start front files replies at line given now next takes goes,
 )
 
 pub flat_map-append : {X A : Type 0} (f : X → List A) (xs ys : List X) → flat_map f (xs ++ ys) ≡ flat_map f xs ++ flat_map f ys
@@ -67,44 +87,63 @@ list_any-append p [] ys = refl
 list_any-append p (x ∷ xs) ys = ap (λ b. p x || b) (list_any-append p xs ys) ∙ sym (or_assoc (p x) (list_any p xs) (list_any p ys))
 
 -- what a line came to
-abbrev pub Came : Standing → List ℕ → Standing → Option (List ℕ) → Option (List ℕ) → Bool → Type 0
-Came at line next mid new refused = (replies : List Reply) × TakesLine at line replies next × Appends mid new (flat_map ended replies) × (refused ≡ list_any is_refused replies)
+abbrev pub Came : Standing → List ℕ → Standing → Option (List FileText) → Option (List FileText) → Option (List ℕ) → Option (List ℕ) → Bool → Type 0
+Came at line next gave gives mid new refused =
+    (replies : List Reply) × (files : List FileText) × TakesLine at line files replies next × Gives gave gives files × Appends mid new (flat_map ended replies) × (refused ≡ list_any is_refused replies)
 
 or_false : (b : Bool) → (b || false) ≡ b
 or_false true = refl
 or_false false = refl
 
+-- a line that is skipped came to nothing
+pub came_skipped : (at : Standing) (line : List ℕ) (p : Option (List FileText)) (w : Option (List ℕ)) → is_skipped line ≡ true → Came at line at p p w w false
+came_skipped at line p w skipped = ([], [], rw skipped (refl, refl, refl), gives_none p, Appends-nil w, refl)
+
+-- what a line is answered
+abbrev pub Answered : Standing → List ℕ → Standing → Option (List FileText) → Option (List FileText) → List ℕ → Bool → Type 0
+Answered at line next gave gives text refused =
+    (reply : Reply) × (files : List FileText) × AnswersScriptLine at line files reply next × Gives gave gives files × (text ≡ ended reply) × (refused ≡ is_refused reply)
+
 -- a line that is not skipped came to its answer
-pub came_answered : (at : Standing) (line : List ℕ) (next : Standing) (mid new : Option (List ℕ)) (refused : Bool) (text : List ℕ)
-    → is_skipped line ≡ false → (reply : Reply) × AnswersLine at line reply next × (text ≡ ended reply) × (refused ≡ is_refused reply)
-    → Appends mid new text → Came at line next mid new refused
-came_answered at line next mid new refused text goes_on (reply, answers, is_text, is_reply) appends = (
+pub came_answered : (at : Standing) (line : List ℕ) (next : Standing) (gave gives : Option (List FileText)) (mid new : Option (List ℕ)) (refused : Bool) (text : List ℕ)
+    → is_skipped line ≡ false → Answered at line next gave gives text refused
+    → Appends mid new text → Came at line next gave gives mid new refused
+came_answered at line next gave gives mid new refused text goes_on (reply, files, answers, given, is_text, is_reply) appends = (
   reply ∷ [],
+  files,
   rw goes_on (reply, refl, answers),
+  given,
   rw append-nil (subst (Appends mid new) is_text appends),
   is_reply ∙ sym (or_false (is_refused reply)),
 )
 
-pub has_run-step : (start : Standing) (lines : List (List ℕ)) (old : Option (List ℕ)) (at : Standing) (left : List (List ℕ)) (line : List ℕ) (others : List (List ℕ)) (mid new : Option (List ℕ)) (before now : Bool) (next : Standing)
-    → HasRun start lines old at left mid before → left ≡ line ∷ others → Came at line next mid new now
-    → HasRun start lines old next others new (before || now)
-has_run-step start lines old at left line others mid new before now next h is_line (replies, takes, written, refusals) = record {
+pub has_run-step : (start : Standing) (lines : List (List ℕ)) (gave : Option (List FileText)) (old : Option (List ℕ)) (at : Standing) (left : List (List ℕ)) (line : List ℕ) (others : List (List ℕ))
+    (so_far gives : Option (List FileText)) (mid new : Option (List ℕ)) (before now : Bool) (next : Standing)
+    → HasRun start lines gave old at left so_far mid before → left ≡ line ∷ others → Came at line next so_far gives mid new now
+    → HasRun start lines gave old next others gives new (before || now)
+has_run-step start lines gave old at left line others so_far gives mid new before now next h is_line (replies, files, takes, given, written, refusals) = record {
+  files = h.files ++ files;
   replies = h.replies ++ replies;
-  taken = takes_front-step start lines h.replies at left line others replies next h.taken is_line takes;
+  taken = takes_front-step start lines h.files h.replies at left line others files replies next h.taken is_line takes;
+  given = gives_more gave so_far gives h.files files h.given given;
   written = rw flat_map-append (Appends-trans _ _ _ _ _ h.written written);
   refusals = rw (h.refusals, refusals) (sym (list_any-append is_refused h.replies replies));
 }
 
-takes_front-end : (start : Standing) (lines : List (List ℕ)) (replies : List Reply) (at : Standing) (left : List (List ℕ))
-    → TakesFront start lines replies at left → left ≡ [] → TakesLines start lines replies at
-takes_front-end start lines replies at left (front, whole, takes) none =
-    subst (λ (ls : List (List ℕ)). TakesLines start ls replies at) (sym (whole ∙ ap (λ (ls : List (List ℕ)). front ++ ls) none ∙ append-nil front)) takes
+takes_front-end : (start : Standing) (lines : List (List ℕ)) (files : List FileText) (replies : List Reply) (at : Standing) (left : List (List ℕ))
+    → TakesFront start lines files replies at left → left ≡ [] → TakesLines start lines files replies at
+takes_front-end start lines files replies at left (front, whole, takes) none =
+    subst (λ (ls : List (List ℕ)). TakesLines start ls files replies at) (sym (whole ∙ ap (λ (ls : List (List ℕ)). front ++ ls) none ∙ append-nil front)) takes
 
-pub has_run-end : (start : Standing) (lines : List (List ℕ)) (old : Option (List ℕ)) (at : Standing) (left : List (List ℕ)) (new : Option (List ℕ)) (refused : Bool)
-    → HasRun start lines old at left new refused → left ≡ []
-    → (replies : List Reply) × TakesLines start lines replies at × Appends old new (flat_map ended replies) × (refused ≡ list_any is_refused replies)
-has_run-end start lines old at left new refused h none =
-    (h.replies, takes_front-end start lines h.replies at left h.taken none, h.written, h.refusals)
+-- what all lines came to
+abbrev pub CameAll : Standing → List (List ℕ) → Standing → Option (List FileText) → Option (List FileText) → Option (List ℕ) → Option (List ℕ) → Bool → Type 0
+CameAll start lines end gave gives old new refused =
+    (replies : List Reply) × (files : List FileText) × TakesLines start lines files replies end × Gives gave gives files × Appends old new (flat_map ended replies) × (refused ≡ list_any is_refused replies)
+
+pub has_run-end : (start : Standing) (lines : List (List ℕ)) (gave : Option (List FileText)) (old : Option (List ℕ)) (at : Standing) (left : List (List ℕ)) (gives : Option (List FileText)) (new : Option (List ℕ)) (refused : Bool)
+    → HasRun start lines gave old at left gives new refused → left ≡ [] → CameAll start lines at gave gives old new refused
+has_run-end start lines gave old at left gives new refused h none =
+    (h.replies, h.files, takes_front-end start lines h.files h.replies at left h.taken none, h.given, h.written, h.refusals)
 
 -- the reply to the question at the end was cut short
 pub stopped_in_question : (end after : Standing) (bytes text : List ℕ) (last : Bool) (mid new : Option (List ℕ)) (fault : ScriptFault)
@@ -114,13 +153,46 @@ pub stopped_in_question : (end after : Standing) (bytes text : List ℕ) (last :
 stopped_in_question end after bytes text last mid new fault (reply, asks, is_text, is_reply) are is_output (part, cut, written) =
     (part, rw is_output (reply, (after, asks), subst (λ (given : List ℕ). IsCutShort given part) (are ∙ is_text) cut), written)
 
+-- a line that loads something has no long act
+pub loads_short : (line : List ℕ) (read : Result Load Refusal) (load : Load) → read ≡ Ok load → ((read ≡ Err TooLong) ↔ HasLongAct line) → ¬ HasLongAct line
+loads_short line read load was long has = let e : read ≡ Err TooLong = long.1 has in cc
+
+-- a line that is not read as one loads nothing
+pub loads_nothing : (line : List ℕ) (read : Result Load Refusal) (refusal : Refusal) → read ≡ Err refusal
+    → ((load : LoadLine) → SpellsLoad line load → (¬ HasLongAct line) → IsOkAnd read (λ (l : Load). line_of l ≡ load)) → (load : LoadLine) → ¬ IsLoadLine line load
+loads_nothing line read refusal was only load is = subst (λ (r : Result Load Refusal). IsOkAnd r (λ (l : Load). line_of l ≡ load)) was (only load is.0 is.1)
+
+-- why the line that loads a file is not answered
+pub file_fault : (line : List ℕ) (load : LoadLine) (fault : ScriptFault) → IsLoadLine line load → (fault ≡ Memory) ⊎ (fault ≡ Path) → (fault ≡ Memory) ⊎ ((fault ≡ Path) × ((load : LoadLine) × IsLoadLine line load))
+file_fault line load fault is (inl is_memory) = inl is_memory
+file_fault line load fault is (inr is_path) = inr (is_path, (load, is))
+
+-- what a fault at a line leaves
+abbrev pub Left : ScriptFault → Standing → List (List ℕ) → Option (List FileText) → Option (List FileText) → Option (List ℕ) → Option (List ℕ) → Type 0
+Left fault at left gave gives mid new = (part : List ℕ) × (more : List FileText) × LeavesPart fault at left part × Gives gave gives more × Appends mid new part
+
 -- the reply to a line was cut short
-pub stopped_at_line : (at after : Standing) (line bytes text : List ℕ) (said : Bool) (mid new : Option (List ℕ)) (fault : ScriptFault)
-    → is_skipped line ≡ false → (reply : Reply) × AnswersLine at line reply after × (text ≡ ended reply) × (said ≡ is_refused reply)
+pub stopped_at_line : (at after : Standing) (line : List ℕ) (gave gives : Option (List FileText)) (bytes text : List ℕ) (said : Bool) (mid new : Option (List ℕ)) (fault : ScriptFault)
+    → is_skipped line ≡ false → Answered at line after gave gives text said
     → bytes ≡ text → fault ≡ Output → (part : List ℕ) × IsCutShort bytes part × Appends mid new part
-    → (part : List ℕ) × LeavesPart fault at (line ∷ []) part × Appends mid new part
-stopped_at_line at after line bytes text said mid new fault goes_on (reply, answers, is_text, is_reply) are is_output (part, cut, written) =
-    (part, rw is_output (reply, (after, goes_on, answers), subst (λ (given : List ℕ). IsCutShort given part) (are ∙ is_text) cut), written)
+    → Left fault at (line ∷ []) gave gives mid new
+stopped_at_line at after line gave gives bytes text said mid new fault goes_on (reply, files, answers, given, is_text, is_reply) are is_output (part, cut, written) =
+    (part, files, rw is_output (reply, (after, files, goes_on, answers), subst (λ (shown : List ℕ). IsCutShort shown part) (are ∙ is_text) cut), given, written)
+
+-- a line was not answered: for want of memory, or of its file
+pub stopped_unanswered : (at : Standing) (line : List ℕ) (gave gives : Option (List FileText)) (w : Option (List ℕ)) (fault : ScriptFault)
+    → is_skipped line ≡ false → (fault ≡ Memory) ⊎ ((fault ≡ Path) × ((load : LoadLine) × IsLoadLine line load)) → (more : List FileText) × Gives gave gives more
+    → Left fault at (line ∷ []) gave gives w w
+stopped_unanswered at line gave gives w fault goes_on (inl is_memory) (more, given) = ([], more, rw is_memory refl, given, Appends-nil w)
+stopped_unanswered at line gave gives w fault goes_on (inr (is_path, (load, loads))) (more, given) = ([], more, rw is_path (refl, (load, goes_on, loads)), given, Appends-nil w)
+
+pub not_script : (line : List ℕ) (fault : ScriptFault) → (fault ≡ Memory) ⊎ ((fault ≡ Path) × ((load : LoadLine) × IsLoadLine line load)) → fault ≢ Script
+not_script line fault (inl is_memory) is = let no : Memory ≡ Script = sym is_memory ∙ is in cc
+not_script line fault (inr (is_path, others)) is = let no : Path ≡ Script = sym is_path ∙ is in cc
+
+pub not_written : (X : Type 0) (line : List ℕ) (fault : ScriptFault) → (fault ≡ Memory) ⊎ ((fault ≡ Path) × ((load : LoadLine) × IsLoadLine line load)) → no_counts ≡ written_counts {X = X} (Err fault)
+not_written X line fault (inl is_memory) = ap (λ (f : ScriptFault). written_counts {X = X} (Err f)) (sym is_memory)
+not_written X line fault (inr (is_path, others)) = ap (λ (f : ScriptFault). written_counts {X = X} (Err f)) (sym is_path)
 
 -- what a fault leaves of the reply to a line, whatever stands behind that line
 leaves_more : (fault : ScriptFault) (at : Standing) (line : List ℕ) (left others : List (List ℕ)) (part : List ℕ) → left ≡ line ∷ others
@@ -130,31 +202,19 @@ leaves_more Output at line left others part is (next, answers, cut) = (next, sub
 leaves_more Memory at line left others part is leaves = leaves
 leaves_more Tables at line left others part is leaves = leaves
 leaves_more Config at line left others part is leaves = leaves
+leaves_more Path at line left others part is (none, loads) = (none, subst LoadsNext (sym is) loads)
 
 -- a run that stopped at one of its lines
-pub stopped_in_line : (start at : Standing) (lines left : List (List ℕ)) (line : List ℕ) (others : List (List ℕ)) (old mid new : Option (List ℕ)) (before : Bool) (fault : ScriptFault)
-    → HasRun start lines old at left mid before → left ≡ line ∷ others
-    → (part : List ℕ) × LeavesPart fault at (line ∷ []) part × Appends mid new part → StopsAfter fault start lines old new
-stopped_in_line start at lines left line others old mid new before fault h is (part, leaves, appends) =
-    (h.replies, at, left, part, h.taken, leaves_more fault at line left others part is leaves, Appends-trans _ _ _ _ _ h.written appends)
-
--- memory was refused before anything of the reply was written
-pub stopped_before : (at : Standing) (left : List (List ℕ)) (w : Option (List ℕ)) (fault : ScriptFault)
-    → fault ≢ Output → (part : List ℕ) × LeavesPart fault at left part × Appends w w part
-stopped_before at left w Script is_other = ([], refl, Appends-nil w)
-stopped_before at left w Output is_other = absurd (is_other refl)
-stopped_before at left w Memory is_other = ([], refl, Appends-nil w)
-stopped_before at left w Tables is_other = ([], refl, Appends-nil w)
-stopped_before at left w Config is_other = ([], refl, Appends-nil w)
+pub stopped_in_line : (start at : Standing) (lines left : List (List ℕ)) (line : List ℕ) (others : List (List ℕ)) (gave so_far gives : Option (List FileText)) (old mid new : Option (List ℕ)) (before : Bool) (fault : ScriptFault)
+    → HasRun start lines gave old at left so_far mid before → left ≡ line ∷ others
+    → Left fault at (line ∷ []) so_far gives mid new → StopsAfter fault start lines gave gives old new
+stopped_in_line start at lines left line others gave so_far gives old mid new before fault h is (part, more, leaves, given, appends) =
+    (h.files, more, h.replies, at, left, part, h.taken, leaves_more fault at line left others part is leaves, gives_more gave so_far gives h.files more h.given given, Appends-trans _ _ _ _ _ h.written appends)
 
 -- what the question at the end came to
 abbrev pub CameLast : Standing → Standing → Option (List ℕ) → Option (List ℕ) → Bool → Type 0
 CameLast end after mid new refused =
     (reply : Reply) × AsksPlaces end reply after × Appends mid new (ended reply) × (refused ≡ is_refused reply)
-
-abbrev pub CameAll : Standing → List (List ℕ) → Standing → Option (List ℕ) → Option (List ℕ) → Bool → Type 0
-CameAll start lines end old new refused =
-    (replies : List Reply) × TakesLines start lines replies end × Appends old new (flat_map ended replies) × (refused ≡ list_any is_refused replies)
 
 true_false : true ≡ false → ⊥
 true_false e = cc
@@ -180,38 +240,43 @@ places_told at after reply asks granted = by_flag at.stopped (asks (record { by 
     by_flag false (inr fails) = not_refused (rw fails.reply refl)
 
 -- the lines of a script, and the question at the end
-pub run_answered : (config : configs.Config) (input : List ℕ) (start end after : Standing) (refused last : Bool) (old mid new : Option (List ℕ))
-    → IsJustOpened config start → CameAll start (script_lines input) end old mid refused → CameLast end after mid new last
-    → IsKept end.desk.book → IsAnswered config input (if refused || last then 1 else 0) old new
-run_answered config input start end after refused last old mid new opened (replies, takes, written, refusals) (reply, asks, appends, is_reply) kept =
+pub run_answered : (config : configs.Config) (input : List ℕ) (start end after : Standing) (refused last : Bool) (gave gives : Option (List FileText)) (old mid new : Option (List ℕ))
+    → IsJustOpened config start → CameAll start (script_lines input) end gave gives old mid refused → CameLast end after mid new last
+    → IsKept end.desk.book → IsAnswered config input (if refused || last then 1 else 0) gave gives old new
+run_answered config input start end after refused last gave gives old mid new opened (replies, files, takes, given, written, refusals) (reply, asks, appends, is_reply) kept =
     let all : flat_map ended (replies ++ reply ∷ []) ≡ flat_map ended replies ++ ended reply =
     flat_map-append ended replies (reply ∷ []) ∙ ap (λ bytes. flat_map ended replies ++ bytes) (append-nil (ended reply)) in
     let any : list_any is_refused (replies ++ reply ∷ []) ≡ (refused || last) =
     list_any-append is_refused replies (reply ∷ []) ∙ rw (refusals, is_reply) (ap (λ b. list_any is_refused replies || b) (or_false (is_refused reply))) in
     let bytes : Appends old new (flat_map ended (replies ++ reply ∷ [])) = rw all (Appends-trans _ _ _ _ _ written appends) in
-    (start, replies, end, reply, after, opened, takes, asks, bytes, ap (λ (b : Bool). if b then 1 else 0) (sym any), record { kept = kept; told = places_told end after reply asks })
+    (start, files, replies, end, reply, after, opened, takes, asks, given, bytes, ap (λ (b : Bool). if b then 1 else 0) (sym any), record { kept = kept; told = places_told end after reply asks })
 
 -- a run that stopped at the question at the end
-pub run_stopped_at_end : (config : configs.Config) (lines : List (List ℕ)) (start end : Standing) (refused : Bool) (old mid new : Option (List ℕ)) (fault : ScriptFault)
-    → IsJustOpened config start → CameAll start lines end old mid refused
+pub run_stopped_at_end : (config : configs.Config) (lines : List (List ℕ)) (start end : Standing) (refused : Bool) (gave gives : Option (List FileText)) (old mid new : Option (List ℕ)) (fault : ScriptFault)
+    → IsJustOpened config start → CameAll start lines end gave gives old mid refused
     → (part : List ℕ) × LeavesPart fault end [] part × Appends mid new part
-    → Stops config fault lines old new
-run_stopped_at_end config lines start end refused old mid new fault opened (replies, takes, written, refusals) (part, leaves, appends) =
-    inr (start, opened, (replies, end, [], part, (lines, sym (append-nil lines), takes), leaves, Appends-trans _ _ _ _ _ written appends))
+    → Stops config fault lines gave gives old new
+run_stopped_at_end config lines start end refused gave gives old mid new fault opened (replies, files, takes, given, written, refusals) (part, leaves, appends) =
+    inr (start, opened, (files, [], replies, end, [], part, (lines, sym (append-nil lines), takes), leaves, subst (Gives gave gives) (sym (append-nil files)) given, Appends-trans _ _ _ _ _ written appends))
 
 -- a run that stopped at one of the lines
-pub run_stopped : (config : configs.Config) (lines : List (List ℕ)) (start : Standing) (old new : Option (List ℕ)) (fault : ScriptFault)
-    → IsJustOpened config start → StopsAfter fault start lines old new → Stops config fault lines old new
-run_stopped config lines start old new fault opened stops = inr (start, opened, stops)
+pub run_stopped : (config : configs.Config) (lines : List (List ℕ)) (start : Standing) (gave gives : Option (List FileText)) (old new : Option (List ℕ)) (fault : ScriptFault)
+    → IsJustOpened config start → StopsAfter fault start lines gave gives old new → Stops config fault lines gave gives old new
+run_stopped config lines start gave gives old new fault opened stops = inr (start, opened, stops)
 
 -- a run that stopped before its first line
-pub stops_first : (config : configs.Config) (lines : List (List ℕ)) (w : Option (List ℕ)) (fault : ScriptFault) → fault ≢ Output → Stops config fault lines w w
-stops_first config lines w fault is_other = inl (is_other, Appends-nil w)
+pub stops_first : (config : configs.Config) (lines : List (List ℕ)) (p : Option (List FileText)) (w : Option (List ℕ)) (fault : ScriptFault) → fault ≢ Output → fault ≢ Path → Stops config fault lines p p w w
+stops_first config lines p w fault is_other is_no_path = inl (is_other, is_no_path, gives_none p, Appends-nil w)
 
 not_output : (why : OpenFault) → fault_of why ≢ Output
 not_output opening.Config e = cc
 not_output opening.Memory e = cc
 not_output (opening.Tables why) e = cc
+
+not_path : (why : OpenFault) → fault_of why ≢ Path
+not_path opening.Config e = cc
+not_path opening.Memory e = cc
+not_path (opening.Tables why) e = cc
 
 -- what `?` gave out is the fault that it took
 pub is_fault : {X : Type 0} (result : Result X ScriptFault) (fault : ScriptFault) → IsErrAnd result (λ out. out ≡ fault) → result ≡ Err fault
@@ -219,15 +284,16 @@ is_fault (Ok x) fault h = absurd h
 is_fault (Err out) fault h = ap Err h
 
 -- a run whose room could not be opened
-pub stops_unopened : {X : Type 0} (config : configs.Config) (lines : List (List ℕ)) (w : Option (List ℕ)) (why : OpenFault) (result : Result X ScriptFault)
-    → IsErrAnd result (λ fault. fault ≡ fault_of why) → IfErr result (λ fault. Stops config fault lines w w)
-stops_unopened config lines w why (Ok x) _ = tt
-stops_unopened config lines w why (Err fault) is = rw is (stops_first config lines w (fault_of why) (not_output why))
+pub stops_unopened : {X : Type 0} (config : configs.Config) (lines : List (List ℕ)) (p : Option (List FileText)) (w : Option (List ℕ)) (why : OpenFault) (result : Result X ScriptFault)
+    → IsErrAnd result (λ fault. fault ≡ fault_of why) → IfErr result (λ fault. Stops config fault lines p p w w)
+stops_unopened config lines p w why (Ok x) _ = tt
+stops_unopened config lines p w why (Err fault) is = rw is (stops_first config lines p w (fault_of why) (not_output why) (not_path why))
 
 -- a run whose script could not be read
-pub stops_unread : (config : configs.Config) (read w : Option (List ℕ)) (fault : ScriptFault) → fault ≢ Output → IfSome read (λ input. Stops config fault (script_lines input) w w)
-stops_unread config None w fault is_other = tt
-stops_unread config (Some input) w fault is_other = stops_first config (script_lines input) w fault is_other
+pub stops_unread : (config : configs.Config) (read : Option (List ℕ)) (p : Option (List FileText)) (w : Option (List ℕ)) (fault : ScriptFault) → fault ≢ Output → fault ≢ Path
+    → IfSome read (λ input. Stops config fault (script_lines input) p p w w)
+stops_unread config None p w fault is_other is_no_path = tt
+stops_unread config (Some input) p w fault is_other is_no_path = stops_first config (script_lines input) p w fault is_other is_no_path
 
 take_none : (xs : List ℕ) (n : ℕ) → n ≡ 0 → take n xs ≡ []
 take_none [] n is = rw is refl

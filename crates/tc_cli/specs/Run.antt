@@ -3,17 +3,21 @@ use Rattle.std.specs.Prelude.{◌≡◌, ◌≢◌, ◌⊎◌, ℕ, ◌==◌, Bo
 use Rattle.std.specs.List.{list_any, flat_map}
 use Rattle.std.specs.Io.KnownBytes.{Appends}
 use Rattle.bstr.specs.Text.{lines_of, without_terminator}
+use Rattle.tc_types.specs.Grammar.{HasLongAct}
 use Rattle.tc_types.specs.History.{counts_of, entered}
+use Rattle.tc_types.specs.Loads.{LoadLine, SpellsLoad}
 use Rattle.tc_types.specs.Lines.{places_line}
 use Rattle.tc_book.specs.Book.{Book}
 use Rattle.tc_desk.specs.Replies.{Reply}
 use Rattle.tc_desk.specs.declared.configs.Config as configs
 use Rattle.tc_room.specs.Answers.{AnswersLine, AsksPlaces}
 use Rattle.tc_room.specs.Joined.{IsKept}
+use Rattle.tc_room.specs.Loads.{RoomLoad, loader_of}
 use Rattle.tc_room.specs.Replies.{ended, is_refused}
 use Rattle.tc_room.specs.Room.{IsJustOpened, Standing}
+use Rattle.tc_cli.specs.Files.{FileText, Gives, file_at}
 use Rattle.tc_cli.specs.declared.script.ScriptFault.{ScriptFault}
-use Rattle.tc_cli.specs.declared.script.ScriptFault.TheVariants.{Script, Output, Memory, Tables, Config}
+use Rattle.tc_cli.specs.declared.script.ScriptFault.TheVariants.{Script, Output, Memory, Tables, Config, Path}
 
 -- the lines of a script: LF ends a line, and one CR just before that LF is dropped; the last LF may be missing
 abbrev pub script_lines : List ℕ → List (List ℕ)
@@ -24,18 +28,33 @@ abbrev pub is_skipped : List ℕ → Bool
 is_skipped [] = true
 is_skipped (first ∷ others) = first == 35
 
--- a line that is skipped is not answered
-abbrev pub TakesLine : Standing → List ℕ → List Reply → Standing → Type 0
-TakesLine old line replies new = MatchBool (is_skipped line)
-    ((replies ≡ []) × (new ≡ old))
-    ((reply : Reply) × (replies ≡ reply ∷ []) × AnswersLine old line reply new)
+-- a line that loads the stack at a path
+abbrev pub IsLoadLine : List ℕ → LoadLine → Type 0
+IsLoadLine line load = SpellsLoad line load × (¬ HasLongAct line)
 
--- each line is taken in turn, from where the line before left the room
-abbrev pub TakesLines : Standing → List (List ℕ) → List Reply → Standing → Type 0
-TakesLines old [] replies new = (replies ≡ []) × (new ≡ old)
-TakesLines old (line ∷ lines) replies new =
-    (now : List Reply) × (mid : Standing) × (later : List Reply)
-    × TakesLine old line now mid × TakesLines mid lines later new × (replies ≡ now ++ later)
+-- the text that was found at its path is loaded
+abbrev pub LoadsFile : Standing → List ℕ → List FileText → Reply → Standing → Type 0
+LoadsFile old line files reply new =
+    (load : LoadLine) × (text : List ℕ) × IsLoadLine line load × (files ≡ file_at load.path text ∷ []) × RoomLoad old (loader_of load) load.name text reply new
+
+-- a line that loads nothing asks for no file, and is answered by itself
+abbrev pub AnswersScriptLine : Standing → List ℕ → List FileText → Reply → Standing → Type 0
+AnswersScriptLine old line files reply new =
+    LoadsFile old line files reply new
+    ⊎ ((files ≡ []) × ((load : LoadLine) → ¬ IsLoadLine line load) × AnswersLine old line reply new)
+
+-- a line that is skipped is not answered
+abbrev pub TakesLine : Standing → List ℕ → List FileText → List Reply → Standing → Type 0
+TakesLine old line files replies new = MatchBool (is_skipped line)
+    ((files ≡ []) × (replies ≡ []) × (new ≡ old))
+    ((reply : Reply) × (replies ≡ reply ∷ []) × AnswersScriptLine old line files reply new)
+
+-- each line is taken in turn, from where the line before left the room, with the next of the files
+abbrev pub TakesLines : Standing → List (List ℕ) → List FileText → List Reply → Standing → Type 0
+TakesLines old [] files replies new = (files ≡ []) × (replies ≡ []) × (new ≡ old)
+TakesLines old (line ∷ lines) files replies new =
+    (now : List Reply) × (mid : Standing) × (later : List Reply) × (first : List FileText) × (others : List FileText)
+    × TakesLine old line first now mid × TakesLines mid lines others later new × (replies ≡ now ++ later) × (files ≡ first ++ others)
 
 -- the exit status: 1 where some reply is a refusal
 abbrev pub status_of : List Reply → ℕ
@@ -51,11 +70,12 @@ pub record LeavesBook (book : Book) (last : Reply) : Type 0 where
   pub told : is_refused last ≡ false → last ≡ places_line (length (entered book.history)) (counts_of book.history) ∷ []
 
 -- These bytes were read, and in a room that was just opened the run wrote the replies to their lines, and then the reply
--- to `places`.
-abbrev pub IsAnswered : configs.Config → List ℕ → ℕ → Option (List ℕ) → Option (List ℕ) → Type 0
-IsAnswered config input status old new =
-    (start : Standing) × (replies : List Reply) × (end : Standing) × (last : Reply) × (after : Standing)
-    × IsJustOpened config start × TakesLines start (script_lines input) replies end × AsksPlaces end last after
+-- to `places`. The texts that the lines load are those that the source of files gave meanwhile.
+abbrev pub IsAnswered : configs.Config → List ℕ → ℕ → Option (List FileText) → Option (List FileText) → Option (List ℕ) → Option (List ℕ) → Type 0
+IsAnswered config input status gave gives old new =
+    (start : Standing) × (files : List FileText) × (replies : List Reply) × (end : Standing) × (last : Reply) × (after : Standing)
+    × IsJustOpened config start × TakesLines start (script_lines input) files replies end × AsksPlaces end last after
+    × Gives gave gives files
     × Appends old new (flat_map ended (replies ++ last ∷ []))
     × (status ≡ status_of (replies ++ last ∷ []))
     × LeavesBook end.desk.book last
@@ -63,39 +83,48 @@ IsAnswered config input status old new =
 -- ---- a run that stops
 
 -- some first lines were taken, and these are left
-abbrev pub TakesFront : Standing → List (List ℕ) → List Reply → Standing → List (List ℕ) → Type 0
-TakesFront old lines replies new left =
-    (front : List (List ℕ)) × (lines ≡ front ++ left) × TakesLines old front replies new
+abbrev pub TakesFront : Standing → List (List ℕ) → List FileText → List Reply → Standing → List (List ℕ) → Type 0
+TakesFront old lines files replies new left =
+    (front : List (List ℕ)) × (lines ≡ front ++ left) × TakesLines old front files replies new
 
 -- what comes next is answered: the next line, or, where none is left, the question `places`
 abbrev pub AnswersNext : Standing → List (List ℕ) → Reply → Type 0
 AnswersNext at [] reply = (after : Standing) × AsksPlaces at reply after
-AnswersNext at (line ∷ lines) reply = (after : Standing) × (is_skipped line ≡ false) × AnswersLine at line reply after
+AnswersNext at (line ∷ lines) reply = (after : Standing) × (files : List FileText) × (is_skipped line ≡ false) × AnswersScriptLine at line files reply after
+
+-- the next line loads the stack at a path
+abbrev pub LoadsNext : List (List ℕ) → Type 0
+LoadsNext [] = ⊥
+LoadsNext (line ∷ lines) = (load : LoadLine) × (is_skipped line ≡ false) × IsLoadLine line load
 
 -- a front of these bytes, and not all
 abbrev pub IsCutShort : List ℕ → List ℕ → Type 0
 IsCutShort bytes part = (rest : List ℕ) × (bytes ≡ part ++ rest) × (rest ≢ [])
 
--- What a fault leaves of the next reply: where a write failed a front of it, and else nothing.
+-- What a fault leaves of the next reply: where a write failed a front of it, and else nothing. A path that gives no text is that
+-- of the next line.
 abbrev pub LeavesPart : ScriptFault → Standing → List (List ℕ) → List ℕ → Type 0
 LeavesPart Script at left part = part ≡ []
 LeavesPart Output at left part = (next : Reply) × AnswersNext at left next × IsCutShort (ended next) part
 LeavesPart Memory at left part = part ≡ []
 LeavesPart Tables at left part = part ≡ []
 LeavesPart Config at left part = part ≡ []
+LeavesPart Path at left part = (part ≡ []) × LoadsNext left
 
--- The run of these lines stopped after some of them: their replies are written, and of the next what the fault leaves.
-abbrev pub StopsAfter : ScriptFault → Standing → List (List ℕ) → Option (List ℕ) → Option (List ℕ) → Type 0
-StopsAfter fault start lines old new =
-    (replies : List Reply) × (at : Standing) × (left : List (List ℕ)) × (part : List ℕ)
-    × TakesFront start lines replies at left × LeavesPart fault at left part
+-- The run of these lines stopped after some of them: their replies are written, and of the next what the fault leaves. A text that
+-- was given for the next may have come to no reply.
+abbrev pub StopsAfter : ScriptFault → Standing → List (List ℕ) → Option (List FileText) → Option (List FileText) → Option (List ℕ) → Option (List ℕ) → Type 0
+StopsAfter fault start lines gave gives old new =
+    (files : List FileText) × (more : List FileText) × (replies : List Reply) × (at : Standing) × (left : List (List ℕ)) × (part : List ℕ)
+    × TakesFront start lines files replies at left × LeavesPart fault at left part
+    × Gives gave gives (files ++ more)
     × Appends old new (flat_map ended replies ++ part)
 
--- The run stopped before its first line: nothing was written, and so no write failed.
-abbrev pub StopsAtOnce : ScriptFault → Option (List ℕ) → Option (List ℕ) → Type 0
-StopsAtOnce fault old new = (fault ≢ Output) × Appends old new []
+-- The run stopped before its first line: nothing was written, so no write failed, and no file was asked for.
+abbrev pub StopsAtOnce : ScriptFault → Option (List FileText) → Option (List FileText) → Option (List ℕ) → Option (List ℕ) → Type 0
+StopsAtOnce fault gave gives old new = (fault ≢ Output) × (fault ≢ Path) × Gives gave gives [] × Appends old new []
 
 -- The run of these lines stopped: at once, or after some of them, in a room that was just opened.
-abbrev pub Stops : configs.Config → ScriptFault → List (List ℕ) → Option (List ℕ) → Option (List ℕ) → Type 0
-Stops config fault lines old new =
-    StopsAtOnce fault old new ⊎ ((start : Standing) × IsJustOpened config start × StopsAfter fault start lines old new)
+abbrev pub Stops : configs.Config → ScriptFault → List (List ℕ) → Option (List FileText) → Option (List FileText) → Option (List ℕ) → Option (List ℕ) → Type 0
+Stops config fault lines gave gives old new =
+    StopsAtOnce fault gave gives old new ⊎ ((start : Standing) × IsJustOpened config start × StopsAfter fault start lines gave gives old new)

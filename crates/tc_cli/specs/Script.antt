@@ -4,7 +4,7 @@ use Rattle.std.specs.Io.KnownBytes.{Consumes}
 use Rattle.tc_types.specs.declared.counted.Counts.{Counts}
 use Rattle.tc_types.specs.Counts.{no_counts}
 use Rattle.tc_cli.specs.declared.script.ScriptFault.{ScriptFault}
-use Rattle.tc_cli.specs.declared.script.ScriptFault.TheVariants.{Script, Output, Memory, Tables, Config}
+use Rattle.tc_cli.specs.declared.script.ScriptFault.TheVariants.{Script, Output, Memory, Tables, Config, Path}
 use Rattle.tc_room.specs.declared.memory.OpenFault.{OpenFault}
 use Rattle.tc_room.specs.declared.memory.OpenFault.TheVariants as opening
 
@@ -31,6 +31,7 @@ written_counts (Err Output) = one_fault
 written_counts (Err Memory) = no_counts
 written_counts (Err Tables) = no_counts
 written_counts (Err Config) = no_counts
+written_counts (Err Path) = no_counts
 
 -- why a run ends where its room could not be opened
 abbrev pub fault_of : OpenFault → ScriptFault

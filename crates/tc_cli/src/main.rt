@@ -5,10 +5,12 @@
 //! window and the virtual channel.
 #![tactic(auto)]
 
+mod paths;
 mod run;
 mod script;
 mod words;
 
+use paths::HostPaths;
 use run::run_script;
 use script::ScriptFault;
 use std::alloc::{AllocError, Global};
@@ -75,13 +77,15 @@ fn run_path<R: Files + Input + Print + Eprint + AllocGlobal>(
     path: &str,
     config: Config,
 ) -> u8 {
-    match run_at(rt, path, config) {
+    let mut paths = HostPaths::new(rt.alloc(), rt);
+    match run_at(rt, path, config, &mut paths) {
         Ok(status) => status,
         Err(ScriptFault::Script) => cannot_use(rt, path),
         Err(ScriptFault::Output) => cannot_use(rt, "output"),
         Err(ScriptFault::Memory) => cannot_use(rt, "memory"),
         Err(ScriptFault::Tables) => cannot_use(rt, "tables"),
         Err(ScriptFault::Config) => cannot_use(rt, "config"),
+        Err(ScriptFault::Path) => cannot_use(rt, paths.unread()),
     }
 }
 
@@ -89,14 +93,18 @@ fn run_at<R: Files + Input + Print + AllocGlobal>(
     rt: &R,
     path: &str,
     config: Config,
+    paths: &mut HostPaths<'_, R>,
 ) -> Result<u8, ScriptFault> {
     let mut writer = Counted::new(io::writer(rt));
     if path == "-" {
         let mut reader = Counted::new(rt.reader());
-        return run_script(rt.alloc(), config, &mut reader, &mut writer);
+        return run_script(rt.alloc(), config, &mut reader, paths, &mut writer);
     }
     match fs::open(rt, path) {
-        Ok(file) => run_script(rt.alloc(), config, &mut Counted::new(file), &mut writer),
+        Ok(file) => {
+            let mut reader = Counted::new(file);
+            run_script(rt.alloc(), config, &mut reader, paths, &mut writer)
+        }
         Err(error) if error.kind() == io::ErrorKind::OutOfMemory => Err(ScriptFault::Memory),
         Err(_) => Err(ScriptFault::Script),
     }

@@ -1,5 +1,5 @@
 //! The run of a script.
-ghost use Rattle.std.specs.Prelude.{◌≡◌, ◌≢◌, ℕ, if◌then◌else◌, List, [], ◌∷◌, Err, IfErr, IfOk, IfSome, OnErr, OnOk};
+ghost use Rattle.std.specs.Prelude.{◌≡◌, ◌≢◌, ◌⊎◌, ℕ, if◌then◌else◌, List, [], ◌∷◌, Err, IfErr, IfOk, IfSome, OnErr, OnOk};
 ghost use Rattle.std.specs.List.{flat_map, list_any};
 ghost use Rattle.std.specs.Io.KnownBytes.{Appends};
 ghost use Rattle.tc_types.specs.Counts.{counts_of, inner_of, no_counts};
@@ -8,35 +8,47 @@ ghost use Rattle.tc_room.specs.Joined.{IsKept};
 ghost use Rattle.tc_desk.specs.Replies.{Reply};
 ghost use Rattle.tc_room.specs.Replies.{ended, is_refused};
 ghost use Rattle.tc_cli.specs.Script.{IsUnreadable, written_counts};
-ghost use Rattle.tc_cli.specs.Run.{IsAnswered, IsCutShort, LeavesPart, Stops, StopsAfter, TakesLine, TakesLines};
+ghost use Rattle.std.specs.String.{string_bytes};
+ghost use Rattle.tc_types.specs.Loads.{LoadLine, line_of};
+ghost use Rattle.tc_room.specs.Loads.{RoomLoad, loader_of};
+ghost use Rattle.tc_cli.specs.Files.{FileText, Gives, file_at};
+ghost use Rattle.tc_cli.specs.Run.{AnswersScriptLine, IsAnswered, IsCutShort, IsLoadLine, LeavesPart, Stops, StopsAfter, TakesLine, TakesLines};
 ghost use Rattle.tc_cli.specs.Run.{is_skipped, script_lines};
 
+use crate::paths::{PathFault, Paths};
 use crate::script::{ScriptFault, read_script};
 use bstr::ByteSlice;
 use std::alloc::Global;
 use std::io::{Read, Write};
 use tc_desk::configs::Config;
-use tc_room::answers::{answer_line, answer_places};
+use tc_room::answers::{Answer, answer_line, answer_load, answer_places};
 use tc_room::rooms::Room;
 use tc_types::counted::Counted;
+use tc_types::load_reader::read_load;
+use tc_types::loads::Load;
+
+/// How many bytes of a file are read: one more than a stack may have, so that a longer one is refused as too long.
+const MOST_FILE_BYTES: usize = 65_537;
 
 /// Runs the lines of a script on a desk where nothing happened yet, and writes what they are answered, and at the end
-/// what `places` is answered. Gives the exit status: 1 where any line or that question was refused, else 0.
+/// what `places` is answered. Gives the exit status: 1 where any line or that question was refused, else 0. A line that loads
+/// a stack takes its text from this source of files; a path that gives none ends the run.
 ///
 /// The script is read whole before a line is run: where that fails, the writer is as it was. The reader and the writer
 /// begin to count here, so that a caller sees which of them failed. What the writer holds back is the caller's to flush.
-pub fn run_script<R: Read, W: Write>(
+pub fn run_script<R: Read, P: Paths, W: Write>(
     alloc: Global,
     config: Config,
     reader: &mut Counted<R>,
+    paths: &mut P,
     writer: &mut Counted<W>,
 ) -> Result<u8, ScriptFault>
     requires unread { counts_of reader.old ≡ no_counts }
     requires unwritten { counts_of writer.old ≡ no_counts }
     ensures answered { IfOk result (λ status. IfSome (R.remaining (inner_of reader.old)) (λ input.
-        IsAnswered config input status (W.contents (inner_of writer.old)) (W.contents (inner_of writer.new)))) }
+        IsAnswered config input status (P.given paths.old) (P.given paths.new) (W.contents (inner_of writer.old)) (W.contents (inner_of writer.new)))) }
     ensures stopped { IfErr result (λ fault. IfSome (R.remaining (inner_of reader.old)) (λ input.
-        Stops config fault (script_lines input) (W.contents (inner_of writer.old)) (W.contents (inner_of writer.new)))) }
+        Stops config fault (script_lines input) (P.given paths.old) (P.given paths.new) (W.contents (inner_of writer.old)) (W.contents (inner_of writer.new)))) }
     ensures script { result ≡ Err ScriptFault.Script →
         IsUnreadable (counts_of reader.new) (R.remaining (inner_of reader.old)) (R.remaining (inner_of reader.new))
         × (writer.new ≡ writer.old) }
@@ -44,26 +56,27 @@ pub fn run_script<R: Read, W: Write>(
     ensures written { counts_of writer.new ≡ written_counts result }
 {
     let text = read_script(alloc, reader)?;
-    run_text(alloc, config, &text, writer)
+    run_text(alloc, config, &text, paths, writer)
 }
 
 /// Runs the lines of a script that was read. It never fails with `Script`.
-fn run_text<W: Write>(
+fn run_text<P: Paths, W: Write>(
     alloc: Global,
     config: Config,
     text: &[u8],
+    paths: &mut P,
     writer: &mut Counted<W>,
 ) -> Result<u8, ScriptFault>
     requires { counts_of writer.old ≡ no_counts }
     ensures answered { IfOk result (λ status.
-        IsAnswered config text.now status (W.contents (inner_of writer.old)) (W.contents (inner_of writer.new))) }
+        IsAnswered config text.now status (P.given paths.old) (P.given paths.new) (W.contents (inner_of writer.old)) (W.contents (inner_of writer.new))) }
     ensures stopped { IfErr result (λ fault. Stops config fault (script_lines text.now)
-        (W.contents (inner_of writer.old)) (W.contents (inner_of writer.new))) }
+        (P.given paths.old) (P.given paths.new) (W.contents (inner_of writer.old)) (W.contents (inner_of writer.new))) }
     ensures fault { IfErr result (λ fault. fault ≢ ScriptFault.Script) }
     ensures counted { counts_of writer.new ≡ written_counts result }
 {
     let mut room = Room::open(alloc, config)?;
-    let refused = run_lines(alloc, &mut room, text, writer)?;
+    let refused = run_lines(alloc, &mut room, text, paths, writer)?;
     let last = run_places(alloc, &mut room, writer)?;
     Ok(status_of(refused | last))
 }
@@ -109,18 +122,66 @@ fn is_skipped(line: &[u8]) -> bool
     }
 }
 
-/// Takes one line, and says whether it was refused.
-fn run_line<W: Write>(
+/// What a line that loads a stack is answered, once the text at its path is there.
+fn answer_file<P: Paths>(
+    alloc: Global,
+    room: &mut Room,
+    load: &Load<'_>,
+    paths: &mut P,
+) -> Result<Answer, ScriptFault>
+    ensures answered { IfOk result (λ answer. (reply : Reply) × (text : List ℕ) × RoomLoad room.old (loader_of (line_of load.now)) load.now.name text reply room.new
+        × Gives (P.given paths.old) (P.given paths.new) (file_at load.now.path.now text ∷ [])
+        × (string_bytes answer.text ≡ ended reply) × (answer.refused ≡ is_refused reply)) }
+    ensures fault { IfErr result (λ fault. (fault ≡ ScriptFault.Memory) ⊎ (fault ≡ ScriptFault.Path)) }
+    ensures gave { OnErr result ((more : List FileText) × Gives (P.given paths.old) (P.given paths.new) more) }
+{
+    match paths.load(alloc, load.path, MOST_FILE_BYTES) {
+        Ok(text) => {
+            let answer = answer_load(alloc, room, load, &text)?;
+            Ok(answer)
+        }
+        Err(PathFault::Unreadable) => Err(ScriptFault::Path),
+        Err(PathFault::Memory) => Err(ScriptFault::Memory),
+    }
+}
+
+/// What a line that is not skipped is answered.
+fn answer<P: Paths>(
     alloc: Global,
     room: &mut Room,
     line: &[u8],
+    paths: &mut P,
+) -> Result<Answer, ScriptFault>
+    ensures answered { IfOk result (λ answer. (reply : Reply) × (files : List FileText) × AnswersScriptLine room.old line.now files reply room.new
+        × Gives (P.given paths.old) (P.given paths.new) files
+        × (string_bytes answer.text ≡ ended reply) × (answer.refused ≡ is_refused reply)) }
+    ensures fault { IfErr result (λ fault. (fault ≡ ScriptFault.Memory) ⊎ ((fault ≡ ScriptFault.Path) × ((load : LoadLine) × IsLoadLine line.now load))) }
+    ensures gave { OnErr result ((more : List FileText) × Gives (P.given paths.old) (P.given paths.new) more) }
+{
+    match read_load(line) {
+        Ok(load) => answer_file(alloc, room, &load, paths),
+        Err(_) => {
+            let answer = answer_line(alloc, room, line)?;
+            Ok(answer)
+        }
+    }
+}
+
+/// Takes one line, and says whether it was refused.
+fn run_line<P: Paths, W: Write>(
+    alloc: Global,
+    room: &mut Room,
+    line: &[u8],
+    paths: &mut P,
     writer: &mut Counted<W>,
 ) -> Result<bool, ScriptFault>
     requires { counts_of writer.old ≡ no_counts }
-    ensures taken { IfOk result (λ refused. (replies : List Reply) × TakesLine room.old line.now replies room.new
+    ensures taken { IfOk result (λ refused. (replies : List Reply) × (files : List FileText) × TakesLine room.old line.now files replies room.new
+        × Gives (P.given paths.old) (P.given paths.new) files
         × Appends (W.contents (inner_of writer.old)) (W.contents (inner_of writer.new)) (flat_map ended replies)
         × (refused ≡ list_any is_refused replies)) }
-    ensures stopped { IfErr result (λ fault. (part : List ℕ) × LeavesPart fault room.old (line.now ∷ []) part
+    ensures stopped { IfErr result (λ fault. (part : List ℕ) × (more : List FileText) × LeavesPart fault room.old (line.now ∷ []) part
+        × Gives (P.given paths.old) (P.given paths.new) more
         × Appends (W.contents (inner_of writer.old)) (W.contents (inner_of writer.new)) part) }
     ensures fault { IfErr result (λ fault. fault ≢ ScriptFault.Script) }
     ensures counted { counts_of writer.new ≡ written_counts result }
@@ -128,30 +189,32 @@ fn run_line<W: Write>(
     if is_skipped(line) {
         return Ok(false);
     }
-    let answer = answer_line(alloc, room, line)?;
+    let answer = answer(alloc, room, line, paths)?;
     put(writer, answer.text.as_bytes())?;
     Ok(answer.refused)
 }
 
 /// Takes each line in turn, and says whether any was refused.
-fn run_lines<W: Write>(
+fn run_lines<P: Paths, W: Write>(
     alloc: Global,
     room: &mut Room,
     text: &[u8],
+    paths: &mut P,
     writer: &mut Counted<W>,
 ) -> Result<bool, ScriptFault>
     requires { counts_of writer.old ≡ no_counts }
-    ensures taken { IfOk result (λ refused. (replies : List Reply) × TakesLines room.old (script_lines text.now) replies room.new
+    ensures taken { IfOk result (λ refused. (replies : List Reply) × (files : List FileText) × TakesLines room.old (script_lines text.now) files replies room.new
+        × Gives (P.given paths.old) (P.given paths.new) files
         × Appends (W.contents (inner_of writer.old)) (W.contents (inner_of writer.new)) (flat_map ended replies)
         × (refused ≡ list_any is_refused replies)) }
     ensures stopped { IfErr result (λ fault. StopsAfter fault room.old (script_lines text.now)
-        (W.contents (inner_of writer.old)) (W.contents (inner_of writer.new))) }
+        (P.given paths.old) (P.given paths.new) (W.contents (inner_of writer.old)) (W.contents (inner_of writer.new))) }
     ensures fault { IfErr result (λ fault. fault ≢ ScriptFault.Script) }
     ensures counted { counts_of writer.new ≡ written_counts result }
 {
     let mut refused = false;
     for line in text.lines() {
-        refused |= run_line(alloc, room, line, writer)?;
+        refused |= run_line(alloc, room, line, paths, writer)?;
     }
     Ok(refused)
 }

@@ -33,6 +33,9 @@ pub enum ScriptFault {
     /// The tables of the desk could not be made. No line was run.
     #[error("tables")]
     Tables,
+    /// A line loads the stack at a path that gives no text. The lines before it stand, and were answered.
+    #[error("path")]
+    Path,
     /// The window is not even and 2 to 254, or the channel is above 63. No line was run.
     #[error("config")]
     Config,
@@ -75,6 +78,7 @@ pub fn read_script<R: Read>(alloc: Global, reader: &mut Counted<R>) -> Result<Ve
     ensures short { IfOk result (λ text. vec_len text ≤ LARGEST_SCRIPT) }
     ensures ended { OnOk result ((counts_of reader.new).ends ≡ 1) }
     ensures fault { IfErr result (λ fault. fault ≢ ScriptFault.Output) }
+    ensures no_path { IfErr result (λ fault. fault ≢ ScriptFault.Path) }
     ensures script { result ≡ Err ScriptFault.Script →
         IsUnreadable (counts_of reader.new) (R.remaining (inner_of reader.old)) (R.remaining (inner_of reader.new)) }
     ensures failed { (counts_of reader.new).faults ≢ 0 → result ≡ Err ScriptFault.Script }

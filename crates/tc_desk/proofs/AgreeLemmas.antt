@@ -28,7 +28,7 @@ use Rattle.tc_desk.specs.Machine.{Refuses}
 use Rattle.tc_desk.specs.Parts.{event_asked, link_refuses, IsRefused}
 use Rattle.tc_desk.specs.Places.{gone_places, StandsAt}
 use Rattle.tc_desk.specs.Tied.{IsTied}
-use Rattle.tc_desk.proofs.PassingLemmas.{none_holds, not_false}
+use Rattle.tc_book.proofs.PassingLemmas.{none_holds, not_false}
 use Rattle.tc_desk.proofs.TiedLemmas.{only}
 use Rattle.tc_desk.proofs.PlaceLemmas.{none_of, any_behind}
 
@@ -44,8 +44,8 @@ release_agrees o stamp at n None tied passes = refl
 release_agrees o stamp at n (Some request) tied passes =
     let tests = none_holds (link_tests at.book (view_of at.world.fop) at.board.time (link_act.Release n)) passes in
     let unknown : is_known n at.world ≡ false = unknown_to_link o at n tied (not_false _ tests.1.1.0) in
-    let taking : is_taking at.world.fop.state ≡ true = not_false _ tests.1.1.1.1.0 in
-    let free : is_some at.world.fop.waiting ≡ false = none_there at.world.fop.waiting (not_false _ tests.1.1.1.1.1.0) in
+    let taking : is_taking at.world.fop.state ≡ true = not_false _ tests.1.1.1.1.1.0 in
+    let free : is_some at.world.fop.waiting ≡ false = none_there at.world.fop.waiting (not_false _ tests.1.1.1.1.1.1.0) in
     rw (unknown, taking, free) refl
   where
     none_there : (w : Option Waiting) → (length (option_list w) == 0) ≡ true → is_some w ≡ false

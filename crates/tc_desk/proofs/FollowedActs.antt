@@ -6,10 +6,12 @@ use Rattle.tc_types.specs.declared.acts.Act.{Act}
 use Rattle.tc_types.specs.declared.acts.Act.TheVariants as act
 use Rattle.tc_types.specs.declared.frames.Frame.{Frame}
 use Rattle.tc_types.specs.declared.reports.Report.{Report}
+use Rattle.tc_fop.specs.Requests.{waiting_requests}
 use Rattle.tc_world.specs.declared.events.Indication.{Indication}
 use Rattle.tc_world.specs.Abstraction.{seen}
 use Rattle.tc_world.specs.Links.{Kind}
 use Rattle.tc_world.specs.Payloads.{AreCarried}
+use Rattle.tc_world.specs.Window.{all_confirmed}
 use Rattle.tc_world.specs.World.{Whole, all_sent}
 use Rattle.tc_world.proofs.AllLists.{all_sub, all_append, all_behind, all_follow}
 use Rattle.tc_world.proofs.Bridge.{OnlyLoses}
@@ -42,18 +44,20 @@ use Rattle.tc_desk.proofs.FollowLaws.{FollowsSteps}
 use Rattle.tc_desk.proofs.PayloadActs.{CarriedOn, before_payloads, goes_on_carried}
 use Rattle.tc_desk.proofs.ReadActs.{link_requests, does_read}
 use Rattle.tc_desk.proofs.ReadLemmas.{named_down_weaker, through_agrees}
-use Rattle.tc_desk.proofs.RollOfLemmas.{BookStays, same_stays, acted_stays, flown_grows, grown_agrees}
+use Rattle.tc_desk.proofs.BookSteps.{book_tied}
+use Rattle.tc_desk.proofs.RollOfLemmas.{BookStays, same_stays, flown_grows, grown_agrees}
 
 -- ---- the book
 
 -- what the book says of those that were sent stays
 does_stay : {U D : Type 0} (up : Kind U Frame) (down : Kind D Report) (o : ℕ) (stamp : Stamp) (given : Act) (old new : State U D) (all : List Indication) (first : First)
-    → IsGoodBook old.book → IsTied o old → Does up down stamp given old new all first → BookStays old.book new.book (all_sent old.world)
-does_stay up down o stamp (act.Book given) old new all first good tied does =
+    → IsGoodBook old.book → refusal_of stamp old given ≡ None → IsTied o old → Does up down stamp given old new all first → BookStays old.book new.book (all_sent old.world)
+does_stay up down o stamp (act.Book given) old new all first good passes tied does =
     let alone : new.book ≡ book_acted stamp given old.book = does.book ∙ ap (λ (l : List Indication). heard_all stamp old.mirror l (book_acted stamp given old.book)) does.link.3 in
-    subst (λ (book : Book). BookStays old.book book (all_sent old.world)) (sym alone) (acted_stays stamp given old.book (all_sent old.world) good tied.sent tied.apart.riders)
-does_stay up down o stamp (act.Link given) old new all first good tied does = same_stays old.book new.book (all_sent old.world) (link_requests stamp given old new all does.book)
-does_stay {U} {D} up down o stamp (act.Ask asked) old new all first good tied does = same_stays old.book new.book (all_sent old.world) (ap (λ (at : State U D). at.book.requests) does.link.0)
+    subst (λ (book : Book). BookStays old.book book (all_sent old.world)) (sym alone)
+    (book_tied o stamp given old.book (waiting_requests old.world.fop) (all_sent old.world) (all_confirmed old.world) good passes tied).stays
+does_stay up down o stamp (act.Link given) old new all first good passes tied does = same_stays old.book new.book (all_sent old.world) (link_requests stamp given old new all does.book)
+does_stay {U} {D} up down o stamp (act.Ask asked) old new all first good passes tied does = same_stays old.book new.book (all_sent old.world) (ap (λ (at : State U D). at.book.requests) does.link.0)
 
 -- ---- what is read
 
@@ -118,7 +122,7 @@ does_followed {U} {D} up down stamp given old new all first steps losing_up losi
     K_after = IsFlown book_after sent_after
 
     stays : BookStays book book_after sent
-    stays = does_stay up down old.opened stamp given old.parts new.parts all first good tied does
+    stays = does_stay up down old.opened stamp given old.parts new.parts all first good passes tied does
 
     carried : CarriedOn (IsPayloadOf book_after) up down old.parts.world new.parts.world all
     carried = goes_on_carried (IsPayloadOf book_after) up down losing_up losing_down given old.parts new.parts all (λ n r here. stays.payload n _ (r, here, refl)) does.link

@@ -1,6 +1,5 @@
 -- What an act makes of the book goes on from the book before it.
-use Rattle.std.proofs.Common.{◌≡◌, ℕ, Bool, true, false, if◌then◌else◌, Option, Some, None, fold, List, [], ◌∷◌, ◌++◌, length, drop, sym, ◌∙◌, ap, subst, append_assoc, append-nil}
-use Rattle.std.proofs.Math.Seq.{drop-append_seam}
+use Rattle.std.proofs.Common.{◌≡◌, ℕ, Bool, true, false, if◌then◌else◌, Option, Some, None, fold, List, [], ◌∷◌, sym, subst}
 use Rattle.tc_types.specs.declared.places.Place.{Place}
 use Rattle.tc_types.specs.declared.places.Place.TheVariants as place
 use Rattle.tc_types.specs.declared.causes.Cause.{Cause}
@@ -22,39 +21,13 @@ use Rattle.tc_fop.specs.declared.signals.Indication.TheVariants as signal
 use Rattle.tc_world.specs.declared.events.Indication.{Indication}
 use Rattle.tc_world.specs.declared.events.Indication.TheVariants as said
 use Rattle.tc_book.specs.declared.stamps.Stamp.{Stamp}
-use Rattle.tc_book.specs.Batch.{HasBehind, GoesOn}
+use Rattle.tc_book.specs.Batch.{GoesOn}
 use Rattle.tc_book.specs.Book.{Book, place_in, stands, request_at, moved, want}
 use Rattle.tc_book.specs.Places.{numbers_from}
+use Rattle.tc_book.proofs.GoesOnLemmas.{same-goes_on, on_and_on, moved-goes_on}
 use Rattle.tc_desk.specs.Acts.{released}
 use Rattle.tc_desk.specs.Commands.{activity_at}
 use Rattle.tc_desk.specs.Effects.{tried, followed, tried_with, reported, is_completed, is_failed, inserted, deleted, removed, emptied, besides, besides_at, received, heard, heard_all}
-
--- one list, and more behind it
-behind : {X : Type 0} (xs ys : List X) → HasBehind xs (xs ++ ys)
-behind xs ys = ap (λ zs. xs ++ zs) (sym (drop-append_seam xs ys))
-
-behind-same : {X : Type 0} (xs : List X) → HasBehind xs xs
-behind-same xs = subst (HasBehind xs) (append-nil xs) (behind xs [])
-
--- a list behind a list behind a list
-behind-twice : {X : Type 0} (xs ys zs : List X) → HasBehind xs ys → HasBehind ys zs → HasBehind xs zs
-behind-twice {X} xs ys zs first second =
-    let whole : zs ≡ xs ++ (drop (length xs) ys ++ drop (length ys) zs) =
-    second ∙ ap (λ (l : List X). l ++ drop (length ys) zs) first ∙ append_assoc xs (drop (length xs) ys) (drop (length ys) zs) in
-    subst (HasBehind xs) (sym whole) (behind xs (drop (length xs) ys ++ drop (length ys) zs))
-
-same-goes_on : (book : Book) → GoesOn book book
-same-goes_on book = record { requests = behind-same book.requests; history = behind-same book.history; approvals = behind-same book.approvals }
-
-on_and_on : (a b c : Book) → GoesOn a b → GoesOn b c → GoesOn a c
-on_and_on a b c first second = record {
-  requests = behind-twice a.requests b.requests c.requests first.requests second.requests;
-  history = behind-twice a.history b.history c.history first.history second.history;
-  approvals = behind-twice a.approvals b.approvals c.approvals first.approvals second.approvals;
-}
-
-moved-goes_on : (stamp : Stamp) (book : Book) (n : ℕ) (to : Place) (c : Cause) → GoesOn book (moved stamp book (want n to c))
-moved-goes_on stamp book n to c = record { requests = behind-same book.requests; history = behind book.history _; approvals = behind-same book.approvals }
 
 -- a move that is made or not
 by_test : (stamp : Stamp) (book : Book) (n : ℕ) (to : Place) (c : Cause) (t : Bool) → GoesOn book (if t then moved stamp book (want n to c) else book)

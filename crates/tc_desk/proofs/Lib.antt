@@ -4,7 +4,6 @@ pub mod PutLemmas
 pub mod EmptyLemmas
 pub mod BoardingLemmas
 pub mod TiedLemmas
-pub mod PassingLemmas
 pub mod PlaceLemmas
 pub mod TargetLemmas
 pub mod RiderMoves
@@ -12,6 +11,8 @@ pub mod RiderLemmas
 pub mod RowLemmas
 pub mod HeardLemmas
 pub mod OwnLemmas
+pub mod RollOfLemmas
+pub mod BookSteps
 pub mod TiedActs
 pub mod AgreeLemmas
 pub mod DownLemmas
@@ -19,13 +20,13 @@ pub mod WholeLemmas
 pub mod HeadlineLemmas
 pub mod FollowLaws
 pub mod RequestLemmas
-pub mod RollOfLemmas
 pub mod ArrivalLemmas
 pub mod ReadLemmas
 pub mod PayloadActs
 pub mod BoardSteps
 pub mod ReadActs
 pub mod FollowedActs
+pub mod LoadLemmas
 pub mod StandingLemmas
 pub mod RunLemmas
 pub mod WorkedCases

@@ -1,4 +1,4 @@
--- Who flies on its own and who rides inside an insert stay apart, whatever the book hears, and by each act on the book.
+-- Who flies on its own and who rides inside an insert stay apart, whatever the book hears.
 use Rattle.std.proofs.Common.{◌≡◌, ◌≢◌, ℕ, ◌+◌, ◌<◌, ◌≤◌, ◌==◌, Bool, true, false, if◌then◌else◌, Option, Some, None, List, [], ◌∷◌, ◌++◌, length, refl, sym, ◌∙◌, ap, subst, append-nil, arith}
 use Rattle.std.specs.List.{list_any, filter_map, cons_option}
 use Rattle.std.proofs.lemmas.Bool.{or_parts, or_from}
@@ -10,8 +10,7 @@ use Rattle.tc_types.specs.declared.places.Place.TheVariants as place
 use Rattle.tc_types.specs.declared.causes.Cause.{Cause}
 use Rattle.tc_types.specs.declared.causes.Cause.TheVariants as cause
 use Rattle.tc_types.specs.declared.requests.Form.{Form}
-use Rattle.tc_types.specs.declared.acts.BookAct.{BookAct}
-use Rattle.tc_types.specs.declared.acts.BookAct.TheVariants as book_act
+use Rattle.tc_types.specs.declared.requests.Origin.{Origin}
 use Rattle.tc_types.specs.declared.acts.LinkAct.TheVariants as link_act
 use Rattle.tc_types.specs.Lawful.{is_among, is_one_of}
 use Rattle.tc_fop.specs.declared.signals.Indication.TheVariants as signal
@@ -20,10 +19,10 @@ use Rattle.tc_world.specs.declared.events.Indication.TheVariants as said
 use Rattle.tc_world.specs.Kept.{Each}
 use Rattle.tc_world.specs.Telling.{leaves_said, sent_said}
 use Rattle.tc_book.specs.declared.stamps.Stamp.{Stamp}
-use Rattle.tc_book.specs.Book.{Book, place_in, stands, request_in, moved, want, with_entry, with_approval, approval_at}
+use Rattle.tc_book.specs.Book.{Book, place_in, stands, request_in, moved, want, with_request}
 use Rattle.tc_book.specs.Good.{IsGoodBook}
-use Rattle.tc_book.specs.Acts.{first_refusal, tests_of as book_tests, acted as book_acted, completes}
 use Rattle.tc_book.proofs.GoodLemmas.{next_nowhere}
+use Rattle.tc_book.proofs.PassingLemmas.{not_false}
 use Rattle.tc_board.specs.Mirror.{MirrorState}
 use Rattle.tc_desk.specs.Acts.{released}
 use Rattle.tc_desk.specs.Commands.{activity_at, activity_in, may_not_ride}
@@ -31,10 +30,9 @@ use Rattle.tc_desk.specs.Effects.{tried, followed, tried_with, heard}
 use Rattle.tc_desk.specs.Places.{gone_places, StandsAt}
 use Rattle.tc_desk.specs.Riders.{riding_places, carried_by, NoneIsOf, AreApart}
 use Rattle.tc_desk.proofs.TiedLemmas.{each_map, each_behind, nothing_behind, place_moved, only, tried_there, Waits, Gone}
-use Rattle.tc_desk.proofs.PassingLemmas.{none_holds, not_false}
-use Rattle.tc_desk.proofs.PlaceLemmas.{either, none_of, any_behind}
+use Rattle.tc_desk.proofs.PlaceLemmas.{none_of, any_behind}
 use Rattle.tc_desk.proofs.TargetLemmas.{entered_keeps_activity, target_is_before}
-use Rattle.tc_desk.proofs.RiderMoves.{RidersKept, then_riders, if_riders, moved_riders, away_riders, follow_riding, received_riders, sent_riders, confirmed_riders, doubted_riders}
+use Rattle.tc_desk.proofs.RiderMoves.{RidersKept, then_riders, away_riders, follow_riding, received_riders, sent_riders, confirmed_riders, doubted_riders}
 
 -- ---- lists of requests
 
@@ -73,7 +71,7 @@ pub carried_append : (book : Book) (xs ys : List ℕ) → carried_by book (xs ++
 carried_append book xs ys = filter_map-append (activity_at book) xs ys
 
 -- they are apart in another book too, where the same are carried and each of them rides still
-apart_stays : (old new : Book) (waits sent : List ℕ) → carried_by new waits ≡ carried_by old waits → carried_by new sent ≡ carried_by old sent
+pub apart_stays : (old new : Book) (waits sent : List ℕ) → carried_by new waits ≡ carried_by old waits → carried_by new sent ≡ carried_by old sent
     → ((m : ℕ) → StandsAt riding_places old m → StandsAt riding_places new m) → AreApart old waits sent → AreApart new waits sent
 apart_stays old new waits sent same_waits same_sent kept apart = record {
   riders = subst (Each (StandsAt riding_places new)) (sym same_sent) (each_map _ _ (carried_by old sent) kept apart.riders);
@@ -244,38 +242,16 @@ released_apart stamp book n sent good here may gone apart = record {
     still : AreApart new [] sent
     still = kept_apart book new [] sent kept apart
 
--- ---- an act on the book
+-- ---- one request more
 
 -- who stands somewhere is not the next request, so an entry leaves its activity
-pub entered_carried : (stamp : Stamp) (book : Book) (entry : Form) (good : List Place) (xs : List ℕ) → IsGoodBook book → Each (StandsAt good book) xs → carried_by (with_entry stamp book entry) xs ≡ carried_by book xs
-entered_carried stamp book entry good xs is_good all =
-    carried_alike book (with_entry stamp book entry) xs (each_map _ _ xs (λ n here. entered_keeps_activity stamp book entry n (known n here)) all)
+pub entered_carried : (stamp : Stamp) (book : Book) (origin : Option Origin) (entry : Form) (good : List Place) (xs : List ℕ) → IsGoodBook book → Each (StandsAt good book) xs
+    → carried_by (with_request stamp book origin entry) xs ≡ carried_by book xs
+entered_carried stamp book origin entry good xs is_good all =
+    carried_alike book (with_request stamp book origin entry) xs (each_map _ _ xs (λ n here. entered_keeps_activity stamp book origin entry n (known n here)) all)
   where
     known : (n : ℕ) → StandsAt good book n → n ≢ length book.requests + 1
     known n here next =
         let nowhere : place_in book (length book.requests + 1) ≡ None = next_nowhere book is_good in
         let no : is_among good None ≡ true = sym (ap (is_among good) (ap (place_in book) next ∙ nowhere)) ∙ here in
         let never : false ≡ true = no in cc
-
--- an act on the book alone keeps them apart
-pub book_apart : (stamp : Stamp) (given : BookAct) (book : Book) (waits sent : List ℕ) → IsGoodBook book → first_refusal (book_tests stamp book given) ≡ None
-    → Waits book waits → Gone book sent → AreApart book waits sent → AreApart (book_acted stamp given book) waits sent
-book_apart stamp (book_act.Enter entry) book waits sent good passes w g apart =
-    let nowhere : place_in book (length book.requests + 1) ≡ None = next_nowhere book good in
-    let kept = moved_riders stamp book (length book.requests + 1) place.Entered cause.Enter
-    (λ h. let no : is_among riding_places None ≡ true = sym (ap (is_among riding_places) nowhere) ∙ h in cc) in
-    apart_stays book (with_entry stamp book entry) waits sent (entered_carried stamp book entry (place.Queued ∷ []) waits good w) (entered_carried stamp book entry gone_places sent good g) kept.riders apart
-book_apart stamp (book_act.Withdraw n) book waits sent good passes w g apart =
-    let tests = none_holds (book_tests stamp book (book_act.Withdraw n)) passes in
-    let here : StandsAt (place.Entered ∷ place.Approved ∷ []) book n = not_false _ tests.1.0 in
-    kept_apart book (book_acted stamp (book_act.Withdraw n) book) waits sent
-    (moved_riders stamp book n place.Withdrawn cause.Withdraw (either place.Entered place.Approved riding_places (place_in book n) place.Withdrawn here refl refl)) apart
-book_apart stamp (book_act.Approve n) book waits sent good passes w g apart =
-    let tests = none_holds (book_tests stamp book (book_act.Approve n)) passes in
-    let here : StandsAt (place.Entered ∷ []) book n = not_false _ tests.1.0 in
-    let given : Book = with_approval book n stamp.by in
-    kept_apart given (book_acted stamp (book_act.Approve n) book) waits sent
-    (if_riders given (moved stamp given (want n place.Approved cause.Approve)) (completes stamp.by (approval_at book n)) (away_riders stamp given n place.Entered place.Approved cause.Approve refl here))
-    (record { riders = apart.riders; next_riders = apart.next_riders; apart = apart.apart; next_apart = apart.next_apart })
-book_apart stamp (book_act.Close n) book waits sent good passes w g apart =
-    kept_apart book (book_acted stamp (book_act.Close n) book) waits sent (moved_riders stamp book n place.Closed cause.Close (λ h. refl)) apart

@@ -5,26 +5,25 @@ use Rattle.std.proofs.lemmas.Bool.Decides.{nat_tests}
 use Rattle.std.proofs.lemmas.List.Folds.{list_any-append}
 use Rattle.tc_types.specs.declared.places.Place.{Place}
 use Rattle.tc_types.specs.declared.requests.Form.{Form}
+use Rattle.tc_types.specs.declared.requests.Origin.{Origin}
 use Rattle.tc_types.specs.declared.requests.Request.{Request}
 use Rattle.tc_types.specs.declared.telecommands.Payload.{Payload}
-use Rattle.tc_types.specs.declared.acts.BookAct.{BookAct}
-use Rattle.tc_types.specs.declared.acts.BookAct.TheVariants as book_act
 use Rattle.tc_types.specs.Lawful.{is_among}
 use Rattle.tc_world.specs.Kept.{Each}
 use Rattle.tc_world.specs.Payloads.{IsOneOf}
 use Rattle.tc_board.specs.Names.{Agrees}
 use Rattle.tc_book.specs.declared.stamps.Stamp.{Stamp}
-use Rattle.tc_book.specs.Book.{Book, place_in, request_in, request_at, with_entry}
+use Rattle.tc_book.specs.Book.{Book, place_in, request_in, request_at, with_request}
 use Rattle.tc_book.specs.Good.{IsGoodBook}
-use Rattle.tc_book.specs.Acts.{acted as book_acted}
 use Rattle.tc_book.specs.Targets.{target_of}
 use Rattle.tc_book.proofs.GoodLemmas.{next_nowhere}
+use Rattle.tc_book.proofs.RequestLemmas.{number_low}
 use Rattle.tc_desk.specs.Commands.{command_of, command_at, flown_command}
 use Rattle.tc_desk.specs.Followed.{identity_in, roll_of, IsPayloadOf, IsFlown}
 use Rattle.tc_desk.specs.Places.{gone_places, StandsAt}
 use Rattle.tc_desk.specs.Riders.{riding_places, carried_by, NoneIsOf}
 use Rattle.tc_desk.proofs.TiedLemmas.{Gone}
-use Rattle.tc_desk.proofs.TargetLemmas.{number_low, named_before, flown_stays, same_payload, payload_stays, approved_requests, entered_keeps_request}
+use Rattle.tc_desk.proofs.TargetLemmas.{named_before, flown_stays, same_payload, entered_payload, entered_keeps_request}
 use Rattle.tc_desk.proofs.RiderLemmas.{same_carried, carried_append, entered_carried}
 
 -- ---- who is one of these
@@ -116,31 +115,35 @@ flown_known book sent n good gone rides flown = by_test (list_any (λ (m : ℕ).
     by_test false e = stands_known book riding_places n good (each_one (StandsAt riding_places book) n (carried_by book sent) rides (one_of_others n sent (carried_by book sent) flown e))
 
 -- a book with one more request
-entered_stays : (stamp : Stamp) (entry : Form) (book : Book) (sent : List ℕ) → IsGoodBook book → Gone book sent → Each (StandsAt riding_places book) (carried_by book sent)
-    → BookStays book (with_entry stamp book entry) sent
-entered_stays stamp entry book sent good gone rides = record {
-  request = λ n flown. entered_keeps_request stamp book entry n (flown_known book sent n good gone rides flown);
-  command = λ n flown. command_stays book new n (entered_keeps_request stamp book entry n (flown_known book sent n good gone rides flown)) (λ r e. flown_stays new book r.body.command (λ m names. before n r m e names));
-  carried = entered_carried stamp book entry gone_places sent good gone;
-  payload = λ n body is. let stays = payload_stays stamp (book_act.Enter entry) book n is.0 good is.1 in (is.0, stays.0, is.2 ∙ sym stays.1);
+pub entered_stays : (stamp : Stamp) (origin : Option Origin) (entry : Form) (book : Book) (sent : List ℕ) → IsGoodBook book → Gone book sent → Each (StandsAt riding_places book) (carried_by book sent)
+    → BookStays book (with_request stamp book origin entry) sent
+entered_stays stamp origin entry book sent good gone rides = record {
+  request = λ n flown. entered_keeps_request stamp book origin entry n (flown_known book sent n good gone rides flown);
+  command = λ n flown. command_stays book new n (entered_keeps_request stamp book origin entry n (flown_known book sent n good gone rides flown)) (λ r e. flown_stays new book r.body.command (λ m names. before n r m e names));
+  carried = entered_carried stamp book origin entry gone_places sent good gone;
+  payload = λ n body is. let stays = entered_payload stamp origin entry book n is.0 good is.1 in (is.0, stays.0, is.2 ∙ sym stays.1);
 }
   where
     new : Book
-    new = with_entry stamp book entry
+    new = with_request stamp book origin entry
 
     before : (n : ℕ) (r : Request) (m : ℕ) → request_at book n ≡ Some r → target_of r.body.command ≡ Some m → request_at new m ≡ request_at book m
     before n r m here names =
         let less : m < n = named_before book good n r m here names in
         let last : n ≤ length book.requests = (number_low book.requests n r here).1 in
-        entered_keeps_request stamp book entry m (λ is. absurd (omega (arith, last, is, less)))
+        entered_keeps_request stamp book origin entry m (λ is. absurd (omega (arith, last, is, less)))
 
--- by each act on the book
-pub acted_stays : (stamp : Stamp) (given : BookAct) (book : Book) (sent : List ℕ) → IsGoodBook book → Gone book sent → Each (StandsAt riding_places book) (carried_by book sent)
-    → BookStays book (book_acted stamp given book) sent
-acted_stays stamp (book_act.Enter entry) book sent good gone rides = entered_stays stamp entry book sent good gone rides
-acted_stays stamp (book_act.Withdraw n) book sent good gone rides = same_stays book (book_acted stamp (book_act.Withdraw n) book) sent refl
-acted_stays stamp (book_act.Approve n) book sent good gone rides = same_stays book (book_acted stamp (book_act.Approve n) book) sent (approved_requests stamp book n)
-acted_stays stamp (book_act.Close n) book sent good gone rides = same_stays book (book_acted stamp (book_act.Close n) book) sent refl
+-- so step by step
+pub then_stays : (a b c : Book) (sent : List ℕ) → BookStays a b sent → BookStays b c sent → BookStays a c sent
+then_stays a b c sent first second = record {
+  request = λ n flown. second.request n (still n flown) ∙ first.request n flown;
+  command = λ n flown. second.command n (still n flown) ∙ first.command n flown;
+  carried = second.carried ∙ first.carried;
+  payload = λ n body is. second.payload n body (first.payload n body is);
+}
+  where
+    still : (n : ℕ) → IsFlown a sent n → IsFlown b sent n
+    still n flown = subst (λ (l : List ℕ). IsOneOf n (sent ++ l)) (sym first.carried) flown
 
 -- ---- what is known of each request
 

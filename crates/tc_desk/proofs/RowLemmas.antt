@@ -11,6 +11,7 @@ use Rattle.tc_types.specs.declared.causes.Cause.TheVariants as cause
 use Rattle.tc_types.specs.declared.moves.Move.{Move}
 use Rattle.tc_types.specs.declared.requests.Request.{Request}
 use Rattle.tc_types.specs.declared.requests.Form.{Form}
+use Rattle.tc_types.specs.declared.requests.Origin.{Origin}
 use Rattle.tc_types.specs.declared.requests.Command.{Command}
 use Rattle.tc_types.specs.declared.requests.Command.TheVariants as command
 use Rattle.tc_types.specs.declared.reports.Report.TheVariants as report
@@ -25,7 +26,7 @@ use Rattle.tc_world.specs.Sublist.{IsSublist, IsSublist-same}
 use Rattle.tc_world.specs.Telling.{leaves_said, sent_said, confirmed_said}
 use Rattle.tc_world.proofs.Lists.{sublist_both, sublist_of_front}
 use Rattle.tc_book.specs.declared.stamps.Stamp.{Stamp}
-use Rattle.tc_book.specs.Book.{Book, place_in, stands, request_at, moved, want, row_of, with_entry}
+use Rattle.tc_book.specs.Book.{Book, place_in, stands, request_at, moved, want, row_of, with_request}
 use Rattle.tc_book.specs.Places.{numbers_from}
 use Rattle.tc_board.specs.Mirror.{MirrorState, is_listed_of}
 use Rattle.tc_desk.specs.Commands.{activity_at}
@@ -85,8 +86,8 @@ moved_still o stamp book n to why quiet =
     }
 
 -- a request is entered
-pub entered_still : (o : ℕ) (stamp : Stamp) (book : Book) (entry : Form) → StillTold o book (with_entry stamp book entry)
-entered_still o stamp book entry =
+pub entered_still : (o : ℕ) (stamp : Stamp) (book : Book) (origin : Option Origin) (entry : Form) → StillTold o book (with_request stamp book origin entry)
+entered_still o stamp book origin entry =
     let one = moved_still o stamp book (length book.requests + 1) place.Entered cause.Enter (record { transmits = refl; confirms = refl }) in
     record { few = one.few; transmits = one.transmits; confirms = one.confirms }
 

@@ -1,19 +1,24 @@
--- Whatever acts follow on a desk that was made new, its rows tell true.
-use Rattle.std.proofs.Common.{◌≡◌, inl, inr, true, List, [], ◌∷◌, refl, sym, subst, arith}
+-- Whatever acts and loads follow on a desk that was made new, its rows tell true.
+use Rattle.std.proofs.Common.{◌≡◌, inl, inr, ℕ, true, List, [], ◌∷◌, refl, sym, ap, subst, arith}
 use Rattle.tc_types.specs.declared.frames.Frame.{Frame}
 use Rattle.tc_types.specs.declared.reports.Report.{Report}
 use Rattle.tc_types.specs.declared.acts.Act.{Act}
 use Rattle.tc_types.specs.declared.acts.Act.TheVariants as act
+use Rattle.tc_fop.specs.Requests.{waiting_requests}
+use Rattle.tc_stack.specs.declared.stacks.StackRow.{StackRow}
 use Rattle.tc_world.specs.Links.{Kind}
-use Rattle.tc_world.specs.Window.{IsClaimed}
+use Rattle.tc_world.specs.Window.{IsClaimed, all_confirmed}
+use Rattle.tc_world.specs.World.{Whole, all_sent}
 use Rattle.tc_book.specs.declared.stamps.Stamp.{Stamp}
 use Rattle.tc_book.specs.Good.{IsGoodBook}
 use Rattle.tc_desk.specs.declared.configs.Config.{Config}
 use Rattle.tc_desk.specs.State.{State, new_desk, new_world}
 use Rattle.tc_desk.specs.Machine.{DeskStep, Serves, Carries}
 use Rattle.tc_desk.specs.Replies.{Reply}
-use Rattle.tc_desk.specs.Headline.{ActsRun, TellsTrue}
-use Rattle.tc_desk.specs.Tied.{IsTied}
+use Rattle.tc_desk.specs.Headline.{Deed, Acts, Loads, DeedOn, DeedsRun, TellsTrue}
+use Rattle.tc_desk.specs.Loads.{LoadStep}
+use Rattle.tc_desk.specs.Tied.{AreTiedTo, IsTied}
+use Rattle.tc_desk.proofs.BookSteps.{steps_tied}
 use Rattle.tc_desk.proofs.TiedActs.{does_tied, same_tied}
 use Rattle.tc_desk.proofs.HeadlineLemmas.{taken_once}
 
@@ -38,15 +43,29 @@ step_tied : {U D : Type 0} (up : Kind U Frame) (down : Kind D Report) (old new :
 step_tied up down old new stamp given reply good (inl serves) tied = serves_tied up down old new stamp given reply good serves tied
 step_tied up down old new stamp given reply good (inr refused) tied = same_tied 0 up down old new refused.1.same tied
 
-run_stands : {U D : Type 0} (up : Kind U Frame) (down : Kind D Report) (acts : List (Stamp × Act)) (old new : State U D) → ActsRun up down old acts new → Stands old → Stands new
+-- a load leaves the link
+load_world : {U D : Type 0} (old new : State U D) (stamp : Stamp) (name : List ℕ) (rows : List StackRow) (reply : Reply) → LoadStep old stamp name rows reply new → new.world ≡ old.world
+load_world {U} {D} old new stamp name rows reply (inl carries) = ap (λ (at : State U D). at.world) carries.has.is
+load_world {U} {D} old new stamp name rows reply (inr refused) = ap (λ (at : State U D). at.world) refused.1.same
+
+deed_stands : {U D : Type 0} (up : Kind U Frame) (down : Kind D Report) (old new : State U D) (stamp : Stamp) (deed : Deed) → DeedOn up down old stamp deed new → Stands old → Stands new
+deed_stands up down old new stamp (Acts given) done stands = record {
+  tied = step_tied up down old new stamp given done.reply stands.good done.step stands.tied;
+  good = done.good;
+  claims = done.window;
+}
+deed_stands {U} {D} up down old new stamp (Loads name rows) done stands =
+    let same : new.world ≡ old.world = load_world old new stamp name rows done.reply done.step in
+    record {
+      tied = subst (λ (w : Whole U D). AreTiedTo 0 new.book w) (sym same)
+          (steps_tied 0 stamp old.book new.book (waiting_requests old.world.fop) (all_sent old.world) (all_confirmed old.world) done.entered stands.tied).tied;
+      good = done.good;
+      claims = subst (λ (w : Whole U D). w.clean ≡ true → IsClaimed w) (sym same) stands.claims;
+    }
+
+run_stands : {U D : Type 0} (up : Kind U Frame) (down : Kind D Report) (deeds : List (Stamp × Deed)) (old new : State U D) → DeedsRun up down old deeds new → Stands old → Stands new
 run_stands up down [] old new run stands = subst Stands (sym run) stands
-run_stands up down (given ∷ others) old new run stands =
-    let acts = run.1 in
-    run_stands up down others run.0 new run.2 (record {
-      tied = step_tied up down old run.0 given.0 given.1 acts.reply stands.good acts.step stands.tied;
-      good = acts.good;
-      claims = acts.window;
-    })
+run_stands up down (given ∷ others) old new run stands = run_stands up down others run.0 new run.2 (deed_stands up down old run.0 given.0 given.1 run.1 stands)
 
 -- nothing is told wrongly where nothing happened
 pub new_tied : {U D : Type 0} (config : Config) (up : U) (down : D) → IsTied 0 (new_desk config up down)
@@ -63,15 +82,15 @@ new_claims config up down = record { prefixes = (record { accepted = refl; confi
 new_stands : {U D : Type 0} (config : Config) (up : U) (down : D) → Stands (new_desk config up down)
 new_stands config up down = record {
   tied = new_tied config up down;
-  good = record { history = tt; requests = tt; few = omega arith; entered = refl; named = tt; approved = tt };
+  good = record { history = tt; requests = tt; few = omega arith; entered = refl; named = tt; alone = tt; stacks_named = tt; approved = tt; stacks_approved = tt; complete = tt };
   claims = λ clean. new_claims config up down;
 }
 
--- the rows tell true after any acts
-pub run_tells : {U D : Type 0} (kind : Kind U Frame) (other : Kind D Report) (config : Config) (up : U) (down : D) (acts : List (Stamp × Act)) (at : State U D)
-    → ActsRun kind other (new_desk config up down) acts at → TellsTrue 0 at
-run_tells kind other config up down acts at run =
-    let stands = run_stands kind other acts (new_desk config up down) at run (new_stands config up down) in
+-- the rows tell true after any acts and loads
+pub run_tells : {U D : Type 0} (kind : Kind U Frame) (other : Kind D Report) (config : Config) (up : U) (down : D) (deeds : List (Stamp × Deed)) (at : State U D)
+    → DeedsRun kind other (new_desk config up down) deeds at → TellsTrue 0 at
+run_tells kind other config up down deeds at run =
+    let stands = run_stands kind other deeds (new_desk config up down) at run (new_stands config up down) in
     record {
       transmitted = stands.tied.rows.transmits;
       confirmed = stands.tied.rows.confirms;

@@ -21,7 +21,7 @@ use Rattle.tc_desk.specs.Followed.{mirror_through}
 use Rattle.tc_desk.specs.State.{made_desk, State, DeskState}
 use Rattle.tc_desk.specs.Acts.{refusal_of}
 use Rattle.tc_desk.specs.Machine.{Does, StaysSame}
-use Rattle.tc_desk.specs.Headline.{TakenOnce}
+use Rattle.tc_desk.specs.Headline.{TakenOnce, TellsTrue}
 use Rattle.tc_desk.specs.Tied.{IsTied}
 use Rattle.tc_desk.specs.Standing.{IsStanding}
 use Rattle.tc_desk.proofs.DownLemmas.{does_down}
@@ -57,6 +57,15 @@ same_stand up down old new same opened whole stands = record {
 -- while every start was good, what the rows call confirmed was taken on board once
 pub stands_once : {U D : Type 0} (up : Kind U Frame) (down : Kind D Report) (desk : DeskState U D) → IsStanding up down desk → desk.parts.world.clean ≡ true → TakenOnce desk.opened desk.parts
 stands_once up down desk stands clean = taken_once desk.opened desk.parts stands.tied (stands.claims clean)
+
+-- what its rows tell of its link is true
+pub stands_true : {U D : Type 0} (up : Kind U Frame) (down : Kind D Report) (desk : DeskState U D) → IsStanding up down desk → TellsTrue desk.opened desk.parts
+stands_true up down desk stands = record {
+  transmitted = stands.tied.rows.transmits;
+  confirmed = stands.tied.rows.confirms;
+  window = stands.claims;
+  once = stands_once up down desk stands;
+}
 
 -- of a desk that was just made
 pub made_stands : {U D : Type 0} (up : Kind U Frame) (down : Kind D Report) (config : Config) (u : U) (d : D) → up.content u ≡ [] → down.content d ≡ [] → IsStanding up down (made_desk config u d)

@@ -1,71 +1,33 @@
--- Which request a request names: it was entered before; and no act on the book changes what stands in a request, nor what flies of it.
+-- Which request a request names: it was entered before; and no entry changes what stands in a request, nor what flies of it.
 use Rattle.std.proofs.Common.{◌≡◌, ◌≢◌, ℕ, zero, suc, ◌+◌, ◌-◌, ◌<◌, ◌≤◌, ◌==◌, Bool, true, false, if◌then◌else◌, Option, Some, None, List, [], ◌∷◌, ◌++◌, length, refl, ◌∙◌, ap, subst, arith}
 use Rattle.std.specs.Prelude.{IfSome, IsSomeAnd}
 use Rattle.std.specs.List.{slice_get}
 use Rattle.std.proofs.lemmas.List.{length-append}
-use Rattle.std.proofs.lemmas.Option.{slice_get_within}
 use Rattle.std.proofs.lemmas.Bool.Decides.{nat_tests}
-use Rattle.tc_types.specs.declared.places.Place.TheVariants as place
-use Rattle.tc_types.specs.declared.causes.Cause.TheVariants as cause
 use Rattle.tc_types.specs.declared.requests.Request.{Request}
 use Rattle.tc_types.specs.declared.requests.Form.{Form}
+use Rattle.tc_types.specs.declared.requests.Origin.{Origin}
 use Rattle.tc_types.specs.declared.requests.Body.{Body}
 use Rattle.tc_types.specs.declared.requests.Command.{Command}
 use Rattle.tc_types.specs.declared.requests.Command.TheVariants as command
-use Rattle.tc_types.specs.declared.acts.BookAct.{BookAct}
-use Rattle.tc_types.specs.declared.acts.BookAct.TheVariants as book_act
 use Rattle.tc_types.specs.declared.telecommands.Payload.{Payload}
 use Rattle.tc_types.specs.declared.telecommands.ScheduleCommand.{ScheduleCommand}
 use Rattle.tc_types.specs.History.{AllAfter}
 use Rattle.tc_book.specs.declared.stamps.Stamp.{Stamp}
-use Rattle.tc_book.specs.Book.{Book, request_in, request_at, moved, want, with_entry, with_approval, approval_at}
+use Rattle.tc_book.specs.Book.{Book, request_in, request_at, with_request}
 use Rattle.tc_book.specs.Good.{IsGoodBook, IsGoodRequest}
 use Rattle.tc_book.specs.Targets.{target_of, is_bad_activity}
-use Rattle.tc_book.specs.Acts.{acted as book_acted, completes}
+use Rattle.tc_book.proofs.RequestLemmas.{number_low, request_in-more}
 use Rattle.tc_desk.specs.Commands.{activity_at, activity_in, inserted_by, insert_of, flown_command, payload_of, task_of}
 
--- ---- who has a number
-
--- the number of a request is none past the last
-pub number_low : (requests : List Request) (n : ℕ) (r : Request) → request_in requests n ≡ Some r → (0 < n) × (n ≤ length requests)
-number_low requests n r here = by_zero (n == 0) refl here
-  where
-    by_zero : (t : Bool) → (n == 0) ≡ t → (if t then None else slice_get requests (n - 1)) ≡ Some r → (0 < n) × (n ≤ length requests)
-    by_zero true e found = cc
-    by_zero false e found =
-        let low : n - 1 < length requests = slice_get_within requests (n - 1) r found in
-        let some : n ≢ 0 = λ is. grind (arith, nat_tests) in
-        (omega (arith, some), omega (arith, low, some))
-
--- one more at the end: who stands within the list stays
-slice_get_more : {X : Type 0} (xs ys : List X) (i : ℕ) → i < length xs → slice_get (xs ++ ys) i ≡ slice_get xs i
-slice_get_more [] ys i low = absurd (omega arith)
-slice_get_more (x ∷ xs) ys zero low = refl
-slice_get_more (x ∷ xs) ys (suc i) low = slice_get_more xs ys i (omega arith)
-
-slice_get_other : {X : Type 0} (xs : List X) (y : X) (i : ℕ) → i ≢ length xs → slice_get (xs ++ y ∷ []) i ≡ slice_get xs i
-slice_get_other [] y zero other = absurd (other refl)
-slice_get_other [] y (suc i) other = refl
-slice_get_other (x ∷ xs) y zero other = refl
-slice_get_other (x ∷ xs) y (suc i) other = slice_get_other xs y i (λ e. other (ap suc e))
-
--- an entry changes no request but the one with the next number
-request_in-more : (requests : List Request) (r : Request) (n : ℕ) → n ≢ length requests + 1 → request_in (requests ++ r ∷ []) n ≡ request_in requests n
-request_in-more requests r n other = by_zero (n == 0) refl
-  where
-    by_zero : (t : Bool) → (n == 0) ≡ t → (if t then None else slice_get (requests ++ r ∷ []) (n - 1)) ≡ (if t then None else slice_get requests (n - 1))
-    by_zero true e = refl
-    by_zero false e =
-        let some : n ≢ 0 = λ is. grind (arith, nat_tests) in
-        slice_get_other requests r (n - 1) (λ is. other (omega (arith, some, is)))
-
+-- ---- who was entered before
 -- so who was entered before stays
-pub entered_keeps_request : (stamp : Stamp) (book : Book) (entry : Form) (n : ℕ) → n ≢ length book.requests + 1 → request_at (with_entry stamp book entry) n ≡ request_at book n
-entered_keeps_request stamp book entry n other = request_in-more book.requests _ n other
+pub entered_keeps_request : (stamp : Stamp) (book : Book) (origin : Option Origin) (entry : Form) (n : ℕ) → n ≢ length book.requests + 1 → request_at (with_request stamp book origin entry) n ≡ request_at book n
+entered_keeps_request stamp book origin entry n other = request_in-more book.requests _ n other
 
 -- and so does its activity
-pub entered_keeps_activity : (stamp : Stamp) (book : Book) (entry : Form) (n : ℕ) → n ≢ length book.requests + 1 → activity_at (with_entry stamp book entry) n ≡ activity_at book n
-entered_keeps_activity stamp book entry n other = ap activity_in (entered_keeps_request stamp book entry n other)
+pub entered_keeps_activity : (stamp : Stamp) (book : Book) (origin : Option Origin) (entry : Form) (n : ℕ) → n ≢ length book.requests + 1 → activity_at (with_request stamp book origin entry) n ≡ activity_at book n
+entered_keeps_activity stamp book origin entry n other = ap activity_in (entered_keeps_request stamp book origin entry n other)
 
 -- ---- whom a request names
 
@@ -124,7 +86,7 @@ target_is_before book good n m names = by_found (request_at book n) refl names
     by_found None e is = cc
     by_found (Some r) e is = named_before book good n r m e (inserted_named r.body.command m is)
 
--- ---- an act on the book
+-- ---- one request more
 
 -- what flies of a command reads no request but the one that it names
 pub flown_stays : (a b : Book) (given : Command) → ((m : ℕ) → target_of given ≡ Some m → request_at a m ≡ request_at b m) → flown_command a given ≡ flown_command b given
@@ -146,28 +108,20 @@ same_payload a b same body =
     payload_with : Option ScheduleCommand → Payload
     payload_with given = record { identity = body.identity; ack = body.ack; task = task_of body given }
 
--- only an entry changes the requests of a book
-pub approved_requests : (stamp : Stamp) (book : Book) (n : ℕ) → (book_acted stamp (book_act.Approve n) book).requests ≡ book.requests
-approved_requests stamp book n = elim (completes stamp.by (approval_at book n)) as (λ t. (if t then moved stamp (with_approval book n stamp.by) (want n place.Approved cause.Approve) else with_approval book n stamp.by).requests ≡ book.requests) [ true ↦ refl | false ↦ refl ]
-
 -- each request stays as it was entered, and what flies of it too
-pub payload_stays : (stamp : Stamp) (given : BookAct) (book : Book) (n : ℕ) (r : Request) → IsGoodBook book → request_at book n ≡ Some r
-    → (request_at (book_acted stamp given book) n ≡ Some r) × (payload_of (book_acted stamp given book) r.body ≡ payload_of book r.body)
-payload_stays stamp (book_act.Enter entry) book n r good here =
+pub entered_payload : (stamp : Stamp) (origin : Option Origin) (entry : Form) (book : Book) (n : ℕ) (r : Request) → IsGoodBook book → request_at book n ≡ Some r
+    → (request_at (with_request stamp book origin entry) n ≡ Some r) × (payload_of (with_request stamp book origin entry) r.body ≡ payload_of book r.body)
+entered_payload stamp origin entry book n r good here =
     let low = number_low book.requests n r here in
     let last : n ≤ length book.requests = low.1 in
     let next : n ≢ length book.requests + 1 = λ is. absurd (omega (arith, last, is)) in
-    (entered_keeps_request stamp book entry n next ∙ here, ap payload_with (flown_stays (with_entry stamp book entry) book r.body.command named))
+    (entered_keeps_request stamp book origin entry n next ∙ here, ap payload_with (flown_stays (with_request stamp book origin entry) book r.body.command named))
   where
     payload_with : Option ScheduleCommand → Payload
     payload_with given = record { identity = r.body.identity; ack = r.body.ack; task = task_of r.body given }
 
-    named : (m : ℕ) → target_of r.body.command ≡ Some m → request_at (with_entry stamp book entry) m ≡ request_at book m
+    named : (m : ℕ) → target_of r.body.command ≡ Some m → request_at (with_request stamp book origin entry) m ≡ request_at book m
     named m e =
         let before : m < n = named_before book good n r m here e in
         let last : n ≤ length book.requests = (number_low book.requests n r here).1 in
-        entered_keeps_request stamp book entry m (λ is. absurd (omega (arith, last, is, before)))
-payload_stays stamp (book_act.Withdraw m) book n r good here = (here, refl)
-payload_stays stamp (book_act.Approve m) book n r good here =
-    (ap (λ requests. request_in requests n) (approved_requests stamp book m) ∙ here, same_payload (book_acted stamp (book_act.Approve m) book) book (approved_requests stamp book m) r.body)
-payload_stays stamp (book_act.Close m) book n r good here = (here, refl)
+        entered_keeps_request stamp book origin entry m (λ is. absurd (omega (arith, last, is, before)))

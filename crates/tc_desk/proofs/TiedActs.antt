@@ -32,9 +32,10 @@ use Rattle.tc_desk.specs.Effects.{heard_all}
 use Rattle.tc_desk.specs.Acts.{link_tests, refusal_of, released, acted}
 use Rattle.tc_desk.specs.Machine.{Passes, PutsDown, Reports, Boards, Flies, Does, StaysSame}
 use Rattle.tc_desk.specs.Tied.{AreTied, AreTiedTo, IsTied}
-use Rattle.tc_desk.proofs.PassingLemmas.{none_holds, not_false}
+use Rattle.tc_book.proofs.PassingLemmas.{none_holds, not_false}
 use Rattle.tc_desk.proofs.HeardLemmas.{heard_tied, waits_no_more}
-use Rattle.tc_desk.proofs.OwnLemmas.{book_tied, released_tied}
+use Rattle.tc_desk.proofs.BookSteps.{book_tied}
+use Rattle.tc_desk.proofs.OwnLemmas.{released_tied}
 
 -- ---- the wait queue
 
@@ -124,9 +125,9 @@ flight_tied : {U D : Type 0} (o : ℕ) (up : Kind U Frame) (down : Kind D Report
     → AreTiedTo o (heard_all stamp old.mirror all (released stamp given old.book)) new.world
 flight_tied o up down stamp (link_act.Release n) old new all good passes flies tied =
     let tests = none_holds (link_tests old.book (view_of old.world.fop) old.board.time (link_act.Release n)) passes in
-    let none = none_waits old.world.fop (not_false _ tests.1.1.1.1.1.0) in
+    let none = none_waits old.world.fop (not_false _ tests.1.1.1.1.1.1.0) in
     release_tied o up down stamp n old new.world all (request_at old.book n) flies.0 none
-    (released_tied o stamp old.book n (all_sent old.world) (all_confirmed old.world) good (not_false _ tests.1.1.0) tests.1.1.1.0 (subst (λ l. AreTied o old.book l (all_sent old.world) (all_confirmed old.world)) none tied))
+    (released_tied o stamp old.book n (all_sent old.world) (all_confirmed old.world) good (not_false _ tests.1.1.0) tests.1.1.1.1.0 (subst (λ l. AreTied o old.book l (all_sent old.world) (all_confirmed old.world)) none tied))
 flight_tied o up down stamp (link_act.Direct given) old new all good passes flies tied = told_tied_alone o stamp old.mirror (event.Directive given) old.world new.world all old.book refl flies.0.tells tied
 flight_tied o up down stamp link_act.Tick old new all good passes flies tied = told_tied_alone o stamp old.mirror event.Tick old.world new.world all old.book refl flies.0.tells tied
 flight_tied o up down stamp link_act.Up old new all good passes flies tied = boards_tied o up down stamp old new all flies tied
@@ -147,7 +148,7 @@ went_tied : {U D : Type 0} (o : ℕ) (up : Kind U Frame) (down : Kind D Report) 
     → AreTiedTo o (heard_all stamp old.mirror all (acted stamp given old.book)) new.world
 went_tied o up down stamp (act.Book given) old new all first good passes does tied =
     alone_tied o stamp old.mirror old.world new.world all (book_acted stamp given old.book) (does.link.0, does.link.3)
-    (book_tied o stamp given old.book (waiting_requests old.world.fop) (all_sent old.world) (all_confirmed old.world) good passes tied)
+    (book_tied o stamp given old.book (waiting_requests old.world.fop) (all_sent old.world) (all_confirmed old.world) good passes tied).tied
 went_tied o up down stamp (act.Link given) old new all first good passes does tied = flight_tied o up down stamp given old new all good passes does.link tied
 went_tied {U} {D} o up down stamp (act.Ask asked) old new all first good passes does tied =
     alone_tied o stamp old.mirror old.world new.world all old.book (ap (λ (at : State U D). at.world) does.link.0, does.link.1) tied

@@ -1,11 +1,12 @@
 -- What each kind of act is refused for, what it makes of the book by itself, and how its reply begins. An act on the book
 -- alone is the book's matter.
-use Rattle.std.specs.Prelude.{ℕ, ◌==◌, nat_lt, Bool, true, false, not, ◌&&◌, Option, Some, None, is_some, List, [], ◌∷◌, count_by}
+use Rattle.std.specs.Prelude.{ℕ, ◌==◌, nat_lt, Bool, true, false, not, ◌&&◌, ◌||◌, Option, Some, None, is_some, List, [], ◌∷◌, count_by}
+use Rattle.std.specs.Option.{option_map_or}
 use Rattle.tc_types.specs.declared.activities.ListedActivity.{ListedActivity}
 use Rattle.tc_types.specs.declared.places.Place.TheVariants.{Entered, Approved, Queued, Riding}
 use Rattle.tc_types.specs.declared.causes.Cause.TheVariants as cause
 use Rattle.tc_types.specs.declared.refusals.Refusal.{Refusal}
-use Rattle.tc_types.specs.declared.refusals.Refusal.TheVariants.{UnknownRequest, NotApproved, WrongPlace, BadActivity, ServiceNotActive, WaitQueueFull, BadDirective, DeskFull}
+use Rattle.tc_types.specs.declared.refusals.Refusal.TheVariants.{UnknownRequest, NotApproved, WrongPlace, Interlock, BadActivity, ServiceNotActive, WaitQueueFull, BadDirective, DeskFull}
 use Rattle.tc_types.specs.declared.directives.Directive.{Directive}
 use Rattle.tc_types.specs.declared.directives.Directive.TheVariants as directive
 use Rattle.tc_types.specs.declared.requests.Identity.{Identity}
@@ -29,6 +30,7 @@ use Rattle.tc_board.specs.Board.{BoardState, oldest_of}
 use Rattle.tc_book.specs.declared.stamps.Stamp.{Stamp}
 use Rattle.tc_book.specs.declared.firsts.First.TheVariants as book_first
 use Rattle.tc_book.specs.Book.{Book, stands, is_unknown, has_all_rows, want, moved}
+use Rattle.tc_book.specs.Stacks.{is_interlocked}
 use Rattle.tc_book.specs.Acts as on_book
 use Rattle.tc_desk.specs.declared.firsts.First.{First}
 use Rattle.tc_desk.specs.declared.firsts.First.TheVariants as first
@@ -41,6 +43,10 @@ use Rattle.tc_desk.specs.Effects.{followed}
 -- the request is an insert whose activity is not approved
 abbrev pub has_bad_activity : Book → ℕ → Bool
 has_bad_activity book n = may_not_ride book (activity_at book n)
+
+-- the request, or its activity where it is an insert, came with a stack and waits there for a line that is not completed
+abbrev pub is_locked : Book → ℕ → Bool
+is_locked book n = is_interlocked book n || option_map_or (is_interlocked book) (activity_at book n) false
 
 -- an initiation and a new V(S) are taken in S6 alone, and 0 is no setting
 abbrev pub is_bad_directive : FopState → Directive → Bool
@@ -60,6 +66,7 @@ link_tests book fop now (link_act.Release n) =
     (is_unknown book n, UnknownRequest)
     ∷ (stands book n (Entered ∷ []), NotApproved)
     ∷ (not (stands book n (Approved ∷ [])), WrongPlace)
+    ∷ (is_locked book n, Interlock)
     ∷ (has_bad_activity book n, BadActivity)
     ∷ (not (is_taking fop.state), ServiceNotActive)
     ∷ (not (fop.waiting == 0), WaitQueueFull)

@@ -6,6 +6,7 @@ pub mod Acts
 pub mod StatusLines
 pub mod Replies
 pub mod Machine
+pub mod Loads
 pub mod Downlink
 pub mod Parts
 pub mod Places

@@ -11,7 +11,7 @@ use Rattle.tc_types.specs.declared.activities.ListedActivity.{ListedActivity}
 use Rattle.tc_types.specs.declared.acts.Query.{Query}
 use Rattle.tc_types.specs.declared.acts.Query.TheVariants as query
 use Rattle.tc_types.specs.History.{entered, counts_of, rows_past}
-use Rattle.tc_types.specs.Lines.{entered_line, approvals_line, history_line, move_line, places_line, refusal_line}
+use Rattle.tc_types.specs.Lines.{entered_line, approvals_line, stack_line, history_line, move_line, places_line, refusal_line}
 use Rattle.tc_types.specs.LinkLines.{accepted_line, word_line, verified_line, summarized_line, worked_line, time_line, mirror_line, activity_line}
 use Rattle.tc_types.specs.RequestLine.{request_line}
 use Rattle.tc_world.specs.declared.events.Indication.{Indication}
@@ -33,11 +33,12 @@ Reply = List (List ℕ)
 abbrev pub refusal_reply : Refusal → Reply
 refusal_reply refusal = refusal_line refusal ∷ []
 
--- ok, or ok request N APID/COUNT, or ok approvals I of M
+-- ok, or ok request N APID/COUNT, or ok approvals I of M, or ok stack NAME ROWS FIRST
 abbrev pub book_line : BookFirst → List ℕ
 book_line book_first.Plain = codes "ok"
 book_line (book_first.Entered n identity) = entered_line n identity
 book_line (book_first.Approvals given wanted) = approvals_line given wanted
+book_line (book_first.Loaded name rows first) = stack_line name rows first
 
 -- the same, or what came up, was lost, or came down
 abbrev pub first_line : First → List ℕ

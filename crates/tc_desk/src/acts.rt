@@ -4,6 +4,7 @@ pub mod clcw;
 pub mod clock;
 pub mod direct;
 pub mod down;
+pub mod load;
 pub mod lose;
 pub mod on_book;
 pub mod release;

@@ -28,6 +28,7 @@ fn hear_fop<A: Allocator + Copy + Drop>(
     ensures rows { length records.new.book.history ≤ length records.old.book.history + 2 }
     ensures requests { records.new.book.requests ≡ records.old.book.requests }
     ensures approvals { records.new.book.approvals ≡ records.old.book.approvals }
+    ensures stack_approvals { records.new.book.stack_approvals ≡ records.old.book.stack_approvals }
 {
     match given {
         signals::Indication::Sent(n) => {
@@ -59,6 +60,7 @@ fn hear<A: Allocator + Copy + Drop>(records: &mut Records<A>, stamp: &Stamp, sai
     ensures rows { length records.new.book.history ≤ length records.old.book.history + 2 }
     ensures requests { records.new.book.requests ≡ records.old.book.requests }
     ensures approvals { records.new.book.approvals ≡ records.old.book.approvals }
+    ensures stack_approvals { records.new.book.stack_approvals ≡ records.old.book.stack_approvals }
 {
     match said {
         Indication::Fop(given) => hear_fop(records, stamp, given),
@@ -79,6 +81,7 @@ pub(crate) fn hear_all<A: Allocator + Copy + Drop>(
     ensures rows { length records.new.book.history ≤ length records.old.book.history + 516 }
     ensures requests { records.new.book.requests ≡ records.old.book.requests }
     ensures approvals { records.new.book.approvals ≡ records.old.book.approvals }
+    ensures stack_approvals { records.new.book.stack_approvals ≡ records.old.book.stack_approvals }
 {
     for told in said {
         hear(records, stamp, told);
@@ -98,6 +101,7 @@ pub(crate) fn hear_telemetry<A: Allocator + Copy + Drop>(
     ensures rows { length records.new.book.history ≤ length records.old.book.history + 2 + min (length mirror.now.told.activities) 65535 }
     ensures requests { records.new.book.requests ≡ records.old.book.requests }
     ensures approvals { records.new.book.approvals ≡ records.old.book.approvals }
+    ensures stack_approvals { records.new.book.stack_approvals ≡ records.old.book.stack_approvals }
 {
     match item {
         Telemetry::Summary(_) => {}
@@ -127,6 +131,7 @@ pub(crate) fn hear_down<A: Allocator + Copy + Drop>(
     ensures rows { length records.new.book.history ≤ length records.old.book.history + 516 + min (length mirror.now.told.activities) 65535 }
     ensures requests { records.new.book.requests ≡ records.old.book.requests }
     ensures approvals { records.new.book.approvals ≡ records.old.book.approvals }
+    ensures stack_approvals { records.new.book.stack_approvals ≡ records.old.book.stack_approvals }
 {
     match said.first() {
         Some(Indication::Received(Report::Telemetry(item))) => {

@@ -58,6 +58,7 @@ fn insert<A: Allocator + Copy + Drop>(
     ensures rows { length records.new.book.history ≤ length records.old.book.history + 1 }
     ensures requests { records.new.book.requests ≡ records.old.book.requests }
     ensures approvals { records.new.book.approvals ≡ records.old.book.approvals }
+    ensures stack_approvals { records.new.book.stack_approvals ≡ records.old.book.stack_approvals }
 {
     let from = [Place::Riding, Place::Doubtful];
     if is_completed(verification) {
@@ -87,6 +88,7 @@ fn remove<A: Allocator + Copy + Drop>(
     ensures rows { length records.new.book.history ≤ length records.old.book.history + (if list_any (is_listed_of n) mirror.now.told.activities then 1 else 0) }
     ensures requests { records.new.book.requests ≡ records.old.book.requests }
     ensures approvals { records.new.book.approvals ≡ records.old.book.approvals }
+    ensures stack_approvals { records.new.book.stack_approvals ≡ records.old.book.stack_approvals }
 {
     if mirror.is_there(n) {
         try_move(
@@ -107,6 +109,7 @@ fn empty<A: Allocator + Copy + Drop>(records: &mut Records<A>, stamp: &Stamp, mi
     ensures rows { length records.new.book.history ≤ length records.old.book.history + min (length mirror.now.told.activities) 65535 }
     ensures requests { records.new.book.requests ≡ records.old.book.requests }
     ensures approvals { records.new.book.approvals ≡ records.old.book.approvals }
+    ensures stack_approvals { records.new.book.stack_approvals ≡ records.old.book.stack_approvals }
 {
     for n in 1..records.count() + 1 {
         remove(records, stamp, mirror, n);
@@ -126,6 +129,7 @@ pub(crate) fn hear_besides<A: Allocator + Copy + Drop>(
     ensures rows { length records.new.book.history ≤ length records.old.book.history + 1 + min (length mirror.now.told.activities) 65535 }
     ensures requests { records.new.book.requests ≡ records.old.book.requests }
     ensures approvals { records.new.book.approvals ≡ records.old.book.approvals }
+    ensures stack_approvals { records.new.book.stack_approvals ≡ records.old.book.stack_approvals }
 {
     let Some(request) = request else {
         return;

@@ -1,2 +1,3 @@
 mod MemoryLemmas
 mod RoomLemmas
+pub mod LoadLemmas

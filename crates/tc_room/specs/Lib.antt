@@ -2,3 +2,4 @@ pub mod Answers
 pub mod Joined
 pub mod Replies
 pub mod Room
+pub mod Loads

@@ -6,8 +6,8 @@ use std::process::Abort;
 use std::test::Fail;
 use tc_types::moves::Move;
 use tc_types::places::{PLACES, Place};
-use tc_types::requests::{Ack, Command, Request};
-use tc_types::rows::Approval;
+use tc_types::requests::{Ack, Command, Origin, Request};
+use tc_types::rows::{Approval, LoadedStack, StackApproval};
 
 /// A database of which all rows can be had.
 pub trait SeenRows {
@@ -76,9 +76,26 @@ fn ack_code(ack: Ack) -> i64 {
 const REQUESTS: &str =
     "SELECT num, apid, cnt, ack, critical, service, subtype, target, at_time, line, prior, place, outcome, author, stack FROM request ORDER BY num";
 
+/// The line of a request in its stack, and the one before it, as they lie in their columns.
+fn line_codes(origin: &Option<Origin>) -> [i64; 2] {
+    match origin {
+        Some(origin) => [i64::from(origin.line), i64::from(origin.after.unwrap_or(0))],
+        None => [0, 0],
+    }
+}
+
+/// Whether a row shows where a request came from.
+fn shows_origin(row: &Row, origin: &Option<Origin>) -> bool {
+    match origin {
+        Some(origin) => has_text(row, 14, origin.stack.as_str()),
+        None => has_text(row, 14, ""),
+    }
+}
+
 /// Whether a row shows this request at this place.
 fn shows_request(alloc: Global, row: &Row, request: &Request, place: Place) -> bool {
     let [service, subtype, target, time] = command_code(&request.body.command);
+    let [line, prior] = line_codes(&request.origin);
     let numbers = [
         i64::from(request.number.get()),
         i64::from(request.body.identity.apid.get()),
@@ -89,8 +106,8 @@ fn shows_request(alloc: Global, row: &Row, request: &Request, place: Place) -> b
         subtype,
         target,
         time,
-        0,
-        0,
+        line,
+        prior,
         place_code(Some(place)),
     ];
     match request.body.outcome.text(alloc) {
@@ -98,7 +115,7 @@ fn shows_request(alloc: Global, row: &Row, request: &Request, place: Place) -> b
             has_numbers(row, &numbers)
                 && has_text(row, 12, outcome.as_str())
                 && has_text(row, 13, request.author.as_str())
-                && has_text(row, 14, "")
+                && shows_origin(row, &request.origin)
         }
         Err(_) => false,
     }
@@ -168,6 +185,47 @@ fn show_approvals(rows: &[Row], approvals: &[Approval]) -> bool {
     is_shown
 }
 
+/// What finds the stacks.
+const STACKS: &str = "SELECT critical, name, author FROM stack ORDER BY rowid";
+
+/// Whether these rows show the stacks.
+fn show_stacks(rows: &[Row], stacks: &[LoadedStack]) -> bool {
+    let mut is_shown = rows.len() == stacks.len();
+    for (row, stack) in rows.iter().zip(stacks) {
+        is_shown = is_shown && has_numbers(row, &[i64::from(stack.critical)]);
+        is_shown = is_shown && has_text(row, 1, stack.name.as_str());
+        is_shown = is_shown && has_text(row, 2, stack.author.as_str());
+    }
+    is_shown
+}
+
+/// What finds the approvals of stacks.
+const STACK_APPROVALS: &str = "SELECT stack, person FROM stack_approval ORDER BY rowid";
+
+/// Whether these rows show the approvals of stacks.
+fn show_stack_approvals(rows: &[Row], approvals: &[StackApproval]) -> bool {
+    let mut is_shown = rows.len() == approvals.len();
+    for (row, approval) in rows.iter().zip(approvals) {
+        is_shown = is_shown && has_text(row, 0, approval.stack.as_str());
+        is_shown = is_shown && has_text(row, 1, approval.person.as_str());
+    }
+    is_shown
+}
+
+/// Checks that the tables of a database show the stacks of the book.
+fn check_stacks<D: SeenRows>(
+    rt: &impl Abort,
+    alloc: Global,
+    database: &mut D,
+    plain: &Plain,
+) -> Result<(), Fail> {
+    let stacks = database.rows(STACKS)?;
+    assert!(rt; show_stacks(&stacks, &plain.stacks(alloc)?));
+    let approvals = database.rows(STACK_APPROVALS)?;
+    assert!(rt; show_stack_approvals(&approvals, &plain.stack_approvals));
+    Ok(())
+}
+
 /// Checks that the tables of a database show the book.
 pub fn check_tables<D: SeenRows>(
     rt: &impl Abort,
@@ -183,5 +241,5 @@ pub fn check_tables<D: SeenRows>(
     assert!(rt; show_counts(&tallies, &plain.counts(alloc)?));
     let approvals = database.rows(APPROVALS)?;
     assert!(rt; show_approvals(&approvals, &plain.approvals));
-    Ok(())
+    check_stacks(rt, alloc, database, plain)
 }

@@ -1,4 +1,6 @@
 //! Random acts, the same ones from the same start.
+use crate::stack_dice::random_name;
+use std::alloc::Global;
 use tc_types::acts::BookAct;
 use tc_types::entries::Entry;
 use tc_types::numbers::{Apid, FailureCode, Moment, Offset, Service, Steps, Subtype};
@@ -108,9 +110,13 @@ fn random_entry(dice: &mut Dice, entered: u32) -> Option<Entry> {
     })
 }
 
-/// An act, where so many requests were entered: a third are approvals, a sixth withdrawals, and of the others one in twelve
-/// closes.
-pub fn random_act(dice: &mut Dice, entered: u32) -> Option<BookAct> {
+/// An act, where so many requests were entered: one in ten approves a stack; of the others a third are approvals of a request, a
+/// sixth withdrawals, and of what is left one in twelve closes.
+pub fn random_act(alloc: Global, dice: &mut Dice, entered: u32) -> Option<BookAct> {
+    if dice.roll(10) == 0 {
+        let stack = random_name(alloc, dice)?;
+        return Some(BookAct::ApproveStack { stack });
+    }
     match dice.roll(6) {
         0 | 1 => {
             let request = dice.request(entered);

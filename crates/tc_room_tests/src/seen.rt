@@ -1,9 +1,10 @@
 //! A room as a test sees it. Nothing is promised of it here: what a test does with it needs
 //! no proof but that of its own loops and indexes.
 use std::alloc::{AllocError, Global};
-use tc_room::answers::{Answer, answer_line, answer_places};
+use tc_room::answers::{Answer, answer_line, answer_load, answer_places};
 use tc_room::rooms::{Counts, Room};
 use tc_types::acts::{Act, BookAct};
+use tc_types::loads::Load;
 use tc_types::moves::Move;
 use tc_types::names::Name;
 use tc_types::numbers::Moment;
@@ -13,6 +14,14 @@ use tc_types::refusals::Refusal;
 pub trait SeenRoom {
     /// What a line is answered.
     fn answers(&mut self, alloc: Global, line: &[u8]) -> Result<Answer, AllocError>;
+
+    /// What a line is answered that loads a stack, whose file holds this text.
+    fn answers_load(
+        &mut self,
+        alloc: Global,
+        load: &Load<'_>,
+        text: &[u8],
+    ) -> Result<Answer, AllocError>;
 
     /// What `places` is answered.
     fn answers_places(&mut self, alloc: Global) -> Result<Answer, AllocError>;
@@ -30,6 +39,15 @@ pub trait SeenRoom {
 impl SeenRoom for Room {
     fn answers(&mut self, alloc: Global, line: &[u8]) -> Result<Answer, AllocError> {
         answer_line(alloc, self, line)
+    }
+
+    fn answers_load(
+        &mut self,
+        alloc: Global,
+        load: &Load<'_>,
+        text: &[u8],
+    ) -> Result<Answer, AllocError> {
+        answer_load(alloc, self, load, text)
     }
 
     fn answers_places(&mut self, alloc: Global) -> Result<Answer, AllocError> {

@@ -17,11 +17,11 @@ unapproved_sound author critical = record { few = by_size critical; apart = tt; 
     by_size false = omega arith
 
 -- where a test finds none, neither does it here nor among the others
-neither : (a b : Bool) → (a || b) ≡ false → (a ≡ false) × (b ≡ false)
+pub neither : (a b : Bool) → (a || b) ≡ false → (a ≡ false) × (b ≡ false)
 neither true b e = cc
 neither false b e = (refl, e)
 
-same_turned : (a b : List ℕ) → is_same_person a b ≡ is_same_person b a
+pub same_turned : (a b : List ℕ) → is_same_person a b ≡ is_same_person b a
 same_turned a b = nat_list_eq_equiv.symm a b
 
 -- one more, who is none of these

@@ -5,6 +5,8 @@ pub mod RequestLemmas
 pub mod MoveLemmas
 pub mod TallyLemmas
 pub mod ApprovalLemmas
+pub mod StackLemmas
+pub mod StackApprovalLemmas
 pub mod ReadLemmas
 pub mod HistoryLemmas
 pub mod StepLemmas

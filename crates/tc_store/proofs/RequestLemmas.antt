@@ -24,7 +24,7 @@ request_puts : PutsInto schema_1 request_form request_tree request_put request_t
 unfolding understood everything
 request_puts = record { at = 1; listed = refl; command = refl; plain = (refl, refl); single = refl; quiet = λ _ _. refl }
 
-request_upserts : UpsertsIn schema_1 request_form request_tree request_put_again request_terms 12 request_again
+request_upserts : UpsertsIn schema_1 request_form request_tree request_put_again request_terms 15 request_again
 unfolding understood everything
 request_upserts = record { at = 1; listed = refl; command = refl; plain = (refl, refl); single = refl; quiet = λ _ _. refl; alone = λ _ _. refl }
 

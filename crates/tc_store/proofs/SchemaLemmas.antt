@@ -25,7 +25,9 @@ use Rattle.tc_store.specs.Requests.{request_form}
 use Rattle.tc_store.specs.Moves.{move_tree, move_form, move_index}
 use Rattle.tc_store.specs.Tallies.{tally_form}
 use Rattle.tc_store.specs.Approvals.{approval_form}
-use Rattle.tc_store.specs.Schema.{create_texts, with_meta, with_request, with_move, with_index, with_tally, schema_1, contents, Holds}
+use Rattle.tc_store.specs.Stacks.{stack_form}
+use Rattle.tc_store.specs.StackApprovals.{stack_approval_form}
+use Rattle.tc_store.specs.Schema.{create_texts, with_meta, with_request, with_move, with_index, with_tally, with_approval, with_stack, schema_1, contents, Holds}
 use Rattle.tc_store.specs.Steps.{Goes, IsNewIn, Step}
 use Rattle.tc_store.proofs.Rows.{same_put}
 
@@ -47,9 +49,17 @@ built = (
           with_tally,
           inl (record { table = table_of tally_form 0; command = refl; plain = (refl, refl); whole = refl; defined = refl; uncounted = refl; is = refl }),
           (
-            schema_1,
+            with_approval,
             inl (record { table = table_of approval_form 0; command = refl; plain = (refl, refl); whole = refl; defined = refl; uncounted = refl; is = refl }),
-            refl,
+            (
+              with_stack,
+              inl (record { table = table_of stack_form 0; command = refl; plain = (refl, refl); whole = refl; defined = refl; uncounted = refl; is = refl }),
+              (
+                schema_1,
+                inl (record { table = table_of stack_approval_form 0; command = refl; plain = (refl, refl); whole = refl; defined = refl; uncounted = refl; is = refl }),
+                refl,
+              ),
+            ),
           ),
         ),
       ),

@@ -4,5 +4,7 @@ pub mod Requests
 pub mod Moves
 pub mod Tallies
 pub mod Approvals
+pub mod Stacks
+pub mod StackApprovals
 pub mod Schema
 pub mod Steps

@@ -1,10 +1,11 @@
 -- The table `request`: one row for each request that was entered, and where it stands, by its number.
-use Rattle.std.specs.Prelude.{ℕ, ◌+◌, ℤ, pos, true, false, if◌then◌else◌, List, [], ◌∷◌, codes, Some}
+use Rattle.std.specs.Prelude.{ℕ, ◌+◌, ℤ, pos, true, false, if◌then◌else◌, unwrap_or, List, [], ◌∷◌, codes, Option, Some, None}
 use Rattle.sqlite_value.specs.declared.value.Value.TheVariants.{Null, Int, Text}
 use Rattle.sqlite_value.specs.Order.{Row}
 use Rattle.sqlite_schema.specs.declared.schema.Kind.TheVariants as kind
 use Rattle.sqlite_sql.specs.Term.{Term, lit, col}
 use Rattle.tc_types.specs.declared.requests.Ack.{Ack}
+use Rattle.tc_types.specs.declared.requests.Origin.{Origin}
 use Rattle.tc_types.specs.declared.requests.Command.{Command}
 use Rattle.tc_types.specs.declared.requests.Command.TheVariants as command
 use Rattle.tc_types.specs.declared.rows.PlacedRequest.{PlacedRequest}
@@ -33,19 +34,18 @@ abbrev pub request_text : List ℕ
 request_text = codes "CREATE TABLE request (num INTEGER PRIMARY KEY, apid INTEGER NOT NULL, cnt INTEGER NOT NULL, ack INTEGER NOT NULL, critical INTEGER NOT NULL, service INTEGER NOT NULL, subtype INTEGER NOT NULL, target INTEGER NOT NULL, at_time INTEGER NOT NULL, outcome TEXT NOT NULL, author TEXT NOT NULL, stack TEXT NOT NULL, line INTEGER NOT NULL, prior INTEGER NOT NULL, place INTEGER NOT NULL) STRICT"
 
 abbrev pub request_put : List ℕ
-request_put = codes "INSERT INTO request (num, apid, cnt, ack, critical, service, subtype, target, at_time, outcome, author, stack, line, prior, place) VALUES (?1, ?2, ?3, ?4, ?5, ?6, ?7, ?8, ?9, ?10, ?11, '', 0, 0, ?12)"
+request_put = codes "INSERT INTO request (num, apid, cnt, ack, critical, service, subtype, target, at_time, outcome, author, stack, line, prior, place) VALUES (?1, ?2, ?3, ?4, ?5, ?6, ?7, ?8, ?9, ?10, ?11, ?12, ?13, ?14, ?15)"
 
 -- the same over the row with its number, where it stands
 abbrev pub request_put_again : List ℕ
-request_put_again = codes "INSERT INTO request (num, apid, cnt, ack, critical, service, subtype, target, at_time, outcome, author, stack, line, prior, place) VALUES (?1, ?2, ?3, ?4, ?5, ?6, ?7, ?8, ?9, ?10, ?11, '', 0, 0, ?12) ON CONFLICT (num) DO UPDATE SET apid = excluded.apid, cnt = excluded.cnt, ack = excluded.ack, critical = excluded.critical, service = excluded.service, subtype = excluded.subtype, target = excluded.target, at_time = excluded.at_time, outcome = excluded.outcome, author = excluded.author, stack = excluded.stack, line = excluded.line, prior = excluded.prior, place = excluded.place"
+request_put_again = codes "INSERT INTO request (num, apid, cnt, ack, critical, service, subtype, target, at_time, outcome, author, stack, line, prior, place) VALUES (?1, ?2, ?3, ?4, ?5, ?6, ?7, ?8, ?9, ?10, ?11, ?12, ?13, ?14, ?15) ON CONFLICT (num) DO UPDATE SET apid = excluded.apid, cnt = excluded.cnt, ack = excluded.ack, critical = excluded.critical, service = excluded.service, subtype = excluded.subtype, target = excluded.target, at_time = excluded.at_time, outcome = excluded.outcome, author = excluded.author, stack = excluded.stack, line = excluded.line, prior = excluded.prior, place = excluded.place"
 
 abbrev pub request_terms : List Term
-request_terms = col 0 0 ∷ lit Null ∷ col 0 1 ∷ col 0 2 ∷ col 0 3 ∷ col 0 4 ∷ col 0 5 ∷ col 0 6 ∷ col 0 7 ∷ col 0 8 ∷ col 0 9 ∷ col 0 10 ∷ lit (Text []) ∷ lit (Int (pos 0)) ∷ lit (Int (pos 0))
-    ∷ col 0 11 ∷ []
+request_terms = col 0 0 ∷ lit Null ∷ col 0 1 ∷ col 0 2 ∷ col 0 3 ∷ col 0 4 ∷ col 0 5 ∷ col 0 6 ∷ col 0 7 ∷ col 0 8 ∷ col 0 9 ∷ col 0 10 ∷ col 0 11 ∷ col 0 12 ∷ col 0 13 ∷ col 0 14 ∷ []
 
 -- the row that stands, as `request_put_again` writes it: its number, and then the row, which stands past the parameters and the number
 abbrev pub request_again : List Term
-request_again = col 1 0 ∷ col 1 0 ∷ lit Null ∷ col 0 15 ∷ col 0 16 ∷ col 0 17 ∷ col 0 18 ∷ col 0 19 ∷ col 0 20 ∷ col 0 21 ∷ col 0 22 ∷ col 0 23 ∷ col 0 24 ∷ col 0 25 ∷ col 0 26 ∷ col 0 27 ∷ col 0 28 ∷ []
+request_again = col 1 0 ∷ col 1 0 ∷ lit Null ∷ col 0 18 ∷ col 0 19 ∷ col 0 20 ∷ col 0 21 ∷ col 0 22 ∷ col 0 23 ∷ col 0 24 ∷ col 0 25 ∷ col 0 26 ∷ col 0 27 ∷ col 0 28 ∷ col 0 29 ∷ col 0 30 ∷ col 0 31 ∷ []
 
 -- 8 for acceptance, 4 for start, 2 for progress, 1 for completion
 abbrev pub ack_number : Ack → ℕ
@@ -79,17 +79,32 @@ time_of (command.ShiftActivity target offset) = offset
 time_of (command.ShiftAll offset) = offset
 time_of _ = pos 0
 
+-- the stack, the line there and the line before it of a request that was loaded with a stack; of any other an empty text and 0
+abbrev pub stack_of : Option Origin → List ℕ
+stack_of None = []
+stack_of (Some origin) = origin.stack
+
+abbrev pub line_of : Option Origin → ℕ
+line_of None = 0
+line_of (Some origin) = origin.line
+
+abbrev pub prior_of : Option Origin → ℕ
+prior_of None = 0
+prior_of (Some origin) = unwrap_or origin.after 0
+
 -- the parameters of a request and its place
 abbrev pub request_given : PlacedRequest → Row
 request_given placed =
     let r = placed.request in
     Int (pos r.number) ∷ Int (pos r.body.identity.apid) ∷ Int (pos r.body.identity.count) ∷ Int (pos (ack_number r.body.ack)) ∷ Int (if r.critical then pos 1 else pos 0)
     ∷ Int (pos (service_of r.body.command)) ∷ Int (pos (subtype_of r.body.command)) ∷ Int (pos (target_of r.body.command)) ∷ Int (time_of r.body.command)
-    ∷ Text (outcome_word r.body.outcome) ∷ Text r.author ∷ Int (pos (place_number placed.place)) ∷ []
+    ∷ Text (outcome_word r.body.outcome) ∷ Text r.author ∷ Text (stack_of r.origin) ∷ Int (pos (line_of r.origin)) ∷ Int (pos (prior_of r.origin))
+    ∷ Int (pos (place_number placed.place)) ∷ []
 
 abbrev pub request_row : PlacedRequest → Row
 request_row placed =
     let r = placed.request in
     Int (pos r.number) ∷ Null ∷ Int (pos r.body.identity.apid) ∷ Int (pos r.body.identity.count) ∷ Int (pos (ack_number r.body.ack)) ∷ Int (if r.critical then pos 1 else pos 0)
     ∷ Int (pos (service_of r.body.command)) ∷ Int (pos (subtype_of r.body.command)) ∷ Int (pos (target_of r.body.command)) ∷ Int (time_of r.body.command)
-    ∷ Text (outcome_word r.body.outcome) ∷ Text r.author ∷ Text [] ∷ Int (pos 0) ∷ Int (pos 0) ∷ Int (pos (place_number placed.place)) ∷ []
+    ∷ Text (outcome_word r.body.outcome) ∷ Text r.author ∷ Text (stack_of r.origin) ∷ Int (pos (line_of r.origin)) ∷ Int (pos (prior_of r.origin))
+    ∷ Int (pos (place_number placed.place)) ∷ []

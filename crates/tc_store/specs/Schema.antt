@@ -13,10 +13,12 @@ use Rattle.tc_store.specs.Requests.{request_tree, request_form, request_text, re
 use Rattle.tc_store.specs.Moves.{move_tree, move_form, move_index, move_text, move_index_text, move_row}
 use Rattle.tc_store.specs.Tallies.{tally_tree, tally_form, tally_text, tally_row}
 use Rattle.tc_store.specs.Approvals.{approval_tree, approval_form, approval_text, approval_values}
+use Rattle.tc_store.specs.Stacks.{stack_tree, stack_form, stack_text, stack_values}
+use Rattle.tc_store.specs.StackApprovals.{stack_approval_tree, stack_approval_form, stack_approval_text, stack_approval_values}
 
 -- the texts that make it, in order
 abbrev pub create_texts : List (List ℕ)
-create_texts = meta_text ∷ request_text ∷ move_text ∷ move_index_text ∷ tally_text ∷ approval_text ∷ []
+create_texts = meta_text ∷ request_text ∷ move_text ∷ move_index_text ∷ tally_text ∷ approval_text ∷ stack_text ∷ stack_approval_text ∷ []
 
 -- after each of them
 abbrev pub with_meta : Schema
@@ -34,14 +36,21 @@ with_index = indexed with_move (table_of move_form move_tree) move_index
 abbrev pub with_tally : Schema
 with_tally = created with_index (table_of tally_form 0)
 
+abbrev pub with_approval : Schema
+with_approval = created with_tally (table_of approval_form 0)
+
+abbrev pub with_stack : Schema
+with_stack = created with_approval (table_of stack_form 0)
+
 abbrev pub schema_1 : Schema
-schema_1 = created with_tally (table_of approval_form 0)
+schema_1 = created with_stack (table_of stack_approval_form 0)
 
 -- the rows of each table
 abbrev pub contents : Image → Contents
 contents image =
     (meta_tree, version_row ∷ []) ∷ (request_tree, map request_row image.requests) ∷ (move_tree, map move_row image.moves) ∷ (tally_tree, map tally_row image.tallies)
-    ∷ (approval_tree, numbered (map approval_values image.approvals)) ∷ []
+    ∷ (approval_tree, numbered (map approval_values image.approvals)) ∷ (stack_tree, numbered (map stack_values image.stacks))
+    ∷ (stack_approval_tree, numbered (map stack_approval_values image.stack_approvals)) ∷ []
 
 -- the database has the desk's schema, and its tables have the rows of the image and no other
 pub record Holds (db : Database) (image : Image) : Type 0 where

@@ -11,6 +11,7 @@ pub mod faults;
 mod history;
 mod moves;
 mod requests;
+mod stacks;
 mod steps;
 pub mod tables;
 mod tallies;

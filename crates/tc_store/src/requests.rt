@@ -3,14 +3,14 @@ ghost use Rattle.std.specs.Prelude.{◌≡◌, [], ◌∷◌, IsTrue, IfOk, OnOk
 ghost use Rattle.sqlite.specs.State.{HasCleanDisk, KeepsCommit, Survives};
 ghost use Rattle.sqlite.specs.Held.{state};
 ghost use Rattle.tc_types.specs.declared.rows.Row.TheVariants.{Entered, Placed};
-ghost use Rattle.tc_store.specs.Requests.{ack_number, service_of, subtype_of, target_of, time_of, request_given};
+ghost use Rattle.tc_store.specs.Requests.{ack_number, service_of, subtype_of, target_of, time_of, stack_of, line_of, prior_of, request_given};
 ghost use Rattle.tc_store.specs.Steps.{Ran, Step};
 
 use crate::steps::run;
 use sqlite::{Alter, Error, Transaction, params};
 use std::alloc::Global;
 use tc_types::places::Place;
-use tc_types::requests::{Ack, Body, Command, Request};
+use tc_types::requests::{Ack, Body, Command, Origin, Request};
 use tc_types::rows::PlacedRequest;
 
 /// The reports that are asked for: 8 for acceptance, 4 for start, 2 for progress, 1 for completion.
@@ -72,6 +72,36 @@ fn columns_of(command: &Command) -> Columns
     }
 }
 
+/// The stack that a request was loaded with; an empty text where it was entered by itself.
+fn stack_of(origin: &Option<Origin>) -> &str
+    ensures { result.now ≡ stack_of origin.now }
+{
+    match origin {
+        Some(origin) => origin.stack.as_str(),
+        None => "",
+    }
+}
+
+/// Its line there, 0 for none.
+fn line_of(origin: &Option<Origin>) -> u32
+    ensures { result ≡ line_of origin.now }
+{
+    match origin {
+        Some(origin) => origin.line,
+        None => 0,
+    }
+}
+
+/// The line that has to be completed before it, 0 for none.
+fn prior_of(origin: &Option<Origin>) -> u32
+    ensures { result ≡ prior_of origin.now }
+{
+    match origin {
+        Some(origin) => origin.after.unwrap_or(0),
+        None => 0,
+    }
+}
+
 /// Runs a text over the columns of a request and its place.
 fn put_columns<S: Alter>(
     tx: &mut Transaction<'_, S>,
@@ -89,6 +119,7 @@ fn put_columns<S: Alter>(
         body,
         critical,
         author,
+        origin,
     } = row.request;
     let Body {
         identity,
@@ -102,6 +133,8 @@ fn put_columns<S: Alter>(
     let count = u32::from(identity.count.get());
     let ack = ack_code(ack);
     let columns = columns_of(&command);
+    let line = line_of(&origin);
+    let prior = prior_of(&origin);
     let place = u32::from(row.place.number());
     run(
         tx,
@@ -118,6 +151,9 @@ fn put_columns<S: Alter>(
             &columns.time,
             outcome.as_str(),
             author.as_str(),
+            stack_of(&origin),
+            line,
+            prior,
             place
         ],
     )
@@ -137,7 +173,7 @@ pub(crate) fn put_request<S: Alter>(
     put_columns(
         tx,
         alloc,
-        "INSERT INTO request (num, apid, cnt, ack, critical, service, subtype, target, at_time, outcome, author, stack, line, prior, place) VALUES (?1, ?2, ?3, ?4, ?5, ?6, ?7, ?8, ?9, ?10, ?11, '', 0, 0, ?12)",
+        "INSERT INTO request (num, apid, cnt, ack, critical, service, subtype, target, at_time, outcome, author, stack, line, prior, place) VALUES (?1, ?2, ?3, ?4, ?5, ?6, ?7, ?8, ?9, ?10, ?11, ?12, ?13, ?14, ?15)",
         PlacedRequest {
             request,
             place: Place::Entered,
@@ -159,7 +195,7 @@ pub(crate) fn put_placed<S: Alter>(
     put_columns(
         tx,
         alloc,
-        "INSERT INTO request (num, apid, cnt, ack, critical, service, subtype, target, at_time, outcome, author, stack, line, prior, place) VALUES (?1, ?2, ?3, ?4, ?5, ?6, ?7, ?8, ?9, ?10, ?11, '', 0, 0, ?12) ON CONFLICT (num) DO UPDATE SET apid = excluded.apid, cnt = excluded.cnt, ack = excluded.ack, critical = excluded.critical, service = excluded.service, subtype = excluded.subtype, target = excluded.target, at_time = excluded.at_time, outcome = excluded.outcome, author = excluded.author, stack = excluded.stack, line = excluded.line, prior = excluded.prior, place = excluded.place",
+        "INSERT INTO request (num, apid, cnt, ack, critical, service, subtype, target, at_time, outcome, author, stack, line, prior, place) VALUES (?1, ?2, ?3, ?4, ?5, ?6, ?7, ?8, ?9, ?10, ?11, ?12, ?13, ?14, ?15) ON CONFLICT (num) DO UPDATE SET apid = excluded.apid, cnt = excluded.cnt, ack = excluded.ack, critical = excluded.critical, service = excluded.service, subtype = excluded.subtype, target = excluded.target, at_time = excluded.at_time, outcome = excluded.outcome, author = excluded.author, stack = excluded.stack, line = excluded.line, prior = excluded.prior, place = excluded.place",
         row,
     )
 }

@@ -1,6 +1,6 @@
 -- No spelling has a word with the byte that parts it from the next.
-use Rattle.std.proofs.Common.{◌≡◌, ℕ, ℤ, pos, negsuc, suc, ◌<◌, ◌≤◌, ◌^◌, Bool, true, false, eqb, Option, Some, None, List, [], ◌∷◌, length, refl, ap, ◌∙◌, sym, arith, rules, option_map, Bor}
-use Rattle.std.specs.List.{list_all}
+use Rattle.std.proofs.Common.{◌≡◌, ℕ, ℤ, pos, negsuc, suc, ◌<◌, ◌≤◌, ◌^◌, Bool, true, false, not, ◌&&◌, ◌||◌, eqb, Option, Some, None, List, [], ◌∷◌, length, refl, ap, ◌∙◌, sym, arith, rules, option_map, Bor}
+use Rattle.std.specs.List.{list_all, list_any}
 use Rattle.std.specs.Fmt.{decimal, signed_decimal}
 use Rattle.std.specs.Str.Parse.{AllDigits}
 use Rattle.std.proofs.lemmas.Str.Parse.{digit_from_value}
@@ -31,6 +31,7 @@ use Rattle.tc_types.specs.declared.acts.Line.{Line}
 use Rattle.tc_types.specs.Lines.{spaced}
 use Rattle.tc_types.specs.Grammar.{flag, ack_word, yes_no, outcome_words, outcome_word, IsOutcome, command_words, IsCommand, entry_words, IsEntry, book_act_words, IsBookAct, act_words, IsAct, act_text, SpellsLine, after_two, act_part, HasLongAct}
 use Rattle.tc_types.specs.LinkGrammar.{directive_words, IsDirective, link_act_words, IsLinkAct}
+use Rattle.tc_types.specs.Loads.{LoadLine, load_words, IsLoad}
 use Rattle.tc_types.specs.Words.{words, words_left, line_words, IsLine}
 use Rattle.tc_types.proofs.WordLaws.{lacks, lacks_joined, words_joined, words_nonempty}
 use Rattle.tc_types.proofs.NumberLaws.{numeral, small_offset}
@@ -120,6 +121,7 @@ book_act_parted (book_act.Enter entry) h = (rw (entry_lacks entry h) refl, omega
 book_act_parted (book_act.Withdraw request) h = (rw (number_lacks request h) refl, omega arith)
 book_act_parted (book_act.Approve request) h = (rw (number_lacks request h) refl, omega arith)
 book_act_parted (book_act.Close request) h = (rw (number_lacks request h) refl, omega arith)
+book_act_parted (book_act.ApproveStack stack) h = (rw (name_lacks stack (search rules)) refl, omega arith)
 
 -- nor have those of a directive
 directive_parted : (d : Directive) → IsDirective d → (list_all (lacks 32) (directive_words d) ≡ true) × (0 < length (directive_words d))
@@ -161,6 +163,20 @@ pub line_parted : (line : Line) → IsLine line → (list_all (lacks 32) (line_w
 line_parted line h =
     let moment : line.moment ≤ 4102444799 = h.0 in
     (rw (number_lacks line.moment (omega arith), name_lacks line.by (search rules), (act_parted line.act h.2).0) refl, omega arith)
+
+path_lacks : (path : List ℕ) → list_any (λ byte. eqb byte 32) path ≡ false → lacks 32 path ≡ true
+path_lacks [] h = refl
+path_lacks (byte ∷ others) h = by_byte (eqb byte 32) (path_lacks others) h
+  where
+    by_byte : (t : Bool) → (list_any (λ b. eqb b 32) others ≡ false → lacks 32 others ≡ true) → (t || list_any (λ b. eqb b 32) others) ≡ false → (not t && lacks 32 others) ≡ true
+    by_byte true rest e = cc
+    by_byte false rest e = rest e
+
+-- nor have those of a line that loads a file
+pub load_parted : (line : LoadLine) → IsLoad line → (list_all (lacks 32) (load_words line) ≡ true) × (0 < length (load_words line))
+load_parted line h =
+    let moment : line.moment ≤ 4102444799 = h.0 in
+    (rw (number_lacks line.moment (omega arith), name_lacks line.by (search rules), name_lacks line.name (search rules), path_lacks line.path h.3.one_word) refl, omega arith)
 
 after_two_some : (first second : List ℕ) (others : List (List ℕ)) → (others ≡ [] → ⊥) → after_two (first ∷ second ∷ others) ≡ Some (spaced others)
 after_two_some first second [] h = absurd (h refl)

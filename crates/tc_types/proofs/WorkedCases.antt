@@ -14,7 +14,7 @@ use Rattle.tc_types.specs.declared.requests.Outcome.{Outcome}
 use Rattle.tc_types.specs.declared.requests.Outcome.TheVariants as outcome
 use Rattle.tc_types.specs.declared.requests.Command.{Command}
 use Rattle.tc_types.specs.declared.requests.Command.TheVariants as command
-use Rattle.tc_types.specs.declared.acts.BookAct.TheVariants.{Approve, Close, Enter, Withdraw}
+use Rattle.tc_types.specs.declared.acts.BookAct.TheVariants.{Approve, ApproveStack, Close, Enter, Withdraw}
 use Rattle.tc_types.specs.declared.directives.Directive.TheVariants as directive
 use Rattle.tc_types.specs.declared.acts.LinkAct.TheVariants as link_act
 use Rattle.tc_types.specs.declared.acts.Act.{Act}
@@ -22,7 +22,8 @@ use Rattle.tc_types.specs.declared.acts.Act.TheVariants as act
 use Rattle.tc_types.specs.declared.acts.Query.TheVariants as query
 use Rattle.tc_types.specs.declared.reports.Verification.TheVariants as verification
 use Rattle.tc_types.specs.Grammar.{outcome_word, act_text, line_text}
-use Rattle.tc_types.specs.Lines.{move_line, refusal_line, identity_word, entered_line, history_line, places_line}
+use Rattle.tc_types.specs.Lines.{move_line, refusal_line, identity_word, entered_line, stack_line, history_line, places_line}
+use Rattle.tc_types.specs.Loads.{load_text}
 use Rattle.tc_types.specs.LinkLines.{word_line, verified_line, summarized_line, worked_line, time_line, mirror_line, activity_line}
 use Rattle.tc_types.specs.RequestLine.{request_line}
 
@@ -45,6 +46,13 @@ plain ack critical behaviour = act.Book (Enter (record { apid = 2047; ack = ack;
 -- the entry of a command of the on-board schedule
 abbrev scheduling : Command → Act
 scheduling given = act.Book (Enter (record { apid = 5; ack = completion; critical = false; command = given; outcome = outcome.Completes }))
+
+pub stack_approval-spelled : act_text (act.Book (ApproveStack (codes "s1"))) ≡ codes "approvestack s1"
+stack_approval-spelled = refl
+
+pub load-spelled : load_text (record { moment = 0; by = codes "ann"; name = codes "s2"; path = codes "stacks/two.csv" }) ≡ codes "0 ann stack s2 stacks/two.csv"
+unfolding digits
+load-spelled = refl
 
 pub plain_entries-spelled : map act_text (
     plain none false outcome.Completes
@@ -186,6 +194,10 @@ pub entered-printed : entered_line 2 last_identity ≡ codes "ok request 2 5/163
 unfolding digits
 entered-printed = refl
 
+pub stack-printed : stack_line (codes "s2") 2 1 ≡ codes "ok stack s2 2 1"
+unfolding digits
+stack-printed = refl
+
 pub whole_history-printed : history_line 1 2 false ≡ codes "history 1: 2"
 unfolding digits
 whole_history-printed = refl
@@ -206,15 +218,17 @@ entered_by_ann = record {
   body = record { identity = record { apid = 5; count = 0 }; ack = none; command = command.Plain 8 1; outcome = outcome.Completes };
   critical = false;
   author = codes "ann";
+  origin = None;
 }
 
--- request 2, entered by bob, with this command
+-- request 2, on line 1 of a stack of bob, with this command: neither is printed
 abbrev entered_by_bob : Command → Request
 entered_by_bob given = record {
   number = 2;
   body = record { identity = last_identity; ack = all; command = given; outcome = outcome.Halts 9 16 };
   critical = true;
   author = codes "bob";
+  origin = Some (record { stack = codes "s1"; line = 1; after = None });
 }
 
 pub request-printed : request_line entered_by_ann (Some Confirmed) ≡ codes "request 1 5/0 8/1 ---- no - - ok ann Confirmed"

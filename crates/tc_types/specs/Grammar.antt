@@ -17,7 +17,7 @@ use Rattle.tc_types.specs.declared.acts.Query.TheVariants as query
 use Rattle.tc_types.specs.declared.acts.Line.{Line}
 pub use Rattle.tc_types.specs.Numbers.{IsNumber}
 use Rattle.tc_types.specs.Numbers.{IsMoment, IsOffset, IsApid, IsSteps, IsFailureCode, IsService, IsSubtype}
-use Rattle.tc_types.specs.Names.{IsPerson}
+use Rattle.tc_types.specs.Names.{IsName, IsPerson}
 use Rattle.tc_types.specs.Lines.{spaced}
 use Rattle.tc_types.specs.Schedule.{KeepsScheduleRule}
 use Rattle.tc_types.specs.LinkGrammar.{link_act_words, IsLinkAct}
@@ -115,17 +115,19 @@ book_act_words (book_act.Enter entry) = codes "enter" ∷ entry_words entry
 book_act_words (book_act.Withdraw request) = codes "withdraw" ∷ decimal request ∷ []
 book_act_words (book_act.Approve request) = codes "approve" ∷ decimal request ∷ []
 book_act_words (book_act.Close request) = codes "close" ∷ decimal request ∷ []
+book_act_words (book_act.ApproveStack stack) = codes "approvestack" ∷ stack ∷ []
 
--- the limits that its numbers keep
+-- the limits that its numbers keep, and that a name has its form
 abbrev pub IsBookAct : BookAct → Type 0
 IsBookAct (book_act.Enter entry) = IsEntry entry
 IsBookAct (book_act.Withdraw request) = IsNumber request
 IsBookAct (book_act.Approve request) = IsNumber request
 IsBookAct (book_act.Close request) = IsNumber request
+IsBookAct (book_act.ApproveStack stack) = IsName stack
 
 -- an act on the book begins with this word
 abbrev pub IsBookVerb : List ℕ → Type 0
-IsBookVerb word = (word ≡ codes "enter") ⊎ (word ≡ codes "withdraw") ⊎ (word ≡ codes "approve") ⊎ (word ≡ codes "close")
+IsBookVerb word = (word ≡ codes "enter") ⊎ (word ≡ codes "withdraw") ⊎ (word ≡ codes "approve") ⊎ (word ≡ codes "close") ⊎ (word ≡ codes "approvestack")
 
 -- a question begins with this word
 abbrev pub IsQueryVerb : List ℕ → Type 0

@@ -9,6 +9,7 @@ pub mod LinkLines
 pub mod Grammar
 pub mod RequestLine
 pub mod Words
+pub mod Loads
 pub mod Tables
 pub mod Counts
 pub mod Stages

@@ -133,6 +133,10 @@ entered_line n identity = spaced (codes "ok" ∷ codes "request" ∷ decimal n �
 abbrev pub approvals_line : ℕ → ℕ → List ℕ
 approvals_line given wanted = spaced (codes "ok" ∷ codes "approvals" ∷ decimal given ∷ codes "of" ∷ decimal wanted ∷ [])
 
+-- ok stack NAME ROWS FIRSTREQUEST
+abbrev pub stack_line : List ℕ → ℕ → ℕ → List ℕ
+stack_line name rows first = spaced (codes "ok" ∷ codes "stack" ∷ name ∷ decimal rows ∷ decimal first ∷ [])
+
 -- history N: K, or history N: K more
 abbrev pub history_line : ℕ → ℕ → Bool → List ℕ
 history_line n shown more = codes "history " ++ decimal n ++ codes ": " ++ decimal shown ++ (if more then codes " more" else [])

@@ -1,6 +1,7 @@
 -- Names of persons, stacks and procedures.
-use Rattle.std.specs.Prelude.{◌≢◌, ℕ, ◌<◌, ◌≤◌, ◌-◌, Bool, ◌&&◌, ◌||◌, nat_le, IsTrue, List, ◌++◌, length, replicate, codes}
+use Rattle.std.specs.Prelude.{◌≢◌, ℕ, ◌<◌, ◌≤◌, ◌-◌, Bool, ◌&&◌, ◌||◌, nat_eq, nat_le, IsTrue, List, ◌++◌, length, replicate, codes}
 use Rattle.std.specs.List.{list_all}
+use Rattle.std.specs.Cmp.Lexicographic.{pointwise}
 
 -- a lower-case letter or a digit
 abbrev pub is_name_byte : ℕ → Bool
@@ -19,6 +20,10 @@ desk_name = codes "desk"
 -- who may act: any name but the desk's own
 abbrev pub IsPerson : List ℕ → Type 0
 IsPerson name = IsName name × (name ≢ desk_name)
+
+-- two names are the same
+abbrev pub is_same_name : List ℕ → List ℕ → Bool
+is_same_name a b = pointwise nat_eq a b
 
 -- a name as it lies in 16 bytes, zeros behind it
 abbrev pub padded_name : List ℕ → List ℕ

@@ -6,16 +6,21 @@ use Rattle.tc_types.specs.declared.moves.Move.{Move}
 use Rattle.tc_types.specs.declared.rows.PlacedRequest.{PlacedRequest}
 use Rattle.tc_types.specs.declared.rows.Tally.{Tally}
 use Rattle.tc_types.specs.declared.rows.Approval.{Approval}
+use Rattle.tc_types.specs.declared.rows.LoadedStack.{LoadedStack}
+use Rattle.tc_types.specs.declared.rows.StackApproval.{StackApproval}
 use Rattle.tc_types.specs.declared.rows.Row.{Row}
 use Rattle.tc_types.specs.declared.rows.Row.TheVariants as row
 use Rattle.tc_types.specs.Lawful.{place_number, all_places}
 
--- all rows of all tables, each table in order of its key, the approvals in the order in which they were given
+-- all rows of all tables: each table in order of its key, but for the stacks and the approvals, which stand in the order in
+-- which they came
 pub record Image : Type 0 where
   pub requests : List PlacedRequest
   pub moves : List Move
   pub tallies : List Tally
   pub approvals : List Approval
+  pub stacks : List LoadedStack
+  pub stack_approvals : List StackApproval
 
 -- a tally of each place, in order of number
 abbrev pub tallies_by : (Place → ℕ) → List Tally
@@ -23,7 +28,7 @@ tallies_by amount = map (λ place. let tally : Tally = record { place = place; a
 
 -- the tables of a desk where nothing happened yet
 abbrev pub empty_image : Image
-empty_image = record { requests = []; moves = []; tallies = tallies_by (λ place. 0); approvals = [] }
+empty_image = record { requests = []; moves = []; tallies = tallies_by (λ place. 0); approvals = []; stacks = []; stack_approvals = [] }
 
 -- a table with this row: in place of the one with the same key, else in order of key
 abbrev pub put_by : {X : Type 0} → (X → ℕ) → X → List X → List X
@@ -50,6 +55,8 @@ with_row image (row.Placed placed) = record image { requests = put_by request_ke
 with_row image (row.Moved move) = record image { moves = put_by move_key move image.moves }
 with_row image (row.Tallied tally) = record image { tallies = put_by tally_key tally image.tallies }
 with_row image (row.Approved approval) = record image { approvals = image.approvals ++ approval ∷ [] }
+with_row image (row.Loaded stack) = record image { stacks = image.stacks ++ stack ∷ [] }
+with_row image (row.StackApproved approval) = record image { stack_approvals = image.stack_approvals ++ approval ∷ [] }
 
 -- the tables with all rows of a batch, in order
 abbrev pub applied : List Row → Image → Image

@@ -7,6 +7,7 @@ ghost use Rattle.tc_types.specs.Grammar.{Reads, query_words, IsQuery, IsQueryVer
 use crate::acts::{Act, BookAct, Query};
 use crate::entry_reader::entry;
 use crate::link_reader::link_act_of;
+use crate::names::Name;
 use crate::readers::{is, number};
 use crate::refusals::Refusal;
 use crate::words::Words;
@@ -84,11 +85,24 @@ fn close(words: &mut Words<'_>) -> Option<BookAct>
     Some(BookAct::Close { request })
 }
 
+/// What stands behind `approvestack`.
+fn approve_stack(words: &mut Words<'_>) -> Option<BookAct>
+    ensures { Reads book_act_words IsBookAct (codes "approvestack" ∷ words.old) result }
+{
+    let stack = Name::read(words.next()?)?;
+    words.end()?;
+    Some(BookAct::ApproveStack { stack })
+}
+
 /// Whether an act on the book begins with this word.
 fn is_book_verb(verb: &[u8]) -> bool
     ensures { IsTrue result ↔ IsBookVerb verb.now }
 {
-    is(verb, b"enter") || is(verb, b"withdraw") || is(verb, b"approve") || is(verb, b"close")
+    is(verb, b"enter")
+        || is(verb, b"withdraw")
+        || is(verb, b"approve")
+        || is(verb, b"close")
+        || is(verb, b"approvestack")
 }
 
 /// An act on the book: its verb, and the words behind it.
@@ -103,6 +117,8 @@ fn book_act_of(verb: &[u8], words: &mut Words<'_>) -> Option<BookAct>
         approve(words)
     } else if is(verb, b"close") {
         close(words)
+    } else if is(verb, b"approvestack") {
+        approve_stack(words)
     } else {
         None
     }

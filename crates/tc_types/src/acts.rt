@@ -30,6 +30,8 @@ pub enum BookAct {
     Approve { request: u32 },
     /// A request that has left the desk is closed by a person.
     Close { request: u32 },
+    /// A stack is approved by a person who did not load it.
+    ApproveStack { stack: Name },
 }
 
 /// An act on the link, or on the rehearsal spacecraft behind it.

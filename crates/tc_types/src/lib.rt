@@ -18,6 +18,8 @@ pub mod lawful;
 pub mod line_reader;
 pub mod link_reader;
 pub mod link_texts;
+pub mod load_reader;
+pub mod loads;
 pub mod moves;
 pub mod names;
 pub mod numbers;

@@ -22,7 +22,7 @@ fn act_part(text: &[u8]) -> Option<&[u8]>
 }
 
 /// Whether the act of a line is too long.
-fn has_long_act(text: &[u8]) -> bool
+pub(crate) fn has_long_act(text: &[u8]) -> bool
     ensures { IsTrue result ↔ HasLongAct text.now }
 {
     match act_part(text) {

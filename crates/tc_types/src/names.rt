@@ -1,7 +1,7 @@
 //! Names of persons, stacks and procedures. A contract sees a `Name` as its bytes.
 ghost use Rattle.std.specs.Prelude.{◌≡◌, ◌≢◌, ◌↔◌, ℕ, List, IsTrue, IsSome, IfSome};
 ghost use Rattle.std.specs.List.{list_all};
-ghost use Rattle.tc_types.specs.Names.{is_name_byte, IsName, IsPerson};
+ghost use Rattle.tc_types.specs.Names.{is_name_byte, IsName, IsPerson, is_same_name};
 ghost use Rattle.tc_types.specs.Grammar.{Reads};
 
 use std::marker::Model;
@@ -54,6 +54,13 @@ pub fn is_name(bytes: &[u8]) -> bool
     ensures { IsTrue result ↔ IsName bytes.now }
 {
     !bytes.is_empty() && bytes.len() <= LONGEST_NAME && fit_name(bytes)
+}
+
+/// Whether two names are the same.
+pub fn is_same_name(a: &Name, b: &Name) -> bool
+    ensures { result ≡ is_same_name a.now b.now }
+{
+    a.as_str() == b.as_str()
 }
 
 impl Name {

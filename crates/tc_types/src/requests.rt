@@ -101,6 +101,17 @@ pub struct Body {
     pub outcome: Outcome,
 }
 
+/// Which row of which stack a request was loaded with.
+#[derive(Clone, Copy, Debug, PartialEq, Eq)]
+pub struct Origin {
+    /// The stack.
+    pub stack: Name,
+    /// The line of the row, from 1.
+    pub line: u32,
+    /// The line of the stack that has to be completed before this one is released, if there is one.
+    pub after: Option<u32>,
+}
+
 /// A request that was entered. It never changes; where it stands is read from the history.
 #[derive(Clone, Copy, Debug, PartialEq, Eq)]
 pub struct Request {
@@ -112,6 +123,8 @@ pub struct Request {
     pub critical: bool,
     /// Who entered it.
     pub author: Name,
+    /// The row of a stack that it was loaded with; `None` where it was entered by itself.
+    pub origin: Option<Origin>,
 }
 
 impl Command {

@@ -32,6 +32,26 @@ pub struct Approval {
     pub person: Name,
 }
 
+/// A row of the table `stack`: a stack that was loaded.
+#[derive(Clone, Copy, Debug, PartialEq, Eq)]
+pub struct LoadedStack {
+    /// Its name.
+    pub name: Name,
+    /// Who loaded it.
+    pub author: Name,
+    /// Whether it wants two approvers: one of its rows is critical.
+    pub critical: bool,
+}
+
+/// A row of the table `stack_approval`: who approved a stack.
+#[derive(Clone, Copy, Debug, PartialEq, Eq)]
+pub struct StackApproval {
+    /// The stack.
+    pub stack: Name,
+    /// Who approved it.
+    pub person: Name,
+}
+
 /// One row that an act writes. A batch is a list of rows, all written or none.
 #[derive(Clone, Copy, Debug, PartialEq, Eq)]
 pub enum Row {
@@ -45,4 +65,8 @@ pub enum Row {
     Tallied(Tally),
     /// A new row of the table `request_approval`.
     Approved(Approval),
+    /// A new row of the table `stack`.
+    Loaded(LoadedStack),
+    /// A new row of the table `stack_approval`.
+    StackApproved(StackApproval),
 }

@@ -25,6 +25,9 @@ pub fn approve<A: Allocator + Copy + Drop>(
     let Some(request) = records.number_of(n) else {
         return Err(Refusal::UnknownRequest);
     };
+    if records.came_with_stack(n) {
+        return Err(Refusal::UnknownStack);
+    }
     if !records.stands(n, &[Place::Entered]) {
         return Err(Refusal::WrongPlace);
     }

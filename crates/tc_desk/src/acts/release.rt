@@ -1,8 +1,10 @@
 //! The act `release`: an approved request leaves the desk.
-ghost use Rattle.std.specs.Prelude.{◌≡◌, IfOk};
+ghost use Rattle.std.specs.Prelude.{◌≡◌, ◌||◌, false, IfOk};
+ghost use Rattle.std.specs.Option.{option_map_or};
 ghost use Rattle.tc_types.specs.declared.acts.Act.TheVariants as act;
 ghost use Rattle.tc_types.specs.declared.acts.LinkAct.TheVariants as link_act;
 ghost use Rattle.tc_book.specs.Batch.{HoldsRoom};
+ghost use Rattle.tc_book.specs.Stacks.{is_interlocked};
 ghost use Rattle.tc_fop.specs.Calls.{is_taking};
 ghost use Rattle.tc_desk.specs.Commands.{may_not_ride};
 ghost use Rattle.tc_desk.specs.Parts.{IsPutCount, Responds};
@@ -32,6 +34,21 @@ fn is_taking(state: FopState) -> bool
         state,
         FopState::Active | FopState::RetransmitWithoutWait | FopState::RetransmitWithWait
     )
+}
+
+/// Whether a request, or the activity that rides with it, waits for a line of its stack that is not completed.
+fn is_locked<A: Allocator + Copy + Drop>(
+    records: &Records<A>,
+    n: u32,
+    activity: Option<u32>,
+) -> bool
+    ensures { result ≡ (is_interlocked records.now.book n || option_map_or (is_interlocked records.now.book) activity false) }
+{
+    records.is_interlocked(n)
+        || match activity {
+            None => false,
+            Some(target) => records.is_interlocked(target),
+        }
 }
 
 /// Whether an activity may not ride: there is one, and it is not approved.
@@ -68,6 +85,9 @@ impl<U: Carrier<Frame> + Drop, D: Carrier<Report> + Drop, A: Allocator + Copy + 
             return Err(Refusal::WrongPlace);
         }
         let activity = activity_at(&self.records, n);
+        if is_locked(&self.records, n, activity) {
+            return Err(Refusal::Interlock);
+        }
         if may_not_ride(&self.records, activity) {
             return Err(Refusal::BadActivity);
         }

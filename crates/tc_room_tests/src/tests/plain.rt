@@ -2,21 +2,20 @@
 //! replies, the same answers, and tables that show the same. Then the identities of one application process as they run
 //! out.
 use super::{CONFIG, moment, name};
+use crate::acting::{Acting, Asked, Batched};
 use crate::columns::check_tables;
 use crate::dice::{Dice, random_act};
 use crate::plain::{Plain, count_of};
-use sqlite::{Connection, MemStore};
+use crate::stack_dice::{random_name, random_text};
+use crate::tables::{made, write_all};
 use std::alloc::Global;
-use std::mem;
 use std::process::Abort;
 use std::test::Fail;
 use tc_book::firsts;
-use tc_desk::dones::Done;
 use tc_desk::firsts::First;
-use tc_room::desks::{ListDesk, make_desk};
+use tc_room::desks::make_desk;
 use tc_room::rooms::{Found, Room};
-use tc_store::tables::Tables;
-use tc_types::acts::{Act, BookAct};
+use tc_types::acts::BookAct;
 use tc_types::entries::Entry;
 use tc_types::moves::Move;
 use tc_types::names::Name;
@@ -26,102 +25,7 @@ use tc_types::refusals::Refusal;
 use tc_types::requests::{Ack, Command, Form, Outcome, Request};
 use tc_types::rows::Row;
 
-/// What carries acts out. Nothing is promised of it here.
-trait Acting {
-    /// Carries an act out: what its reply begins with, and the moves that it made.
-    fn acts(
-        &mut self,
-        by: Name,
-        moment: Moment,
-        act: BookAct,
-    ) -> Result<(First, Vec<Move>), Refusal>;
-}
-
-/// What answers questions, too.
-trait Asked: Acting {
-    /// How many requests stand at each place.
-    fn counted(&mut self) -> Result<[u32; PLACES], Refusal>;
-
-    /// A request as it was entered, and where it stands.
-    fn found(&mut self, request: u32) -> Result<Found, Refusal>;
-
-    /// The first rows of a request with a greater number than `after`.
-    fn told(&mut self, request: u32, after: u32) -> Result<Vec<Move>, Refusal>;
-}
-
-impl Acting for Room {
-    fn acts(
-        &mut self,
-        by: Name,
-        moment: Moment,
-        act: BookAct,
-    ) -> Result<(First, Vec<Move>), Refusal> {
-        let done = self.act(by, moment, Act::Book(act))?;
-        Ok((done.first, done.moves))
-    }
-}
-
-impl Asked for Room {
-    fn counted(&mut self) -> Result<[u32; PLACES], Refusal> {
-        Ok(self.counts()?.places)
-    }
-
-    fn found(&mut self, request: u32) -> Result<Found, Refusal> {
-        self.request(request)
-    }
-
-    fn told(&mut self, request: u32, after: u32) -> Result<Vec<Move>, Refusal> {
-        self.history(request, after)
-    }
-}
-
-impl Acting for ListDesk {
-    fn acts(
-        &mut self,
-        by: Name,
-        moment: Moment,
-        act: BookAct,
-    ) -> Result<(First, Vec<Move>), Refusal> {
-        let done = self.act(by, moment, Act::Book(act))?;
-        Ok((done.first, done.moves))
-    }
-}
-
-/// A desk, and the batches of its acts, which a room does not show.
-#[derive(Drop)]
-struct Batched {
-    desk: ListDesk,
-    batches: Vec<Vec<Row>>,
-}
-
-impl Batched {
-    /// The batches so far: none are left.
-    fn take(&mut self, alloc: Global) -> Vec<Vec<Row>> {
-        mem::replace(&mut self.batches, Vec::new(alloc))
-    }
-}
-
-impl Acting for Batched {
-    fn acts(
-        &mut self,
-        by: Name,
-        moment: Moment,
-        act: BookAct,
-    ) -> Result<(First, Vec<Move>), Refusal> {
-        let Done {
-            first,
-            moves,
-            batch,
-            ..
-        } = self.desk.act(by, moment, Act::Book(act))?;
-        match self.batches.push(batch) {
-            Ok(()) => Ok((first, moves)),
-            Err(_) => Err(Refusal::Memory),
-        }
-    }
-}
-
-/// How often acts were done, and how often they were refused with 2, with 3, with 5, with 6 and with 19.
+/// How often acts were done, and how often they were refused with 2, with 3, with 5, with 6, with 9, with 13 and with 19.
 #[derive(Clone, Copy, Debug, PartialEq, Eq)]
 struct Seen {
     done: u32,
@@ -129,6 +33,8 @@ struct Seen {
     wrong_place: u32,
     same_person: u32,
     approved_already: u32,
+    name_used: u32,
+    unknown_stack: u32,
     bad_activity: u32,
 }
 
@@ -141,6 +47,8 @@ impl Seen {
             Err(Refusal::WrongPlace) => &mut self.wrong_place,
             Err(Refusal::SamePerson) => &mut self.same_person,
             Err(Refusal::ApprovedAlready) => &mut self.approved_already,
+            Err(Refusal::NameUsed) => &mut self.name_used,
+            Err(Refusal::UnknownStack) => &mut self.unknown_stack,
             Err(_) => &mut self.bad_activity,
         };
         *count = count.saturating_add(1);
@@ -203,15 +111,54 @@ fn done_on_both<A: Acting>(
     wanted
 }
 
-/// A random act on both.
-fn act_on_both<A: Acting>(
+/// A load on both.
+fn loaded_on_both<A: Acting>(
     rt: &impl Abort,
+    alloc: Global,
+    asked: &mut A,
+    plain: &mut Plain,
+    by: Name,
+    when: Moment,
+    name: Name,
+    text: &[u8],
+) -> Result<First, Refusal> {
+    let before = plain.history.len();
+    let wanted = as_desk(plain.load_text(alloc, by, when, name, text));
+    let reply = asked.loads(alloc, by, when, name, text);
+    let moves = plain.history.get(before..).unwrap_or(&[]);
+    assert!(rt; is_same_reply(reply, &wanted, moves), "{name:?}");
+    wanted
+}
+
+/// A random load on both.
+fn load_on_both<A: Acting>(
+    rt: &impl Abort,
+    alloc: Global,
     asked: &mut A,
     plain: &mut Plain,
     dice: &mut Dice,
 ) -> Result<First, Refusal> {
+    let text = random_text(alloc, dice).expect(rt, "a text");
+    let stack = random_name(alloc, dice).expect(rt, "a name");
+    let by = random_person(rt, dice);
+    let when = moment(rt, dice.roll(2_000_000_000));
+    let bytes = text.as_str().as_bytes();
+    loaded_on_both(rt, alloc, asked, plain, by, when, stack, bytes)
+}
+
+/// A random act on both, or, one time in forty, a load.
+fn act_on_both<A: Acting>(
+    rt: &impl Abort,
+    alloc: Global,
+    asked: &mut A,
+    plain: &mut Plain,
+    dice: &mut Dice,
+) -> Result<First, Refusal> {
+    if dice.roll(40) == 0 {
+        return load_on_both(rt, alloc, asked, plain, dice);
+    }
     let entered = count_of(&plain.requests);
-    let act = random_act(dice, entered).expect(rt, "an act");
+    let act = random_act(alloc, dice, entered).expect(rt, "an act");
     let by = random_person(rt, dice);
     let when = moment(rt, dice.roll(2_000_000_000));
     done_on_both(rt, asked, plain, by, when, &act)
@@ -265,10 +212,12 @@ fn course<A: Asked>(
         wrong_place: 0,
         same_person: 0,
         approved_already: 0,
+        name_used: 0,
+        unknown_stack: 0,
         bad_activity: 0,
     };
     for _ in 0..acts {
-        let reply = act_on_both(rt, asked, plain, &mut dice);
+        let reply = act_on_both(rt, alloc, asked, plain, &mut dice);
         seen.sees(reply);
         ask_both(rt, alloc, asked, plain, &mut dice)?;
     }
@@ -300,6 +249,8 @@ fn answers_as_defined<A: Asked>(rt: &impl Abort, alloc: Global, asked: &mut A) -
         seen.same_person > 99 && seen.approved_already > 9,
         "{seen:?}"
     );
+    assert!(rt; seen.name_used > 9 && seen.unknown_stack > 99, "{seen:?}");
+    assert!(rt; plain.stack_approvals.len() > 29);
     assert!(rt; count_moves(&plain, Place::Entered, Place::Approved) > 99);
     assert!(rt; count_moves(&plain, Place::Approved, Place::Withdrawn) > 9);
     Ok(())
@@ -311,22 +262,19 @@ fn a_room_answers_as_the_definitions_do(rt: HostRuntime) -> Result<(), Fail> {
     answers_as_defined(&rt, rt.alloc(), &mut room)
 }
 
-/// Makes the tables of an empty desk in memory.
-fn made(rt: &impl Abort, alloc: Global) -> Tables<MemStore> {
-    let conn = Connection::open_in_memory(alloc).expect(rt, "a database");
-    match Tables::create(alloc, conn) {
-        Ok(tables) => tables,
-        Err(_) => panic!(rt; "no tables"),
-    }
-}
-
 /// So many random acts on both.
-fn acts_on_both<A: Acting>(rt: &impl Abort, asked: &mut A, plain: &mut Plain, acts: u32) {
+fn acts_on_both<A: Acting>(
+    rt: &impl Abort,
+    alloc: Global,
+    asked: &mut A,
+    plain: &mut Plain,
+    acts: u32,
+) {
     let mut dice = Dice {
         state: u64::from(acts),
     };
     for _ in 0..acts {
-        let _reply = act_on_both(rt, asked, plain, &mut dice);
+        let _reply = act_on_both(rt, alloc, asked, plain, &mut dice);
     }
 }
 
@@ -337,19 +285,9 @@ fn batches_of(
     plain: &mut Plain,
     acts: u32,
 ) -> Result<Vec<Vec<Row>>, Fail> {
-    let mut batched = Batched {
-        desk: make_desk(alloc, CONFIG)?,
-        batches: Vec::new(alloc),
-    };
-    acts_on_both(rt, &mut batched, plain, acts);
+    let mut batched = Batched::new(alloc, make_desk(alloc, CONFIG)?);
+    acts_on_both(rt, alloc, &mut batched, plain, acts);
     Ok(batched.take(alloc))
-}
-
-/// Writes these batches, in order.
-fn write_all(rt: &impl Abort, tables: &mut Tables<MemStore>, batches: &[Vec<Row>]) {
-    for batch in batches {
-        assert!(rt; tables.write(batch).is_ok());
-    }
 }
 
 /// A course of so many acts, and what the tables then show.
@@ -406,7 +344,8 @@ fn plain_entry(apid: u16) -> Option<Entry> {
 /// Whether a first line tells of the entry of this request with this identity.
 fn is_first(first: firsts::First, number: u32, apid: u16, count: u16) -> bool {
     match first {
-        firsts::First::Plain | firsts::First::Approvals { .. } => false,
+        firsts::First::Plain | firsts::First::Loaded { .. } | firsts::First::Approvals { .. } =>
+            false,
         firsts::First::Entered { request, identity } => {
             let is_identity = identity.apid.get() == apid && identity.count.get() == count;
             request.get() == number && is_identity

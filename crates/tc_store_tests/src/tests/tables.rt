@@ -11,7 +11,7 @@ use tc_types::causes::Cause;
 use tc_types::moves::Move;
 use tc_types::numbers::{Apid, FailureCode, Offset, SequenceCount, Steps};
 use tc_types::places::{ALL_PLACES, Place};
-use tc_types::requests::{Ack, Body, Command, Identity, Outcome, Request};
+use tc_types::requests::{Ack, Body, Command, Identity, Origin, Outcome, Request};
 use tc_types::rows::{Approval, PlacedRequest, Row, Tally};
 
 /// Makes the tables of an empty desk in a database, which comes back with a fault.
@@ -23,7 +23,7 @@ fn made_in(
 }
 
 /// Tables of an empty desk in memory.
-fn made(rt: &impl Abort, alloc: Global) -> Tables<MemStore> {
+pub fn made(rt: &impl Abort, alloc: Global) -> Tables<MemStore> {
     made_under(rt, alloc, None)
 }
 
@@ -75,12 +75,13 @@ fn body(rt: &impl Abort) -> Body {
 }
 
 /// A request.
-fn asked(rt: &impl Abort, n: u32) -> Request {
+pub fn asked(rt: &impl Abort, n: u32) -> Request {
     Request {
         number: number(rt, n),
         body: body(rt),
         critical: true,
         author: name(rt, b"bob"),
+        origin: None,
     }
 }
 
@@ -90,7 +91,7 @@ fn request(rt: &impl Abort, n: u32) -> Row {
 }
 
 /// The row of a request that stands at a place.
-fn placed(rt: &impl Abort, n: u32, place: Place) -> Row {
+pub fn placed(rt: &impl Abort, n: u32, place: Place) -> Row {
     Row::Placed(PlacedRequest {
         request: asked(rt, n),
         place,
@@ -286,7 +287,7 @@ fn a_fault_in_mid_batch_leaves_the_tables(rt: HostRuntime) -> Result<(), Fail> {
 }
 
 /// Checks that a query answers this number.
-fn answers<D: SeenDatabase>(
+pub fn answers<D: SeenDatabase>(
     rt: &impl Abort,
     database: &mut D,
     query: &str,

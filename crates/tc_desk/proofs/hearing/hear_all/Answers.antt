@@ -18,4 +18,5 @@ loop-told-preserved g c =
       omega (arith, rows, so_many),
       c.hear.ensures.requests ∙ kept.3,
       c.hear.ensures.approvals ∙ kept.4,
+      c.hear.ensures.stack_approvals ∙ kept.5,
     )

@@ -10,3 +10,4 @@ invariant-loop-told g l =
     × (length l.records.book.history ≤ length l.fn.records.book.history + l.told-index + l.told-index)
     × (l.records.book.requests ≡ l.fn.records.book.requests)
     × (l.records.book.approvals ≡ l.fn.records.book.approvals)
+    × (l.records.book.stack_approvals ≡ l.fn.records.book.stack_approvals)

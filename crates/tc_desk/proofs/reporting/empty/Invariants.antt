@@ -9,3 +9,4 @@ invariant-loop-n g l =
     × (length l.records.book.history ≤ length l.fn.records.book.history + shown_to l.mirror.told l.fn.records.book.requests (l.n - 1))
     × (l.records.book.requests ≡ l.fn.records.book.requests)
     × (l.records.book.approvals ≡ l.fn.records.book.approvals)
+    × (l.records.book.stack_approvals ≡ l.fn.records.book.stack_approvals)

@@ -3,7 +3,7 @@ use Rattle.sqlite_value.specs.Value.{owned}
 use Rattle.sqlite_value.specs.declared.value.Value.TheVariants.{Int, Text}
 use Rattle.tc_types.specs.Grammar.{outcome_word}
 use Rattle.tc_types.specs.Lawful.{place_number}
-use Rattle.tc_store.specs.Requests.{ack_number, service_of, subtype_of, target_of, time_of}
+use Rattle.tc_store.specs.Requests.{ack_number, service_of, subtype_of, target_of, time_of, stack_of, line_of, prior_of}
 use Rattle.tc_store.proofs.requests.put_columns.Goals as goal
 
 pub returns-clause-ran : goal.returns-clause-ran
@@ -20,5 +20,8 @@ returns-clause-ran g c clean inside =
     let e9 : owned c.params-to_sql-9.result ≡ Int (time_of r.body.command) = rw (c.params-to_sql-9.ensures, c.columns_of-columns.ensures.time) refl in
     let e10 : owned c.params-to_sql-10.result ≡ Text (outcome_word r.body.outcome) = rw (c.params-to_sql-10.ensures, c.as_str.ensures.value, c.in_ok-outcome.ensures) refl in
     let e11 : owned c.params-to_sql-11.result ≡ Text r.author = rw (c.params-to_sql-11.ensures, c.as_str-2.ensures) refl in
-    let e12 : owned c.params-to_sql-12.result ≡ Int (pos (place_number c.args.row.place)) = rw (c.params-to_sql-12.ensures, c.from-place.ensures, c.number.ensures.value) refl in
-    rw (e1, e2, e3, e4, e5, e6, e7, e8, e9, e10, e11, e12) at (c.run.ensures.ran clean inside)
+    let e12 : owned c.params-to_sql-12.result ≡ Text (stack_of r.origin) = rw (c.params-to_sql-12.ensures, c.stack_of.ensures) refl in
+    let e13 : owned c.params-to_sql-13.result ≡ Int (pos (line_of r.origin)) = rw (c.params-to_sql-13.ensures, c.line_of-line.ensures) refl in
+    let e14 : owned c.params-to_sql-14.result ≡ Int (pos (prior_of r.origin)) = rw (c.params-to_sql-14.ensures, c.prior_of-prior.ensures) refl in
+    let e15 : owned c.params-to_sql-15.result ≡ Int (pos (place_number c.args.row.place)) = rw (c.params-to_sql-15.ensures, c.from-place.ensures, c.number.ensures.value) refl in
+    rw (e1, e2, e3, e4, e5) at (rw (e6, e7, e8, e9, e10) at (rw (e11, e12, e13, e14, e15) at (c.run.ensures.ran clean inside)))

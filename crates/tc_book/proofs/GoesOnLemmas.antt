@@ -1,0 +1,243 @@
+-- What an act makes of the book goes on from the book before it.
+use Rattle.std.proofs.Common.{◌≡◌, ℕ, ◌+◌, Bool, true, false, not, ◌&&◌, ◌||◌, if◌then◌else◌, fold, Option, Some, None, Result, Ok, Err, OnOk, List, [], ◌∷◌, ◌++◌, length, drop, refl, sym, ◌∙◌, ap, subst, append_assoc, append-nil, Vec, arith}
+use Rattle.std.specs.List.{list_all}
+use Rattle.std.specs.Option.{option_map_or}
+use Rattle.std.proofs.Math.Seq.{drop-append_seam}
+use Rattle.std.proofs.lemmas.List.Folds.{list_all-append, list_any-append}
+use Rattle.std.proofs.lemmas.Bool.{and_parts}
+use Rattle.tc_types.specs.declared.places.Place.{Place}
+use Rattle.tc_types.specs.declared.places.Place.TheVariants.{Entered, Approved, Withdrawn, Closed}
+use Rattle.tc_types.specs.declared.causes.Cause.{Cause}
+use Rattle.tc_types.specs.declared.causes.Cause.TheVariants as cause
+use Rattle.tc_types.specs.declared.refusals.Refusal.{Refusal}
+use Rattle.tc_types.specs.declared.acts.BookAct.{BookAct}
+use Rattle.tc_types.specs.declared.acts.BookAct.TheVariants as act
+use Rattle.tc_types.specs.declared.moves.Move.{Move}
+use Rattle.tc_types.specs.declared.requests.Form.{Form}
+use Rattle.tc_types.specs.declared.requests.Origin.{Origin}
+use Rattle.tc_types.specs.declared.requests.Request.{Request}
+use Rattle.tc_types.specs.declared.rows.Row.{Row}
+use Rattle.tc_stack.specs.declared.stacks.StackRow.{StackRow}
+use Rattle.tc_book.specs.declared.stamps.Stamp.{Stamp}
+use Rattle.tc_book.specs.declared.firsts.First.{First}
+use Rattle.tc_book.specs.Acts.{acted, completes, row_approved, rows_approved}
+use Rattle.tc_book.specs.Answers.{Answers}
+use Rattle.tc_book.specs.Batch.{HasBehind, GoesOn, is_apart_from, HasRoomFor, HoldsRoom, batch_rows}
+use Rattle.tc_book.specs.Book.{Book, stands, request_of, moved, want, with_entry, with_approval, approval_at}
+use Rattle.tc_book.specs.Loads.{loaded, with_row, with_rows, origin_of, entry_from}
+use Rattle.tc_book.specs.Stacks.{is_row_of, is_in_stack, has_stack, numbers_in_stack, stack_approval_at, with_stack_approval}
+use Rattle.tc_book.proofs.LoadLemmas.{rows_requests, rows_history}
+use Rattle.tc_book.proofs.StackLemmas.{same_name, name_itself}
+
+-- one list, and more behind it
+pub behind : {X : Type 0} (xs ys : List X) → HasBehind xs (xs ++ ys)
+behind xs ys = ap (λ zs. xs ++ zs) (sym (drop-append_seam xs ys))
+
+pub behind-same : {X : Type 0} (xs : List X) → HasBehind xs xs
+behind-same xs = subst (HasBehind xs) (append-nil xs) (behind xs [])
+
+-- a list behind a list behind a list
+behind-whole : {X : Type 0} (xs ys zs : List X) → HasBehind xs ys → HasBehind ys zs → zs ≡ xs ++ (drop (length xs) ys ++ drop (length ys) zs)
+behind-whole {X} xs ys zs first second = second ∙ ap (λ (l : List X). l ++ drop (length ys) zs) first ∙ append_assoc xs (drop (length xs) ys) (drop (length ys) zs)
+
+behind-twice : {X : Type 0} (xs ys zs : List X) → HasBehind xs ys → HasBehind ys zs → HasBehind xs zs
+behind-twice {X} xs ys zs first second =
+    subst (HasBehind xs) (sym (behind-whole xs ys zs first second)) (behind xs (drop (length xs) ys ++ drop (length ys) zs))
+
+-- the part behind
+behind-part : {X : Type 0} (xs ys zs : List X) → HasBehind xs ys → HasBehind ys zs → drop (length xs) zs ≡ drop (length xs) ys ++ drop (length ys) zs
+behind-part {X} xs ys zs first second = ap (drop (length xs)) (behind-whole xs ys zs first second) ∙ drop-append_seam xs (drop (length xs) ys ++ drop (length ys) zs)
+
+none_behind : {X : Type 0} (xs : List X) → drop (length xs) xs ≡ []
+none_behind {X} xs = ap (drop (length xs)) (sym (append-nil xs)) ∙ drop-append_seam xs []
+
+-- ---- no stack has more rows
+
+both_true : (a b : Bool) → a ≡ true → b ≡ true → (a && b) ≡ true
+both_true a b x y = rw (x, y) refl
+
+-- who is of no stack among these is of none among those in front
+apart_front : (front more : List Request) (xs : List Request) → list_all (is_apart_from (front ++ more)) xs ≡ true → list_all (is_apart_from front) xs ≡ true
+apart_front front more [] all = refl
+apart_front front more (x ∷ xs) all =
+    let parts = and_parts (is_apart_from (front ++ more) x) (list_all (is_apart_from (front ++ more)) xs) all in
+    both_true (is_apart_from front x) (list_all (is_apart_from front) xs) (by_origin x.origin parts.0) (apart_front front more xs parts.1)
+  where
+    by_two : (a b : Bool) → not (a || b) ≡ true → not a ≡ true
+    by_two true b h = h
+    by_two false b h = refl
+
+    by_origin : (origin : Option Origin) → option_map_or (λ (o : Origin). not (has_stack o.stack (front ++ more))) origin true ≡ true → option_map_or (λ (o : Origin). not (has_stack o.stack front)) origin true ≡ true
+    by_origin None h = h
+    by_origin (Some o) h = by_two (has_stack o.stack front) (has_stack o.stack more) (ap not (sym (list_any-append (is_in_stack o.stack) front more)) ∙ h)
+
+apart_none : (requests : List Request) → list_all (is_apart_from requests) (drop (length requests) requests) ≡ true
+apart_none requests = ap (list_all (is_apart_from requests)) (none_behind requests)
+
+apart_behind : (requests more : List Request) → list_all (is_apart_from requests) more ≡ true → list_all (is_apart_from requests) (drop (length requests) (requests ++ more)) ≡ true
+apart_behind requests more all = ap (list_all (is_apart_from requests)) (drop-append_seam requests more) ∙ all
+
+apart_twice : (a b c : List Request) → HasBehind a b → HasBehind b c → list_all (is_apart_from a) (drop (length a) b) ≡ true → list_all (is_apart_from b) (drop (length b) c) ≡ true
+    → list_all (is_apart_from a) (drop (length a) c) ≡ true
+apart_twice a b c first second one two =
+    ap (list_all (is_apart_from a)) (behind-part a b c first second)
+    ∙ list_all-append (is_apart_from a) (drop (length a) b) (drop (length b) c)
+    ∙ both_true _ _ one (apart_front a (drop (length a) b) (drop (length b) c) (subst (λ l. list_all (is_apart_from l) (drop (length b) c) ≡ true) first two))
+
+-- ---- acts
+
+pub same-goes_on : (book : Book) → GoesOn book book
+same-goes_on book = record {
+  requests = behind-same book.requests;
+  history = behind-same book.history;
+  approvals = behind-same book.approvals;
+  stack_approvals = behind-same book.stack_approvals;
+  stacks = apart_none book.requests;
+}
+
+pub on_and_on : (a b c : Book) → GoesOn a b → GoesOn b c → GoesOn a c
+on_and_on a b c first second = record {
+  requests = behind-twice a.requests b.requests c.requests first.requests second.requests;
+  history = behind-twice a.history b.history c.history first.history second.history;
+  approvals = behind-twice a.approvals b.approvals c.approvals first.approvals second.approvals;
+  stack_approvals = behind-twice a.stack_approvals b.stack_approvals c.stack_approvals first.stack_approvals second.stack_approvals;
+  stacks = apart_twice a.requests b.requests c.requests first.requests second.requests first.stacks second.stacks;
+}
+
+pub moved-goes_on : (stamp : Stamp) (book : Book) (n : ℕ) (to : Place) (c : Cause) → GoesOn book (moved stamp book (want n to c))
+moved-goes_on stamp book n to c = record {
+  requests = behind-same book.requests;
+  history = behind book.history _;
+  approvals = behind-same book.approvals;
+  stack_approvals = behind-same book.stack_approvals;
+  stacks = apart_none book.requests;
+}
+
+pub given-goes_on : (book : Book) (n : ℕ) (person : List ℕ) → GoesOn book (with_approval book n person)
+given-goes_on book n person = record {
+  requests = behind-same book.requests;
+  history = behind-same book.history;
+  approvals = behind book.approvals _;
+  stack_approvals = behind-same book.stack_approvals;
+  stacks = apart_none book.requests;
+}
+
+pub stack_given-goes_on : (book : Book) (name person : List ℕ) → GoesOn book (with_stack_approval book name person)
+stack_given-goes_on book name person = record {
+  requests = behind-same book.requests;
+  history = behind-same book.history;
+  approvals = behind-same book.approvals;
+  stack_approvals = behind book.stack_approvals _;
+  stacks = apart_none book.requests;
+}
+
+pub entered-goes_on : (stamp : Stamp) (book : Book) (entry : Form) → GoesOn book (with_entry stamp book entry)
+entered-goes_on stamp book entry = record {
+  requests = behind book.requests _;
+  history = behind book.history _;
+  approvals = behind-same book.approvals;
+  stack_approvals = behind-same book.stack_approvals;
+  stacks = apart_behind book.requests (request_of stamp book.requests None entry ∷ []) refl;
+}
+
+-- ---- a load
+
+-- rows that are entered go behind, and are all of this stack
+module _ (stamp : Stamp) (name : List ℕ) (start : ℕ) where
+  pub record Made (old new : Book) : Type 0 where
+    pub made : List Request
+    pub requests : new.requests ≡ old.requests ++ made
+    pub rows : list_all (is_in_stack name) made ≡ true
+    pub history : HasBehind old.history new.history
+    pub approvals : new.approvals ≡ old.approvals
+    pub stack_approvals : new.stack_approvals ≡ old.stack_approvals
+
+  pub rows_made : (line : ℕ) (book : Book) (rows : List StackRow) → Made book (with_rows stamp name start line book rows)
+  rows_made line book [] = record { made = []; requests = sym (append-nil book.requests); rows = refl; history = behind-same book.history; approvals = refl; stack_approvals = refl }
+  rows_made line book (row ∷ rows) =
+      let others = rows_made (line + 1) (with_row stamp name start line book row) rows in
+      record {
+        made = first ∷ others.made;
+        requests = others.requests ∙ append_assoc book.requests (first ∷ []) others.made;
+        rows = both_true (is_in_stack name first) (list_all (is_in_stack name) others.made) (name_itself name) others.rows;
+        history = behind-twice book.history (with_row stamp name start line book row).history (with_rows stamp name start (line + 1) (with_row stamp name start line book row) rows).history (behind book.history _) others.history;
+        approvals = others.approvals;
+        stack_approvals = others.stack_approvals;
+      }
+    where
+      first : Request
+      first = request_of stamp book.requests (Some (origin_of name line row)) (entry_from start row.entry)
+
+-- the rows of a stack are apart from requests of which none is its
+rows_apart : (name : List ℕ) (requests : List Request) (xs : List Request) → has_stack name requests ≡ false → list_all (is_in_stack name) xs ≡ true → list_all (is_apart_from requests) xs ≡ true
+rows_apart name requests [] unused all = refl
+rows_apart name requests (x ∷ xs) unused all =
+    let parts = and_parts (is_in_stack name x) (list_all (is_in_stack name) xs) all in
+    both_true (is_apart_from requests x) (list_all (is_apart_from requests) xs) (by_origin x.origin parts.0) (rows_apart name requests xs unused parts.1)
+  where
+    by_origin : (origin : Option Origin) → is_row_of name origin ≡ true → option_map_or (λ (o : Origin). not (has_stack o.stack requests)) origin true ≡ true
+    by_origin None is = cc
+    by_origin (Some o) is = ap not (ap (λ n. has_stack n requests) (same_name o.stack name is) ∙ unused)
+
+pub loaded-goes_on : (stamp : Stamp) (name : List ℕ) (rows : List StackRow) (book : Book) → has_stack name book.requests ≡ false → GoesOn book (loaded stamp name rows book)
+loaded-goes_on stamp name rows book unused =
+    let all = rows_made stamp name (length book.requests + 1) 1 book rows in
+    record {
+      requests = subst (HasBehind book.requests) (sym all.requests) (behind book.requests all.made);
+      history = all.history;
+      approvals = subst (HasBehind book.approvals) (sym all.approvals) (behind-same book.approvals);
+      stack_approvals = subst (HasBehind book.stack_approvals) (sym all.stack_approvals) (behind-same book.stack_approvals);
+      stacks = subst (λ l. list_all (is_apart_from book.requests) (drop (length book.requests) l) ≡ true) (sym all.requests) (apart_behind book.requests all.made (rows_apart name book.requests all.made unused all.rows));
+    }
+
+-- ---- any act
+
+if-goes_on : (book after : Book) (t : Bool) → GoesOn book after → GoesOn book (if t then after else book)
+if-goes_on book after true on = on
+if-goes_on book after false on = same-goes_on book
+
+rows-goes_on : (stamp : Stamp) (ns : List ℕ) (book : Book) → GoesOn book (fold (row_approved stamp) book ns)
+rows-goes_on stamp [] book = same-goes_on book
+rows-goes_on stamp (n ∷ ns) book =
+    on_and_on book (row_approved stamp book n) (fold (row_approved stamp) (row_approved stamp book n) ns)
+    (if-goes_on book (moved stamp book (want n Approved cause.Approve)) (stands book n (Entered ∷ [])) (moved-goes_on stamp book n Approved cause.Approve)) (rows-goes_on stamp ns (row_approved stamp book n))
+
+-- an act that goes on from what was given, or stops there
+given_and_on : (book given after : Book) (t : Bool) → GoesOn book given → GoesOn given after → GoesOn book (if t then after else given)
+given_and_on book given after true first second = on_and_on book given after first second
+given_and_on book given after false first second = first
+
+pub acted-goes_on : (stamp : Stamp) (given : BookAct) (book : Book) → GoesOn book (acted stamp given book)
+acted-goes_on stamp (act.Enter entry) book = entered-goes_on stamp book entry
+acted-goes_on stamp (act.Withdraw n) book = moved-goes_on stamp book n Withdrawn cause.Withdraw
+acted-goes_on stamp (act.Approve n) book =
+    given_and_on book (with_approval book n stamp.by) (moved stamp (with_approval book n stamp.by) (want n Approved cause.Approve)) (completes stamp.by (approval_at book n)) (given-goes_on book n stamp.by) (moved-goes_on stamp (with_approval book n stamp.by) n Approved cause.Approve)
+acted-goes_on stamp (act.Close n) book = moved-goes_on stamp book n Closed cause.Close
+acted-goes_on stamp (act.ApproveStack name) book =
+    given_and_on book (with_stack_approval book name stamp.by) (rows_approved stamp name (with_stack_approval book name stamp.by)) (completes stamp.by (stack_approval_at book name)) (stack_given-goes_on book name stamp.by)
+    (rows-goes_on stamp (numbers_in_stack name book.requests) (with_stack_approval book name stamp.by))
+
+-- what an act answers goes on, where it is carried out
+pub answered-goes_on : {X : Type 0} (begins : X → First) (old : Book) (stamp : Stamp) (given : BookAct) (new : Book) (answer : Result X Refusal) → Answers begins old stamp given new answer → OnOk answer (GoesOn old new)
+answered-goes_on begins old stamp given new (Ok done) h = subst (GoesOn old) (sym h.1) (acted-goes_on stamp given old)
+answered-goes_on begins old stamp given new (Err refused) h = tt
+
+-- ---- room
+
+-- room for all that a load writes
+pub loaded-room : {A B : Type 0} (stamp : Stamp) (name : List ℕ) (rows : List StackRow) (book : Book) (moves : Vec Move A) (batch : Vec Row B)
+    → HasRoomFor (length rows) moves → HasRoomFor (batch_rows (length rows) (length rows)) batch → HoldsRoom book (loaded stamp name rows book) moves batch
+loaded-room stamp name rows book moves batch for_moves for_batch =
+    let requests = rows_requests stamp name (length book.requests + 1) 1 book rows in
+    let history = rows_history stamp name (length book.requests + 1) 1 book rows in
+    let made = rows_made stamp name (length book.requests + 1) 1 book rows in
+    let m = for_moves.1 in
+    let b = for_batch.1 in
+    record {
+      moves_empty = for_moves.0;
+      moves_room = omega (arith, history, m);
+      batch_empty = for_batch.0;
+      approvals = rw made.approvals (omega arith);
+      stack_approvals = rw made.stack_approvals (omega arith);
+      batch_room = omega (arith, requests, history, b);
+    }

@@ -1,0 +1,13 @@
+-- There is room for all rows, and no stack that stood has more.
+use Rattle.std.proofs.Common.{sym, ◌∙◌}
+use Rattle.tc_book.proofs.GoesOnLemmas.{loaded-goes_on, loaded-room}
+use Rattle.tc_book.proofs.acts.load.load.Goals as goal
+
+pub returns-clause-goes_on : goal.returns-clause-goes_on
+returns-clause-goes_on g c =
+    rw (c.enter_rows.ensures.book, c.make_room.ensures.book) (loaded-goes_on c.args.stamp c.args.name c.rows-rows.result.now c.args.records.now.book (sym c.is_loaded.ensures.loaded ∙ c.if-is_loaded.false))
+
+pub returns-clause-room : goal.returns-clause-room
+returns-clause-room g c =
+    rw (c.enter_rows.ensures.book, c.make_room.ensures.book)
+    (loaded-room c.args.stamp c.args.name c.rows-rows.result.now c.args.records.now.book c.in_ok-draft.draft.moves c.in_ok-draft.draft.batch c.in_ok-draft.ensures.moves c.in_ok-draft.ensures.batch)

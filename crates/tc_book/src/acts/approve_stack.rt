@@ -1,0 +1,40 @@
+//! The act `approvestack`: a stack is approved by a person who did not load it.
+ghost use Rattle.std.specs.Prelude.{◌≡◌, IfOk};
+ghost use Rattle.tc_types.specs.declared.acts.BookAct.TheVariants as book_act;
+ghost use Rattle.tc_book.specs.Batch.{HoldsRoom};
+ghost use Rattle.tc_book.specs.Answers.{Answers};
+
+use crate::drafts::{Draft, make_room};
+use crate::records::Records;
+use crate::stamps::Stamp;
+use std::alloc::Allocator;
+use tc_types::names::Name;
+use tc_types::refusals::Refusal;
+
+/// Approves a stack. Once as many approved as are wanted, each of its rows that is still at Entered goes to Approved.
+pub fn approve_stack<A: Allocator + Copy + Drop>(
+    records: &mut Records<A>,
+    alloc: A,
+    stamp: Stamp,
+    name: Name,
+) -> Result<Draft<A>, Refusal>
+    ensures answers { Answers (λ draft. draft.first) records.old.book stamp (book_act.ApproveStack name) records.new.book result }
+    ensures room { IfOk result (λ draft. HoldsRoom records.old.book records.new.book draft.moves draft.batch) }
+{
+    if !records.is_loaded(&name) {
+        return Err(Refusal::UnknownStack);
+    }
+    if let Some(refusal) = records.stack_refusal(&name, &stamp.by) {
+        return Err(refusal);
+    }
+    if records.has_all_rows() {
+        return Err(Refusal::DeskFull);
+    }
+    let first = records.next_stack_approval(&name);
+    let rows = records.count_rows(&name);
+    let draft = make_room(records, alloc, first, 0, rows)?;
+    if records.approve_stack(name, stamp.by) {
+        records.approve_rows(&stamp, &name);
+    }
+    Ok(draft)
+}

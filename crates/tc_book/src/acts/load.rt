@@ -1,0 +1,194 @@
+//! The load of a stack: all its rows are entered, or none.
+ghost use Rattle.std.specs.Prelude.{◌≡◌, ◌+◌, ◌<◌, ◌≤◌, ◌==◌, ◌||◌, ℕ, List, [], length, count_by, false, IfOk, IfSome, OnOk};
+ghost use Rattle.tc_stack.specs.declared.stacks.StackRow.{StackRow as SomeRow};
+ghost use Rattle.tc_stack.specs.Stacks.{IsStack, named_line};
+ghost use Rattle.tc_book.specs.declared.stamps.Stamp.{Stamp as SomeStamp};
+ghost use Rattle.tc_book.specs.Answers.{LoadAnswers};
+ghost use Rattle.tc_book.specs.Batch.{GoesOn, HoldsRoom};
+ghost use Rattle.tc_book.specs.Book.{is_identity_in_use, has_all_rows};
+ghost use Rattle.tc_book.specs.Good.{IsGoodBook, IsGoodOrigin};
+ghost use Rattle.tc_book.specs.Loads.{IsWithin, command_from, entry_from, origin_of, with_row, loaded, identity_behind, takes_identity_in_use, has_all_stacks, passes_requests};
+ghost use Rattle.tc_book.specs.Stacks.{has_stack, stack_approvers_of};
+ghost use Rattle.tc_book.specs.Steps.{HasSteps};
+ghost use Rattle.tc_book.specs.Targets.{HasGoodTarget};
+
+use crate::drafts::{Draft, make_room};
+use crate::firsts::First;
+use crate::records::{MOST_REQUESTS, Records};
+use crate::stamps::Stamp;
+use std::alloc::Allocator;
+use tc_stack::stacks::{Stack, StackRow};
+use tc_types::entries::Entry;
+use tc_types::names::Name;
+use tc_types::numbers::Apid;
+use tc_types::refusals::Refusal;
+use tc_types::requests::{Command, Form, Origin};
+
+/// The command of a row, where line 1 becomes request `start`: what it names is a request then.
+fn command_from(start: u32, command: Command) -> Command
+    requires few { start ≤ 65535 }
+    requires line { IfSome (named_line command) IsWithin }
+    ensures { result ≡ command_from start command }
+{
+    match command {
+        Command::InsertActivity { target, time } => Command::InsertActivity {
+            target: start + target - 1,
+            time,
+        },
+        Command::DeleteActivity { target } => Command::DeleteActivity {
+            target: start + target - 1,
+        },
+        Command::ShiftActivity { target, offset } => Command::ShiftActivity {
+            target: start + target - 1,
+            offset,
+        },
+        _ => command,
+    }
+}
+
+/// The entry of a row, where line 1 becomes request `start`.
+fn entry_from(start: u32, entry: &Entry) -> Entry
+    requires few { start ≤ 65535 }
+    requires line { IfSome (named_line entry.now.command) IsWithin }
+    ensures { result ≡ entry_from start entry.now }
+{
+    let form = entry.form();
+    let command = command_from(start, form.command);
+    Entry::new(Form { command, ..form }).unwrap()
+}
+
+/// How many of these rows are of this application process.
+fn count_rows_of(rows: &[StackRow], apid: Apid) -> usize
+    ensures { result ≡ count_by (λ (row : SomeRow). row.entry.apid == apid) rows.now }
+{
+    rows.iter()
+        .filter(|row| row.entry.apid().get() == apid.get())
+        .count()
+}
+
+/// Whether the row behind these gets an identity that a request has which was entered before the load.
+fn is_taken<A: Allocator + Copy + Drop>(
+    records: &Records<A>,
+    before: &[StackRow],
+    row: &StackRow,
+) -> bool
+    requires { length before.now ≤ 200 }
+    ensures { result ≡ is_identity_in_use records.now.book (identity_behind records.now.book.requests before.now row.now.entry.apid) }
+{
+    let apid = row.entry.apid();
+    let identity = records.identity_behind(apid, count_rows_of(before, apid));
+    records.is_identity_in_use(&identity)
+}
+
+/// Whether one of the rows gets an identity that is in use. No row gets that of another, since they are fewer than there are
+/// sequence counts, so that those before it need not be entered for the test.
+fn takes_identity_in_use<A: Allocator + Copy + Drop>(
+    records: &Records<A>,
+    rows: &[StackRow],
+) -> bool
+    requires few { length rows.now ≤ 200 }
+    requires good { IsGoodBook records.now.book }
+    ensures { (stamp : SomeStamp) → (name : List ℕ) → result ≡ takes_identity_in_use stamp name (length records.now.book.requests + 1) 1 records.now.book rows.now }
+{
+    for at in 0..rows.len() {
+        if is_taken(records, &rows[..at], &rows[at]) {
+            return true;
+        }
+    }
+    false
+}
+
+/// Whether there may be no load of so many rows: 1,000 stacks stand, or the requests would be too many, or the rows of the
+/// history are.
+fn has_no_room<A: Allocator + Copy + Drop>(records: &Records<A>, rows: &[StackRow]) -> bool
+    requires { length rows.now ≤ 200 }
+    ensures { result ≡ (has_all_stacks records.now.book || passes_requests records.now.book rows.now || has_all_rows records.now.book) }
+{
+    let requests = records.count() as usize + rows.len();
+    records.has_all_stacks() || requests > MOST_REQUESTS || records.has_all_rows()
+}
+
+/// Enters the row on this line, where line 1 becomes request `start`.
+fn enter_row<A: Allocator + Copy + Drop>(
+    records: &mut Records<A>,
+    stamp: Stamp,
+    name: Name,
+    start: u32,
+    line: u32,
+    row: &StackRow,
+)
+    requires few { start ≤ 65535 }
+    requires named { IfSome (named_line row.now.entry.command) IsWithin }
+    requires request_room { length records.old.book.requests < records.old.most_requests }
+    requires room { length records.old.book.history < records.old.most_rows }
+    requires target { HasGoodTarget records.old.book.requests (command_from start row.now.entry.command) }
+    requires origin { IsGoodOrigin records.old.book.requests stamp.by (origin_of name line row.now) }
+    requires unapproved { stack_approvers_of records.old.book.stack_approvals name ≡ [] }
+    ensures good { IsGoodBook records.old.book }
+    ensures book { records.new.book ≡ with_row stamp name start line records.old.book row.now }
+    ensures requests_kept { records.old.most_requests ≤ records.new.most_requests }
+    ensures rows_kept { records.old.most_rows ≤ records.new.most_rows }
+{
+    let origin = Origin {
+        stack: name,
+        line,
+        after: row.after,
+    };
+    records.enter(stamp, entry_from(start, &row.entry), Some(origin));
+}
+
+/// Enters all rows, in order.
+fn enter_rows<A: Allocator + Copy + Drop>(
+    records: &mut Records<A>,
+    stamp: &Stamp,
+    name: &Name,
+    rows: &[StackRow],
+)
+    requires stack { IsStack rows.now }
+    requires unused { has_stack name.now records.old.book.requests ≡ false }
+    requires unapproved { stack_approvers_of records.old.book.stack_approvals name.now ≡ [] }
+    requires few { length records.old.book.requests + length rows.now ≤ 65535 }
+    requires request_room { length records.old.book.requests + length rows.now ≤ records.old.most_requests }
+    requires room { length records.old.book.history + length rows.now ≤ records.old.most_rows }
+    ensures book { records.new.book ≡ loaded stamp.now name.now rows.now records.old.book }
+    ensures steps { HasSteps stamp.now records.old.book records.new.book }
+{
+    let start = records.count() + 1;
+    for at in 0..rows.len() {
+        enter_row(records, *stamp, *name, start, at as u32 + 1, &rows[at]);
+    }
+}
+
+/// Loads a stack under this name: each row is entered by the person who loads it.
+pub fn load<A: Allocator + Copy + Drop>(
+    records: &mut Records<A>,
+    alloc: A,
+    stamp: Stamp,
+    name: Name,
+    stack: &Stack,
+) -> Result<Draft<A>, Refusal>
+    ensures answers { LoadAnswers (λ draft. draft.first) records.old.book stamp name stack.now records.new.book result }
+    ensures room { IfOk result (λ draft. HoldsRoom records.old.book records.new.book draft.moves draft.batch) }
+    ensures goes_on { OnOk result (GoesOn records.old.book records.new.book) }
+    // one row after the other, each in a good book
+    ensures steps { OnOk result (HasSteps stamp records.old.book records.new.book) }
+{
+    let rows = stack.rows();
+    if records.is_loaded(&name) {
+        return Err(Refusal::NameUsed);
+    }
+    if takes_identity_in_use(records, rows) {
+        return Err(Refusal::IdentityInUse);
+    }
+    if has_no_room(records, rows) {
+        return Err(Refusal::DeskFull);
+    }
+    let first = First::Loaded {
+        name,
+        rows: rows.len() as u32,
+        first: records.next_number(),
+    };
+    let draft = make_room(records, alloc, first, rows.len(), rows.len())?;
+    enter_rows(records, &stamp, &name, rows);
+    Ok(draft)
+}

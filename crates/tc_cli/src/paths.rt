@@ -1,0 +1,84 @@
+//! Where the texts come from that a script loads.
+ghost use Rattle.std.specs.Prelude.{◌∷◌, [], IfOk, List, None, OnErr, Option};
+ghost use Rattle.tc_cli.specs.Files.{FileText, Gives, file_at};
+
+use std::alloc::Global;
+use std::fs;
+use std::io::{self, Read};
+use std::rt::Files;
+
+/// Why there is no text at a path.
+#[derive(Clone, Copy, Debug, PartialEq, Eq)]
+pub enum PathFault {
+    /// It names no file that can be read.
+    Unreadable,
+    /// There was no memory for it.
+    Memory,
+}
+
+/// A source of files. Its content is the list of the texts that it gave.
+pub trait Paths {
+    /// The texts that it gave, each with its path, in order, where a contract can name them.
+    ghost given: { Self → Option (List FileText) };
+
+    /// The text at a path, of which no more than `limit` bytes are wanted.
+    fn load(&mut self, alloc: Global, path: &str, limit: usize) -> Result<Vec<u8>, PathFault>
+        ensures gave { IfOk result (λ text. Gives (given self.old) (given self.new) (file_at path.now text.items ∷ [])) }
+        ensures none { OnErr result (Gives (given self.old) (given self.new) []) };
+}
+
+/// The files of the machine, by their paths. Its content is not told.
+#[derive(Drop)]
+pub struct HostPaths<'a, R: Files> {
+    rt: &'a R,
+    unread: String,
+}
+
+impl<'a, R: Files> HostPaths<'a, R> {
+    /// These files, of which none was read.
+    pub fn new(alloc: Global, rt: &'a R) -> Self {
+        HostPaths {
+            rt,
+            unread: String::new(alloc),
+        }
+    }
+
+    /// The path that gave no text.
+    pub fn unread(&self) -> &str {
+        self.unread.as_str()
+    }
+}
+
+/// Reads no more than so many bytes of the file at a path.
+fn read_file<R: Files>(
+    alloc: Global,
+    rt: &R,
+    path: &str,
+    limit: usize,
+) -> Result<Vec<u8>, PathFault> {
+    let mut text = Vec::new(alloc);
+    let read = match fs::open(rt, path) {
+        Ok(file) => file.take(limit as u64).read_to_end(&mut text),
+        Err(error) => Err(error),
+    };
+    match read {
+        Ok(_) => Ok(text),
+        Err(error) if error.kind() == io::ErrorKind::OutOfMemory => Err(PathFault::Memory),
+        Err(_) => Err(PathFault::Unreadable),
+    }
+}
+
+impl<R: Files> Paths for HostPaths<'_, R> {
+    ghost given = { λ _. None };
+
+    fn load(&mut self, alloc: Global, path: &str, limit: usize) -> Result<Vec<u8>, PathFault> {
+        let read = read_file(alloc, self.rt, path, limit);
+        if let Err(PathFault::Unreadable) = read {
+            match String::from_str(alloc, path) {
+                Ok(unread) => self.unread = unread,
+                Err(_) => return Err(PathFault::Memory),
+            }
+        }
+        read
+    }
+}

@@ -1,0 +1,44 @@
+-- The table `stack`: one row for each stack that was loaded, in the order in which they were. Its key is the name.
+use Rattle.std.specs.Prelude.{ℕ, pos, if◌then◌else◌, Bool, true, List, [], ◌∷◌, codes, None}
+use Rattle.std.specs.Str.{bytes_eq}
+use Rattle.sqlite_value.specs.declared.value.Value.TheVariants.{Null, Int, Text}
+use Rattle.sqlite_value.specs.Order.{Row}
+use Rattle.sqlite_value.specs.Keys.{plain}
+use Rattle.sqlite_schema.specs.declared.schema.Kind.TheVariants as kind
+use Rattle.sqlite_sql.specs.Term.{Term, lit, col}
+use Rattle.tc_types.specs.declared.rows.LoadedStack.{LoadedStack}
+use Rattle.tc_sql.specs.Forms.{Form, column_of}
+
+-- behind the index of `request_approval`; the next one is its own index
+abbrev pub stack_tree : ℕ
+stack_tree = 8
+
+-- where a row has its key
+abbrev pub stack_places : List ℕ
+stack_places = 1 ∷ []
+
+abbrev pub stack_form : Form
+stack_form = record {
+  name = codes "stack";
+  columns = column_of (codes "name") kind.Text true ∷ column_of (codes "author") kind.Text true ∷ column_of (codes "critical") kind.Integer true ∷ [];
+  key = None;
+  primary = stack_places;
+  uniques = stack_places ∷ [];
+  orders = plain ∷ [];
+}
+
+abbrev pub stack_text : List ℕ
+stack_text = codes "CREATE TABLE stack (name TEXT PRIMARY KEY, author TEXT NOT NULL, critical INTEGER NOT NULL) STRICT"
+
+abbrev pub stack_put : List ℕ
+stack_put = codes "INSERT INTO stack (name, author, critical) VALUES (?1, ?2, ?3)"
+
+abbrev pub stack_terms : List Term
+stack_terms = lit Null ∷ col 0 0 ∷ col 0 1 ∷ col 0 2 ∷ []
+
+-- a row, but for the number under which it stands
+abbrev pub stack_values : LoadedStack → Row
+stack_values s = Text s.name ∷ Text s.author ∷ Int (if s.critical then pos 1 else pos 0) ∷ []
+
+abbrev pub is_same_stack : LoadedStack → LoadedStack → Bool
+is_same_stack a b = bytes_eq a.name b.name
