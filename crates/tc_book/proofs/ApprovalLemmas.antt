@@ -11,7 +11,8 @@ use Rattle.tc_types.specs.declared.rows.Approval.{Approval}
 use Rattle.tc_types.specs.declared.causes.Cause.TheVariants as cause
 use Rattle.tc_types.specs.declared.moves.Move.{Move}
 use Rattle.tc_types.specs.declared.requests.Origin.{Origin}
-use Rattle.tc_stack.specs.Approvals.{ApprovalState, IsApproval, unapproved, wanted, is_complete, approved, refusal_of, first_refusal}
+use Rattle.tc_types.specs.Tests.{first_refusal}
+use Rattle.tc_stack.specs.Approvals.{ApprovalState, IsApproval, unapproved, wanted, is_complete, approved, refusal_of}
 use Rattle.tc_stack.proofs.ApprovalLemmas.{unapproved_sound, unrefused_sound}
 use Rattle.tc_types.specs.History.{AllAfter}
 use Rattle.tc_book.specs.Book.{Book, approvers_of, approval_of, approval_at, with_approval, is_unknown, request_in, request_at}

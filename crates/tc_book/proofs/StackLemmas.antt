@@ -13,7 +13,8 @@ use Rattle.tc_types.specs.declared.requests.Request.{Request}
 use Rattle.tc_types.specs.declared.requests.Origin.{Origin}
 use Rattle.tc_types.specs.declared.rows.StackApproval.{StackApproval}
 use Rattle.tc_types.specs.Names.{is_same_name}
-use Rattle.tc_stack.specs.Approvals.{ApprovalState, IsApproval, is_same_person, is_complete, approved, unapproved, refusal_of, first_refusal}
+use Rattle.tc_types.specs.Tests.{first_refusal}
+use Rattle.tc_stack.specs.Approvals.{ApprovalState, IsApproval, is_same_person, is_complete, approved, unapproved, refusal_of}
 use Rattle.tc_stack.proofs.ApprovalLemmas.{neither, same_turned, unapproved_sound, unrefused_sound}
 use Rattle.tc_book.specs.Book.{Book}
 use Rattle.tc_book.specs.Acts.{approval_tests, completes}

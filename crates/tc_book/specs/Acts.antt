@@ -15,7 +15,7 @@ use Rattle.tc_book.specs.declared.stamps.Stamp.{Stamp}
 use Rattle.tc_book.specs.declared.firsts.First.{First}
 use Rattle.tc_book.specs.declared.firsts.First.TheVariants as first
 use Rattle.tc_book.specs.Book.{Book, stands, is_unknown, request_at, next_identity, is_identity_in_use, has_all_requests, has_all_rows, want, moved, with_entry, approval_at, with_approval}
-pub use Rattle.tc_stack.specs.Approvals.{first_refusal}
+pub use Rattle.tc_types.specs.Tests.{first_refusal}
 use Rattle.tc_stack.specs.Approvals.{ApprovalState, approved, is_complete, wanted}
 use Rattle.tc_stack.specs.Approvals as approval
 use Rattle.tc_book.specs.Targets.{target_of, is_bad_activity}

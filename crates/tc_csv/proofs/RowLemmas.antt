@@ -6,7 +6,7 @@ use native.Mathlib.Numerals.{unary_clauses}
 use Rattle.tc_types.specs.Numbers.{IsNumber}
 use Rattle.tc_types.specs.Grammar.{Reads}
 use Rattle.std.proofs.lemmas.Bool.Decides.{nat_tests}
-use Rattle.std.proofs.lemmas.Fmt.{decimal_nonempty}
+use Rattle.std.proofs.lemmas.Fmt.{decimal_nonempty, decimal_injective}
 use Rattle.std.proofs.lemmas.List.{take_all}
 use Rattle.csv.specs.Records.{Row, field_at, fields_of}
 use Rattle.tc_csv.specs.declared.columns.Column.{Column}
@@ -23,17 +23,24 @@ none_get [] i none = refl
 none_get (f ∷ fs) zero none = cc
 none_get (f ∷ fs) (suc i) none = none_get fs i none
 
+some_number : (n : ℕ) → IsNumber n → 0 ≡ length (decimal n) → ⊥
+some_number n small none = let some : 0 < length (decimal n) = decimal_nonempty n (omega (arith, small)) in omega (arith, some, none)
+
 -- no field names no number
 pub no_number : (field : List ℕ) → true ≡ (length field == 0) → Reads number_field (λ named. IfSome named IsNumber) field (Some None)
 no_number [] empty = record { found = (refl, tt); only = others }
   where
     others : (named : Option ℕ) → IfSome named IsNumber → [] ≡ number_field named → Some None ≡ Some named
     others None small is = refl
-    others (Some n) small is =
-        let some : 0 < length (decimal n) = decimal_nonempty n (omega (arith, small)) in
-        let none : 0 ≡ length (decimal n) = ap length is in
-        absurd (omega (arith, some, none))
+    others (Some n) small is = absurd (some_number n small (ap length is))
 no_number (f ∷ fs) empty = let none : length (f ∷ fs) ≡ 0 = grind (arith, nat_tests, empty) in absurd (omega (arith, none))
+
+-- a field names one number at most
+pub number_same : (a b : Option ℕ) → IfSome a IsNumber → IfSome b IsNumber → number_field a ≡ number_field b → a ≡ b
+number_same None None first second same = refl
+number_same None (Some n) first second same = absurd (some_number n second (ap length same))
+number_same (Some n) None first second same = absurd (some_number n first (ap length (sym same)))
+number_same (Some m) (Some n) first second same = ap Some (decimal_injective m n (omega (arith, first)) (omega (arith, second)) same)
 
 -- ---- the first that is broken
 

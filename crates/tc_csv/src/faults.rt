@@ -1,5 +1,6 @@
 //! What is wrong with a text, and where.
 ghost use Rattle.std.specs.Prelude.{◌≡◌};
+ghost use Rattle.tc_csv.specs.declared.faults.NotRead.TheVariants.{Wrong as IsWrong};
 ghost use Rattle.tc_csv.specs.Faults.{rule_refusal, rule_column};
 
 use crate::columns::Column;
@@ -102,4 +103,13 @@ pub enum NotRead {
     Wrong(Fault),
     /// Memory was refused.
     Memory,
+}
+
+impl NotRead {
+    /// It breaks this rule at this record: 0 for the header or the text as a whole, else the number of the row, from 1.
+    pub fn wrong(row: u32, rule: Rule) -> NotRead
+        ensures { result ≡ IsWrong (record { row = row; rule = rule }) }
+    {
+        NotRead::Wrong(Fault { row, rule })
+    }
 }

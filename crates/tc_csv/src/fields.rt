@@ -9,10 +9,10 @@ use csv::ByteRecord;
 use tc_types::readers::number;
 
 /// The field at a place of a record; empty where it has none there.
-pub fn field(record: &ByteRecord, place: usize) -> &[u8]
-    ensures { result.now ≡ get_or (fields_of record.now) place [] }
+pub fn field(fields: &ByteRecord, place: usize) -> &[u8]
+    ensures { result.now ≡ get_or (fields_of fields.now) place [] }
 {
-    match record.get(place) {
+    match fields.get(place) {
         Some(field) => field,
         None => &[],
     }

@@ -6,7 +6,7 @@ ghost use Rattle.tc_csv.specs.Faults.{Judged};
 ghost use Rattle.tc_csv.specs.Tables.{records_of, column_name, header, HasHeader, Breaks, broken_at, IsTable, IsTableFault};
 
 use crate::columns::Column;
-use crate::faults::{Fault, NotRead, Rule};
+use crate::faults::{NotRead, Rule};
 use csv::{ByteRecord, ReaderBuilder};
 use std::alloc::Global;
 
@@ -32,24 +32,24 @@ fn read_records(alloc: Global, text: &[u8]) -> Option<Vec<ByteRecord>>
 }
 
 /// Whether the field at a place of a record is the name of this column.
-fn is_named(record: &ByteRecord, place: usize, column: Column) -> bool
-    ensures { IsTrue result ↔ (field_at (fields_of record.now) place ≡ Some (column_name column)) }
+fn is_named(fields: &ByteRecord, place: usize, column: Column) -> bool
+    ensures { IsTrue result ↔ (field_at (fields_of fields.now) place ≡ Some (column_name column)) }
 {
-    match record.get(place) {
+    match fields.get(place) {
         Some(field) => field == column.name(),
         None => false,
     }
 }
 
 /// Whether a record is the header with these columns.
-fn is_header(record: &ByteRecord, columns: &[Column]) -> bool
-    ensures { IsTrue result ↔ (fields_of record.now ≡ header columns.now) }
+fn is_header(fields: &ByteRecord, columns: &[Column]) -> bool
+    ensures { IsTrue result ↔ (fields_of fields.now ≡ header columns.now) }
 {
-    if record.len() != columns.len() {
+    if fields.len() != columns.len() {
         return false;
     }
     for place in 0..columns.len() {
-        if !is_named(record, place, columns[place]) {
+        if !is_named(fields, place, columns[place]) {
             return false;
         }
     }
@@ -93,13 +93,10 @@ fn broken_at(most_rows: u16, rule: Rule) -> u32
 }
 
 /// The fault of a table that breaks this rule.
-fn wrong(most_rows: u16, rule: Rule) -> NotRead
+fn wrong_table(most_rows: u16, rule: Rule) -> NotRead
     ensures { result ≡ Wrong (record { row = broken_at most_rows rule; rule = rule }) }
 {
-    NotRead::Wrong(Fault {
-        row: broken_at(most_rows, rule),
-        rule,
-    })
+    NotRead::wrong(broken_at(most_rows, rule), rule)
 }
 
 /// The records of a text as a table with these columns: the header, and behind it 1 to `most_rows` rows, which may have any
@@ -115,13 +112,13 @@ pub fn read_table(
     ensures { Judged (λ v. IsTable columns.now most_rows text.now (map fields_of v.items)) (IsTableFault columns.now most_rows text.now) result }
 {
     if text.len() > MOST_BYTES {
-        return Err(wrong(most_rows, Rule::TextLength));
+        return Err(wrong_table(most_rows, Rule::TextLength));
     }
     let Some(records) = read_records(alloc, text) else {
         return Err(NotRead::Memory);
     };
     match broken_rule(&records, columns, most_rows) {
-        Some(rule) => Err(wrong(most_rows, rule)),
+        Some(rule) => Err(wrong_table(most_rows, rule)),
         None => Ok(records),
     }
 }

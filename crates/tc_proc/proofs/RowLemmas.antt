@@ -1,13 +1,14 @@
 -- The first rule that a row breaks, among rows that spell steps up to it.
-use Rattle.std.proofs.Common.{◌≡◌, inl, inr, ℕ, suc, ◌+◌, ◌<◌, Vec, Global, Result, Ok, Err, List, [], ◌∷◌, ◌++◌, length, get_or, take, drop, map, refl, sym, ◌∙◌, ap, arith}
+use Rattle.std.proofs.Common.{◌≡◌, inl, inr, ℕ, suc, ◌+◌, ◌<◌, Vec, Global, Bool, true, false, Result, Ok, Err, List, [], ◌∷◌, ◌++◌, length, get_or, take, drop, map, refl, sym, ◌∙◌, ap, arith}
 use Rattle.std.specs.List.{AllByRecursion}
 use Rattle.csv.specs.Records.{Row, fields_of}
 use Rattle.std.proofs.lemmas.List.{length-append, length-drop}
+use Rattle.tc_types.specs.Grammar.{yes_no}
 use Rattle.tc_csv.specs.declared.faults.Fault.{Fault}
 use Rattle.tc_csv.specs.declared.faults.NotRead.{NotRead}
 use Rattle.tc_csv.specs.declared.faults.NotRead.TheVariants as not_read
 use Rattle.tc_csv.specs.Faults.{Judged, KeepsAll, FirstBroken, FirstBrokenRow}
-use Rattle.tc_csv.proofs.RowLemmas.{kept_unbroken, table_once, row_once, split_at, taken_more}
+use Rattle.tc_csv.proofs.RowLemmas.{number_same, kept_unbroken, table_once, row_once, split_at, taken_more}
 use Rattle.tc_csv.specs.Tables.{records_of, header, HasHeader, IsTable, KeepsTable, table_rules}
 use Rattle.tc_proc.specs.declared.procedures.Step.{Step}
 use Rattle.tc_proc.specs.Procedures.{IsStep, AreSteps, SpellsProcedure, step_record, step_records, step_rules, KeepsStep, IsProcedureFault, procedure_columns}
@@ -28,6 +29,33 @@ steps_unbroken : (number : ℕ) (steps : List Step) (fault : Fault) → AllByRec
 steps_unbroken number [] fault each first = first
 steps_unbroken number (step ∷ steps) fault each (inl here) = kept_unbroken (KeepsStep number (step_record number step)) step_rules fault.rule (step_keeps number step each.0) here.0
 steps_unbroken number (step ∷ steps) fault each (inr later) = steps_unbroken (number + 1) steps fault each.1 later.1
+
+-- a record spells one step
+yes_no_same : (a b : Bool) → yes_no a ≡ yes_no b → a ≡ b
+yes_no_same true true same = refl
+yes_no_same true false same = let lengths : 3 ≡ 2 = ap length same in absurd (omega (arith, lengths))
+yes_no_same false true same = let lengths : 2 ≡ 3 = ap length same in absurd (omega (arith, lengths))
+yes_no_same false false same = refl
+
+step_same : (number : ℕ) (a b : Step) → IsStep a → IsStep b → step_record number a ≡ step_record number b → a ≡ b
+step_same number a b first second same =
+    let text : a.text ≡ b.text = ap (λ fields. get_or fields 1 []) same in
+    let marked : a.is_countersigned ≡ b.is_countersigned = yes_no_same _ _ (ap (λ fields. get_or fields 2 []) same) in
+    let request : a.request ≡ b.request = number_same _ _ first.request second.request (ap (λ fields. get_or fields 3 []) same) in
+    λ i. record { text = text i; is_countersigned = marked i; request = request i }
+
+steps_same : (number : ℕ) (a b : List Step) → AllByRecursion IsStep a → AllByRecursion IsStep b → step_records number a ≡ step_records number b → a ≡ b
+steps_same number [] [] first second same = refl
+steps_same number [] (y ∷ ys) first second same = let lengths : 0 ≡ suc (length (step_records (number + 1) ys)) = ap length same in absurd (omega (arith, lengths))
+steps_same number (x ∷ xs) [] first second same = let lengths : suc (length (step_records (number + 1) xs)) ≡ 0 = ap length same in absurd (omega (arith, lengths))
+steps_same number (x ∷ xs) (y ∷ ys) first second same =
+    let step : x ≡ y = step_same number x y first.0 second.0 (ap (λ rows. get_or rows 0 []) same) in
+    let steps : xs ≡ ys = steps_same (number + 1) xs ys first.1 second.1 (ap (drop 1) same) in
+    λ i. step i ∷ steps i
+
+-- a text spells one procedure
+pub spelled_once : (text : List ℕ) (a b : List Step) → SpellsProcedure text a → SpellsProcedure text b → a ≡ b
+spelled_once text a b first second = steps_same 1 a b first.procedure.each second.procedure.each (ap (drop 1) (sym first.are ∙ second.are))
 
 -- each step has one record
 records_length : (number : ℕ) (steps : List Step) → length (step_records number steps) ≡ length steps

@@ -5,7 +5,6 @@ ghost use Rattle.tc_types.specs.declared.refusals.Refusal.TheVariants.{Memory};
 ghost use Rattle.tc_types.specs.Numbers.{IsNumber};
 ghost use Rattle.tc_types.specs.Grammar.{Reads};
 ghost use Rattle.tc_csv.specs.declared.faults.Fault.{Fault as SomeFault};
-ghost use Rattle.tc_csv.specs.declared.faults.NotRead.TheVariants.{Wrong};
 ghost use Rattle.tc_csv.specs.declared.faults.Rule.TheVariants.{StepText as TheText};
 ghost use Rattle.tc_csv.specs.Faults.{Judged, FirstBroken, FirstBrokenRow, rule_refusal};
 ghost use Rattle.tc_proc.specs.declared.procedures.Step.{Step as SomeStep};
@@ -26,40 +25,33 @@ use tc_types::refusals::Refusal;
 /// The columns of the text of a procedure.
 const COLUMNS: [Column; 4] = [Column::Step, Column::Text, Column::Second, Column::Request];
 
-/// The fault of a row that breaks this rule.
-fn wrong(row: u32, rule: Rule) -> NotRead
-    ensures { result ≡ Wrong (record { row = row; rule = rule }) }
-{
-    NotRead::Wrong(Fault { row, rule })
-}
-
 /// The text of a step, from its field.
 fn text_of(alloc: Global, row: u32, field: &[u8]) -> Result<StepText, NotRead>
     ensures { Judged (λ text. (text ≡ field.now) × (is_step_text field.now ≡ true)) (λ fault. (is_step_text field.now ≡ false) × (fault ≡ record { row = row; rule = TheText })) result }
 {
     match StepText::new(alloc, field) {
         Ok(Some(text)) => Ok(text),
-        Ok(None) => Err(wrong(row, Rule::StepText)),
+        Ok(None) => Err(NotRead::wrong(row, Rule::StepText)),
         Err(_) => Err(NotRead::Memory),
     }
 }
 
 /// The step of a row with this number.
-fn step_of(alloc: Global, row: u32, record: &ByteRecord) -> Result<Step, NotRead>
-    ensures { Judged (λ step. (fields_of record.now ≡ step_record row step) × IsStep step) (λ fault. FirstBroken (KeepsStep row (fields_of record.now)) step_rules fault.rule × (fault.row ≡ row)) result }
+fn step_of(alloc: Global, row: u32, fields: &ByteRecord) -> Result<Step, NotRead>
+    ensures { Judged (λ step. (fields_of fields.now ≡ step_record row step) × IsStep step) (λ fault. FirstBroken (KeepsStep row (fields_of fields.now)) step_rules fault.rule × (fault.row ≡ row)) result }
 {
-    if record.len() != COLUMNS.len() {
-        return Err(wrong(row, Rule::FieldCount));
+    if fields.len() != COLUMNS.len() {
+        return Err(NotRead::wrong(row, Rule::FieldCount));
     }
-    if number(field(record, 0)) != Some(row) {
-        return Err(wrong(row, Rule::StepNumber));
+    if number(field(fields, 0)) != Some(row) {
+        return Err(NotRead::wrong(row, Rule::StepNumber));
     }
-    let text = text_of(alloc, row, field(record, 1))?;
-    let Some(is_countersigned) = yes_or_no(field(record, 2)) else {
-        return Err(wrong(row, Rule::Second));
+    let text = text_of(alloc, row, field(fields, 1))?;
+    let Some(is_countersigned) = yes_or_no(field(fields, 2)) else {
+        return Err(NotRead::wrong(row, Rule::Second));
     };
-    let Some(request) = optional_number(field(record, 3)) else {
-        return Err(wrong(row, Rule::StepRequest));
+    let Some(request) = optional_number(field(fields, 3)) else {
+        return Err(NotRead::wrong(row, Rule::StepRequest));
     };
     Ok(Step {
         text,
@@ -74,14 +66,10 @@ fn steps_of(alloc: Global, rows: &[ByteRecord]) -> Result<Vec<Step>, NotRead>
     ensures { Judged (λ v. AreSteps (map fields_of rows.now) v.items) (FirstBrokenRow KeepsStep step_rules 1 (map fields_of rows.now)) result }
 {
     let mut steps = Vec::new(alloc);
-    for (index, record) in rows.iter().enumerate() {
-        match step_of(alloc, index as u32 + 1, record) {
-            Ok(step) => {
-                if steps.push(step).is_err() {
-                    return Err(NotRead::Memory);
-                }
-            }
-            Err(fault) => return Err(fault),
+    for (index, fields) in rows.iter().enumerate() {
+        let step = step_of(alloc, index as u32 + 1, fields)?;
+        if steps.push(step).is_err() {
+            return Err(NotRead::Memory);
         }
     }
     Ok(steps)
@@ -91,10 +79,8 @@ fn steps_of(alloc: Global, rows: &[ByteRecord]) -> Result<Vec<Step>, NotRead>
 fn read_steps(alloc: Global, text: &[u8]) -> Result<Vec<Step>, NotRead>
     ensures { Judged (λ v. SpellsProcedure text.now v.items) (IsProcedureFault text.now) result }
 {
-    match read_table(alloc, text, &COLUMNS, MOST_STEPS) {
-        Ok(records) => steps_of(alloc, &records[1..]),
-        Err(fault) => Err(fault),
-    }
+    let records = read_table(alloc, text, &COLUMNS, MOST_STEPS)?;
+    steps_of(alloc, &records[1..])
 }
 
 /// The procedure that a text spells: a header `step,text,second,request`, and 1 to 100 rows, each a step.
@@ -103,7 +89,7 @@ fn read_steps(alloc: Global, text: &[u8]) -> Result<Vec<Step>, NotRead>
 pub fn read_procedure(alloc: Global, text: &[u8]) -> Result<Procedure, Refusal>
     ensures read { IfOk result (λ procedure. SpellsProcedure text.now procedure) }
     ensures refused { IfErr result (λ why. (why ≡ Memory) ⊎ ((fault : SomeFault) × IsProcedureFault text.now fault × (why ≡ rule_refusal fault.rule))) }
-    ensures only { (steps : List SomeStep) → SpellsProcedure text.now steps → IfErr result (λ why. why ≡ Memory) }
+    ensures only { (steps : List SomeStep) → SpellsProcedure text.now steps → IfErr result (λ why. why ≡ Memory) × IfOk result (λ procedure. procedure ≡ steps) }
 {
     match read_steps(alloc, text) {
         Ok(steps) => Ok(Procedure::of(steps)),

@@ -58,22 +58,22 @@ only_keeps : (line : ℕ) (fields : List (List ℕ)) (row : StackRow) → Spells
 only_keeps line fields row is = row_keeps line fields row is.0
 
 -- one row more
-pub row_more : (records : List Row) (i : ℕ) (record_ : Row) (rows : List StackRow) (row : StackRow) → i < length records → record_ ≡ get_or records i record_
-    → SpellRows SpellsOnlyRow 1 (take i (map fields_of records)) rows × (length rows ≡ i) → SpellsOnlyRow (i + 1) (fields_of record_) row
+pub row_more : (records : List Row) (i : ℕ) (fields : Row) (rows : List StackRow) (row : StackRow) → i < length records → fields ≡ get_or records i fields
+    → SpellRows SpellsOnlyRow 1 (take i (map fields_of records)) rows × (length rows ≡ i) → SpellsOnlyRow (i + 1) (fields_of fields) row
     → SpellRows SpellsOnlyRow 1 (take (i + 1) (map fields_of records)) (rows ++ row ∷ []) × (length (rows ++ row ∷ []) ≡ i + 1)
-row_more records i record_ rows row low is so here =
+row_more records i fields rows row low is so here =
     let count = so.1 in
     let len = length-append rows (row ∷ []) in
-    (rw (taken_more records i record_ low is) (spell_more SpellsOnlyRow 1 (i + 1) (take i (map fields_of records)) rows (fields_of record_) row (omega (arith, count)) so.0 here), omega (arith, len, count))
+    (rw (taken_more records i fields low is) (spell_more SpellsOnlyRow 1 (i + 1) (take i (map fields_of records)) rows (fields_of fields) row (omega (arith, count)) so.0 here), omega (arith, len, count))
 
 -- the fault of a row is the fault of the rows
-pub row_broken : (records : List Row) (i : ℕ) (record_ : Row) (rows : List StackRow) (broken : Rule) → i < length records → record_ ≡ get_or records i record_
-    → SpellRows SpellsOnlyRow 1 (take i (map fields_of records)) rows × (length rows ≡ i) → FirstBroken (KeepsRow (i + 1) (fields_of record_)) row_rules broken
+pub row_broken : (records : List Row) (i : ℕ) (fields : Row) (rows : List StackRow) (broken : Rule) → i < length records → fields ≡ get_or records i fields
+    → SpellRows SpellsOnlyRow 1 (take i (map fields_of records)) rows × (length rows ≡ i) → FirstBroken (KeepsRow (i + 1) (fields_of fields)) row_rules broken
     → FirstBrokenRow KeepsRow row_rules 1 (map fields_of records) (record { row = i + 1; rule = broken })
-row_broken records i record_ rows broken low is so first =
+row_broken records i fields rows broken low is so first =
     let count = so.1 in
-    rw (split_at records i record_ low is)
-    (fault_behind SpellsOnlyRow KeepsRow row_rules only_keeps 1 (i + 1) (take i (map fields_of records)) rows (fields_of record_) (drop (suc i) (map fields_of records)) (record { row = i + 1; rule = broken }) (omega (arith, count)) so.0 first refl)
+    rw (split_at records i fields low is)
+    (fault_behind SpellsOnlyRow KeepsRow row_rules only_keeps 1 (i + 1) (take i (map fields_of records)) rows (fields_of fields) (drop (suc i) (map fields_of records)) (record { row = i + 1; rule = broken }) (omega (arith, count)) so.0 first refl)
 
 -- rows, each the only one, are rows, and the only ones
 only_spelled : (number : ℕ) (given : List (List (List ℕ))) (rows : List StackRow) → SpellRows SpellsOnlyRow number given rows → SpellRows SpellsRow number given rows

@@ -4,6 +4,7 @@ use Rattle.std.specs.List.{list_any, IsDistinct}
 use Rattle.std.specs.Cmp.Lexicographic.{pointwise}
 use Rattle.tc_types.specs.declared.refusals.Refusal.{Refusal}
 use Rattle.tc_types.specs.declared.refusals.Refusal.TheVariants.{SamePerson, ApprovedAlready}
+use Rattle.tc_types.specs.Tests.{first_refusal}
 
 -- Persons are named by their bytes.
 pub record ApprovalState : Type 0 where
@@ -38,10 +39,6 @@ tests_of person s =
     (is_same_person s.author person, SamePerson)
     ∷ (list_any (is_same_person person) s.persons || is_complete s, ApprovedAlready)
     ∷ []
-
-abbrev pub first_refusal : List (Bool × Refusal) → Option Refusal
-first_refusal [] = None
-first_refusal (test ∷ tests) = if test.0 then Some test.1 else first_refusal tests
 
 abbrev pub refusal_of : List ℕ → ApprovalState → Option Refusal
 refusal_of person s = first_refusal (tests_of person s)

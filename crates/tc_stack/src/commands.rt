@@ -208,17 +208,17 @@ fn rest_of(line: u32, kind: Kind, target: &[u8], time: &[u8]) -> Result<Command,
 }
 
 /// The command of a row.
-pub(crate) fn command_of(line: u32, record: &ByteRecord) -> Result<Command, Rule>
-    ensures found { IfOk result (IsOnly (λ c. SpellsCommand (fields_of record.now) c × IsCommandAt line c)) }
-    ensures broken { IfErr result (FirstBroken (KeepsRow line (fields_of record.now)) command_rules) }
+pub(crate) fn command_of(line: u32, fields: &ByteRecord) -> Result<Command, Rule>
+    ensures found { IfOk result (IsOnly (λ c. SpellsCommand (fields_of fields.now) c × IsCommandAt line c)) }
+    ensures broken { IfErr result (FirstBroken (KeepsRow line (fields_of fields.now)) command_rules) }
 {
-    if any_service(field(record, 2)).is_none() {
+    if any_service(field(fields, 2)).is_none() {
         return Err(Rule::Service);
     }
-    let Some(kind) = read_kind(field(record, 2), field(record, 3)) else {
+    let Some(kind) = read_kind(field(fields, 2), field(fields, 3)) else {
         return Err(Rule::Subtype);
     };
-    match rest_of(line, kind, field(record, 4), field(record, 5)) {
+    match rest_of(line, kind, field(fields, 4), field(fields, 5)) {
         Ok(command) => Ok(command),
         Err(rule) => Err(rule),
     }

@@ -3,7 +3,6 @@ ghost use Rattle.std.specs.Prelude.{◌≡◌, ◌⊎◌, ◌≤◌, List, Some,
 ghost use Rattle.csv.specs.Records.{fields_of};
 ghost use Rattle.tc_types.specs.declared.refusals.Refusal.TheVariants.{Memory};
 ghost use Rattle.tc_csv.specs.declared.faults.Fault.{Fault as SomeFault};
-ghost use Rattle.tc_csv.specs.declared.faults.NotRead.TheVariants.{Wrong};
 ghost use Rattle.tc_csv.specs.Faults.{Judged, FirstBrokenRow, rule_refusal};
 ghost use Rattle.tc_csv.specs.Rows.{SpellRows};
 ghost use Rattle.tc_stack.specs.declared.stacks.StackRow.{StackRow as SomeRow};
@@ -36,27 +35,20 @@ const COLUMNS: [Column; 10] = [
     Column::Outcome,
 ];
 
-/// The fault of a row that breaks this rule.
-fn wrong(row: u32, rule: Rule) -> NotRead
-    ensures { result ≡ Wrong (record { row = row; rule = rule }) }
-{
-    NotRead::Wrong(Fault { row, rule })
-}
-
 /// The rows of these records.
 fn rows_of(alloc: Global, records: &[ByteRecord]) -> Result<Vec<StackRow>, NotRead>
     requires { length records.now ≤ 200 }
     ensures { Judged (λ v. SpellRows SpellsOnlyRow 1 (map fields_of records.now) v.items) (FirstBrokenRow KeepsRow row_rules 1 (map fields_of records.now)) result }
 {
     let mut rows = Vec::new(alloc);
-    for (index, record) in records.iter().enumerate() {
-        match row_of(index as u32 + 1, record) {
+    for (index, fields) in records.iter().enumerate() {
+        match row_of(index as u32 + 1, fields) {
             Ok(row) => {
                 if rows.push(row).is_err() {
                     return Err(NotRead::Memory);
                 }
             }
-            Err(rule) => return Err(wrong(index as u32 + 1, rule)),
+            Err(rule) => return Err(NotRead::wrong(index as u32 + 1, rule)),
         }
     }
     Ok(rows)
@@ -112,17 +104,11 @@ fn first_barred(rows: &[StackRow]) -> Option<u32>
 fn read_rows(alloc: Global, text: &[u8]) -> Result<Vec<StackRow>, NotRead>
     ensures { Judged (λ v. IsOnlyStack text.now v.items) (IsStackFault text.now) result }
 {
-    let records = match read_table(alloc, text, &COLUMNS, MOST_ROWS) {
-        Ok(records) => records,
-        Err(fault) => return Err(fault),
-    };
-    let rows = match rows_of(alloc, &records[1..]) {
-        Ok(rows) => rows,
-        Err(fault) => return Err(fault),
-    };
+    let records = read_table(alloc, text, &COLUMNS, MOST_ROWS)?;
+    let rows = rows_of(alloc, &records[1..])?;
     match first_barred(&rows) {
         None => Ok(rows),
-        Some(line) => Err(wrong(line, Rule::TargetRow)),
+        Some(line) => Err(NotRead::wrong(line, Rule::TargetRow)),
     }
 }
 

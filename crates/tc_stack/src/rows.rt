@@ -73,17 +73,17 @@ fn after(line: u32, field: &[u8]) -> Option<Option<u32>>
 }
 
 /// The application process of the row on this line.
-fn apid_of(line: u32, record: &ByteRecord) -> Result<Apid, Rule>
-    ensures found { IfOk result (ReadsPlace line (fields_of record.now)) }
-    ensures broken { IfErr result (FirstBroken (KeepsRow line (fields_of record.now)) place_rules) }
+fn apid_of(line: u32, fields: &ByteRecord) -> Result<Apid, Rule>
+    ensures found { IfOk result (ReadsPlace line (fields_of fields.now)) }
+    ensures broken { IfErr result (FirstBroken (KeepsRow line (fields_of fields.now)) place_rules) }
 {
-    if record.len() != FIELDS {
+    if fields.len() != FIELDS {
         return Err(Rule::FieldCount);
     }
-    if number(field(record, 0)) != Some(line) {
+    if number(field(fields, 0)) != Some(line) {
         return Err(Rule::Line);
     }
-    match apid(field(record, 1)) {
+    match apid(field(fields, 1)) {
         Some(apid) => Ok(apid),
         None => Err(Rule::Apid),
     }
@@ -99,21 +99,21 @@ struct Conduct {
 }
 
 /// What the row on this line asks for, beside its command.
-fn conduct_of(line: u32, record: &ByteRecord) -> Result<Conduct, Rule>
-    ensures found { IfOk result (ReadsConduct line (fields_of record.now)) }
-    ensures broken { IfErr result (FirstBroken (KeepsRow line (fields_of record.now)) conduct_rules) }
+fn conduct_of(line: u32, fields: &ByteRecord) -> Result<Conduct, Rule>
+    ensures found { IfOk result (ReadsConduct line (fields_of fields.now)) }
+    ensures broken { IfErr result (FirstBroken (KeepsRow line (fields_of fields.now)) conduct_rules) }
 {
-    let service = field(record, 2);
-    let Some(ack) = ack(service, field(record, 6)) else {
+    let service = field(fields, 2);
+    let Some(ack) = ack(service, field(fields, 6)) else {
         return Err(Rule::Ack);
     };
-    let Some(critical) = yes_or_no(field(record, 7)) else {
+    let Some(critical) = yes_or_no(field(fields, 7)) else {
         return Err(Rule::Critical);
     };
-    let Some(after) = after(line, field(record, 8)) else {
+    let Some(after) = after(line, field(fields, 8)) else {
         return Err(Rule::After);
     };
-    let Some(outcome) = outcome(service, field(record, 9)) else {
+    let Some(outcome) = outcome(service, field(fields, 9)) else {
         return Err(Rule::Outcome);
     };
     Ok(Conduct {
@@ -125,22 +125,13 @@ fn conduct_of(line: u32, record: &ByteRecord) -> Result<Conduct, Rule>
 }
 
 /// The row on this line.
-pub(crate) fn row_of(line: u32, record: &ByteRecord) -> Result<StackRow, Rule>
-    ensures found { IfOk result (IsOnly (SpellsRow line (fields_of record.now))) }
-    ensures broken { IfErr result (FirstBroken (KeepsRow line (fields_of record.now)) row_rules) }
+pub(crate) fn row_of(line: u32, fields: &ByteRecord) -> Result<StackRow, Rule>
+    ensures found { IfOk result (IsOnly (SpellsRow line (fields_of fields.now))) }
+    ensures broken { IfErr result (FirstBroken (KeepsRow line (fields_of fields.now)) row_rules) }
 {
-    let apid = match apid_of(line, record) {
-        Ok(apid) => apid,
-        Err(rule) => return Err(rule),
-    };
-    let command = match command_of(line, record) {
-        Ok(command) => command,
-        Err(rule) => return Err(rule),
-    };
-    let conduct = match conduct_of(line, record) {
-        Ok(conduct) => conduct,
-        Err(rule) => return Err(rule),
-    };
+    let apid = apid_of(line, fields)?;
+    let command = command_of(line, fields)?;
+    let conduct = conduct_of(line, fields)?;
     let form = Form {
         apid,
         ack: conduct.ack,

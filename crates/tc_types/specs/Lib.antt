@@ -13,3 +13,4 @@ pub mod Loads
 pub mod Tables
 pub mod Counts
 pub mod Stages
+pub mod Tests

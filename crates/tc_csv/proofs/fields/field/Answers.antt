@@ -5,7 +5,7 @@ use Rattle.tc_csv.proofs.RowLemmas.{none_get}
 use Rattle.tc_csv.proofs.fields.field.Goals as goal
 
 pub returns-in-Some : goal.returns-in-Some
-returns-in-Some c = sym (field-get (fields_of c.args.record.now) c.args.place c.in-Some.field.now (sym c.in-Some.ensures.value))
+returns-in-Some c = sym (field-get (fields_of c.args.fields.now) c.args.place c.in-Some.field.now (sym c.in-Some.ensures.value))
 
 pub returns-in-None : goal.returns-in-None
-returns-in-None c = sym (none_get (fields_of c.args.record.now) c.args.place (sym c.in-None.ensures.value))
+returns-in-None c = sym (none_get (fields_of c.args.fields.now) c.args.place (sym c.in-None.ensures.value))

@@ -13,4 +13,4 @@ returns-then-not-is_named c =
     )
 
 pub loop-place-preserved : goal.loop-place-preserved
-loop-place-preserved c = named_more (fields_of c.args.record.now) c.args.columns.now c.loop-place.place _ (search rules) (c.is_named.ensures.0 (search rules)) c.loop-place.invariant
+loop-place-preserved c = named_more (fields_of c.args.fields.now) c.args.columns.now c.loop-place.place _ (search rules) (c.is_named.ensures.0 (search rules)) c.loop-place.invariant

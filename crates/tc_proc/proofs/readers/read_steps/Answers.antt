@@ -4,6 +4,7 @@ use Rattle.tc_csv.proofs.RowLemmas.{rows_behind}
 use Rattle.tc_proc.proofs.RowLemmas.{table_judged}
 use Rattle.tc_proc.proofs.readers.read_steps.Goals as goal
 
-pub returns-in-Ok : goal.returns-in-Ok
-returns-in-Ok c =
-    table_judged c.args.text.now (map fields_of c.in-Ok.records.items) c.steps_of.result c.in-Ok.ensures (rw (c.deref.ensures.value, rows_behind c.in-Ok.records.items) at c.steps_of.ensures)
+pub returns : goal.returns
+returns c =
+    table_judged c.args.text.now (map fields_of c.in_ok-records.records.items) c.steps_of.result c.in_ok-records.ensures
+    (rw (c.deref.ensures.value, rows_behind c.in_ok-records.records.items) at c.steps_of.ensures)

@@ -8,15 +8,15 @@ use Rattle.tc_stack.proofs.readers.read_rows.Goals as goal
 
 pub first_barred-requires : goal.first_barred-requires
 first_barred-requires c =
-    let spelled : SpellRows SpellsOnlyRow 1 (drop 1 (map fields_of c.in-Ok.records.items)) c.in-Ok-rows_of.rows.items = rw (c.deref.ensures.value, rows_behind c.in-Ok.records.items) at c.in-Ok-rows_of.ensures in
-    rw c.deref-2.ensures.value (few_rows c.args.text.now (map fields_of c.in-Ok.records.items) c.in-Ok-rows_of.rows.items c.in-Ok.ensures spelled)
+    let spelled : SpellRows SpellsOnlyRow 1 (drop 1 (map fields_of c.in_ok-records.records.items)) c.in_ok-rows.rows.items = rw (c.deref.ensures.value, rows_behind c.in_ok-records.records.items) at c.in_ok-rows.ensures in
+    rw c.deref-2.ensures.value (few_rows c.args.text.now (map fields_of c.in_ok-records.records.items) c.in_ok-rows.rows.items c.in_ok-records.ensures spelled)
 
 pub returns-in-None : goal.returns-in-None
 returns-in-None c =
-    let spelled : SpellRows SpellsOnlyRow 1 (drop 1 (map fields_of c.in-Ok.records.items)) c.in-Ok-rows_of.rows.items = rw (c.deref.ensures.value, rows_behind c.in-Ok.records.items) at c.in-Ok-rows_of.ensures in
-    stack_read c.args.text.now (map fields_of c.in-Ok.records.items) c.in-Ok-rows_of.rows.items c.in-Ok.ensures spelled (sym (rw c.deref-2.ensures.value at c.in-None.ensures))
+    let spelled : SpellRows SpellsOnlyRow 1 (drop 1 (map fields_of c.in_ok-records.records.items)) c.in_ok-rows.rows.items = rw (c.deref.ensures.value, rows_behind c.in_ok-records.records.items) at c.in_ok-rows.ensures in
+    stack_read c.args.text.now (map fields_of c.in_ok-records.records.items) c.in_ok-rows.rows.items c.in_ok-records.ensures spelled (sym (rw c.deref-2.ensures.value at c.in-None.ensures))
 
 pub returns : goal.returns
 returns c =
-    let spelled : SpellRows SpellsOnlyRow 1 (drop 1 (map fields_of c.in-Ok.records.items)) c.in-Ok-rows_of.rows.items = rw (c.deref.ensures.value, rows_behind c.in-Ok.records.items) at c.in-Ok-rows_of.ensures in
-    rw c.wrong.ensures (barred_read c.args.text.now (map fields_of c.in-Ok.records.items) c.in-Ok-rows_of.rows.items c.in-Some.line c.in-Ok.ensures spelled (sym (rw c.deref-2.ensures.value at c.in-Some.ensures)))
+    let spelled : SpellRows SpellsOnlyRow 1 (drop 1 (map fields_of c.in_ok-records.records.items)) c.in_ok-rows.rows.items = rw (c.deref.ensures.value, rows_behind c.in_ok-records.records.items) at c.in_ok-rows.ensures in
+    rw c.wrong.ensures (barred_read c.args.text.now (map fields_of c.in_ok-records.records.items) c.in_ok-rows.rows.items c.in-Some.line c.in_ok-records.ensures spelled (sym (rw c.deref-2.ensures.value at c.in-Some.ensures)))
