@@ -10,6 +10,7 @@ pub mod KeptLemmas
 pub mod CopyLemmas
 pub mod ApprovalLemmas
 pub mod StackLemmas
+pub mod NameLemmas
 pub mod TableLemmas
 pub mod PassingLemmas
 pub mod StepLemmas

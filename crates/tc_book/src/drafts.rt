@@ -1,6 +1,7 @@
 //! The room that an act takes before it does anything: for its records, its moves and its batch.
 ghost use Rattle.std.specs.Prelude.{◌≡◌, ◌+◌, ◌<◌, ◌≤◌, ◌^◌, [], length, vec_len, vec_capacity, IfOk, IfErr, OnOk};
 ghost use Rattle.tc_book.specs.Batch.{HasRoomFor, batch_rows};
+ghost use Rattle.tc_book.specs.Places.{stack_names};
 
 use crate::firsts::First;
 use crate::records::Records;
@@ -38,6 +39,7 @@ pub fn make_room<A: Allocator + Copy + Drop>(
     ensures requests { OnOk result (length records.new.book.requests + requests ≤ 65535 → length records.new.book.requests + requests ≤ records.new.most_requests) }
     ensures approvals { OnOk result (length records.new.book.approvals < records.new.most_approvals) }
     ensures stack_approvals { OnOk result (length records.new.book.stack_approvals < records.new.most_stack_approvals) }
+    ensures stacks { OnOk result (length (stack_names records.new.book.requests) < records.new.most_stacks) }
     ensures rows { OnOk result (length records.new.book.history + rows < 2 ^ 32 → length records.new.book.history + rows ≤ records.new.most_rows) }
 {
     let Ok(moves) = Vec::with_capacity(alloc, rows) else {

@@ -1,14 +1,17 @@
-//! What the requests and the approvals tell of stacks.
-ghost use Rattle.std.specs.Prelude.{◌≡◌, ◌≤◌, true, if◌then◌else◌, count_by, length, None};
-ghost use Rattle.std.specs.List.{find};
+//! What the requests and the approvals tell of stacks, and the names of those that were loaded.
+ghost use Rattle.std.specs.Prelude.{◌≡◌, ◌<◌, ◌≤◌, ◌++◌, [], true, if◌then◌else◌, count_by, length, vec_capacity, IfSome, None};
+ghost use Rattle.std.specs.List.{find, list_any, cons_option};
 ghost use Rattle.std.specs.Option.{option_copied};
 ghost use Rattle.tc_types.specs.Names.{is_same_name};
 ghost use Rattle.tc_stack.specs.Approvals.{IsApproval, refusal_of, approved};
-ghost use Rattle.tc_book.specs.Stacks.{is_in_stack, has_stack, has_critical_row, begins_stack, begun_by, stack_approvers_of};
+ghost use Rattle.tc_book.specs.Places.{begun_name};
+ghost use Rattle.tc_book.specs.Stacks.{is_in_stack, has_critical_row, begun_by, stack_approvers_of};
 
+use crate::pushes::push_within;
+use std::alloc::Allocator;
 use tc_stack::approvals::Approvals;
 use tc_types::names::{Name, is_same_name};
-use tc_types::requests::Request;
+use tc_types::requests::{Origin, Request};
 use tc_types::rows::{LoadedStack, StackApproval};
 
 /// Whether a request is a row of the stack with this name.
@@ -21,11 +24,11 @@ pub(crate) fn is_in_stack(request: &Request, name: &Name) -> bool
     }
 }
 
-/// Whether a stack with this name is among these requests.
-pub(crate) fn has_stack(requests: &[Request], name: &Name) -> bool
-    ensures { result ≡ has_stack name.now requests.now }
+/// Whether this name is among these.
+pub(crate) fn has_name(names: &[Name], name: &Name) -> bool
+    ensures { result ≡ list_any (λ known. is_same_name known name.now) names.now }
 {
-    requests.iter().any(|request| is_in_stack(request, name))
+    names.iter().any(|known| is_same_name(known, name))
 }
 
 /// The first row of the stack with this name.
@@ -55,24 +58,18 @@ pub(crate) fn count_rows(requests: &[Request], name: &Name) -> usize
         .count()
 }
 
-/// Whether a request is on line 1 of a stack.
-fn begins_stack(request: &Request) -> bool
-    ensures { result ≡ begins_stack request.now }
+/// Appends the name of the stack that a request from here begins, if it is on line 1 of one.
+pub(crate) fn push_name<A: Allocator>(names: &mut Vec<Name, A>, origin: &Option<Origin>)
+    requires { IfSome origin.now (λ o. o.line ≡ 1 → length names.old.items < vec_capacity names.old) }
+    ensures items { names.new.items ≡ names.old.items ++ cons_option (begun_name origin.now) [] }
+    ensures capacity { vec_capacity names.old ≤ vec_capacity names.new }
 {
-    match &request.origin {
-        Some(origin) => origin.line == 1,
-        None => false,
+    let Some(origin) = origin else {
+        return;
+    };
+    if origin.line == 1 {
+        push_within(names, origin.stack);
     }
-}
-
-/// How many stacks are among these requests.
-pub(crate) fn count_stacks(requests: &[Request]) -> usize
-    ensures { result ≡ count_by begins_stack requests.now }
-{
-    requests
-        .iter()
-        .filter(|request| begins_stack(request))
-        .count()
 }
 
 /// The stack that a request begins, if it is on line 1 of one.

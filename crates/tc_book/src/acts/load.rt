@@ -8,6 +8,7 @@ ghost use Rattle.tc_book.specs.Batch.{GoesOn, HoldsRoom};
 ghost use Rattle.tc_book.specs.Book.{is_identity_in_use, has_all_rows};
 ghost use Rattle.tc_book.specs.Good.{IsGoodBook, IsGoodOrigin};
 ghost use Rattle.tc_book.specs.Loads.{IsWithin, command_from, entry_from, origin_of, with_row, loaded, identity_behind, takes_identity_in_use, has_all_stacks, passes_requests};
+ghost use Rattle.tc_book.specs.Places.{stack_names};
 ghost use Rattle.tc_book.specs.Stacks.{has_stack, stack_approvers_of};
 ghost use Rattle.tc_book.specs.Steps.{HasSteps};
 ghost use Rattle.tc_book.specs.Targets.{HasGoodTarget};
@@ -121,12 +122,14 @@ fn enter_row<A: Allocator + Copy + Drop>(
     requires named { IfSome (named_line row.now.entry.command) IsWithin }
     requires request_room { length records.old.book.requests < records.old.most_requests }
     requires room { length records.old.book.history < records.old.most_rows }
+    requires stack_room { line ≡ 1 → length (stack_names records.old.book.requests) < records.old.most_stacks }
     requires target { HasGoodTarget records.old.book.requests (command_from start row.now.entry.command) }
     requires origin { IsGoodOrigin records.old.book.requests stamp.by (origin_of name line row.now) }
     requires unapproved { stack_approvers_of records.old.book.stack_approvals name ≡ [] }
     ensures good { IsGoodBook records.old.book }
     ensures book { records.new.book ≡ with_row stamp name start line records.old.book row.now }
     ensures requests_kept { records.old.most_requests ≤ records.new.most_requests }
+    ensures stacks_kept { records.old.most_stacks ≤ records.new.most_stacks }
     ensures rows_kept { records.old.most_rows ≤ records.new.most_rows }
 {
     let origin = Origin {
@@ -150,6 +153,7 @@ fn enter_rows<A: Allocator + Copy + Drop>(
     requires few { length records.old.book.requests + length rows.now ≤ 65535 }
     requires request_room { length records.old.book.requests + length rows.now ≤ records.old.most_requests }
     requires room { length records.old.book.history + length rows.now ≤ records.old.most_rows }
+    requires stack_room { length (stack_names records.old.book.requests) < records.old.most_stacks }
     ensures book { records.new.book ≡ loaded stamp.now name.now rows.now records.old.book }
     ensures steps { HasSteps stamp.now records.old.book records.new.book }
 {

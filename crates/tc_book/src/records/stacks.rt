@@ -11,8 +11,7 @@ use crate::histories::History;
 use crate::pushes::push_within;
 use crate::records::{MOST_STACKS, Records};
 use crate::stacks::{
-    approval_of_stack, count_rows, count_stacks, first_row, has_critical_row, has_stack,
-    is_in_stack,
+    approval_of_stack, count_rows, first_row, has_critical_row, has_name, is_in_stack,
 };
 use crate::stamps::Stamp;
 use std::alloc::Allocator;
@@ -51,7 +50,7 @@ impl<A: Allocator + Copy + Drop> Records<A> {
         ensures unapproved { result ≡ false → stack_approvers_of self.now.book.stack_approvals name.now ≡ [] }
         ensures good { IsGoodBook self.now.book }
     {
-        has_stack(&self.requests, name)
+        has_name(&self.stacks, name)
     }
 
     /// Whether request `n` came with a stack.
@@ -78,7 +77,7 @@ impl<A: Allocator + Copy + Drop> Records<A> {
     pub fn has_all_stacks(&self) -> bool
         ensures { result ≡ has_all_stacks self.now.book }
     {
-        count_stacks(&self.requests) > MOST_STACKS - 1
+        self.stacks.len() > MOST_STACKS - 1
     }
 
     /// How many rows the stack with this name has.

@@ -1,5 +1,5 @@
 -- The next row may follow those that were entered.
-use Rattle.std.proofs.Common.{◌+◌, length, take, sym, ◌∙◌, ap, arith}
+use Rattle.std.proofs.Common.{◌≡◌, ◌+◌, length, take, sym, ◌∙◌, ap, arith}
 use Rattle.std.proofs.lemmas.List.{length-take}
 use Rattle.tc_book.specs.Loads.{with_row, origin_of, entry_from}
 use Rattle.tc_book.proofs.LoadLemmas.{rows_requests, rows_history, next_rows}
@@ -29,6 +29,13 @@ enter_row-requires-clause-room g c =
     let kept = c.loop-at.invariant.2 in
     rw (c.loop-at.invariant.0) (grind (arith, so_far, taken, room, low, kept))
 
+pub enter_row-requires-clause-stack_room : goal.enter_row-requires-clause-stack_room
+enter_row-requires-clause-stack_room g c = λ first.
+    let at : c.loop-at.at ≡ 0 = omega (arith, first) in
+    let room = c.requires.stack_room in
+    let wider = c.loop-at.invariant.3 in
+    rw (c.loop-at.invariant.0, at) (omega (arith, room, wider))
+
 pub enter_row-requires-clause-target : goal.enter_row-requires-clause-target
 enter_row-requires-clause-target g c =
     rw (c.loop-at.invariant.0, c.count-start.ensures.count)
@@ -50,13 +57,16 @@ loop-at-preserved g c =
     let rows = c.enter_row.ensures.rows_kept in
     let more = c.loop-at.invariant.1 in
     let longer = c.loop-at.invariant.2 in
-    let so_far = c.loop-at.invariant.3 in (
+    let stacks = c.enter_row.ensures.stacks_kept in
+    let wider = c.loop-at.invariant.3 in
+    let so_far = c.loop-at.invariant.4 in (
       c.enter_row.ensures.book
           ∙ ap (λ n. with_row c.args.stamp.now c.args.name.now (n + 1) (c.loop-at.at + 1) c.loop-at.records.book c.index-rows-at.result) c.count-start.ensures.count
           ∙ ap (λ b. with_row c.args.stamp.now c.args.name.now (length c.args.records.now.book.requests + 1) (c.loop-at.at + 1) b c.index-rows-at.result) c.loop-at.invariant.0
           ∙ sym (next_rows c.args.stamp.now c.args.name.now (length c.args.records.now.book.requests + 1) c.args.records.now.book c.args.rows.now c.loop-at.at c.index-rows-at.result c.loop-at-test.true c.index-rows-at.is),
       omega (arith, requests, more),
       omega (arith, rows, longer),
+      omega (arith, stacks, wider),
       entered_more c.args.stamp.now c.args.records.now.book c.loop-at.records.book c.enter_row.new.records.book
           (origin_of c.args.name.now (c.loop-at.at + 1) c.index-rows-at.result) (entry_from (c.count-start.result + 1) c.index-rows-at.result.entry) c.enter_row.ensures.good c.enter_row.ensures.book so_far,
     )

@@ -9,4 +9,5 @@ invariant-loop-at g l =
     (l.records.book ≡ with_rows l.stamp l.name (length l.fn.records.book.requests + 1) 1 l.fn.records.book (take l.at l.rows))
     × (l.fn.records.most_requests ≤ l.records.most_requests)
     × (l.fn.records.most_rows ≤ l.records.most_rows)
+    × (l.fn.records.most_stacks ≤ l.records.most_stacks)
     × HasSteps l.stamp l.fn.records.book l.records.book

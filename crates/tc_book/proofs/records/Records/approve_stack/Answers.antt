@@ -12,6 +12,7 @@ invariant_of-self g c =
       stack_good book c.args.name c.args.person c.self.invariant.0 (rw (← c.self.view_is) at c.requires.known) (rw (← c.self.view_is) at c.requires.may),
       c.self.invariant.1,
       c.self.invariant.2,
+      c.self.invariant.3,
     )
 
 pub returns-clause-full : goal.returns-clause-full
