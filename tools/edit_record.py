@@ -1,24 +1,35 @@
 """Which crates need not have their edits tried again: tools/edits.tried.
 
 Each line names a crate, a digest and how many edits it has. It says that the prover of this very version refused all of
-them for these very texts: those of the crate's code, definitions, proofs and edits, of the code, definitions and lemmas of
-each crate below it, and of the rules by which tools/edits.py judges. How a function of a lower crate is proved does not
-matter, since a check above it reads what is stated; its lemmas do, since a proof above may cite them.
+them for these very texts: the crate's own code, definitions, proofs and edits, the rules by which tools/edits.py judges,
+what each crate below stands on, and of the crates below the files that the crate's own texts reach by imports, in code,
+in definitions, in lemmas and in edits, from file to file (tools/edit_imports.py). Of the other files nothing is taken,
+of the module files above one that is reached only what they say beside their lists of modules.
 
-To skip a crate trusts such a line: that whoever committed it saw the refusals (`tools/edits.py --record` writes none
-where an edit was not refused), that a check of the same texts by the same prover ends the same way on each machine, and
+Why that is enough. An edit is refused because a goal of its own function is not proved. The goal is made of what the
+function's text names and of what that names in turn, its callees' clauses, types and definitions, and each of these is
+imported in the file that names it; an impl, which nobody imports, is taken with the files of its trait and its type.
+So while no file that is reached changes, the goal is the same one. Nor can a new proof of it come from elsewhere by
+name: a lemma that a proof cites has to be imported too. How a function of a lower crate is proved does not matter, nor do
+the lemmas that such proofs alone cite: a check above loads them, and can cite only what is stated of the function.
+
+What stays is the prover's search. It may look through what stands in scope of a library though nothing imports it, and
+has limits. A lemma more there cannot prove what is false: an edit whose goal is false stays refused. It can at most find
+a proof of a goal that is true and was not found before; that edit was harmless from the start, and was refused for the
+search's weakness alone. Such a change of verdict is not seen until the crate is tried again.
+
+To skip a crate trusts, beside that, such a line: that whoever committed it saw the refusals (`tools/edits.py --record`
+writes none where an edit was not refused), that a check of the same texts by the same prover ends the same way on each
+machine, that tools/edit_imports.py overlooks no import (what it does not understand it takes for all of the crate), and
 that no two texts have one sha256. `tools/edits.py --all` trusts nothing of it.
 """
 import hashlib
 import os
 
 from edit_files import text_of
+from edit_imports import PARTS, Imports, files_of
 
 RECORD = "tools/edits.tried"
-# What is read of the crate itself, beside its folder of edits, and of each crate below it.
-PARTS = ("src", "specs", "proofs")
-# The files that prove one function, which no other crate can cite.
-OF_ONE = ("Answers.antt", "Invariants.antt", "Proof.antt")
 # What tells a refusal from another answer.
 RULES = ("edits.py", "edit_checks.py", "edit_files.py")
 
@@ -28,21 +39,18 @@ def bytes_of(path):
         return it.read()
 
 
-def files_of(folder):
-    """Every file of a folder, at any depth, in order of path."""
-    return sorted(f"{at}/{name}" for at, _, names in os.walk(folder) for name in names)
-
-
 def digest_of(crate, edits):
     """A sum of all that the verdicts on this crate's edits, in its folder of this name, are made from."""
     home = os.path.dirname(os.path.realpath(__file__))
+    folder, names = os.path.dirname(crate.folder), [*crate.below(), crate.name]
+    imports = Imports(folder, names, crate.crates)
+    own = [it for part in (*PARTS, edits) for it in files_of(f"{crate.folder}/{part}")]
+    reached = imports.reached((crate.name, os.path.relpath(it, crate.folder)) for it in own)
+    above = {it for file in reached for it in imports.above(file)} - reached
     parts = [("toolchain", crate.kit.version), *((it, bytes_of(f"{home}/{it}")) for it in RULES)]
-    for name in [*crate.below(), crate.name]:
-        top = os.path.join(os.path.dirname(crate.folder), name)
-        is_own = name == crate.name
-        files = [it for folder in PARTS for it in files_of(f"{top}/{folder}") if is_own or os.path.basename(it) not in OF_ONE]
-        files += files_of(f"{top}/{edits}") if is_own else []
-        parts += [(name, crate.crates[name]), *((os.path.relpath(it, top), bytes_of(it)) for it in files)]
+    parts += [(it, crate.crates[it]) for it in names]
+    parts += [(*it, bytes_of("/".join([folder, *it]))) for it in sorted(reached)]
+    parts += [(*it, imports.beside_modules(it)) for it in sorted(above)]
     return hashlib.sha256(repr(parts).encode()).hexdigest()
 
 

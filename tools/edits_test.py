@@ -177,29 +177,79 @@ PLANTED = {
 }
 
 
-# What may change in three crates, of which `planted` stands on `low` alone, and whether its edits are then to be tried.
-CHANGES = {
-    "a body": ("crates/planted/src/counters.rt", True),
-    "a definition": ("crates/planted/specs/Twice.antt", True),
-    "a proof": ("crates/planted/proofs/twice/Answers.antt", True),
-    "an edit": ("crates/planted/wrong/wrong_method.edit", True),
-    "an edit more": ("crates/planted/wrong/one_more.edit", True),
-    "a lower body": ("crates/low/src/lib.rt", True),
-    "a lower definition": ("crates/low/specs/deep/Words.antt", True),
-    "a lower lemma": ("crates/low/proofs/Lib.antt", True),
-    "a lower proof": ("crates/low/proofs/half/Answers.antt", False),
-    "a lower edit": ("crates/low/wrong/other.edit", False),
-    "a page": ("crates/planted/README.md", False),
-    "what is built": ("crates/planted/out/kept", False),
-    "a crate beside": ("crates/beside/src/lib.rt", False),
-}
+# Three crates, of which `planted` stands on `low` alone.
 THREE = {
     "crates.txt": "low:\nbeside:\nplanted: low\n",
-    "crates/low/src/lib.rt": "//! A lower crate.\n",
-    "crates/low/specs/deep/Words.antt": "",
-    "crates/low/proofs/Lib.antt": "",
+    "crates/planted/src/user.rt": """\
+use low::{
+    deep::{inner::Inner, Deep},
+    named::Thing as Other,
+};
+ghost use Rattle.low.specs.declared.told.Told.TheVariants as told;
+""",
+    "crates/planted/proofs/Mine.antt": "use Rattle.low.proofs.Laws.{law}\n",
+    "crates/low/src/lib.rt": "//! A lower crate.\n#![tactic(auto)]\npub mod apart;\npub mod named;\n",
+    "crates/low/src/named.rt": "use super::through::Hidden;\nghost use Rattle.low.specs.deep.Words.{word};\npub struct Thing {}\n",
+    "crates/low/src/through.rt": "pub struct Hidden {}\n",
+    "crates/low/src/told.rt": "pub enum Told {}\n",
+    "crates/low/src/deep.rt": "pub mod inner;\npub mod kin;\n",
+    "crates/low/src/deep/inner.rt": "use super::super::under::Under;\n",
+    "crates/low/src/under.rt": "pub struct Under {}\n",
+    "crates/low/src/deep/kin.rt": "",
+    "crates/low/src/more.rt": "use crate::named::Thing;\npub trait Kept {}\nimpl<A: Kept> Thing {}\n",
+    "crates/low/src/apart.rt": "use crate::named::Thing;\npub struct Apart {}\nimpl From<Thing> for Apart {}\n",
+    "crates/low/specs/deep/Words.antt": "use Rattle.low.specs.Ground.{ground}\n",
+    "crates/low/specs/Ground.antt": "use Rattle.low.specs.Answers.{answers}\n",
+    "crates/low/specs/Answers.antt": "",
+    "crates/low/specs/Apart.antt": "use Rattle.low.specs.declared.apart.Apart.{Apart}\n",
+    "crates/low/proofs/Lib.antt": "pub mod Laws\npub mod Apart\n",
+    "crates/low/proofs/Laws.antt": "-- see Rattle.low.specs.Apart\nuse Rattle.low.proofs.Base.{base}\n",
+    "crates/low/proofs/Base.antt": "",
+    "crates/low/proofs/Apart.antt": "",
     "crates/low/proofs/half/Answers.antt": "",
     "crates/beside/src/lib.rt": "//! A crate beside.\n",
+}
+# What may be added to which file, and whether the edits of `planted` are then to be tried.
+CHANGES = {
+    "a body": ("crates/planted/src/counters.rt", "\n", True),
+    "a definition": ("crates/planted/specs/Twice.antt", "\n", True),
+    "a proof": ("crates/planted/proofs/twice/Answers.antt", "\n", True),
+    "an edit": ("crates/planted/wrong/wrong_method.edit", "\n", True),
+    "an edit more": ("crates/planted/wrong/one_more.edit", "\n", True),
+    "a lower module that code imports": ("crates/low/src/named.rt", "\n", True),
+    "one that it imports in a group": ("crates/low/src/deep/inner.rt", "\n", True),
+    "one that is imported by its place": ("crates/low/src/under.rt", "\n", True),
+    "one that a ghost import names": ("crates/low/src/told.rt", "\n", True),
+    "one that another module imports": ("crates/low/src/through.rt", "\n", True),
+    "one that has an impl of a type that is imported": ("crates/low/src/more.rt", "\n", True),
+    "a lower definition that a module imports": ("crates/low/specs/deep/Words.antt", "\n", True),
+    "one that a definition imports": ("crates/low/specs/Ground.antt", "\n", True),
+    "one with the name of a proof": ("crates/low/specs/Answers.antt", "\n", True),
+    "a lower lemma": ("crates/low/proofs/Laws.antt", "\n", True),
+    "one that a lemma imports": ("crates/low/proofs/Base.antt", "\n", True),
+    "what a lower root says": ("crates/low/src/lib.rt", "#![feature]\n", True),
+    "a lower module that is not imported": ("crates/low/src/apart.rt", "\n", False),
+    "a lower definition that is not imported": ("crates/low/specs/Apart.antt", "\n", False),
+    "a lower lemma that is not imported": ("crates/low/proofs/Apart.antt", "\n", False),
+    "a lower list of modules": ("crates/low/src/lib.rt", "/// A module more.\npub mod more;\n", False),
+    "a lower list of lemmas": ("crates/low/proofs/Lib.antt", "pub mod Base\n", False),
+    "a lower module more": ("crates/low/src/acts.rt", "pub struct Act {}\n", False),
+    "a lower proof": ("crates/low/proofs/half/Answers.antt", "\n", False),
+    "a lower edit": ("crates/low/wrong/other.edit", "\n", False),
+    "a page": ("crates/planted/README.md", "\n", False),
+    "what is built": ("crates/planted/out/kept", "\n", False),
+    "a crate beside": ("crates/beside/src/lib.rt", "\n", False),
+}
+# What `planted`, or a module of `low` that it imports, may say so that all of `low` counts.
+UNKNOWN = {
+    "no module": {"crates/planted/src/user.rt": "use low::{named::Thing, nowhere};\n"},
+    "no definition": {"crates/planted/proofs/Mine.antt": "use Rattle.low.specs.Nowhere.{word}\n"},
+    "a crate under another name": {"crates/planted/src/user.rt": "use low as other;\n"},
+    "all of a crate": {"crates/planted/src/user.rt": "use low::*;\n"},
+    "a group that is not read": {"crates/planted/src/user.rt": "use low::{named::Thing, {nowhere}};\n"},
+    "no module, in an edit": {"crates/planted/wrong/wrong_method.edit": "new: low::nowhere();\n"},
+    "a module in a module": {"crates/low/src/named.rt": "mod inside {\n    use super::super::through::Hidden;\n}\n"},
+    "no module, in a lower crate": {"crates/low/src/named.rt": "use super::nowhere::Thing;\n"},
 }
 
 
@@ -285,32 +335,60 @@ def records():
         yield "or by a line of other edits", ran(top, "--which")[1][0].startswith("try  planted"), recorded(top)
 
 
+def changed(top, file, added):
+    """Whether the edits of `planted` would be tried once this is added to a file, which then is as before."""
+    before = text_of(f"{top}/{file}")
+    lay(top, {file: (before or "") + added})
+    is_tried = tried(top)
+    if before is None:
+        os.remove(f"{top}/{file}")
+    else:
+        lay(top, {file: before})
+    return is_tried
+
+
+def noted(top):
+    """Records the digest that stands."""
+    digest = ran(top, "--which")[1][-1].split(" ")[-1]
+    lay(top, {"tools/edits.tried": f"planted {digest} 1\n"})
+
+
 def changes():
     """What must hold as something changes, of the crate, below it, or of what judges."""
     with tempfile.TemporaryDirectory(prefix="edits-test-") as top:
-        lay(top, THREE)
         lay(f"{top}/crates/planted", CRATE)
         lay(f"{top}/crates/planted/wrong", {"wrong_method.edit": edit_text(*PLANTED["wrong_method"][:3])})
-        digest = ran(top, "--which")[1][0].split(" ")[-1]
-        lay(top, {"tools/edits.tried": f"planted {digest} 1\n"})
-        for change, (file, is_tried) in CHANGES.items():
-            before = text_of(f"{top}/{file}")
-            lay(top, {file: (before or "") + "\n"})
-            yield f"once {change} changes", tried(top) == is_tried, recorded(top)
-            if before is None:
-                os.remove(f"{top}/{file}")
-            else:
-                lay(top, {file: before})
+        lay(top, {**THREE, "tools/edits.tried": ""})
+        noted(top)
+        for change, (file, added, is_tried) in CHANGES.items():
+            yield f"once it changes: {change}", changed(top, file, added) == is_tried, recorded(top)
         yield "once all is as it was", not tried(top), recorded(top)
-        lay(top, {"crates.txt": THREE["crates.txt"].replace("low:", "low: thiserror")})
-        yield "once a lower crate stands on more", tried(top), recorded(top)
-        lay(top, {"crates.txt": THREE["crates.txt"], "bin/rt": "#!/bin/sh\necho another version\n"})
-        os.chmod(f"{top}/bin/rt", 0o755)
-        yield "once the toolchain changes", tried(top, path=f"{top}/bin:"), recorded(top)
-        shutil.copytree(TOOLS, f"{top}/rules", ignore=shutil.ignore_patterns("__pycache__"))
-        yield "the tool lies elsewhere", not tried(top, tools=f"{top}/rules"), recorded(top)
-        lay(f"{top}/rules", {"edit_checks.py": text_of(f"{TOOLS}/edit_checks.py") + "\n"})
-        yield "once a rule of judging changes", tried(top, tools=f"{top}/rules"), recorded(top)
+        for name, files in UNKNOWN.items():
+            before = {it: text_of(f"{top}/{it}") for it in files}
+            lay(top, files)
+            lay(top, {"tools/edits.tried": ""})
+            noted(top)
+            # (nothing else leads to this file)
+            yield f"all counts, by {name}", changed(top, "crates/low/proofs/Apart.antt", "\n"), recorded(top)
+            is_tried = changed(top, "crates/low/proofs/half/Answers.antt", "\n")
+            yield f"but not what proves one function, by {name}", not is_tried, recorded(top)
+            lay(top, before)
+        lay(top, {"tools/edits.tried": ""})
+        noted(top)
+        yield from judges(top)
+
+
+def judges(top):
+    """What must hold as a crate's dependencies, the toolchain or the rules of judging change."""
+    lay(top, {"crates.txt": THREE["crates.txt"].replace("low:", "low: thiserror")})
+    yield "once a lower crate stands on more", tried(top), recorded(top)
+    lay(top, {"crates.txt": THREE["crates.txt"], "bin/rt": "#!/bin/sh\necho another version\n"})
+    os.chmod(f"{top}/bin/rt", 0o755)
+    yield "once the toolchain changes", tried(top, path=f"{top}/bin:"), recorded(top)
+    shutil.copytree(TOOLS, f"{top}/rules", ignore=shutil.ignore_patterns("__pycache__"))
+    yield "the tool lies elsewhere", not tried(top, tools=f"{top}/rules"), recorded(top)
+    lay(f"{top}/rules", {"edit_checks.py": text_of(f"{TOOLS}/edit_checks.py") + "\n"})
+    yield "once a rule of judging changes", tried(top, tools=f"{top}/rules"), recorded(top)
 
 
 def main():
