@@ -1,5 +1,3 @@
 pub mod Executions
 pub mod Procedures
-pub mod Logs
-pub mod GoodLogs
-pub mod KeptLogs
+pub mod StepTexts

@@ -1,10 +1,8 @@
-//! Procedures, read from texts of comma-separated values, what is recorded of the steps of an execution, and the log of all of it.
+//! Procedures, read from texts of comma-separated values, and what is recorded of the steps of an execution.
 #![tactic(auto)]
 
 pub mod executions;
-pub mod logs;
 pub mod procedures;
 pub mod readers;
 pub mod records;
-mod states;
-mod steps;
+pub mod step_texts;

@@ -1,4 +1,3 @@
 mod MemoryLemmas
 mod RoomLemmas
 pub mod LoadLemmas
-mod LogLemmas

@@ -64,7 +64,6 @@ carried old new stamp given first said rows acts free does are = inl (by_kind gi
         → Serves listed listed old stamp given (act_reply first said rows) new
     by_kind (act.Book on_book) _ carries = carries
     by_kind (act.Link on_link) _ carries = carries
-    by_kind (act.Step on_step) _ carries = carries
     by_kind (act.Ask asked) is carries = cc
 
 -- a question that the tables answered

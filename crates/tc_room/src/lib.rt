@@ -4,7 +4,6 @@
 
 pub mod answers;
 pub mod desks;
-mod loadings;
 pub mod memory;
 pub mod replies;
 pub mod rooms;

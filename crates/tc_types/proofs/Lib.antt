@@ -1,5 +1,4 @@
 pub mod NameLaws
-pub mod StepTextLaws
 pub mod WordLaws
 pub mod NumberLaws
 pub mod LinkLaws

@@ -21,7 +21,6 @@ use Rattle.tc_types.specs.Names.{IsName, IsPerson}
 use Rattle.tc_types.specs.Lines.{spaced}
 use Rattle.tc_types.specs.Schedule.{KeepsScheduleRule}
 use Rattle.tc_types.specs.LinkGrammar.{link_act_words, IsLinkAct}
-use Rattle.tc_types.specs.StepGrammar.{step_words, IsStepAct}
 
 -- What is read has this text, and what has this text is read.
 pub record Reads {X T : Type 0} (text : X → T) (In : X → Type 0) (given : T) (read : Option X) : Type 0 where
@@ -102,7 +101,6 @@ query_words (query.History request after) = codes "history" ∷ decimal request 
 query_words (query.Request request) = codes "request" ∷ decimal request ∷ []
 query_words query.Link = codes "link" ∷ []
 query_words query.Schedule = codes "schedule" ∷ []
-query_words (query.Log execution) = codes "log" ∷ decimal execution ∷ []
 
 abbrev pub IsQuery : Query → Type 0
 IsQuery query.Places = Unit {0}
@@ -110,7 +108,6 @@ IsQuery (query.History request after) = IsNumber request × IsNumber after
 IsQuery (query.Request request) = IsNumber request
 IsQuery query.Link = Unit {0}
 IsQuery query.Schedule = Unit {0}
-IsQuery (query.Log execution) = IsNumber execution
 
 -- the words of an act on the book: its verb, and what it takes
 abbrev pub book_act_words : BookAct → List (List ℕ)
@@ -119,7 +116,6 @@ book_act_words (book_act.Withdraw request) = codes "withdraw" ∷ decimal reques
 book_act_words (book_act.Approve request) = codes "approve" ∷ decimal request ∷ []
 book_act_words (book_act.Close request) = codes "close" ∷ decimal request ∷ []
 book_act_words (book_act.ApproveStack stack) = codes "approvestack" ∷ stack ∷ []
-book_act_words (book_act.Begin procedure) = codes "begin" ∷ procedure ∷ []
 
 -- the limits that its numbers keep, and that a name has its form
 abbrev pub IsBookAct : BookAct → Type 0
@@ -128,27 +124,24 @@ IsBookAct (book_act.Withdraw request) = IsNumber request
 IsBookAct (book_act.Approve request) = IsNumber request
 IsBookAct (book_act.Close request) = IsNumber request
 IsBookAct (book_act.ApproveStack stack) = IsName stack
-IsBookAct (book_act.Begin procedure) = IsName procedure
 
 -- an act on the book begins with this word
 abbrev pub IsBookVerb : List ℕ → Type 0
-IsBookVerb word = (word ≡ codes "enter") ⊎ (word ≡ codes "withdraw") ⊎ (word ≡ codes "approve") ⊎ (word ≡ codes "close") ⊎ (word ≡ codes "approvestack") ⊎ (word ≡ codes "begin")
+IsBookVerb word = (word ≡ codes "enter") ⊎ (word ≡ codes "withdraw") ⊎ (word ≡ codes "approve") ⊎ (word ≡ codes "close") ⊎ (word ≡ codes "approvestack")
 
 -- a question begins with this word
 abbrev pub IsQueryVerb : List ℕ → Type 0
-IsQueryVerb word = (word ≡ codes "places") ⊎ (word ≡ codes "history") ⊎ (word ≡ codes "request") ⊎ (word ≡ codes "link") ⊎ (word ≡ codes "schedule") ⊎ (word ≡ codes "log")
+IsQueryVerb word = (word ≡ codes "places") ⊎ (word ≡ codes "history") ⊎ (word ≡ codes "request") ⊎ (word ≡ codes "link") ⊎ (word ≡ codes "schedule")
 
 abbrev pub act_words : Act → List (List ℕ)
 act_words (act.Book given) = book_act_words given
 act_words (act.Link given) = link_act_words given
-act_words (act.Step given) = step_words given
 act_words (act.Ask asked) = query_words asked
 
 -- the limits that the numbers of an act keep
 abbrev pub IsAct : Act → Type 0
 IsAct (act.Book given) = IsBookAct given
 IsAct (act.Link given) = IsLinkAct given
-IsAct (act.Step given) = IsStepAct given
 IsAct (act.Ask asked) = IsQuery asked
 
 -- the one spelling of an act

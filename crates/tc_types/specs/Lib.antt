@@ -1,17 +1,13 @@
 pub mod Numbers
 pub mod Names
-pub mod StepTexts
 pub mod Lawful
-pub mod Verdicts
 pub mod History
 pub mod Lines
 pub mod Schedule
 pub mod LinkGrammar
 pub mod LinkLines
-pub mod StepGrammar
 pub mod Grammar
 pub mod RequestLine
-pub mod ProcedureLines
 pub mod Words
 pub mod Loads
 pub mod Tables
