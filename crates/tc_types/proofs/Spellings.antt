@@ -29,10 +29,17 @@ use Rattle.tc_types.specs.declared.acts.Act.TheVariants as act
 use Rattle.tc_types.specs.declared.acts.Query.TheVariants as query
 use Rattle.tc_types.specs.declared.acts.Line.{Line}
 use Rattle.tc_types.specs.Lines.{spaced}
-use Rattle.tc_types.specs.Grammar.{flag, ack_word, yes_no, outcome_words, outcome_word, IsOutcome, command_words, IsCommand, entry_words, IsEntry, book_act_words, IsBookAct, act_words, IsAct, act_text, SpellsLine, after_two, act_part, HasLongAct}
+use Rattle.tc_types.specs.Grammar.{flag, ack_word, yes_no, outcome_words, outcome_word, IsOutcome, command_words, IsCommand, entry_words, IsEntry}
+use Rattle.tc_types.specs.ActGrammar.{book_act_words, IsBookAct, act_words, IsAct, act_text, SpellsLine, after_two, act_part, HasLongAct, line_words, IsLine}
 use Rattle.tc_types.specs.LinkGrammar.{directive_words, IsDirective, link_act_words, IsLinkAct}
-use Rattle.tc_types.specs.Loads.{LoadLine, load_words, IsLoad}
-use Rattle.tc_types.specs.Words.{words, words_left, line_words, IsLine}
+use Rattle.tc_types.specs.Loads.{LoadLine, kind_word, load_words, IsLoad}
+use Rattle.tc_types.specs.declared.loads.LoadKind.{LoadKind}
+use Rattle.tc_types.specs.declared.loads.LoadKind.TheVariants as kind
+use Rattle.tc_types.specs.declared.acts.StepAct.{StepAct}
+use Rattle.tc_types.specs.declared.verdicts.Verdict.{Verdict}
+use Rattle.tc_types.specs.declared.verdicts.Verdict.TheVariants as verdict
+use Rattle.tc_types.specs.StepGrammar.{verdict_word, second_word, IsSecond, step_words, IsStepAct}
+use Rattle.tc_types.specs.Words.{words, words_left}
 use Rattle.tc_types.proofs.WordLaws.{lacks, lacks_joined, words_joined, words_nonempty}
 use Rattle.tc_types.proofs.NumberLaws.{numeral, small_offset}
 
@@ -122,6 +129,7 @@ book_act_parted (book_act.Withdraw request) h = (rw (number_lacks request h) ref
 book_act_parted (book_act.Approve request) h = (rw (number_lacks request h) refl, omega arith)
 book_act_parted (book_act.Close request) h = (rw (number_lacks request h) refl, omega arith)
 book_act_parted (book_act.ApproveStack stack) h = (rw (name_lacks stack (search rules)) refl, omega arith)
+book_act_parted (book_act.Begin procedure) h = (rw (name_lacks procedure (search rules)) refl, omega arith)
 
 -- nor have those of a directive
 directive_parted : (d : Directive) → IsDirective d → (list_all (lacks 32) (directive_words d) ≡ true) × (0 < length (directive_words d))
@@ -148,15 +156,31 @@ link_act_parted link_act.Down h = (refl, omega arith)
 link_act_parted link_act.Work h = (refl, omega arith)
 link_act_parted (link_act.Clock time) h = (rw (number_lacks time (omega arith)) refl, omega arith)
 
+verdict_lacks : (v : Verdict) → lacks 32 (verdict_word v) ≡ true
+verdict_lacks verdict.Done = refl
+verdict_lacks verdict.Skipped = refl
+verdict_lacks verdict.Failed = refl
+
+second_lacks : (second : Option (List ℕ)) → IsSecond second → lacks 32 (second_word second) ≡ true
+second_lacks None h = refl
+second_lacks (Some second) h = name_lacks second (search rules)
+
+-- nor have those of a step
+step_parted : (a : StepAct) → IsStepAct a → (list_all (lacks 32) (step_words a) ≡ true) × (0 < length (step_words a))
+step_parted a h =
+    (rw (number_lacks a.execution h.0, number_lacks a.step h.1, verdict_lacks a.verdict, second_lacks a.second h.2) refl, omega arith)
+
 -- nor have those of any act
 pub act_parted : (a : Act) → IsAct a → (list_all (lacks 32) (act_words a) ≡ true) × (0 < length (act_words a))
 act_parted (act.Book given) h = book_act_parted given h
 act_parted (act.Link given) h = link_act_parted given h
+act_parted (act.Step given) h = step_parted given h
 act_parted (act.Ask query.Places) h = (refl, omega arith)
 act_parted (act.Ask (query.History request after)) h = (rw (number_lacks request h.0, number_lacks after h.1) refl, omega arith)
 act_parted (act.Ask (query.Request request)) h = (rw (number_lacks request h) refl, omega arith)
 act_parted (act.Ask query.Link) h = (refl, omega arith)
 act_parted (act.Ask query.Schedule) h = (refl, omega arith)
+act_parted (act.Ask (query.Log execution)) h = (rw (number_lacks execution h) refl, omega arith)
 
 -- nor have those of a line
 pub line_parted : (line : Line) → IsLine line → (list_all (lacks 32) (line_words line) ≡ true) × (0 < length (line_words line))
@@ -172,11 +196,15 @@ path_lacks (byte ∷ others) h = by_byte (eqb byte 32) (path_lacks others) h
     by_byte true rest e = cc
     by_byte false rest e = rest e
 
+kind_lacks : (k : LoadKind) → lacks 32 (kind_word k) ≡ true
+kind_lacks kind.Stack = refl
+kind_lacks kind.Procedure = refl
+
 -- nor have those of a line that loads a file
 pub load_parted : (line : LoadLine) → IsLoad line → (list_all (lacks 32) (load_words line) ≡ true) × (0 < length (load_words line))
 load_parted line h =
     let moment : line.moment ≤ 4102444799 = h.0 in
-    (rw (number_lacks line.moment (omega arith), name_lacks line.by (search rules), name_lacks line.name (search rules), path_lacks line.path h.3.one_word) refl, omega arith)
+    (rw (number_lacks line.moment (omega arith), name_lacks line.by (search rules), kind_lacks line.kind, name_lacks line.name (search rules), path_lacks line.path h.3.one_word) refl, omega arith)
 
 after_two_some : (first second : List ℕ) (others : List (List ℕ)) → (others ≡ [] → ⊥) → after_two (first ∷ second ∷ others) ≡ Some (spaced others)
 after_two_some first second [] h = absurd (h refl)

@@ -14,16 +14,20 @@ use Rattle.tc_types.specs.declared.requests.Outcome.{Outcome}
 use Rattle.tc_types.specs.declared.requests.Outcome.TheVariants as outcome
 use Rattle.tc_types.specs.declared.requests.Command.{Command}
 use Rattle.tc_types.specs.declared.requests.Command.TheVariants as command
-use Rattle.tc_types.specs.declared.acts.BookAct.TheVariants.{Approve, ApproveStack, Close, Enter, Withdraw}
+use Rattle.tc_types.specs.declared.acts.BookAct.TheVariants.{Approve, ApproveStack, Begin, Close, Enter, Withdraw}
 use Rattle.tc_types.specs.declared.directives.Directive.TheVariants as directive
 use Rattle.tc_types.specs.declared.acts.LinkAct.TheVariants as link_act
 use Rattle.tc_types.specs.declared.acts.Act.{Act}
 use Rattle.tc_types.specs.declared.acts.Act.TheVariants as act
 use Rattle.tc_types.specs.declared.acts.Query.TheVariants as query
 use Rattle.tc_types.specs.declared.reports.Verification.TheVariants as verification
-use Rattle.tc_types.specs.Grammar.{outcome_word, act_text, line_text}
+use Rattle.tc_types.specs.Grammar.{outcome_word}
+use Rattle.tc_types.specs.ActGrammar.{act_text, line_text}
 use Rattle.tc_types.specs.Lines.{move_line, refusal_line, identity_word, entered_line, stack_line, history_line, places_line}
 use Rattle.tc_types.specs.Loads.{load_text}
+use Rattle.tc_types.specs.declared.loads.LoadKind.TheVariants as kind
+use Rattle.tc_types.specs.declared.verdicts.Verdict.TheVariants as verdict
+use Rattle.tc_types.specs.ProcedureLines.{procedure_line, begun_line, execution_line, record_line}
 use Rattle.tc_types.specs.LinkLines.{word_line, verified_line, summarized_line, worked_line, time_line, mirror_line, activity_line}
 use Rattle.tc_types.specs.RequestLine.{request_line}
 
@@ -50,9 +54,30 @@ scheduling given = act.Book (Enter (record { apid = 5; ack = completion; critica
 pub stack_approval-spelled : act_text (act.Book (ApproveStack (codes "s1"))) ≡ codes "approvestack s1"
 stack_approval-spelled = refl
 
-pub load-spelled : load_text (record { moment = 0; by = codes "ann"; name = codes "s2"; path = codes "stacks/two.csv" }) ≡ codes "0 ann stack s2 stacks/two.csv"
+pub load-spelled : load_text (record { moment = 0; by = codes "ann"; kind = kind.Stack; name = codes "s2"; path = codes "stacks/two.csv" }) ≡ codes "0 ann stack s2 stacks/two.csv"
 unfolding digits
 load-spelled = refl
+
+pub procedure-spelled : load_text (record { moment = 9; by = codes "ann"; kind = kind.Procedure; name = codes "p1"; path = codes "power.csv" }) ≡ codes "9 ann procedure p1 power.csv"
+unfolding digits
+procedure-spelled = refl
+
+pub begin-spelled : act_text (act.Book (Begin (codes "p1"))) ≡ codes "begin p1"
+begin-spelled = refl
+
+-- a step that was done, with a second person and without, and the lines of a log
+pub steps-spelled : map act_text (act.Step (record { execution = 1; step = 2; verdict = verdict.Done; second = Some (codes "bob") }) ∷ act.Step (record { execution = 1; step = 1; verdict = verdict.Skipped; second = None }) ∷ []) ≡ codes "step 1 2 done bob" ∷ codes "step 1 1 skipped -" ∷ []
+unfolding digits
+steps-spelled = refl
+
+pub log-spelled : act_text (act.Ask (query.Log 1)) ≡ codes "log 1"
+unfolding digits
+log-spelled = refl
+
+pub log-shown : execution_line 1 (codes "p1") 0 ∷ record_line (record { execution = 1; step = 2; verdict = verdict.Failed; by = codes "ann"; second = Some (codes "bob"); moment = 9 }) ∷ begun_line 1 ∷ procedure_line (codes "p1") 2 ∷ []
+    ≡ codes "execution 1 p1 next 0" ∷ codes "step 2 9 ann failed bob" ∷ codes "ok execution 1" ∷ codes "ok procedure p1 2" ∷ []
+unfolding digits
+log-shown = refl
 
 pub plain_entries-spelled : map act_text (
     plain none false outcome.Completes

@@ -4,6 +4,8 @@ use Rattle.std.specs.List.{list_any}
 use Rattle.std.specs.Fmt.{decimal}
 use Rattle.std.specs.Str.{IsUtf8}
 use Rattle.tc_types.specs.declared.loads.Load.{Load}
+use Rattle.tc_types.specs.declared.loads.LoadKind.{LoadKind}
+use Rattle.tc_types.specs.declared.loads.LoadKind.TheVariants as kind
 use Rattle.tc_types.specs.Numbers.{IsMoment}
 use Rattle.tc_types.specs.Names.{IsName, IsPerson}
 use Rattle.tc_types.specs.Lines.{spaced}
@@ -12,11 +14,12 @@ use Rattle.tc_types.specs.Lines.{spaced}
 pub record LoadLine : Type 0 where
   pub moment : ℕ
   pub by : List ℕ
+  pub kind : LoadKind
   pub name : List ℕ
   pub path : List ℕ
 
 abbrev pub line_of : Load → LoadLine
-line_of load = record { moment = load.moment; by = load.by; name = load.name; path = load.path.now }
+line_of load = record { moment = load.moment; by = load.by; kind = load.kind; name = load.name; path = load.path.now }
 
 -- a path is a text of one word
 pub record IsPath (path : List ℕ) : Type 0 where
@@ -24,9 +27,14 @@ pub record IsPath (path : List ℕ) : Type 0 where
   pub text : IsUtf8 path
   pub one_word : list_any (λ byte. byte == 32) path ≡ false
 
--- MOMENT PERSON stack NAME PATH
+-- what is loaded, in a word
+abbrev pub kind_word : LoadKind → List ℕ
+kind_word kind.Stack = codes "stack"
+kind_word kind.Procedure = codes "procedure"
+
+-- MOMENT PERSON stack NAME PATH, or procedure in place of stack
 abbrev pub load_words : LoadLine → List (List ℕ)
-load_words line = decimal line.moment ∷ line.by ∷ codes "stack" ∷ line.name ∷ line.path ∷ []
+load_words line = decimal line.moment ∷ line.by ∷ kind_word line.kind ∷ line.name ∷ line.path ∷ []
 
 -- the limits that it keeps
 abbrev pub IsLoad : LoadLine → Type 0

@@ -8,12 +8,15 @@ use Rattle.tc_types.specs.declared.rows.Tally.{Tally}
 use Rattle.tc_types.specs.declared.rows.Approval.{Approval}
 use Rattle.tc_types.specs.declared.rows.LoadedStack.{LoadedStack}
 use Rattle.tc_types.specs.declared.rows.StackApproval.{StackApproval}
+use Rattle.tc_types.specs.declared.rows.LoadedProcedure.{LoadedProcedure}
+use Rattle.tc_types.specs.declared.rows.ProcedureStep.{ProcedureStep}
+use Rattle.tc_types.specs.declared.rows.BegunExecution.{BegunExecution}
+use Rattle.tc_types.specs.declared.rows.StepRecord.{StepRecord}
 use Rattle.tc_types.specs.declared.rows.Row.{Row}
 use Rattle.tc_types.specs.declared.rows.Row.TheVariants as row
 use Rattle.tc_types.specs.Lawful.{place_number, all_places}
 
--- all rows of all tables: each table in order of its key, but for the stacks and the approvals, which stand in the order in
--- which they came
+-- all rows of all tables: each table whose key is one number in order of it, each other in the order in which its rows came
 pub record Image : Type 0 where
   pub requests : List PlacedRequest
   pub moves : List Move
@@ -21,6 +24,10 @@ pub record Image : Type 0 where
   pub approvals : List Approval
   pub stacks : List LoadedStack
   pub stack_approvals : List StackApproval
+  pub procedures : List LoadedProcedure
+  pub steps : List ProcedureStep
+  pub executions : List BegunExecution
+  pub records : List StepRecord
 
 -- a tally of each place, in order of number
 abbrev pub tallies_by : (Place → ℕ) → List Tally
@@ -28,7 +35,18 @@ tallies_by amount = map (λ place. let tally : Tally = record { place = place; a
 
 -- the tables of a desk where nothing happened yet
 abbrev pub empty_image : Image
-empty_image = record { requests = []; moves = []; tallies = tallies_by (λ place. 0); approvals = []; stacks = []; stack_approvals = [] }
+empty_image = record {
+  requests = [];
+  moves = [];
+  tallies = tallies_by (λ place. 0);
+  approvals = [];
+  stacks = [];
+  stack_approvals = [];
+  procedures = [];
+  steps = [];
+  executions = [];
+  records = [];
+}
 
 -- a table with this row: in place of the one with the same key, else in order of key
 abbrev pub put_by : {X : Type 0} → (X → ℕ) → X → List X → List X
@@ -48,6 +66,9 @@ move_key m = m.seq
 abbrev pub tally_key : Tally → ℕ
 tally_key t = place_number t.place
 
+abbrev pub execution_key : BegunExecution → ℕ
+execution_key e = e.execution
+
 -- the tables with one more row, or with this one in place of the one with its key
 abbrev pub with_row : Image → Row → Image
 with_row image (row.Entered request) = record image { requests = put_by request_key (record { request = request; place = Entered }) image.requests }
@@ -57,6 +78,10 @@ with_row image (row.Tallied tally) = record image { tallies = put_by tally_key t
 with_row image (row.Approved approval) = record image { approvals = image.approvals ++ approval ∷ [] }
 with_row image (row.Loaded stack) = record image { stacks = image.stacks ++ stack ∷ [] }
 with_row image (row.StackApproved approval) = record image { stack_approvals = image.stack_approvals ++ approval ∷ [] }
+with_row image (row.ProcedureLoaded procedure) = record image { procedures = image.procedures ++ procedure ∷ [] }
+with_row image (row.StepLoaded step) = record image { steps = image.steps ++ step ∷ [] }
+with_row image (row.Begun execution) = record image { executions = put_by execution_key execution image.executions }
+with_row image (row.Recorded given) = record image { records = image.records ++ given ∷ [] }
 
 -- the tables with all rows of a batch, in order
 abbrev pub applied : List Row → Image → Image

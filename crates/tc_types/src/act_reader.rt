@@ -2,7 +2,8 @@
 ghost use Rattle.std.specs.Prelude.{◌≡◌, ◌≢◌, ◌↔◌, ◌<◌, ◌≤◌, IsTrue, Ok, Err, IfOk, IfErr, ◌∷◌, codes, length};
 ghost use Rattle.tc_types.specs.declared.acts.Act.{Act};
 ghost use Rattle.tc_types.specs.declared.refusals.Refusal.TheVariants as refusal;
-ghost use Rattle.tc_types.specs.Grammar.{Reads, query_words, IsQuery, IsQueryVerb, book_act_words, IsBookAct, IsBookVerb, act_words, IsAct, act_text, SpellsAct};
+ghost use Rattle.tc_types.specs.Grammar.{Reads};
+ghost use Rattle.tc_types.specs.ActGrammar.{query_words, IsQuery, IsQueryVerb, book_act_words, IsBookAct, IsBookVerb, act_words, IsAct, act_text, SpellsAct};
 
 use crate::acts::{Act, BookAct, Query};
 use crate::entry_reader::entry;
@@ -10,6 +11,7 @@ use crate::link_reader::link_act_of;
 use crate::names::Name;
 use crate::readers::{is, number};
 use crate::refusals::Refusal;
+use crate::step_reader::step;
 use crate::words::Words;
 
 /// The most bytes that the text of an act has.
@@ -58,6 +60,15 @@ fn schedule(words: &mut Words<'_>) -> Option<Query>
     Some(Query::Schedule)
 }
 
+/// What stands behind `log`.
+fn log(words: &mut Words<'_>) -> Option<Query>
+    ensures { Reads query_words IsQuery (codes "log" ∷ words.old) result }
+{
+    let execution = number(words.next()?)?;
+    words.end()?;
+    Some(Query::Log { execution })
+}
+
 /// What stands behind `withdraw`.
 fn withdraw(words: &mut Words<'_>) -> Option<BookAct>
     ensures { Reads book_act_words IsBookAct (codes "withdraw" ∷ words.old) result }
@@ -94,6 +105,15 @@ fn approve_stack(words: &mut Words<'_>) -> Option<BookAct>
     Some(BookAct::ApproveStack { stack })
 }
 
+/// What stands behind `begin`.
+fn begin(words: &mut Words<'_>) -> Option<BookAct>
+    ensures { Reads book_act_words IsBookAct (codes "begin" ∷ words.old) result }
+{
+    let procedure = Name::read(words.next()?)?;
+    words.end()?;
+    Some(BookAct::Begin { procedure })
+}
+
 /// Whether an act on the book begins with this word.
 fn is_book_verb(verb: &[u8]) -> bool
     ensures { IsTrue result ↔ IsBookVerb verb.now }
@@ -103,6 +123,7 @@ fn is_book_verb(verb: &[u8]) -> bool
         || is(verb, b"approve")
         || is(verb, b"close")
         || is(verb, b"approvestack")
+        || is(verb, b"begin")
 }
 
 /// An act on the book: its verb, and the words behind it.
@@ -119,6 +140,8 @@ fn book_act_of(verb: &[u8], words: &mut Words<'_>) -> Option<BookAct>
         close(words)
     } else if is(verb, b"approvestack") {
         approve_stack(words)
+    } else if is(verb, b"begin") {
+        begin(words)
     } else {
         None
     }
@@ -133,6 +156,7 @@ fn is_query_verb(verb: &[u8]) -> bool
         || is(verb, b"request")
         || is(verb, b"link")
         || is(verb, b"schedule")
+        || is(verb, b"log")
 }
 
 /// A question: its verb, and the words behind it.
@@ -149,6 +173,8 @@ fn query_of(verb: &[u8], words: &mut Words<'_>) -> Option<Query>
         link(words)
     } else if is(verb, b"schedule") {
         schedule(words)
+    } else if is(verb, b"log") {
+        log(words)
     } else {
         None
     }
@@ -163,6 +189,8 @@ pub fn act_of(words: &mut Words<'_>) -> Option<Act>
         Some(Act::Book(book_act_of(verb, words)?))
     } else if is_query_verb(verb) {
         Some(Act::Ask(query_of(verb, words)?))
+    } else if is(verb, b"step") {
+        Some(Act::Step(step(words)?))
     } else {
         Some(Act::Link(link_act_of(verb, words)?))
     }

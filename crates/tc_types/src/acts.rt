@@ -3,6 +3,7 @@ use crate::directives::Directive;
 use crate::entries::Entry;
 use crate::names::Name;
 use crate::numbers::Moment;
+use crate::verdicts::Verdict;
 
 /// A question, which changes nothing.
 #[derive(Clone, Copy, Debug, PartialEq, Eq)]
@@ -17,6 +18,8 @@ pub enum Query {
     Link,
     /// The on-board schedule, as the reports that were read tell it.
     Schedule,
+    /// What is recorded of the execution `execution`.
+    Log { execution: u32 },
 }
 
 /// An act on the book alone: it asks nothing of the link.
@@ -32,6 +35,8 @@ pub enum BookAct {
     Close { request: u32 },
     /// A stack is approved by a person who did not load it.
     ApproveStack { stack: Name },
+    /// An execution of a procedure is begun.
+    Begin { procedure: Name },
 }
 
 /// An act on the link, or on the rehearsal spacecraft behind it.
@@ -59,6 +64,19 @@ pub enum LinkAct {
     Clock { time: Moment },
 }
 
+/// What is recorded of a step of an execution. Where the step is done and names a request, that is released.
+#[derive(Clone, Copy, Debug, PartialEq, Eq)]
+pub struct StepAct {
+    /// The execution.
+    pub execution: u32,
+    /// The number of the step.
+    pub step: u32,
+    /// What became of it.
+    pub verdict: Verdict,
+    /// Who is named as the second person, if anybody is.
+    pub second: Option<Name>,
+}
+
 /// An act of a person at the desk.
 #[derive(Clone, Copy, Debug, PartialEq, Eq)]
 pub enum Act {
@@ -66,6 +84,8 @@ pub enum Act {
     Book(BookAct),
     /// An act on the link or on the spacecraft.
     Link(LinkAct),
+    /// A step of an execution is recorded, in the book, and on the link where it releases a request.
+    Step(StepAct),
     /// A question.
     Ask(Query),
 }

@@ -2,8 +2,8 @@
 ghost use Rattle.std.specs.Prelude.{◌≡◌, ◌≢◌, ◌↔◌, ◌≤◌, IsTrue, Ok, Err, IfOk, IfErr, length, option_map};
 ghost use Rattle.tc_types.specs.declared.acts.Line.{Line};
 ghost use Rattle.tc_types.specs.declared.refusals.Refusal.TheVariants as refusal;
-ghost use Rattle.tc_types.specs.Grammar.{Reads, act_text, line_text, SpellsLine, act_part, HasLongAct};
-ghost use Rattle.tc_types.specs.Words.{line_words, IsLine};
+ghost use Rattle.tc_types.specs.Grammar.{Reads};
+ghost use Rattle.tc_types.specs.ActGrammar.{act_text, line_text, SpellsLine, act_part, HasLongAct, line_words, IsLine};
 
 use crate::act_reader::{LONGEST_ACT, act_of};
 use crate::acts::Line;

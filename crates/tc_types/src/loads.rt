@@ -2,14 +2,25 @@
 use crate::names::Name;
 use crate::numbers::Moment;
 
-/// A script line that loads a stack: who loads which file under which name, and when.
+/// What a file holds.
+#[derive(Clone, Copy, Debug, PartialEq, Eq)]
+pub enum LoadKind {
+    /// A stack of requests.
+    Stack,
+    /// A procedure.
+    Procedure,
+}
+
+/// A script line that loads a stack or a procedure: who loads which file under which name, and when.
 #[derive(Clone, Copy, Debug, PartialEq, Eq)]
 pub struct Load<'a> {
     /// When, as the line says: no clock is read.
     pub moment: Moment,
     /// Who.
     pub by: Name,
-    /// The name that the stack gets.
+    /// What the file holds.
+    pub kind: LoadKind,
+    /// The name that the stack or the procedure gets.
     pub name: Name,
     /// Where its text is.
     pub path: &'a str,

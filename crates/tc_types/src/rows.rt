@@ -1,9 +1,11 @@
 //! The rows of the desk's tables.
 use crate::moves::Move;
 use crate::names::Name;
-use crate::numbers::RequestNumber;
+use crate::numbers::{Moment, RequestNumber};
 use crate::places::Place;
 use crate::requests::Request;
+use crate::step_texts::StepText;
+use crate::verdicts::Verdict;
 
 /// A row of the table `request`: a request, and where it stands.
 #[derive(Clone, Copy, Debug, PartialEq, Eq)]
@@ -52,6 +54,60 @@ pub struct StackApproval {
     pub person: Name,
 }
 
+/// A row of the table `procedure`: a procedure that was loaded.
+#[derive(Clone, Copy, Debug, PartialEq, Eq)]
+pub struct LoadedProcedure {
+    /// Its name.
+    pub name: Name,
+    /// Who loaded it.
+    pub author: Name,
+}
+
+/// A row of the table `step`: a step of a procedure.
+#[derive(Clone, Copy, Debug, PartialEq, Eq)]
+pub struct ProcedureStep {
+    /// The procedure.
+    pub procedure: Name,
+    /// The number of the step, from 1.
+    pub step: u32,
+    /// What is done.
+    pub text: StepText,
+    /// Whether a second person is wanted.
+    pub is_countersigned: bool,
+    /// The request that is released where the step is done, if it releases one.
+    pub request: Option<RequestNumber>,
+}
+
+/// A row of the table `execution`: a procedure was begun.
+#[derive(Clone, Copy, Debug, PartialEq, Eq)]
+pub struct BegunExecution {
+    /// The number of the execution, from 1 in order.
+    pub execution: u32,
+    /// The procedure.
+    pub procedure: Name,
+    /// Who began it.
+    pub by: Name,
+    /// When.
+    pub moment: Moment,
+}
+
+/// A row of the table `record`: what became of a step of an execution.
+#[derive(Clone, Copy, Debug, PartialEq, Eq)]
+pub struct StepRecord {
+    /// The execution.
+    pub execution: u32,
+    /// The number of the step, from 1.
+    pub step: u32,
+    /// What became of it.
+    pub verdict: Verdict,
+    /// Who worked it.
+    pub by: Name,
+    /// Who was named as the second person, if anybody was.
+    pub second: Option<Name>,
+    /// When.
+    pub moment: Moment,
+}
+
 /// One row that an act writes. A batch is a list of rows, all written or none.
 #[derive(Clone, Copy, Debug, PartialEq, Eq)]
 pub enum Row {
@@ -69,4 +125,12 @@ pub enum Row {
     Loaded(LoadedStack),
     /// A new row of the table `stack_approval`.
     StackApproved(StackApproval),
+    /// A new row of the table `procedure`.
+    ProcedureLoaded(LoadedProcedure),
+    /// A new row of the table `step`.
+    StepLoaded(ProcedureStep),
+    /// A new row of the table `execution`.
+    Begun(BegunExecution),
+    /// A new row of the table `record`.
+    Recorded(StepRecord),
 }

@@ -8,9 +8,9 @@ use std::process::Abort;
 use std::test::Fail;
 use tc_proc::executions::Execution;
 use tc_proc::procedures::Procedure;
-use tc_proc::records::Verdict;
 use tc_types::names::Name;
 use tc_types::refusals::Refusal;
+use tc_types::verdicts::Verdict;
 
 /// A procedure of four steps, of which the second and the fourth want a second person.
 const STEPS: &[u8] =
@@ -69,6 +69,18 @@ fn random_record(words: &mut SplitMix64, next: u32, ann: Name, bob: Name) -> Giv
     }
 }
 
+/// Begins an execution of a procedure; None where there is no memory for it.
+fn begun<A: Allocator + Copy + Drop>(alloc: A, procedure: &Procedure) -> Option<Execution<A>> {
+    let mut marks = Vec::new(alloc);
+    for step in procedure.steps() {
+        marks.push(step.is_countersigned).ok()?;
+    }
+    if marks.is_empty() || marks.len() > 100 {
+        return None;
+    }
+    Some(Execution::begin(alloc, marks))
+}
+
 /// Records something, and says whether it went as the plain program says.
 fn is_recorded<A: Allocator + Copy + Drop>(
     execution: &mut Execution<A>,
@@ -96,7 +108,7 @@ fn worked(
     ann: Name,
     bob: Name,
 ) -> Option<usize> {
-    let mut execution = Execution::begin(alloc, procedure).ok()?;
+    let mut execution = begun(alloc, procedure)?;
     for _ in 0..40 {
         let next = execution.next_step().unwrap_or(0);
         let given = random_record(words, next, ann, bob);
@@ -146,7 +158,7 @@ fn taken<A: Allocator + Copy + Drop>(
     ann: Name,
     bob: Name,
 ) -> Option<u32> {
-    let Ok(mut execution) = Execution::begin(alloc, procedure) else {
+    let Some(mut execution) = begun(alloc, procedure) else {
         return Some(0);
     };
     let mut count = 0_u32;

@@ -1,4 +1,4 @@
-use Rattle.tc_types.specs.Grammar.{act_words, IsAct}
+use Rattle.tc_types.specs.ActGrammar.{act_words, IsAct}
 use Rattle.tc_types.proofs.WordLaws.{reads_joined}
 use Rattle.tc_types.proofs.Spellings.{act_parted}
 use Rattle.tc_types.proofs.act_reader.act.Goals as goal

@@ -1,4 +1,4 @@
-use Rattle.tc_types.specs.Words.{line_words, IsLine}
+use Rattle.tc_types.specs.ActGrammar.{line_words, IsLine}
 use Rattle.tc_types.proofs.WordLaws.{reads_joined}
 use Rattle.tc_types.proofs.Spellings.{line_parted}
 use Rattle.tc_types.proofs.line_reader.line.Goals as goal
