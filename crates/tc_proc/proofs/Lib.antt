@@ -1,4 +1,8 @@
 pub mod ExecutionLemmas
+pub mod ListLemmas
+pub mod LogLemmas
 pub mod RowLemmas
-pub mod StepTextLemmas
+pub mod StateLemmas
+pub mod StepLemmas
 pub mod WorkedCases
+pub mod WorkedLogs

@@ -7,12 +7,12 @@ use Rattle.tc_types.specs.declared.refusals.Refusal.TheVariants.{StepOutOfOrder,
 use Rattle.tc_csv.specs.Tables.{records_of, header}
 use Rattle.tc_proc.specs.declared.procedures.Step.{Step}
 use Rattle.tc_proc.specs.declared.records.Record.{Record}
-use Rattle.tc_proc.specs.declared.records.Verdict.{Verdict}
-use Rattle.tc_proc.specs.declared.records.Verdict.TheVariants.{Done, Failed}
+use Rattle.tc_types.specs.declared.verdicts.Verdict.{Verdict}
+use Rattle.tc_types.specs.declared.verdicts.Verdict.TheVariants.{Done, Failed}
 use Rattle.tc_proc.specs.Procedures.{procedure_columns, step_records}
 use Rattle.tc_proc.specs.Executions.{ExecutionState, begun, next_step, recorded, refusal_of}
 
-abbrev two : List Step
+abbrev pub two : List Step
 two =
     record { text = codes "check power"; is_countersigned = false; request = None }
     ∷ record { text = codes "switch on"; is_countersigned = true; request = Some 1 } ∷ []
@@ -24,10 +24,10 @@ spelled = refl
 
 -- ---- an execution of it
 
-abbrev ann : List ℕ
+abbrev pub ann : List ℕ
 ann = codes "ann"
 
-abbrev bob : List ℕ
+abbrev pub bob : List ℕ
 bob = codes "bob"
 
 abbrev first : Record

@@ -1,3 +1,5 @@
 pub mod Executions
 pub mod Procedures
-pub mod StepTexts
+pub mod Logs
+pub mod GoodLogs
+pub mod KeptLogs

@@ -12,7 +12,7 @@ use Rattle.tc_csv.specs.declared.faults.Fault.{Fault}
 use Rattle.tc_csv.specs.Faults.{KeepsAll, FirstBrokenRow}
 use Rattle.tc_csv.specs.Tables.{records_of, header, number_field, KeepsTable, table_rules, IsTableFault}
 use Rattle.tc_proc.specs.declared.procedures.Step.{Step}
-use Rattle.tc_proc.specs.StepTexts.{is_step_text}
+use Rattle.tc_types.specs.StepTexts.{is_step_text}
 
 -- ---- the text of a procedure
 

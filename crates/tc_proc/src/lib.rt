@@ -1,8 +1,10 @@
-//! Procedures, read from texts of comma-separated values, and what is recorded of the steps of an execution.
+//! Procedures, read from texts of comma-separated values, what is recorded of the steps of an execution, and the log of all of it.
 #![tactic(auto)]
 
 pub mod executions;
+pub mod logs;
 pub mod procedures;
 pub mod readers;
 pub mod records;
-pub mod step_texts;
+mod states;
+mod steps;

@@ -2,14 +2,14 @@
 ghost use Rattle.std.specs.Prelude.{◌≡◌};
 ghost use Rattle.tc_proc.specs.Procedures.{IsProcedure};
 
-use crate::step_texts::StepText;
 use std::marker::Model;
+use tc_types::step_texts::StepText;
 
 /// The most steps that a procedure has.
 pub const MOST_STEPS: u16 = 100;
 
 /// A step of a procedure.
-#[derive(Debug, Drop)]
+#[derive(Clone, Copy, Debug, PartialEq, Eq)]
 pub struct Step {
     /// What is done.
     pub text: StepText,

@@ -3,16 +3,15 @@ ghost use Rattle.std.specs.Prelude.{◌≡◌, ◌⊎◌, ◌≤◌, List, [], S
 ghost use Rattle.csv.specs.Records.{fields_of};
 ghost use Rattle.tc_types.specs.declared.refusals.Refusal.TheVariants.{Memory};
 ghost use Rattle.tc_types.specs.Numbers.{IsNumber};
+ghost use Rattle.tc_types.specs.StepTexts.{is_step_text};
 ghost use Rattle.tc_types.specs.Grammar.{Reads};
 ghost use Rattle.tc_csv.specs.declared.faults.Fault.{Fault as SomeFault};
 ghost use Rattle.tc_csv.specs.declared.faults.Rule.TheVariants.{StepText as TheText};
 ghost use Rattle.tc_csv.specs.Faults.{Judged, FirstBroken, FirstBrokenRow, rule_refusal};
 ghost use Rattle.tc_proc.specs.declared.procedures.Step.{Step as SomeStep};
-ghost use Rattle.tc_proc.specs.StepTexts.{is_step_text};
 ghost use Rattle.tc_proc.specs.Procedures.{IsStep, AreSteps, step_record, step_records, KeepsStep, step_rules, SpellsProcedure, IsProcedureFault, Tells};
 
 use crate::procedures::{MOST_STEPS, Procedure, Step};
-use crate::step_texts::StepText;
 use csv::ByteRecord;
 use std::alloc::Global;
 use tc_csv::columns::Column;
@@ -21,23 +20,23 @@ use tc_csv::fields::{field, optional_number};
 use tc_csv::tables::read_table;
 use tc_types::readers::{number, yes_or_no};
 use tc_types::refusals::Refusal;
+use tc_types::step_texts::StepText;
 
 /// The columns of the text of a procedure.
 const COLUMNS: [Column; 4] = [Column::Step, Column::Text, Column::Second, Column::Request];
 
 /// The text of a step, from its field.
-fn text_of(alloc: Global, row: u32, field: &[u8]) -> Result<StepText, NotRead>
+fn text_of(row: u32, field: &[u8]) -> Result<StepText, NotRead>
     ensures { Judged (λ text. (text ≡ field.now) × (is_step_text field.now ≡ true)) (λ fault. (is_step_text field.now ≡ false) × (fault ≡ record { row = row; rule = TheText })) result }
 {
-    match StepText::new(alloc, field) {
-        Ok(Some(text)) => Ok(text),
-        Ok(None) => Err(NotRead::wrong(row, Rule::StepText)),
-        Err(_) => Err(NotRead::Memory),
+    match StepText::read(field) {
+        Some(text) => Ok(text),
+        None => Err(NotRead::wrong(row, Rule::StepText)),
     }
 }
 
 /// The step of a row with this number.
-fn step_of(alloc: Global, row: u32, fields: &ByteRecord) -> Result<Step, NotRead>
+fn step_of(row: u32, fields: &ByteRecord) -> Result<Step, NotRead>
     ensures { Judged (λ step. (fields_of fields.now ≡ step_record row step) × IsStep step) (λ fault. FirstBroken (KeepsStep row (fields_of fields.now)) step_rules fault.rule × (fault.row ≡ row)) result }
 {
     if fields.len() != COLUMNS.len() {
@@ -46,7 +45,7 @@ fn step_of(alloc: Global, row: u32, fields: &ByteRecord) -> Result<Step, NotRead
     if number(field(fields, 0)) != Some(row) {
         return Err(NotRead::wrong(row, Rule::StepNumber));
     }
-    let text = text_of(alloc, row, field(fields, 1))?;
+    let text = text_of(row, field(fields, 1))?;
     let Some(is_countersigned) = yes_or_no(field(fields, 2)) else {
         return Err(NotRead::wrong(row, Rule::Second));
     };
@@ -67,7 +66,7 @@ fn steps_of(alloc: Global, rows: &[ByteRecord]) -> Result<Vec<Step>, NotRead>
 {
     let mut steps = Vec::new(alloc);
     for (index, fields) in rows.iter().enumerate() {
-        let step = step_of(alloc, index as u32 + 1, fields)?;
+        let step = step_of(index as u32 + 1, fields)?;
         if steps.push(step).is_err() {
             return Err(NotRead::Memory);
         }
