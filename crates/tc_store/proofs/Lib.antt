@@ -7,6 +7,10 @@ pub mod TallyLemmas
 pub mod ApprovalLemmas
 pub mod StackLemmas
 pub mod StackApprovalLemmas
+pub mod ProcedureLemmas
+pub mod ProcedureStepLemmas
+pub mod ExecutionLemmas
+pub mod RecordLemmas
 pub mod ReadLemmas
 pub mod HistoryLemmas
 pub mod StepLemmas

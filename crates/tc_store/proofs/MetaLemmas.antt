@@ -26,6 +26,10 @@ use Rattle.tc_store.specs.Tallies.{tally_tree, first_tally}
 use Rattle.tc_store.specs.Approvals.{approval_tree}
 use Rattle.tc_store.specs.Stacks.{stack_tree}
 use Rattle.tc_store.specs.StackApprovals.{stack_approval_tree}
+use Rattle.tc_store.specs.Procedures.{procedure_tree}
+use Rattle.tc_store.specs.ProcedureSteps.{step_tree}
+use Rattle.tc_store.specs.Executions.{execution_tree}
+use Rattle.tc_store.specs.Records.{record_tree}
 use Rattle.tc_store.specs.Schema.{schema_1, create_texts, Holds}
 use Rattle.tc_store.specs.Steps.{Ran, Defined, Versioned, Step, Filled, blank_image}
 use Rattle.tc_store.proofs.SchemaLemmas.{built}
@@ -37,7 +41,9 @@ meta_puts = record { at = 0; listed = refl; command = refl; plain = (refl, refl)
 
 -- the trees before it
 abbrev no_rows : Contents
-no_rows = (meta_tree, []) ∷ (request_tree, []) ∷ (move_tree, []) ∷ (tally_tree, []) ∷ (approval_tree, []) ∷ (stack_tree, []) ∷ (stack_approval_tree, []) ∷ []
+no_rows =
+    (meta_tree, []) ∷ (request_tree, []) ∷ (move_tree, []) ∷ (tally_tree, []) ∷ (approval_tree, []) ∷ (stack_tree, []) ∷ (stack_approval_tree, []) ∷ (procedure_tree, []) ∷ (step_tree, [])
+    ∷ (execution_tree, []) ∷ (record_tree, []) ∷ []
 
 abbrev given : Row
 given = Null ∷ Text (codes "schema") ∷ Int (pos 1) ∷ []
@@ -45,7 +51,7 @@ given = Null ∷ Text (codes "schema") ∷ Int (pos 1) ∷ []
 versioned_from : (old new : Database) → BuildsTo schema_1 [] old → HasPut meta_tree (with_rowid Chosen (old.trees meta_tree) given) old new → Holds new blank_image
 versioned_from old new to put =
     let none : AllByRecursion (λ t. old.trees t.tree ≡ []) schema_1.tables = subst (λ (s : Schema). AllByRecursion (λ t. old.trees t.tree ≡ []) s.tables) to.builds to.empty in
-    let before : Matches old.trees no_rows = ((none.0, tt), ((none.1.0, tt), ((none.1.1.0, tt), ((none.1.1.1.0, tt), ((none.1.1.1.1.0, tt), ((none.1.1.1.1.1.0, tt), ((none.1.1.1.1.1.1.0, tt), tt))))))) in
+    let before : Matches old.trees no_rows = ((none.0, tt), ((none.1.0, tt), ((none.1.1.0, tt), ((none.1.1.1.0, tt), ((none.1.1.1.1.0, tt), ((none.1.1.1.1.1.0, tt), ((none.1.1.1.1.1.1.0, tt), ((none.1.1.1.1.1.1.1.0, tt), ((none.1.1.1.1.1.1.1.1.0, tt), ((none.1.1.1.1.1.1.1.1.1.0, tt), ((none.1.1.1.1.1.1.1.1.1.1.0, tt), tt))))))))))) in
     let clear : are_tables old.schema no_rows ≡ true = ap (λ s. are_tables s no_rows) to.builds in
     let row : version_row ∷ [] ≡ put_row (with_rowid Chosen (old.trees meta_tree) given) (old.trees meta_tree) = ap (λ rows. put_row (with_rowid Chosen rows given) rows) (sym none.0) in
     record { schema = put.schema ∙ to.builds; rows = matches_put meta_tree (with_rowid Chosen (old.trees meta_tree) given) (version_row ∷ []) old new no_rows put clear row before; sound = put.sound }

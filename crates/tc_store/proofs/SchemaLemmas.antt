@@ -27,7 +27,11 @@ use Rattle.tc_store.specs.Tallies.{tally_form}
 use Rattle.tc_store.specs.Approvals.{approval_form}
 use Rattle.tc_store.specs.Stacks.{stack_form}
 use Rattle.tc_store.specs.StackApprovals.{stack_approval_form}
-use Rattle.tc_store.specs.Schema.{create_texts, with_meta, with_request, with_move, with_index, with_tally, with_approval, with_stack, schema_1, contents, Holds}
+use Rattle.tc_store.specs.Procedures.{procedure_form}
+use Rattle.tc_store.specs.ProcedureSteps.{step_form}
+use Rattle.tc_store.specs.Executions.{execution_form}
+use Rattle.tc_store.specs.Records.{record_form}
+use Rattle.tc_store.specs.Schema.{create_texts, with_meta, with_request, with_move, with_index, with_tally, with_approval, with_stack, with_stack_approval, with_procedure, with_step, with_execution, schema_1, contents, Holds}
 use Rattle.tc_store.specs.Steps.{Goes, IsNewIn, Step}
 use Rattle.tc_store.proofs.Rows.{same_put}
 
@@ -55,9 +59,25 @@ built = (
               with_stack,
               inl (record { table = table_of stack_form 0; command = refl; plain = (refl, refl); whole = refl; defined = refl; uncounted = refl; is = refl }),
               (
-                schema_1,
+                with_stack_approval,
                 inl (record { table = table_of stack_approval_form 0; command = refl; plain = (refl, refl); whole = refl; defined = refl; uncounted = refl; is = refl }),
-                refl,
+                (
+                  with_procedure,
+                  inl (record { table = table_of procedure_form 0; command = refl; plain = (refl, refl); whole = refl; defined = refl; uncounted = refl; is = refl }),
+                  (
+                    with_step,
+                    inl (record { table = table_of step_form 0; command = refl; plain = (refl, refl); whole = refl; defined = refl; uncounted = refl; is = refl }),
+                    (
+                      with_execution,
+                      inl (record { table = table_of execution_form 0; command = refl; plain = (refl, refl); whole = refl; defined = refl; uncounted = refl; is = refl }),
+                      (
+                        schema_1,
+                        inl (record { table = table_of record_form 0; command = refl; plain = (refl, refl); whole = refl; defined = refl; uncounted = refl; is = refl }),
+                        refl,
+                      ),
+                    ),
+                  ),
+                ),
               ),
             ),
           ),

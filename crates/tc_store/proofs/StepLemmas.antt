@@ -1,16 +1,18 @@
 -- How the steps of a transaction follow one another.
-use Rattle.std.proofs.Common.{inl, ℕ, ◌+◌, ◌<◌, ◌≤◌, arith, length, take, get_or, List, [], ◌∷◌, ◌++◌, refl, subst, sym, ◌∙◌, take_all}
+use Rattle.std.proofs.Common.{◌≡◌, true, inl, ℕ, ◌+◌, ◌<◌, ◌≤◌, arith, length, take, get_or, List, [], ◌∷◌, ◌++◌, refl, subst, sym, ◌∙◌, take_all}
 use Rattle.std.proofs.lemmas.List.{take_more}
 use Rattle.std.proofs.lemmas.List.Sums.{fold_more}
 use Rattle.sqlite_trees.specs.Tree.{Trees}
 use Rattle.sqlite_trees.specs.declared.store.Store.{Ghosts}
-use Rattle.sqlite.specs.State.{State, KeepsCommit, Survives}
+use Rattle.sqlite_catalog.specs.Listing.{IsSound}
+use Rattle.sqlite.specs.State.{State, HasCleanDisk, KeepsCommit, Survives}
 use Rattle.sqlite.specs.Held.{Held, state}
 use Rattle.sqlite.proofs.StateLemmas.{survives_then}
 use Rattle.tc_types.specs.declared.rows.Row.{Row}
 use Rattle.tc_types.specs.Tables.{Image, with_row, applied}
-use Rattle.tc_store.specs.Schema.{Holds}
-use Rattle.tc_store.specs.Steps.{Goes, IsNewIn, AreNew, Step}
+use Rattle.tc_sql.specs.Contents.{Matches}
+use Rattle.tc_store.specs.Schema.{schema_1, contents, Holds}
+use Rattle.tc_store.specs.Steps.{Goes, IsNewIn, AreNew, Step, HasBatch}
 
 pub survives_same : (a : State) (P : Trees → Type 0) → Survives a a P
 survives_same a P = record { clean = omega arith; shield = λ h. h; counts = omega arith; limit = refl; closes = λ clean stays. inl stays; crash = λ clean db left. inl left }
@@ -51,3 +53,17 @@ module _ {S : Type 0} (g : Ghosts S) where
 
   pub step_all : (a b : Held S) (rows : List Row) (k : ℕ) → length rows ≤ k → Step g (take k rows) a b → Step g rows a b
   step_all a b rows k all one = subst (λ (done : List Row). Step g done a b) (take_all k rows all) one
+
+  -- that a transaction was begun leaves nothing else
+  survives_begun : (a b : Held S) (P : Trees → Type 0) → Survives (state g (record a { in_transaction = true })) (state g b) P → Survives (state g a) (state g b) P
+  survives_begun a b P one = record { clean = one.clean; shield = one.shield; counts = one.counts; limit = one.limit; closes = one.closes; crash = one.crash }
+
+  -- the commit of a transaction in which a batch was written leaves what stood before, or that with the whole batch
+  pub survives_commit : (a b c : Held S) (rows : List Row) → Survives (state g (record a { in_transaction = true })) (state g b) (λ _. ⊥)
+      → (HasCleanDisk (state g b) → Step g rows (record a { in_transaction = true }) b) → Survives (state g b) (state g c) (λ db. db ≡ (state g b).now.trees)
+      → Survives (state g a) (state g c) (HasBatch (state g a).now rows)
+  survives_commit a b c rows one step two = survives_then (state g a) (state g b) (state g c) (λ _. ⊥) (λ db. db ≡ (state g b).now.trees) (HasBatch (state g a).now rows) (λ _ db none. absurd none)
+      (λ clean db is image held.
+      let after = (step (omega (arith, clean, two.clean))).holds image held in
+      subst (λ (trees : Trees). Matches trees (contents (applied rows image)) × IsSound schema_1 trees) (sym is) (after.rows, subst (λ s. IsSound s (state g b).now.trees) after.schema after.sound))
+      (survives_begun a b (λ _. ⊥) one) two

@@ -6,5 +6,9 @@ pub mod Tallies
 pub mod Approvals
 pub mod Stacks
 pub mod StackApprovals
+pub mod Procedures
+pub mod ProcedureSteps
+pub mod Executions
+pub mod Records
 pub mod Schema
 pub mod Steps

@@ -15,10 +15,15 @@ use Rattle.tc_store.specs.Tallies.{tally_tree, tally_form, tally_text, tally_row
 use Rattle.tc_store.specs.Approvals.{approval_tree, approval_form, approval_text, approval_values}
 use Rattle.tc_store.specs.Stacks.{stack_tree, stack_form, stack_text, stack_values}
 use Rattle.tc_store.specs.StackApprovals.{stack_approval_tree, stack_approval_form, stack_approval_text, stack_approval_values}
+use Rattle.tc_store.specs.Procedures.{procedure_tree, procedure_form, procedure_text, procedure_values}
+use Rattle.tc_store.specs.ProcedureSteps.{step_tree, step_form, step_text, step_values}
+use Rattle.tc_store.specs.Executions.{execution_tree, execution_form, execution_text, execution_row}
+use Rattle.tc_store.specs.Records.{record_tree, record_form, record_text, record_values}
 
 -- the texts that make it, in order
 abbrev pub create_texts : List (List ℕ)
-create_texts = meta_text ∷ request_text ∷ move_text ∷ move_index_text ∷ tally_text ∷ approval_text ∷ stack_text ∷ stack_approval_text ∷ []
+create_texts =
+    meta_text ∷ request_text ∷ move_text ∷ move_index_text ∷ tally_text ∷ approval_text ∷ stack_text ∷ stack_approval_text ∷ procedure_text ∷ step_text ∷ execution_text ∷ record_text ∷ []
 
 -- after each of them
 abbrev pub with_meta : Schema
@@ -42,15 +47,28 @@ with_approval = created with_tally (table_of approval_form 0)
 abbrev pub with_stack : Schema
 with_stack = created with_approval (table_of stack_form 0)
 
+abbrev pub with_stack_approval : Schema
+with_stack_approval = created with_stack (table_of stack_approval_form 0)
+
+abbrev pub with_procedure : Schema
+with_procedure = created with_stack_approval (table_of procedure_form 0)
+
+abbrev pub with_step : Schema
+with_step = created with_procedure (table_of step_form 0)
+
+abbrev pub with_execution : Schema
+with_execution = created with_step (table_of execution_form 0)
+
 abbrev pub schema_1 : Schema
-schema_1 = created with_stack (table_of stack_approval_form 0)
+schema_1 = created with_execution (table_of record_form 0)
 
 -- the rows of each table
 abbrev pub contents : Image → Contents
 contents image =
     (meta_tree, version_row ∷ []) ∷ (request_tree, map request_row image.requests) ∷ (move_tree, map move_row image.moves) ∷ (tally_tree, map tally_row image.tallies)
     ∷ (approval_tree, numbered (map approval_values image.approvals)) ∷ (stack_tree, numbered (map stack_values image.stacks))
-    ∷ (stack_approval_tree, numbered (map stack_approval_values image.stack_approvals)) ∷ []
+    ∷ (stack_approval_tree, numbered (map stack_approval_values image.stack_approvals)) ∷ (procedure_tree, numbered (map procedure_values image.procedures))
+    ∷ (step_tree, numbered (map step_values image.steps)) ∷ (execution_tree, map execution_row image.executions) ∷ (record_tree, numbered (map record_values image.records)) ∷ []
 
 -- the database has the desk's schema, and its tables have the rows of the image and no other
 pub record Holds (db : Database) (image : Image) : Type 0 where

@@ -16,14 +16,21 @@ use Rattle.tc_types.specs.declared.moves.Move.{Move}
 use Rattle.tc_types.specs.declared.rows.Approval.{Approval}
 use Rattle.tc_types.specs.declared.rows.LoadedStack.{LoadedStack}
 use Rattle.tc_types.specs.declared.rows.StackApproval.{StackApproval}
+use Rattle.tc_types.specs.declared.rows.LoadedProcedure.{LoadedProcedure}
+use Rattle.tc_types.specs.declared.rows.ProcedureStep.{ProcedureStep}
+use Rattle.tc_types.specs.declared.rows.BegunExecution.{BegunExecution}
+use Rattle.tc_types.specs.declared.rows.StepRecord.{StepRecord}
 use Rattle.tc_types.specs.declared.rows.Row.{Row}
-use Rattle.tc_types.specs.declared.rows.Row.TheVariants.{Entered, Placed, Moved, Tallied, Approved, Loaded, StackApproved}
+use Rattle.tc_types.specs.declared.rows.Row.TheVariants.{Entered, Placed, Moved, Tallied, Approved, Loaded, StackApproved, ProcedureLoaded, StepLoaded, Begun, Recorded}
 use Rattle.tc_types.specs.Tables.{Image, empty_image, with_row, applied}
 use Rattle.tc_sql.specs.Builds.{BuildsTo, no_schema}
 use Rattle.tc_sql.specs.Contents.{Matches}
 use Rattle.tc_store.specs.Approvals.{is_same_approval}
 use Rattle.tc_store.specs.Stacks.{is_same_stack}
 use Rattle.tc_store.specs.StackApprovals.{is_same_stack_approval}
+use Rattle.tc_store.specs.Procedures.{is_same_procedure}
+use Rattle.tc_store.specs.ProcedureSteps.{is_same_step}
+use Rattle.tc_store.specs.Records.{is_same_record}
 use Rattle.tc_store.specs.Schema.{schema_1, contents, Holds}
 use Rattle.tc_store.specs.declared.faults.StoreFault.{StoreFault}
 use Rattle.tc_store.specs.declared.faults.StoreFault.TheVariants.{Commit}
@@ -46,7 +53,7 @@ pub record Defined {S : Type 0} (g : Ghosts S) (texts : List (List ℕ)) (old ne
 
 -- a desk whose tables have no row but the version
 abbrev pub blank_image : Image
-blank_image = record { requests = []; moves = []; tallies = []; approvals = []; stacks = []; stack_approvals = [] }
+blank_image = record { requests = []; moves = []; tallies = []; approvals = []; stacks = []; stack_approvals = []; procedures = []; steps = []; executions = []; records = [] }
 
 -- where those of the desk stand with no row, they name their version now
 pub record Versioned {S : Type 0} (g : Ghosts S) (old new : Held S) : Type 0 where
@@ -67,6 +74,10 @@ IsNewIn image (Tallied tally) = ⊤
 IsNewIn image (Approved approval) = list_any (λ (a : Approval). is_same_approval a approval) image.approvals ≡ false
 IsNewIn image (Loaded stack) = list_any (λ (s : LoadedStack). is_same_stack s stack) image.stacks ≡ false
 IsNewIn image (StackApproved approval) = list_any (λ (a : StackApproval). is_same_stack_approval a approval) image.stack_approvals ≡ false
+IsNewIn image (ProcedureLoaded procedure) = list_any (λ (p : LoadedProcedure). is_same_procedure p procedure) image.procedures ≡ false
+IsNewIn image (StepLoaded step) = list_any (λ (s : ProcedureStep). is_same_step s step) image.steps ≡ false
+IsNewIn image (Begun execution) = list_any (λ (e : BegunExecution). e.execution == execution.execution) image.executions ≡ false
+IsNewIn image (Recorded given) = list_any (λ (r : StepRecord). is_same_record r given) image.records ≡ false
 
 -- so it is of each row of a batch, where those before it stand too
 abbrev pub AreNew : Image → List Row → Type 0

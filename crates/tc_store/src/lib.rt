@@ -7,9 +7,13 @@
 mod approvals;
 mod cells;
 mod creates;
+mod executions;
 pub mod faults;
 mod history;
 mod moves;
+mod procedure_steps;
+mod procedures;
+mod records;
 mod requests;
 mod stacks;
 mod steps;

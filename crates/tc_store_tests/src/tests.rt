@@ -7,6 +7,7 @@ use tc_types::names::Name;
 use tc_types::numbers::{Moment, RequestNumber};
 use tc_types::places::Place;
 
+mod procedures;
 mod stacks;
 mod stops;
 mod tables;
