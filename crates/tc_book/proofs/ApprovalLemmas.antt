@@ -234,6 +234,8 @@ approved_good book n person good known single may = record {
   stacks_named = good.stacks_named;
   approved = all_before IsApproval (approval_of (with_approval book n person).approvals) book.requests (subst (AllByRecursion IsApproval) made kept_sound);
   stacks_approved = good.stacks_approved;
+  log = good.log;
+  log_named = good.log_named;
   complete = all_so (λ (m : Move). m.cause ≡ cause.Approve → is_fully_approved book m.request ≡ true) (λ (m : Move). m.cause ≡ cause.Approve → is_fully_approved (with_approval book n person) m.request ≡ true) book.history
       (λ m was is. by_found (request_at book m.request) (was is)) good.complete;
 }

@@ -14,7 +14,7 @@ use Rattle.tc_types.specs.declared.rows.Row.{Row}
 use Rattle.tc_types.specs.History.{AllAfter}
 use Rattle.tc_book.specs.declared.stamps.Stamp.{Stamp}
 use Rattle.tc_book.specs.Acts.{row_approved, rows_approved}
-use Rattle.tc_book.specs.Batch.{HasRoomFor, HoldsRoom, batch_rows}
+use Rattle.tc_book.specs.Batch.{HasRoomFor, HoldsRoom, batch_rows, log_length}
 use Rattle.tc_book.specs.Book.{Book, request_in, stands, moved, want}
 use Rattle.tc_book.specs.Good.{IsGoodRequest}
 use Rattle.tc_book.specs.Stacks.{is_in_stack, numbers_in_stack, is_stack_approved, with_stack_approval}
@@ -89,19 +89,19 @@ found_there requests k row all low is =
 -- ---- room
 
 -- rows that go to Approved leave all but the history
-rows_leave : (stamp : Stamp) (ns : List ℕ) (book : Book) → let new : Book = fold (row_approved stamp) book ns in (new.requests ≡ book.requests) × (new.approvals ≡ book.approvals) × (new.stack_approvals ≡ book.stack_approvals)
-rows_leave stamp [] book = (refl, refl, refl)
+rows_leave : (stamp : Stamp) (ns : List ℕ) (book : Book) → let new : Book = fold (row_approved stamp) book ns in (new.requests ≡ book.requests) × (new.approvals ≡ book.approvals) × (new.stack_approvals ≡ book.stack_approvals) × (new.log ≡ book.log)
+rows_leave stamp [] book = (refl, refl, refl, refl)
 rows_leave stamp (n ∷ ns) book =
     let one = by_place (stands book n (Entered ∷ [])) in
     let others = rows_leave stamp ns (row_approved stamp book n) in
-    (others.0 ∙ one.0, others.1 ∙ one.1, others.2 ∙ one.2)
+    (others.0 ∙ one.0, others.1 ∙ one.1, others.2 ∙ one.2, others.3 ∙ one.3)
   where
-    by_place : (u : Bool) → let new : Book = (if u then moved stamp book (want n Approved cause.Approve) else book) in (new.requests ≡ book.requests) × (new.approvals ≡ book.approvals) × (new.stack_approvals ≡ book.stack_approvals)
-    by_place true = (refl, refl, refl)
-    by_place false = (refl, refl, refl)
+    by_place : (u : Bool) → let new : Book = (if u then moved stamp book (want n Approved cause.Approve) else book) in (new.requests ≡ book.requests) × (new.approvals ≡ book.approvals) × (new.stack_approvals ≡ book.stack_approvals) × (new.log ≡ book.log)
+    by_place true = (refl, refl, refl, refl)
+    by_place false = (refl, refl, refl, refl)
 
 -- room for an approval of a stack and a move of each row
-pub approved-room : {A B : Type 0} (stamp : Stamp) (name person : List ℕ) (book new : Book) (rows : ℕ) (moves : Vec Move A) (batch : Vec Row B) → HasRoomFor rows moves → HasRoomFor (batch_rows 0 rows) batch
+pub approved-room : {A B : Type 0} (stamp : Stamp) (name person : List ℕ) (book new : Book) (rows : ℕ) (moves : Vec Move A) (batch : Vec Row B) → HasRoomFor rows moves → HasRoomFor (batch_rows 0 rows + 0) batch
     → new ≡ rows_approved stamp name (with_stack_approval book name person) → length new.history ≤ length book.history + rows → HoldsRoom book new moves batch
 approved-room stamp name person book new rows moves batch for_moves for_batch is few =
     let left = rows_leave stamp (numbers_in_stack name book.requests) (with_stack_approval book name person) in
@@ -110,16 +110,17 @@ approved-room stamp name person book new rows moves batch for_moves for_batch is
     let requests = ap (λ (x : Book). length x.requests) is ∙ ap length left.0 in
     let approvals = ap (λ (x : Book). length x.approvals) is ∙ ap length left.1 in
     let stack_approvals = ap (λ (x : Book). length x.stack_approvals) is ∙ ap length left.2 ∙ length-append book.stack_approvals _ in
+    let log = ap (λ (x : Book). log_length x.log) is ∙ ap log_length left.3 in
     record {
       moves_empty = for_moves.0;
       moves_room = omega (arith, m, few);
       batch_empty = for_batch.0;
       approvals = omega (arith, approvals);
       stack_approvals = omega (arith, stack_approvals);
-      batch_room = omega (arith, requests, few, b);
+      batch_room = omega (arith, requests, few, b, log);
     }
 
-pub given-room : {A B : Type 0} (name person : List ℕ) (book new : Book) (rows : ℕ) (moves : Vec Move A) (batch : Vec Row B) → HasRoomFor rows moves → HasRoomFor (batch_rows 0 rows) batch
+pub given-room : {A B : Type 0} (name person : List ℕ) (book new : Book) (rows : ℕ) (moves : Vec Move A) (batch : Vec Row B) → HasRoomFor rows moves → HasRoomFor (batch_rows 0 rows + 0) batch
     → new ≡ with_stack_approval book name person → HoldsRoom book new moves batch
 given-room name person book new rows moves batch for_moves for_batch is =
     let m = for_moves.1 in
@@ -128,11 +129,12 @@ given-room name person book new rows moves batch for_moves for_batch is =
     let history = ap (λ (x : Book). length x.history) is in
     let approvals = ap (λ (x : Book). length x.approvals) is in
     let stack_approvals = ap (λ (x : Book). length x.stack_approvals) is ∙ length-append book.stack_approvals _ in
+    let log = ap (λ (x : Book). log_length x.log) is in
     record {
       moves_empty = for_moves.0;
       moves_room = omega (arith, m, history);
       batch_empty = for_batch.0;
       approvals = omega (arith, approvals);
       stack_approvals = omega (arith, stack_approvals);
-      batch_room = omega (arith, requests, history, b);
+      batch_room = omega (arith, requests, history, b, log);
     }

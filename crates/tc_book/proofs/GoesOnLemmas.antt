@@ -12,6 +12,7 @@ use Rattle.tc_types.specs.declared.causes.Cause.TheVariants as cause
 use Rattle.tc_types.specs.declared.refusals.Refusal.{Refusal}
 use Rattle.tc_types.specs.declared.acts.BookAct.{BookAct}
 use Rattle.tc_types.specs.declared.acts.BookAct.TheVariants as act
+use Rattle.tc_types.specs.declared.acts.StepAct.{StepAct}
 use Rattle.tc_types.specs.declared.moves.Move.{Move}
 use Rattle.tc_types.specs.declared.requests.Form.{Form}
 use Rattle.tc_types.specs.declared.requests.Origin.{Origin}
@@ -22,8 +23,11 @@ use Rattle.tc_book.specs.declared.stamps.Stamp.{Stamp}
 use Rattle.tc_book.specs.declared.firsts.First.{First}
 use Rattle.tc_book.specs.Acts.{acted, completes, row_approved, rows_approved}
 use Rattle.tc_book.specs.Answers.{Answers}
-use Rattle.tc_book.specs.Batch.{HasBehind, GoesOn, is_apart_from, HasRoomFor, HoldsRoom, batch_rows}
+use Rattle.tc_proc.specs.declared.procedures.Step.{Step}
+use Rattle.tc_proc.specs.Logs.{LogState, with_procedure, with_execution, with_record}
+use Rattle.tc_book.specs.Batch.{HasBehind, GoesOn, LogGoesOn, is_apart_from, HasRoomFor, HoldsRoom, batch_rows}
 use Rattle.tc_book.specs.Book.{Book, stands, request_of, moved, want, with_entry, with_approval, approval_at}
+use Rattle.tc_book.specs.Logs.{procedure_loaded, record_made, recorded}
 use Rattle.tc_book.specs.Loads.{loaded, with_row, with_rows, origin_of, entry_from}
 use Rattle.tc_book.specs.Stacks.{is_row_of, is_in_stack, has_stack, numbers_in_stack, stack_approval_at, with_stack_approval}
 use Rattle.tc_book.proofs.LoadLemmas.{rows_requests, rows_history}
@@ -84,6 +88,45 @@ apart_twice a b c first second one two =
     ∙ list_all-append (is_apart_from a) (drop (length a) b) (drop (length b) c)
     ∙ both_true _ _ one (apart_front a (drop (length a) b) (drop (length b) c) (subst (λ l. list_all (is_apart_from l) (drop (length b) c) ≡ true) first two))
 
+-- ---- the log of procedures
+
+pub same-log_goes_on : (log : LogState) → LogGoesOn log log
+same-log_goes_on log = record { loaded = behind-same log.loaded; steps = behind-same log.steps; executions = behind-same log.executions; records = behind-same log.records }
+
+log_on_and_on : (a b c : LogState) → LogGoesOn a b → LogGoesOn b c → LogGoesOn a c
+log_on_and_on a b c first second = record {
+  loaded = behind-twice a.loaded b.loaded c.loaded first.loaded second.loaded;
+  steps = behind-twice a.steps b.steps c.steps first.steps second.steps;
+  executions = behind-twice a.executions b.executions c.executions first.executions second.executions;
+  records = behind-twice a.records b.records c.records first.records second.records;
+}
+
+-- a book of which the log alone goes on
+log-goes_on : (book : Book) (log : LogState) → LogGoesOn book.log log → GoesOn book (record book { log = log })
+log-goes_on book log on = record {
+  requests = behind-same book.requests;
+  history = behind-same book.history;
+  approvals = behind-same book.approvals;
+  stack_approvals = behind-same book.stack_approvals;
+  log = on;
+  stacks = apart_none book.requests;
+}
+
+begun-goes_on : (stamp : Stamp) (name : List ℕ) (book : Book) → GoesOn book (acted stamp (act.Begin name) book)
+begun-goes_on stamp name book =
+    log-goes_on book (with_execution book.log name stamp.by stamp.moment)
+    (record { loaded = behind-same book.log.loaded; steps = behind-same book.log.steps; executions = behind book.log.executions _; records = behind-same book.log.records })
+
+pub procedure-goes_on : (stamp : Stamp) (name : List ℕ) (steps : List Step) (book : Book) → GoesOn book (procedure_loaded stamp name steps book)
+procedure-goes_on stamp name steps book =
+    log-goes_on book (with_procedure book.log name stamp.by steps)
+    (record { loaded = behind book.log.loaded _; steps = behind book.log.steps _; executions = behind-same book.log.executions; records = behind-same book.log.records })
+
+pub recorded-goes_on : (stamp : Stamp) (given : StepAct) (book : Book) → GoesOn book (recorded stamp given book)
+recorded-goes_on stamp given book =
+    log-goes_on book (with_record book.log (record_made stamp given))
+    (record { loaded = behind-same book.log.loaded; steps = behind-same book.log.steps; executions = behind-same book.log.executions; records = behind book.log.records _ })
+
 -- ---- acts
 
 pub same-goes_on : (book : Book) → GoesOn book book
@@ -92,6 +135,7 @@ same-goes_on book = record {
   history = behind-same book.history;
   approvals = behind-same book.approvals;
   stack_approvals = behind-same book.stack_approvals;
+  log = same-log_goes_on book.log;
   stacks = apart_none book.requests;
 }
 
@@ -101,6 +145,7 @@ on_and_on a b c first second = record {
   history = behind-twice a.history b.history c.history first.history second.history;
   approvals = behind-twice a.approvals b.approvals c.approvals first.approvals second.approvals;
   stack_approvals = behind-twice a.stack_approvals b.stack_approvals c.stack_approvals first.stack_approvals second.stack_approvals;
+  log = log_on_and_on a.log b.log c.log first.log second.log;
   stacks = apart_twice a.requests b.requests c.requests first.requests second.requests first.stacks second.stacks;
 }
 
@@ -110,6 +155,7 @@ moved-goes_on stamp book n to c = record {
   history = behind book.history _;
   approvals = behind-same book.approvals;
   stack_approvals = behind-same book.stack_approvals;
+  log = same-log_goes_on book.log;
   stacks = apart_none book.requests;
 }
 
@@ -119,6 +165,7 @@ given-goes_on book n person = record {
   history = behind-same book.history;
   approvals = behind book.approvals _;
   stack_approvals = behind-same book.stack_approvals;
+  log = same-log_goes_on book.log;
   stacks = apart_none book.requests;
 }
 
@@ -128,6 +175,7 @@ stack_given-goes_on book name person = record {
   history = behind-same book.history;
   approvals = behind-same book.approvals;
   stack_approvals = behind book.stack_approvals _;
+  log = same-log_goes_on book.log;
   stacks = apart_none book.requests;
 }
 
@@ -137,6 +185,7 @@ entered-goes_on stamp book entry = record {
   history = behind book.history _;
   approvals = behind-same book.approvals;
   stack_approvals = behind-same book.stack_approvals;
+  log = same-log_goes_on book.log;
   stacks = apart_behind book.requests (request_of stamp book.requests None entry ∷ []) refl;
 }
 
@@ -151,9 +200,10 @@ module _ (stamp : Stamp) (name : List ℕ) (start : ℕ) where
     pub history : HasBehind old.history new.history
     pub approvals : new.approvals ≡ old.approvals
     pub stack_approvals : new.stack_approvals ≡ old.stack_approvals
+    pub log : new.log ≡ old.log
 
   pub rows_made : (line : ℕ) (book : Book) (rows : List StackRow) → Made book (with_rows stamp name start line book rows)
-  rows_made line book [] = record { made = []; requests = sym (append-nil book.requests); rows = refl; history = behind-same book.history; approvals = refl; stack_approvals = refl }
+  rows_made line book [] = record { made = []; requests = sym (append-nil book.requests); rows = refl; history = behind-same book.history; approvals = refl; stack_approvals = refl; log = refl }
   rows_made line book (row ∷ rows) =
       let others = rows_made (line + 1) (with_row stamp name start line book row) rows in
       record {
@@ -163,6 +213,7 @@ module _ (stamp : Stamp) (name : List ℕ) (start : ℕ) where
         history = behind-twice book.history (with_row stamp name start line book row).history (with_rows stamp name start (line + 1) (with_row stamp name start line book row) rows).history (behind book.history _) others.history;
         approvals = others.approvals;
         stack_approvals = others.stack_approvals;
+        log = others.log;
       }
     where
       first : Request
@@ -187,6 +238,7 @@ loaded-goes_on stamp name rows book unused =
       history = all.history;
       approvals = subst (HasBehind book.approvals) (sym all.approvals) (behind-same book.approvals);
       stack_approvals = subst (HasBehind book.stack_approvals) (sym all.stack_approvals) (behind-same book.stack_approvals);
+      log = subst (LogGoesOn book.log) (sym all.log) (same-log_goes_on book.log);
       stacks = subst (λ l. list_all (is_apart_from book.requests) (drop (length book.requests) l) ≡ true) (sym all.requests) (apart_behind book.requests all.made (rows_apart name book.requests all.made unused all.rows));
     }
 
@@ -216,6 +268,7 @@ acted-goes_on stamp (act.Close n) book = moved-goes_on stamp book n Closed cause
 acted-goes_on stamp (act.ApproveStack name) book =
     given_and_on book (with_stack_approval book name stamp.by) (rows_approved stamp name (with_stack_approval book name stamp.by)) (completes stamp.by (stack_approval_at book name)) (stack_given-goes_on book name stamp.by)
     (rows-goes_on stamp (numbers_in_stack name book.requests) (with_stack_approval book name stamp.by))
+acted-goes_on stamp (act.Begin name) book = begun-goes_on stamp name book
 
 -- what an act answers goes on, where it is carried out
 pub answered-goes_on : {X : Type 0} (begins : X → First) (old : Book) (stamp : Stamp) (given : BookAct) (new : Book) (answer : Result X Refusal) → Answers begins old stamp given new answer → OnOk answer (GoesOn old new)
@@ -226,7 +279,7 @@ answered-goes_on begins old stamp given new (Err refused) h = tt
 
 -- room for all that a load writes
 pub loaded-room : {A B : Type 0} (stamp : Stamp) (name : List ℕ) (rows : List StackRow) (book : Book) (moves : Vec Move A) (batch : Vec Row B)
-    → HasRoomFor (length rows) moves → HasRoomFor (batch_rows (length rows) (length rows)) batch → HoldsRoom book (loaded stamp name rows book) moves batch
+    → HasRoomFor (length rows) moves → HasRoomFor (batch_rows (length rows) (length rows) + 0) batch → HoldsRoom book (loaded stamp name rows book) moves batch
 loaded-room stamp name rows book moves batch for_moves for_batch =
     let requests = rows_requests stamp name (length book.requests + 1) 1 book rows in
     let history = rows_history stamp name (length book.requests + 1) 1 book rows in
@@ -239,5 +292,5 @@ loaded-room stamp name rows book moves batch for_moves for_batch =
       batch_empty = for_batch.0;
       approvals = rw made.approvals (omega arith);
       stack_approvals = rw made.stack_approvals (omega arith);
-      batch_room = omega (arith, requests, history, b);
+      batch_room = rw made.log (omega (arith, requests, history, b));
     }

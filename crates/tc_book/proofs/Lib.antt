@@ -2,6 +2,8 @@ pub mod HistoryLemmas
 pub mod RequestLemmas
 pub mod GoodLemmas
 pub mod GoesOnLemmas
+pub mod PutLemmas
+pub mod LogTableLemmas
 pub mod BatchLemmas
 pub mod ConservedLemmas
 pub mod TallyLemmas
@@ -14,6 +16,7 @@ pub mod NameLemmas
 pub mod TableLemmas
 pub mod PassingLemmas
 pub mod StepLemmas
+pub mod LogLemmas
 pub mod LoadLemmas
 pub mod RowLemmas
 pub mod ApproveLemmas

@@ -10,6 +10,8 @@ use Rattle.tc_book.specs.declared.stamps.Stamp.{Stamp}
 use Rattle.tc_book.specs.Acts.{first_refusal, tests_of, acted, completes, row_approved}
 use Rattle.tc_book.specs.Book.{Book, stands, moved, want, with_request, approval_at, with_approval}
 use Rattle.tc_book.specs.Good.{IsGoodBook}
+use Rattle.tc_proc.specs.declared.procedures.Step.{Step}
+use Rattle.tc_book.specs.Logs.{procedure_loaded}
 use Rattle.tc_book.specs.Stacks.{numbers_in_stack, stack_approval_at, with_stack_approval}
 use Rattle.tc_book.specs.Steps.{HasNoted, IsStep, StepsOver, HasSteps}
 use Rattle.tc_book.proofs.PassingLemmas.{none_holds, not_false}
@@ -91,3 +93,10 @@ acted_steps stamp (act.Close n) book good passes =
     let tests = none_holds (tests_of stamp book (act.Close n)) passes in
     one_step stamp book (acted stamp (act.Close n) book) (inr (inr (inl (record { request = n; there = not_false _ tests.1.0; is = refl }))))
 acted_steps stamp (act.ApproveStack name) book good passes = approve_stack_steps stamp book name
+acted_steps stamp (act.Begin name) book good passes =
+    one_step stamp book (acted stamp (act.Begin name) book) (noted stamp book (acted stamp (act.Begin name) book) (record { requests = refl; history = refl }))
+
+-- the load of a procedure
+pub procedure_steps : (stamp : Stamp) (name : List ℕ) (steps : List Step) (book : Book) → HasSteps stamp book (procedure_loaded stamp name steps book)
+procedure_steps stamp name steps book =
+    one_step stamp book (procedure_loaded stamp name steps book) (noted stamp book (procedure_loaded stamp name steps book) (record { requests = refl; history = refl }))

@@ -1,11 +1,11 @@
 -- Each act on the book: its tests, with the refusal that each gives, in order; what it does to the book; and the first
 -- line of its reply. An act is one case of each of these. Beside them the tests of each question.
-use Rattle.std.specs.Prelude.{ℕ, ◌+◌, Bool, false, not, ◌||◌, if◌then◌else◌, Option, Some, None, List, [], ◌∷◌, ◌++◌, length, fold}
+use Rattle.std.specs.Prelude.{ℕ, ◌+◌, Bool, false, not, ◌||◌, if◌then◌else◌, is_none, Option, Some, None, List, [], ◌∷◌, ◌++◌, length, fold}
 use Rattle.std.specs.Option.{option_map_or}
 use Rattle.tc_types.specs.declared.places.Place.TheVariants.{Entered, Approved, Confirmed, Riding, Scheduled, Accepted, Started, Doubtful, Withdrawn, Closed}
 use Rattle.tc_types.specs.declared.causes.Cause.TheVariants as cause
 use Rattle.tc_types.specs.declared.refusals.Refusal.{Refusal}
-use Rattle.tc_types.specs.declared.refusals.Refusal.TheVariants.{UnknownRequest, WrongPlace, IdentityInUse, UnknownStack, DeskFull, BadActivity}
+use Rattle.tc_types.specs.declared.refusals.Refusal.TheVariants.{UnknownRequest, WrongPlace, IdentityInUse, UnknownStack, UnknownProcedure, DeskFull, BadActivity}
 use Rattle.tc_types.specs.declared.requests.Command.{Command}
 use Rattle.tc_types.specs.declared.acts.BookAct.{BookAct}
 use Rattle.tc_types.specs.declared.acts.BookAct.TheVariants as act
@@ -20,6 +20,7 @@ use Rattle.tc_stack.specs.Approvals.{ApprovalState, approved, is_complete, wante
 use Rattle.tc_stack.specs.Approvals as approval
 use Rattle.tc_book.specs.Targets.{target_of, is_bad_activity}
 use Rattle.tc_book.specs.Stacks.{is_loaded, came_with_stack, numbers_in_stack, stack_approval_at, with_stack_approval}
+use Rattle.tc_proc.specs.Logs.{begin_tests, with_execution, execution_at}
 
 abbrev pub names_unknown : Book → Command → Bool
 names_unknown book given = option_map_or (is_unknown book) (target_of given) false
@@ -73,6 +74,7 @@ tests_of stamp book (act.ApproveStack name) =
     (not (is_loaded book name), UnknownStack)
     ∷ approval_tests stamp.by (stack_approval_at book name) ++ (has_all_rows book, DeskFull)
     ∷ []
+tests_of stamp book (act.Begin name) = begin_tests book.log name
 
 -- the tests of each question
 abbrev pub query_tests : Book → Query → List (Bool × Refusal)
@@ -81,6 +83,7 @@ query_tests book (query.History n after) = (is_unknown book n, UnknownRequest) �
 query_tests book (query.Request n) = (is_unknown book n, UnknownRequest) ∷ []
 query_tests book query.Link = []
 query_tests book query.Schedule = []
+query_tests book (query.Log execution) = (is_none (execution_at book.log execution), UnknownProcedure) ∷ []
 
 -- a row of a stack goes to Approved, if it is still Entered
 abbrev pub row_approved : Stamp → Book → ℕ → Book
@@ -103,6 +106,7 @@ acted stamp (act.ApproveStack name) book =
     if completes stamp.by (stack_approval_at book name)
     then rows_approved stamp name (with_stack_approval book name stamp.by)
     else with_stack_approval book name stamp.by
+acted stamp (act.Begin name) book = record book { log = with_execution book.log name stamp.by stamp.moment }
 
 -- the first line of the reply
 abbrev pub first_of : Book → BookAct → First
@@ -111,3 +115,4 @@ first_of book (act.Withdraw n) = first.Plain
 first_of book (act.Approve n) = approvals_first (approval_at book n)
 first_of book (act.Close n) = first.Plain
 first_of book (act.ApproveStack name) = approvals_first (stack_approval_at book name)
+first_of book (act.Begin name) = first.Begun (length book.log.executions + 1)

@@ -9,6 +9,8 @@ use Rattle.tc_book.specs.declared.firsts.First.{First}
 use Rattle.tc_book.specs.Book.{Book}
 use Rattle.tc_book.specs.Acts.{tests_of, first_refusal, acted, first_of}
 use Rattle.tc_book.specs.Loads.{load_tests, loaded, load_first}
+use Rattle.tc_book.specs.Logs.{procedure_tests, procedure_loaded, procedure_first}
+use Rattle.tc_proc.specs.declared.procedures.Step.{Step}
 
 -- Refused as the first test that holds says, or for want of memory where none holds, and then nothing changed; else the book became
 -- this one, and the reply begins so.
@@ -24,3 +26,7 @@ Answers first old stamp given new answer = AnswersBy first (tests_of stamp old g
 -- the load of a stack
 abbrev pub LoadAnswers : {X : Type 0} → (X → First) → Book → Stamp → List ℕ → List StackRow → Book → Result X Refusal → Type 0
 LoadAnswers first old stamp name rows new answer = AnswersBy first (load_tests stamp old name rows) (loaded stamp name rows old) (load_first old name rows) old new answer
+
+-- the load of a procedure
+abbrev pub ProcedureAnswers : {X : Type 0} → (X → First) → Book → Stamp → List ℕ → List Step → Book → Result X Refusal → Type 0
+ProcedureAnswers first old stamp name steps new answer = AnswersBy first (procedure_tests old name steps) (procedure_loaded stamp name steps old) (procedure_first name steps) old new answer

@@ -1,5 +1,5 @@
--- The book: the requests that were entered, the history of their moves, and who approved which, or which stack. Where a request
--- stands is read from the history alone, and which stacks were loaded from the requests.
+-- The book: the requests that were entered, the history of their moves, who approved which, or which stack, and the log of
+-- procedures. Where a request stands is read from the history alone, and which stacks were loaded from the requests.
 use Rattle.std.specs.Prelude.{ℕ, ◌+◌, ◌-◌, ◌%◌, ◌==◌, Bool, not, ◌&&◌, ◌||◌, nat_lt, if◌then◌else◌, Option, None, List, [], ◌∷◌, ◌++◌, length, map, filter, count_by, slice_get}
 use Rattle.std.specs.List.{list_any}
 use Rattle.std.specs.Option.{option_map}
@@ -15,6 +15,7 @@ use Rattle.tc_types.specs.declared.requests.Origin.{Origin}
 use Rattle.tc_types.specs.declared.rows.Approval.{Approval}
 use Rattle.tc_types.specs.declared.rows.StackApproval.{StackApproval}
 use Rattle.tc_stack.specs.Approvals.{ApprovalState}
+use Rattle.tc_proc.specs.Logs.{LogState, empty_log}
 use Rattle.tc_types.specs.Lawful.{is_among, final_places}
 use Rattle.tc_types.specs.History.{place_of}
 use Rattle.tc_book.specs.declared.stamps.Stamp.{Stamp}
@@ -25,10 +26,12 @@ pub record Book : Type 0 where
   -- in the order in which they were given, as those of stacks
   pub approvals : List Approval
   pub stack_approvals : List StackApproval
+  -- the procedures that were loaded, their executions, and what is recorded of them
+  pub log : LogState
 
 -- the book of a desk where nothing happened yet
 abbrev pub empty_book : Book
-empty_book = record { requests = []; history = []; approvals = []; stack_approvals = [] }
+empty_book = record { requests = []; history = []; approvals = []; stack_approvals = []; log = empty_log }
 
 -- where request n stands
 abbrev pub place_in : Book → ℕ → Option Place

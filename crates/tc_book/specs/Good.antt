@@ -11,6 +11,7 @@ use Rattle.tc_types.specs.History.{IsGoodHistory, AllAfter, entered}
 use Rattle.tc_types.specs.Schedule.{KeepsScheduleRule}
 use Rattle.tc_stack.specs.Approvals.{IsApproval}
 use Rattle.tc_stack.specs.Stacks.{IsEarlier}
+use Rattle.tc_proc.specs.GoodLogs.{IsGoodLog, NamesEntered}
 use Rattle.tc_book.specs.Book.{Book, form_of, next_identity, request_in, approval_of}
 use Rattle.tc_book.specs.Stacks.{has_stack, came_alone, stack_approval_at, is_fully_approved}
 use Rattle.tc_book.specs.Targets.{HasGoodTarget}
@@ -40,7 +41,7 @@ pub record IsGoodRequest (before : List Request) (request : Request) : Type 0 wh
 -- The history is good; each request may follow those before it; there are no more than a desk takes; those that the history enters
 -- are the book's. Each approval is of a request that came by itself, or of a stack that was loaded; the approval of each request is as
 -- it can be, and so is that of each stack that somebody approved; and each request that was moved to Approved by its approvers has all
--- of them that are wanted, or its stack has.
+-- of them that are wanted, or its stack has. The log of procedures is good, and a step that names a request names one that was entered.
 pub record IsGoodBook (book : Book) : Type 0 where
   pub history : IsGoodHistory book.history
   pub requests : AllAfter IsGoodRequest [] book.requests
@@ -51,4 +52,6 @@ pub record IsGoodBook (book : Book) : Type 0 where
   pub stacks_named : AllByRecursion (λ (a : StackApproval). has_stack a.stack book.requests ≡ true) book.stack_approvals
   pub approved : AllByRecursion (λ r. IsApproval (approval_of book.approvals r)) book.requests
   pub stacks_approved : AllByRecursion (λ (a : StackApproval). IfSome (stack_approval_at book a.stack) IsApproval) book.stack_approvals
+  pub log : IsGoodLog book.log
+  pub log_named : NamesEntered (length book.requests) book.log
   pub complete : AllByRecursion (λ (m : Move). m.cause ≡ Approve → is_fully_approved book m.request ≡ true) book.history

@@ -6,6 +6,7 @@ pub mod Conserved
 pub mod Records
 pub mod Acts
 pub mod Loads
+pub mod Logs
 pub mod Steps
 pub mod Tables
 pub mod Answers

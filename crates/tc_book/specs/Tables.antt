@@ -21,4 +21,8 @@ image_of book = record {
   approvals = book.approvals;
   stacks = stacks_of book.requests;
   stack_approvals = book.stack_approvals;
+  procedures = book.log.loaded;
+  steps = book.log.steps;
+  executions = book.log.executions;
+  records = book.log.records;
 }

@@ -6,13 +6,16 @@ ghost use Rattle.tc_book.specs.Batch.{GoesOn, HoldsRoom};
 
 pub mod approve;
 pub mod approve_stack;
+pub mod begin;
 pub mod close;
 pub mod enter;
 pub mod load;
+pub mod load_procedure;
 pub mod withdraw;
 
 use crate::acts::approve::approve;
 use crate::acts::approve_stack::approve_stack;
+use crate::acts::begin::begin;
 use crate::acts::close::close;
 use crate::acts::enter::enter;
 use crate::acts::withdraw::withdraw;
@@ -40,6 +43,7 @@ pub fn perform<A: Allocator + Copy + Drop>(
         BookAct::Approve { request } => approve(records, alloc, stamp, request),
         BookAct::Close { request } => close(records, alloc, stamp, request),
         BookAct::ApproveStack { stack } => approve_stack(records, alloc, stamp, stack),
+        BookAct::Begin { procedure } => begin(records, alloc, stamp, procedure),
     }
 }
 
@@ -56,5 +60,9 @@ pub fn refusal_of<A: Allocator + Copy + Drop>(records: &Records<A>, query: Query
                 None
             }
         }
+        Query::Log { execution } => match records.execution(execution) {
+            Some(_) => None,
+            None => Some(Refusal::UnknownProcedure),
+        },
     }
 }

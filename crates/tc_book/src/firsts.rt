@@ -19,6 +19,15 @@ pub enum First {
         rows: u32,
         first: RequestNumber,
     },
+    /// `ok procedure NAME STEPS`: a procedure was loaded.
+    ProcedureLoaded {
+        name: Name,
+        steps: u32,
+    },
+    /// `ok execution E`: an execution was begun.
+    Begun {
+        execution: u32,
+    },
     /// `ok approvals I of M`: so many approved, and so many are wanted.
     Approvals {
         given: u8,

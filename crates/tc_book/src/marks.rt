@@ -12,6 +12,14 @@ pub struct Mark {
     pub approvals: usize,
     /// How many approvals of stacks.
     pub stack_approvals: usize,
+    /// How many procedures.
+    pub procedures: usize,
+    /// How many steps of procedures.
+    pub steps: usize,
+    /// How many executions.
+    pub executions: usize,
+    /// How many records of steps.
+    pub records: usize,
     /// How many requests at each place, in order of number.
     pub tallies: [u32; PLACES],
 }

@@ -38,7 +38,7 @@ pub fn approve<A: Allocator + Copy + Drop>(
         return Err(Refusal::DeskFull);
     }
     let first = records.next_approval(n);
-    let draft = make_room(records, alloc, first, 0, 1)?;
+    let draft = make_room(records, alloc, first, 0, 1, 0)?;
     if records.approve(request, stamp.by) {
         records.record(stamp, request, Place::Approved, Cause::Approve);
     }

@@ -32,7 +32,7 @@ pub fn approve_stack<A: Allocator + Copy + Drop>(
     }
     let first = records.next_stack_approval(&name);
     let rows = records.count_rows(&name);
-    let draft = make_room(records, alloc, first, 0, rows)?;
+    let draft = make_room(records, alloc, first, 0, rows, 0)?;
     if records.approve_stack(name, stamp.by) {
         records.approve_rows(&stamp, &name);
     }

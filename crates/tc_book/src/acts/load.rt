@@ -192,7 +192,7 @@ pub fn load<A: Allocator + Copy + Drop>(
         rows: rows.len() as u32,
         first: records.next_number(),
     };
-    let draft = make_room(records, alloc, first, rows.len(), rows.len())?;
+    let draft = make_room(records, alloc, first, rows.len(), rows.len(), 0)?;
     enter_rows(records, &stamp, &name, rows);
     Ok(draft)
 }

@@ -32,7 +32,7 @@ pub fn withdraw<A: Allocator + Copy + Drop>(
     if records.has_all_rows() {
         return Err(Refusal::DeskFull);
     }
-    let draft = make_room(records, alloc, First::Plain, 0, 1)?;
+    let draft = make_room(records, alloc, First::Plain, 0, 1, 0)?;
     records.record(stamp, request, Place::Withdrawn, Cause::Withdraw);
     Ok(draft)
 }

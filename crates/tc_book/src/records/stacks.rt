@@ -1,5 +1,6 @@
 //! What the records tell of stacks, and the approval of one.
 ghost use Rattle.std.specs.Prelude.{◌≡◌, ◌+◌, ◌<◌, ◌≤◌, ◌^◌, [], length, count_by, MatchOption, IfSome, if◌then◌else◌, None, Some, true, false};
+ghost use Rattle.tc_proc.specs.Logs.{empty_log};
 ghost use Rattle.tc_book.specs.Acts.{first_refusal, approval_tests, completes, approvals_first, row_approved, rows_approved};
 ghost use Rattle.tc_book.specs.Book.{request_at};
 ghost use Rattle.tc_book.specs.Good.{IsGoodBook};
@@ -30,7 +31,7 @@ fn is_held_back<A: Allocator + Copy + Drop>(
     origin: Option<Origin>,
 ) -> bool
     requires { IfSome origin (λ o. IfSome o.after (λ line. n + line < 2 ^ 32)) }
-    ensures { result ≡ is_held_back (record { requests = []; history = history.now.rows; approvals = []; stack_approvals = [] }) n origin }
+    ensures { result ≡ is_held_back (record { requests = []; history = history.now.rows; approvals = []; stack_approvals = []; log = empty_log }) n origin }
 {
     let Some(origin) = origin else {
         return false;

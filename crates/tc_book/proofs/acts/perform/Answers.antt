@@ -10,3 +10,7 @@ returns-in-Approve-clause-goes_on g c =
 pub returns-in-ApproveStack-clause-goes_on : goal.returns-in-ApproveStack-clause-goes_on
 returns-in-ApproveStack-clause-goes_on g c =
     answered-goes_on (λ draft. draft.first) c.args.records.now.book c.args.stamp (act.ApproveStack c.in-ApproveStack.stack) c.approve_stack.new.records.book c.approve_stack.result c.approve_stack.ensures.answers
+
+pub returns-in-Begin-clause-goes_on : goal.returns-in-Begin-clause-goes_on
+returns-in-Begin-clause-goes_on g c =
+    answered-goes_on (λ draft. draft.first) c.args.records.now.book c.args.stamp (act.Begin c.in-Begin.procedure) c.begin.new.records.book c.begin.result c.begin.ensures.answers
