@@ -21,16 +21,18 @@ use Rattle.tc_world.specs.World.{all_sent, is_known, refusal_in}
 use Rattle.tc_book.specs.declared.stamps.Stamp.{Stamp}
 use Rattle.tc_book.specs.Book.{Book, place_in, request_at}
 use Rattle.tc_book.specs.Acts.{first_refusal}
+use Rattle.tc_book.specs.Logs.{step_tests, released_with}
 use Rattle.tc_desk.specs.State.{State}
 use Rattle.tc_desk.specs.Asks.{offer_at, event_of}
-use Rattle.tc_desk.specs.Acts.{link_tests, refusal_of}
+use Rattle.tc_desk.specs.Acts.{link_tests, tests_behind, refusal_of}
 use Rattle.tc_desk.specs.Machine.{Refuses}
-use Rattle.tc_desk.specs.Parts.{event_asked, link_refuses, IsRefused}
+use Rattle.tc_desk.specs.Parts.{event_beside, event_asked, link_refuses, IsRefused}
 use Rattle.tc_desk.specs.Places.{gone_places, StandsAt}
 use Rattle.tc_desk.specs.Tied.{IsTied}
 use Rattle.tc_book.proofs.PassingLemmas.{none_holds, not_false}
 use Rattle.tc_desk.proofs.TiedLemmas.{only}
 use Rattle.tc_desk.proofs.PlaceLemmas.{none_of, any_behind}
+use Rattle.tc_desk.proofs.StepLemmas.{none_behind}
 
 unknown_to_link : {U D : Type 0} (o : ℕ) (at : State U D) (n : ℕ) → IsTied o at → StandsAt (place.Approved ∷ []) at.book n → is_known n at.world ≡ false
 unknown_to_link o at n tied here =
@@ -77,9 +79,16 @@ flight_agrees o stamp at link_act.Down tied passes = refl
 flight_agrees o stamp at link_act.Work tied passes = refl
 flight_agrees o stamp at (link_act.Clock time) tied passes = refl
 
+-- nor where the tests behind a record let pass
+beside_agrees : {U D : Type 0} (o : ℕ) (stamp : Stamp) (at : State U D) (beside : Option ℕ) → IsTied o at → first_refusal (tests_behind at.book (view_of at.world.fop) at.board.time beside) ≡ None
+    → link_refuses (event_beside at beside) at.world ≡ None
+beside_agrees o stamp at None tied passes = refl
+beside_agrees o stamp at (Some n) tied passes = release_agrees o stamp at n (request_at at.book n) tied passes
+
 agrees : {U D : Type 0} (o : ℕ) (stamp : Stamp) (at : State U D) (given : Act) → IsTied o at → refusal_of stamp at given ≡ None → link_refuses (event_asked at given) at.world ≡ None
 agrees o stamp at (act.Book given) tied passes = refl
 agrees o stamp at (act.Link given) tied passes = flight_agrees o stamp at given tied passes
+agrees o stamp at (act.Step given) tied passes = beside_agrees o stamp at (released_with at.book given) tied (none_behind (step_tests stamp at.book given) _ passes)
 agrees o stamp at (act.Ask asked) tied passes = refl
 
 -- so a refusal is the first test that holds, or memory

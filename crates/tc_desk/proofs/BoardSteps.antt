@@ -23,10 +23,11 @@ use Rattle.tc_board.specs.Names.{Knows, AreNamed, IsGivenOf}
 use Rattle.tc_board.proofs.NameLemmas.{names_kept}
 use Rattle.tc_book.specs.Book.{Book}
 use Rattle.tc_book.specs.Good.{IsGoodBook}
+use Rattle.tc_book.specs.Logs.{released_with}
 use Rattle.tc_desk.specs.Asks.{taken_in, board_after, reports_after}
 use Rattle.tc_desk.specs.Downlink.{flying, ArePutInFlight, ArePut}
 use Rattle.tc_desk.specs.Followed.{roll_of, IsPayloadOf, IsFlown, IsNamedDown, mirror_through}
-use Rattle.tc_desk.specs.Machine.{Flies, Goes}
+use Rattle.tc_desk.specs.Machine.{Flies, FliesBeside, Goes}
 use Rattle.tc_desk.specs.Riders.{carried_by, NoneIsOf}
 use Rattle.tc_desk.specs.State.{State}
 use Rattle.tc_desk.proofs.ArrivalLemmas.{arrives}
@@ -109,10 +110,17 @@ flies_steps up down book sent link_act.Work old new all put steps board named co
 flies_steps up down book sent (link_act.Clock time) old new all put steps board named comes flies are =
     subst (StepsOn book sent old.board new.board) (sym are.2) (event_steps book sent old.board new.board (Clock time) are.0 steps board named tt tt (are.1, flies.board))
 
+-- a release that comes with a record, if one does, is nothing to the spacecraft
+beside_board : {U D : Type 0} (up : Kind U Frame) (down : Kind D Report) (beside : Option ℕ) (old new : State U D) (all : List Indication) → FliesBeside up down beside old new all → new.board ≡ old.board
+beside_board up down None old new all stands = stands.1
+beside_board up down (Some n) old new all flies = flies.1
+
 -- each act
 pub goes_steps : {U D : Type 0} (up : Kind U Frame) (down : Kind D Report) (book : Book) (sent : List ℕ) (given : Act) (old new : State U D) (all : List Indication) (put : List Report)
     → FollowsSteps → IsBoardOf (roll_of book sent) old.board → AreNamed (IsFlown book sent) old.board → ComesAsReleased book sent (taken_in all)
     → Goes up down given old new all → ArePut old given all put → StepsOn book sent old.board new.board put
 goes_steps up down book sent (act.Book given) old new all put steps board named comes goes are = still_steps book sent old.board new.board put board named goes.1 are
 goes_steps up down book sent (act.Link given) old new all put steps board named comes goes are = flies_steps up down book sent given old new all put steps board named comes goes are
+goes_steps up down book sent (act.Step given) old new all put steps board named comes goes are =
+    still_steps book sent old.board new.board put board named (beside_board up down (released_with old.book given) old new all goes) are
 goes_steps {U} {D} up down book sent (act.Ask asked) old new all put steps board named comes goes are = still_steps book sent old.board new.board put board named (ap (λ (at : State U D). at.board) goes.0) are

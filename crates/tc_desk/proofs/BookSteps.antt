@@ -148,6 +148,10 @@ over_tied o stamp (book ∷ over) old new waits sent confirmed steps tied =
 pub steps_tied : (o : ℕ) (stamp : Stamp) (old new : Book) (waits sent confirmed : List ℕ) → HasSteps stamp old new → AreTied o old waits sent confirmed → TiedAlong o old new waits sent confirmed
 steps_tied o stamp old new waits sent confirmed steps tied = over_tied o stamp steps.over old new waits sent confirmed steps.steps tied
 
+-- something is noted
+pub noted_tied : (o : ℕ) (stamp : Stamp) (old new : Book) (waits sent confirmed : List ℕ) → HasNoted old new → AreTied o old waits sent confirmed → TiedAlong o old new waits sent confirmed
+noted_tied o stamp old new waits sent confirmed noted tied = steps_tied o stamp old new waits sent confirmed (record { over = new ∷ []; steps = (inr (inr (inr (inr noted))), refl) }) tied
+
 -- an act on the book alone
 pub book_tied : (o : ℕ) (stamp : Stamp) (given : BookAct) (book : Book) (waits sent confirmed : List ℕ) → IsGoodBook book → first_refusal (book_tests stamp book given) ≡ None
     → AreTied o book waits sent confirmed → TiedAlong o book (book_acted stamp given book) waits sent confirmed

@@ -9,6 +9,7 @@ use Rattle.tc_types.specs.declared.reports.Telemetry.{Telemetry}
 use Rattle.tc_types.specs.declared.requests.Request.{Request}
 use Rattle.tc_types.specs.declared.acts.LinkAct.{LinkAct}
 use Rattle.tc_types.specs.declared.acts.LinkAct.TheVariants as link_act
+use Rattle.tc_types.specs.declared.acts.StepAct.{StepAct}
 use Rattle.tc_types.specs.declared.acts.Act.{Act}
 use Rattle.tc_types.specs.declared.acts.Act.TheVariants as act
 use Rattle.tc_farm.specs.declared.clcws.Clcw.{Clcw}
@@ -29,10 +30,11 @@ use Rattle.tc_world.proofs.Lists.{sublist_trans, sublist_front, sublist_both}
 use Rattle.tc_board.specs.Board.{work_reports}
 use Rattle.tc_book.specs.declared.stamps.Stamp.{Stamp}
 use Rattle.tc_book.specs.Book.{request_at}
+use Rattle.tc_book.specs.Logs.{released_with}
 use Rattle.tc_desk.specs.declared.firsts.First.{First}
 use Rattle.tc_desk.specs.State.{State}
 use Rattle.tc_desk.specs.Asks.{offer_at, has_buffer, taken_in, reports_after}
-use Rattle.tc_desk.specs.Machine.{Happened, Passes, PutsDown, Reports, Boards, Flies, Does}
+use Rattle.tc_desk.specs.Machine.{Happened, Passes, PutsDown, Reports, Boards, Flies, FliesBeside, Does}
 use Rattle.tc_desk.specs.Downlink.{came_down, flying, MovesDown}
 
 -- ---- one event
@@ -203,10 +205,17 @@ flight_down up down ul dl (link_act.Clock time) old new all flies = record {
   rest = subst (λ l. IsSublist (came_down l ++ down.content new.world.down) (down.content old.world.down ++ flying flies.items)) (sym flies.silent) (reports_down up down ul dl flies.items old.world new.world flies.reports);
 }
 
+-- a step, and the release that comes with it, if one does
+beside_down : {U D : Type 0} (up : Kind U Frame) (down : Kind D Report) → OnlyLoses up → OnlyLoses down → (given : StepAct) (beside : Option ℕ) (old new : State U D) (all : List Indication)
+    → FliesBeside up down beside old new all → MovesDown down (act.Step given) old new all
+beside_down up down ul dl given None old new all stands = record { put = []; are = refl; rest = none_down down old.world new.world all (stands.0, stands.3) }
+beside_down up down ul dl given (Some n) old new all flies = record { put = []; are = refl; rest = offer_down up down ul dl n old new all (request_at old.book n) flies.0 }
+
 -- an act
 pub does_down : {U D : Type 0} (up : Kind U Frame) (down : Kind D Report) → OnlyLoses up → OnlyLoses down → (stamp : Stamp) (given : Act) (old new : State U D) (all : List Indication) (first : First)
     → Does up down stamp given old new all first → MovesDown down given old new all
 does_down up down ul dl stamp (act.Book given) old new all first does = record { put = []; are = refl; rest = none_down down old.world new.world all (does.link.0, does.link.3) }
 does_down up down ul dl stamp (act.Link given) old new all first does = flight_down up down ul dl given old new all does.link
+does_down up down ul dl stamp (act.Step given) old new all first does = beside_down up down ul dl given (released_with old.book given) old new all does.link
 does_down {U} {D} up down ul dl stamp (act.Ask asked) old new all first does =
     record { put = []; are = refl; rest = none_down down old.world new.world all (ap (λ (at : State U D). at.world) does.link.0, does.link.1) }

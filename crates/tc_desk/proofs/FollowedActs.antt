@@ -42,7 +42,7 @@ use Rattle.tc_desk.specs.Tied.{IsTied}
 use Rattle.tc_desk.proofs.BoardSteps.{StepsOn, told_comes, goes_steps}
 use Rattle.tc_desk.proofs.FollowLaws.{FollowsSteps}
 use Rattle.tc_desk.proofs.PayloadActs.{CarriedOn, before_payloads, goes_on_carried}
-use Rattle.tc_desk.proofs.ReadActs.{link_requests, does_read}
+use Rattle.tc_desk.proofs.ReadActs.{link_requests, step_requests, does_read}
 use Rattle.tc_desk.proofs.ReadLemmas.{named_down_weaker, through_agrees}
 use Rattle.tc_desk.proofs.BookSteps.{book_tied}
 use Rattle.tc_desk.proofs.RollOfLemmas.{BookStays, same_stays, flown_grows, grown_agrees}
@@ -57,6 +57,7 @@ does_stay up down o stamp (act.Book given) old new all first good passes tied do
     subst (λ (book : Book). BookStays old.book book (all_sent old.world)) (sym alone)
     (book_tied o stamp given old.book (waiting_requests old.world.fop) (all_sent old.world) (all_confirmed old.world) good passes tied).stays
 does_stay up down o stamp (act.Link given) old new all first good passes tied does = same_stays old.book new.book (all_sent old.world) (link_requests stamp given old new all does.book)
+does_stay up down o stamp (act.Step given) old new all first good passes tied does = same_stays old.book new.book (all_sent old.world) (step_requests stamp given old new all does.book)
 does_stay {U} {D} up down o stamp (act.Ask asked) old new all first good passes tied does = same_stays old.book new.book (all_sent old.world) (ap (λ (at : State U D). at.book.requests) does.link.0)
 
 -- ---- what is read

@@ -15,6 +15,7 @@ use Rattle.tc_types.specs.declared.requests.Request.{Request}
 use Rattle.tc_board.specs.Mirror.{MirrorState, is_listed_of}
 use Rattle.tc_types.specs.declared.acts.LinkAct.{LinkAct}
 use Rattle.tc_types.specs.declared.acts.LinkAct.TheVariants as act
+use Rattle.tc_types.specs.declared.acts.StepAct.{StepAct}
 use Rattle.tc_types.specs.Lawful.{is_lawful}
 use Rattle.tc_types.specs.Stages.{stage_of_verification}
 use Rattle.tc_fop.specs.declared.signals.Indication.TheVariants as signal
@@ -23,9 +24,10 @@ use Rattle.tc_world.specs.declared.events.Indication.TheVariants as said
 use Rattle.tc_book.specs.declared.stamps.Stamp.{Stamp}
 use Rattle.tc_book.specs.Batch.{GoesOn}
 use Rattle.tc_book.specs.Book.{Book, place_in, stands, request_at, moved, want}
+use Rattle.tc_book.specs.Logs.{recorded, released_with}
 use Rattle.tc_book.specs.Places.{numbers_from}
-use Rattle.tc_book.proofs.GoesOnLemmas.{same-goes_on, on_and_on, moved-goes_on}
-use Rattle.tc_desk.specs.Acts.{released}
+use Rattle.tc_book.proofs.GoesOnLemmas.{behind, same-goes_on, on_and_on, moved-goes_on}
+use Rattle.tc_desk.specs.Acts.{released, released_beside}
 use Rattle.tc_desk.specs.Commands.{activity_at}
 use Rattle.tc_desk.specs.Effects.{tried, followed, tried_with, reported, is_completed, is_failed, inserted, deleted, removed, emptied, besides, besides_at, received, heard, heard_all}
 
@@ -135,3 +137,29 @@ released-goes_on stamp (act.Clock time) book = same-goes_on book
 pub flown-goes_on : (stamp : Stamp) (mirror : MirrorState) (given : LinkAct) (all : List Indication) (old new : Book) → new ≡ heard_all stamp mirror all (released stamp given old) → GoesOn old new
 flown-goes_on stamp mirror given all old new e =
     subst (GoesOn old) (sym e) (on_and_on old (released stamp given old) (heard_all stamp mirror all (released stamp given old)) (released-goes_on stamp given old) (heard_all-goes_on stamp mirror all (released stamp given old)))
+
+-- ---- a step
+
+recorded-goes_on : (stamp : Stamp) (given : StepAct) (book : Book) → GoesOn book (recorded stamp given book)
+recorded-goes_on stamp given book =
+    let same : GoesOn book book = same-goes_on book in
+    record {
+      requests = same.requests;
+      history = same.history;
+      approvals = same.approvals;
+      stack_approvals = same.stack_approvals;
+      log = record { loaded = same.log.loaded; steps = same.log.steps; executions = same.log.executions; records = behind book.log.records _ };
+      stacks = same.stacks;
+    }
+
+beside-goes_on : (stamp : Stamp) (beside : Option ℕ) (book : Book) → GoesOn book (released_beside stamp beside book)
+beside-goes_on stamp None book = same-goes_on book
+beside-goes_on stamp (Some n) book = released-goes_on stamp (act.Release n) book
+
+-- what a step does to the book: its record, the rows of the release that comes with it, and those of what it hears
+pub stepped-goes_on : (stamp : Stamp) (mirror : MirrorState) (given : StepAct) (all : List Indication) (old new : Book)
+    → new ≡ heard_all stamp mirror all (released_beside stamp (released_with old given) (recorded stamp given old)) → GoesOn old new
+stepped-goes_on stamp mirror given all old new e =
+    let noted : Book = recorded stamp given old in
+    let after : Book = released_beside stamp (released_with old given) noted in
+    subst (GoesOn old) (sym e) (on_and_on old noted (heard_all stamp mirror all after) (recorded-goes_on stamp given old) (on_and_on noted after (heard_all stamp mirror all after) (beside-goes_on stamp (released_with old given) noted) (heard_all-goes_on stamp mirror all after)))

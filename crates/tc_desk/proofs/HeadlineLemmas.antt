@@ -11,6 +11,7 @@ use Rattle.tc_types.specs.declared.requests.Request.{Request}
 use Rattle.tc_types.specs.declared.telecommands.Telecommand.{Telecommand}
 use Rattle.tc_types.specs.declared.acts.LinkAct.{LinkAct}
 use Rattle.tc_types.specs.declared.acts.LinkAct.TheVariants as link_act
+use Rattle.tc_types.specs.declared.acts.StepAct.{StepAct}
 use Rattle.tc_types.specs.declared.acts.Act.{Act}
 use Rattle.tc_types.specs.declared.acts.Act.TheVariants as act
 use Rattle.tc_farm.specs.declared.farms.Verdict.{Verdict}
@@ -33,10 +34,12 @@ use Rattle.tc_world.proofs.Stills.{clean_is}
 use Rattle.tc_board.specs.Board.{BoardState, accepted}
 use Rattle.tc_book.specs.declared.stamps.Stamp.{Stamp}
 use Rattle.tc_book.specs.Book.{request_at}
+use Rattle.tc_book.specs.Logs.{released_with}
 use Rattle.tc_desk.specs.declared.firsts.First.{First}
 use Rattle.tc_desk.specs.State.{State}
 use Rattle.tc_desk.specs.Asks.{event_of, offer_at, has_buffer, taken_in, board_after, reports_after}
-use Rattle.tc_desk.specs.Machine.{Happened, Passes, PutsDown, Reports, Flies, Does}
+use Rattle.tc_desk.specs.Machine.{Happened, Passes, PutsDown, Reports, Flies, FliesBeside, Does}
+use Rattle.tc_desk.specs.Parts.{event_beside}
 use Rattle.tc_desk.specs.Rows.{confirm_rows}
 use Rattle.tc_desk.specs.Tied.{IsTied}
 use Rattle.tc_desk.specs.Headline.{TakesAccepted, TakenOnce, clean_asked, clean_after}
@@ -158,11 +161,17 @@ flight_takes up down link_act.Work old new all flies = record {
 }
 flight_takes up down (link_act.Clock time) old new all flies = record { taken = []; written = none_taken old.world new.world (reports_none up down flies.items old.world new.world flies.reports); board = flies.board }
 
+-- a step, and the release that comes with it, if one does
+beside_takes : {U D : Type 0} (up : Kind U Frame) (down : Kind D Report) (given : StepAct) (beside : Option ℕ) (old new : State U D) (all : List Indication) → FliesBeside up down beside old new all → TakesAccepted (act.Step given) old new
+beside_takes {U} {D} up down given None old new all stands = record { taken = []; written = none_taken old.world new.world (ap (λ (x : Whole U D). all_accepted x) stands.0); board = stands.1 }
+beside_takes up down given (Some n) old new all flies = record { taken = []; written = none_taken old.world new.world (offer_none up down n old new all (request_at old.book n) flies.0); board = flies.1 }
+
 -- an act gives the spacecraft what it adds to the accepted
 pub does_take : {U D : Type 0} (up : Kind U Frame) (down : Kind D Report) (stamp : Stamp) (given : Act) (old new : State U D) (all : List Indication) (first : First)
     → Does up down stamp given old new all first → TakesAccepted given old new
 does_take {U} {D} up down stamp (act.Book given) old new all first does = record { taken = []; written = none_taken old.world new.world (ap (λ (x : Whole U D). all_accepted x) does.link.0); board = does.link.1 }
 does_take up down stamp (act.Link given) old new all first does = flight_takes up down given old new all does.link
+does_take up down stamp (act.Step given) old new all first does = beside_takes up down given (released_with old.book given) old new all does.link
 does_take {U} {D} up down stamp (act.Ask asked) old new all first does =
     record { taken = []; written = none_taken old.world new.world (ap (λ (at : State U D). all_accepted at.world) does.link.0); board = ap (λ (at : State U D). at.board) does.link.0 }
 
@@ -201,11 +210,18 @@ flight_clean up down link_act.Work old new all flies =
     happened_clean up down event.Release flies.reported new.world [] flies.free ∙ reports_clean up down _ old.world flies.reported flies.reports
 flight_clean up down (link_act.Clock time) old new all flies = reports_clean up down flies.items old.world new.world flies.reports
 
+-- a release that comes with a record, if one does
+beside_clean : {U D : Type 0} (up : Kind U Frame) (down : Kind D Report) (beside : Option ℕ) (old new : State U D) (all : List Indication) → FliesBeside up down beside old new all
+    → new.world.clean ≡ clean_asked up down (event_beside old beside) old.world
+beside_clean {U} {D} up down None old new all stands = ap (λ (x : Whole U D). x.clean) stands.0
+beside_clean up down (Some n) old new all flies = passes_clean up down (event_of old (link_act.Release n)) old.world new.world all flies.0
+
 -- an initiation is a good start or not, and no other act is a start
 pub does_clean : {U D : Type 0} (up : Kind U Frame) (down : Kind D Report) (stamp : Stamp) (given : Act) (old new : State U D) (all : List Indication) (first : First)
     → Does up down stamp given old new all first → new.world.clean ≡ clean_after up down old given
 does_clean {U} {D} up down stamp (act.Book given) old new all first does = ap (λ (x : Whole U D). x.clean) does.link.0
 does_clean up down stamp (act.Link given) old new all first does = flight_clean up down given old new all does.link
+does_clean up down stamp (act.Step given) old new all first does = beside_clean up down (released_with old.book given) old new all does.link
 does_clean {U} {D} up down stamp (act.Ask asked) old new all first does = ap (λ (at : State U D). at.world.clean) does.link.0
 
 -- ---- the claims

@@ -13,6 +13,7 @@ pub mod HeardLemmas
 pub mod OwnLemmas
 pub mod RollOfLemmas
 pub mod BookSteps
+pub mod StepLemmas
 pub mod TiedActs
 pub mod AgreeLemmas
 pub mod DownLemmas
@@ -31,4 +32,5 @@ pub mod StandingLemmas
 pub mod RunLemmas
 pub mod WorkedCases
 pub mod FlownCases
+pub mod ProcedureCases
 pub mod ScheduleCases

@@ -3,7 +3,6 @@ use Rattle.std.proofs.Common.{◌≡◌, ℕ, Ok, Err, Result, List, [], ◌++�
 use Rattle.tc_types.specs.declared.frames.Frame.{Frame}
 use Rattle.tc_types.specs.declared.refusals.Refusal.{Refusal}
 use Rattle.tc_types.specs.declared.reports.Report.{Report}
-use Rattle.tc_stack.specs.declared.stacks.StackRow.{StackRow}
 use Rattle.tc_fop.specs.Requests.{waiting_requests}
 use Rattle.tc_world.specs.declared.events.Indication.{Indication}
 use Rattle.tc_world.specs.Abstraction.{seen}
@@ -17,11 +16,10 @@ use Rattle.tc_board.proofs.NameLemmas.{names_weaker}
 use Rattle.tc_board.proofs.RollLemmas.{board_agrees}
 use Rattle.tc_book.specs.declared.stamps.Stamp.{Stamp}
 use Rattle.tc_book.specs.Book.{Book}
-use Rattle.tc_book.specs.Loads.{loaded}
 use Rattle.tc_book.specs.Steps.{HasSteps}
 use Rattle.tc_desk.specs.declared.firsts.First.{First}
 use Rattle.tc_desk.specs.Followed.{roll_of, IsPayloadOf, IsFlown, IsNamedDown, IsFollowed}
-use Rattle.tc_desk.specs.Loads.{LoadAnswers}
+use Rattle.tc_desk.specs.Loads.{Loading, loaded_with, LoadAnswers}
 use Rattle.tc_desk.specs.Riders.{carried_by, NoneIsOf}
 use Rattle.tc_desk.specs.Standing.{IsStanding}
 use Rattle.tc_desk.specs.State.{State, DeskState}
@@ -81,9 +79,9 @@ load_stands {U} {D} up down stamp old parts book is steps stands =
     (steps_stand up down stamp old book (subst (λ (at : State U D). HasSteps stamp old.parts.book at.book) is steps) stands)
 
 -- and one that was refused
-pub answered_stands : {X U D : Type 0} (up : Kind U Frame) (down : Kind D Report) (all : X → List Indication) (first : X → First) (stamp : Stamp) (name : List ℕ) (rows : List StackRow)
+pub answered_stands : {X U D : Type 0} (up : Kind U Frame) (down : Kind D Report) (all : X → List Indication) (first : X → First) (stamp : Stamp) (given : Loading)
     (old : DeskState U D) (parts : State U D) (answer : Result X Refusal)
-    → LoadAnswers all first old.parts stamp name rows parts answer → HasSteps stamp old.parts.book parts.book → IsStanding up down old → IsStanding up down (record old { parts = parts })
-answered_stands up down all first stamp name rows old parts (Ok done) answers steps stands = load_stands up down stamp old parts (loaded stamp name rows old.parts.book) answers.is steps stands
-answered_stands {X} {U} {D} up down all first stamp name rows old parts (Err refused) answers steps stands =
+    → LoadAnswers all first old.parts stamp given parts answer → HasSteps stamp old.parts.book parts.book → IsStanding up down old → IsStanding up down (record old { parts = parts })
+answered_stands up down all first stamp given old parts (Ok done) answers steps stands = load_stands up down stamp old parts (loaded_with stamp given old.parts.book) answers.is steps stands
+answered_stands {X} {U} {D} up down all first stamp given old parts (Err refused) answers steps stands =
     subst (λ (at : State U D). IsStanding up down (record old { parts = at })) (sym answers.same) stands

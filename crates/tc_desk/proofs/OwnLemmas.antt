@@ -1,11 +1,10 @@
 -- A release keeps the tie between book and link.
-use Rattle.std.proofs.Common.{◌≡◌, ℕ, false, List, [], ◌∷◌, refl}
+use Rattle.std.proofs.Common.{◌≡◌, ℕ, ◌<◌, false, Some, List, [], ◌∷◌, refl}
 use Rattle.tc_types.specs.declared.places.Place.TheVariants as place
 use Rattle.tc_types.specs.declared.causes.Cause.TheVariants as cause
 use Rattle.tc_types.specs.declared.acts.LinkAct.TheVariants as link_act
 use Rattle.tc_book.specs.declared.stamps.Stamp.{Stamp}
 use Rattle.tc_book.specs.Book.{Book, place_in, moved, want}
-use Rattle.tc_book.specs.Good.{IsGoodBook}
 use Rattle.tc_desk.specs.Commands.{activity_at, may_not_ride}
 use Rattle.tc_desk.specs.Acts.{released}
 use Rattle.tc_desk.specs.Places.{gone_places, StandsAt}
@@ -40,14 +39,14 @@ released_still o stamp book n =
     (followed_still o stamp after (activity_at book n) (place.Approved ∷ []) place.Riding cause.Release (record { transmits = refl; confirms = refl }))
 
 -- a request that is released waits
-pub released_tied : (o : ℕ) (stamp : Stamp) (book : Book) (n : ℕ) (sent confirmed : List ℕ) → IsGoodBook book → StandsAt (place.Approved ∷ []) book n
+pub released_tied : (o : ℕ) (stamp : Stamp) (book : Book) (n : ℕ) (sent confirmed : List ℕ) → ((m : ℕ) → activity_at book n ≡ Some m → m < n) → StandsAt (place.Approved ∷ []) book n
     → may_not_ride book (activity_at book n) ≡ false
     → AreTied o book [] sent confirmed → AreTied o (released stamp (link_act.Release n) book) (n ∷ []) sent confirmed
-released_tied o stamp book n sent confirmed good here rides tied =
+released_tied o stamp book n sent confirmed before here rides tied =
     let kept = own_released stamp book n here in
     record {
       waits = (released_waits stamp book n, tt);
       sent = each_map _ _ sent kept.sent tied.sent;
-      apart = released_apart stamp book n sent good here rides tied.sent tied.apart;
+      apart = released_apart stamp book n sent before here rides tied.sent tied.apart;
       rows = still_told o book (released stamp (link_act.Release n) book) sent confirmed (released_still o stamp book n) tied.rows;
     }

@@ -22,9 +22,10 @@ use Rattle.tc_world.proofs.Bridge.{OnlyLoses, happens_seen}
 use Rattle.tc_world.proofs.Claims.{as_before_seen}
 use Rattle.tc_world.proofs.Payloads.{payloads_kept}
 use Rattle.tc_book.specs.Book.{request_at}
+use Rattle.tc_book.specs.Logs.{released_with}
 use Rattle.tc_desk.specs.Asks.{offer_at, has_buffer, taken_in, reports_after}
 use Rattle.tc_desk.specs.Commands.{payload_of}
-use Rattle.tc_desk.specs.Machine.{Happened, Passes, PutsDown, Reports, Boards, Flies, Goes}
+use Rattle.tc_desk.specs.Machine.{Happened, Passes, PutsDown, Reports, Boards, Flies, FliesBeside, Goes}
 use Rattle.tc_desk.specs.State.{State}
 
 -- What is carried over the link after something happened to it, and what was told then; what was sent before, and more.
@@ -127,10 +128,18 @@ flies_on P up down losing_up losing_down (link_act.Clock time) old new all own f
     let told = reports_on P up down losing_up losing_down flies.items old.world new.world flies.reports carried in
     quiet_on P up down old.world new.world all flies.silent told.0 told.1
 
+-- a release that comes with a record, if one does
+beside_on : {U D : Type 0} (P : ℕ → Payload → Type 0) (up : Kind U Frame) (down : Kind D Report) → OnlyLoses up → OnlyLoses down → (beside : Option ℕ) (old new : State U D) (all : List Indication)
+    → ((n : ℕ) (r : Request) → request_at old.book n ≡ Some r → P n (payload_of old.book r.body))
+    → FliesBeside up down beside old new all → AreCarried P (seen up down old.world) → CarriedOn P up down old.world new.world all
+beside_on P up down losing_up losing_down None old new all own stands carried = same_on P up down old.world new.world all stands.0 stands.3 carried
+beside_on P up down losing_up losing_down (Some n) old new all own flies carried = flies_on P up down losing_up losing_down (link_act.Release n) old new all own flies carried
+
 -- each act, where P holds of what the book says of each request
 pub goes_on_carried : {U D : Type 0} (P : ℕ → Payload → Type 0) (up : Kind U Frame) (down : Kind D Report) → OnlyLoses up → OnlyLoses down → (given : Act) (old new : State U D) (all : List Indication)
     → ((n : ℕ) (r : Request) → request_at old.book n ≡ Some r → P n (payload_of old.book r.body))
     → Goes up down given old new all → AreCarried P (seen up down old.world) → CarriedOn P up down old.world new.world all
 goes_on_carried P up down losing_up losing_down (act.Book given) old new all own goes carried = same_on P up down old.world new.world all goes.0 goes.3 carried
 goes_on_carried P up down losing_up losing_down (act.Link given) old new all own goes carried = flies_on P up down losing_up losing_down given old new all own goes carried
+goes_on_carried P up down losing_up losing_down (act.Step given) old new all own goes carried = beside_on P up down losing_up losing_down (released_with old.book given) old new all own goes carried
 goes_on_carried {U} {D} P up down losing_up losing_down (act.Ask asked) old new all own goes carried = same_on P up down old.world new.world all (ap (λ (at : State U D). at.world) goes.0) goes.1 carried

@@ -12,7 +12,7 @@ use Rattle.tc_world.specs.declared.events.Indication.TheVariants as said
 use Rattle.tc_board.specs.Mirror.{MirrorState}
 use Rattle.tc_book.specs.declared.stamps.Stamp.{Stamp}
 use Rattle.tc_book.specs.Book.{Book, stands, moved, want}
-use Rattle.tc_desk.specs.Acts.{released}
+use Rattle.tc_desk.specs.Acts.{released, released_beside}
 use Rattle.tc_desk.specs.Commands.{activity_at}
 use Rattle.tc_desk.specs.Effects.{followed, tried_with, heard, heard_all}
 use Rattle.tc_desk.proofs.RiderMoves.{received_riders, sent_riders, confirmed_riders, doubted_riders}
@@ -59,3 +59,8 @@ released_requests stamp act.Clcw book = refl
 released_requests stamp act.Down book = refl
 released_requests stamp act.Work book = refl
 released_requests stamp (act.Clock time) book = refl
+
+-- and those of a release that comes with a record, if one does
+pub beside_requests : (stamp : Stamp) (beside : Option ℕ) (book : Book) → (released_beside stamp beside book).requests ≡ book.requests
+beside_requests stamp None book = refl
+beside_requests stamp (Some n) book = released_requests stamp (act.Release n) book

@@ -31,7 +31,7 @@ use Rattle.tc_desk.specs.Places.{gone_places, StandsAt}
 use Rattle.tc_desk.specs.Riders.{riding_places, carried_by, NoneIsOf, AreApart}
 use Rattle.tc_desk.proofs.TiedLemmas.{each_map, each_behind, nothing_behind, place_moved, only, tried_there, Waits, Gone}
 use Rattle.tc_desk.proofs.PlaceLemmas.{none_of, any_behind}
-use Rattle.tc_desk.proofs.TargetLemmas.{entered_keeps_activity, target_is_before}
+use Rattle.tc_desk.proofs.TargetLemmas.{entered_keeps_activity}
 use Rattle.tc_desk.proofs.RiderMoves.{RidersKept, then_riders, away_riders, follow_riding, received_riders, sent_riders, confirmed_riders, doubted_riders}
 
 -- ---- lists of requests
@@ -217,13 +217,13 @@ next_is_apart book (Some m) sent carried may gone riders =
     )
 
 -- a request that is released is the one that waits
-pub released_apart : (stamp : Stamp) (book : Book) (n : ℕ) (sent : List ℕ) → IsGoodBook book
+pub released_apart : (stamp : Stamp) (book : Book) (n : ℕ) (sent : List ℕ) → ((m : ℕ) → activity_at book n ≡ Some m → m < n)
     → StandsAt (place.Approved ∷ []) book n → may_not_ride book (activity_at book n) ≡ false → Gone book sent
     → AreApart book [] sent
     → AreApart (released stamp (link_act.Release n) book) (n ∷ []) sent
-released_apart stamp book n sent good here may gone apart = record {
+released_apart stamp book n sent before here may gone apart = record {
   riders = still.riders;
-  next_riders = subst (Each (StandsAt riding_places new)) (sym (same_carried book new (n ∷ []) kept.requests)) (next_rides stamp book n (activity_at book n) may (λ m. target_is_before book good n m));
+  next_riders = subst (Each (StandsAt riding_places new)) (sym (same_carried book new (n ∷ []) kept.requests)) (next_rides stamp book n (activity_at book n) may before);
   apart = still.apart;
   next_apart =
       subst (λ l. NoneIsOf (sent ++ l) (carried_by new (n ∷ []))) (sym (same_carried book new sent kept.requests))

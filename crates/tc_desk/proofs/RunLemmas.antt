@@ -1,22 +1,23 @@
 -- Whatever acts and loads follow on a desk that was made new, its rows tell true.
-use Rattle.std.proofs.Common.{◌≡◌, inl, inr, ℕ, true, List, [], ◌∷◌, refl, sym, ap, subst, arith}
+use Rattle.std.proofs.Common.{◌≡◌, inl, inr, true, List, [], ◌∷◌, refl, sym, ap, subst, arith}
 use Rattle.tc_types.specs.declared.frames.Frame.{Frame}
 use Rattle.tc_types.specs.declared.reports.Report.{Report}
 use Rattle.tc_types.specs.declared.acts.Act.{Act}
 use Rattle.tc_types.specs.declared.acts.Act.TheVariants as act
 use Rattle.tc_fop.specs.Requests.{waiting_requests}
-use Rattle.tc_stack.specs.declared.stacks.StackRow.{StackRow}
 use Rattle.tc_world.specs.Links.{Kind}
 use Rattle.tc_world.specs.Window.{IsClaimed, all_confirmed}
 use Rattle.tc_world.specs.World.{Whole, all_sent}
 use Rattle.tc_book.specs.declared.stamps.Stamp.{Stamp}
 use Rattle.tc_book.specs.Good.{IsGoodBook}
+use Rattle.tc_proc.specs.GoodLogs.{IsGoodLog}
+use Rattle.tc_proc.specs.Logs.{empty_log}
 use Rattle.tc_desk.specs.declared.configs.Config.{Config}
 use Rattle.tc_desk.specs.State.{State, new_desk, new_world}
 use Rattle.tc_desk.specs.Machine.{DeskStep, Serves, Carries}
 use Rattle.tc_desk.specs.Replies.{Reply}
 use Rattle.tc_desk.specs.Headline.{Deed, Acts, Loads, DeedOn, DeedsRun, TellsTrue}
-use Rattle.tc_desk.specs.Loads.{LoadStep}
+use Rattle.tc_desk.specs.Loads.{Loading, LoadStep}
 use Rattle.tc_desk.specs.Tied.{AreTiedTo, IsTied}
 use Rattle.tc_desk.proofs.BookSteps.{steps_tied}
 use Rattle.tc_desk.proofs.TiedActs.{does_tied, same_tied}
@@ -36,6 +37,7 @@ serves_tied : {U D : Type 0} (up : Kind U Frame) (down : Kind D Report) (old new
     → Serves up down old stamp given reply new → IsTied 0 old → IsTied 0 new
 serves_tied up down old new stamp (act.Book given) reply good serves tied = carries_tied up down old new stamp (act.Book given) reply good serves tied
 serves_tied up down old new stamp (act.Link given) reply good serves tied = carries_tied up down old new stamp (act.Link given) reply good serves tied
+serves_tied up down old new stamp (act.Step given) reply good serves tied = carries_tied up down old new stamp (act.Step given) reply good serves tied
 serves_tied up down old new stamp (act.Ask asked) reply good serves tied = subst (IsTied 0) (sym serves.2) tied
 
 step_tied : {U D : Type 0} (up : Kind U Frame) (down : Kind D Report) (old new : State U D) (stamp : Stamp) (given : Act) (reply : Reply) → IsGoodBook old.book
@@ -44,9 +46,9 @@ step_tied up down old new stamp given reply good (inl serves) tied = serves_tied
 step_tied up down old new stamp given reply good (inr refused) tied = same_tied 0 up down old new refused.1.same tied
 
 -- a load leaves the link
-load_world : {U D : Type 0} (old new : State U D) (stamp : Stamp) (name : List ℕ) (rows : List StackRow) (reply : Reply) → LoadStep old stamp name rows reply new → new.world ≡ old.world
-load_world {U} {D} old new stamp name rows reply (inl carries) = ap (λ (at : State U D). at.world) carries.has.is
-load_world {U} {D} old new stamp name rows reply (inr refused) = ap (λ (at : State U D). at.world) refused.1.same
+load_world : {U D : Type 0} (old new : State U D) (stamp : Stamp) (given : Loading) (reply : Reply) → LoadStep old stamp given reply new → new.world ≡ old.world
+load_world {U} {D} old new stamp given reply (inl carries) = ap (λ (at : State U D). at.world) carries.has.is
+load_world {U} {D} old new stamp given reply (inr refused) = ap (λ (at : State U D). at.world) refused.1.same
 
 deed_stands : {U D : Type 0} (up : Kind U Frame) (down : Kind D Report) (old new : State U D) (stamp : Stamp) (deed : Deed) → DeedOn up down old stamp deed new → Stands old → Stands new
 deed_stands up down old new stamp (Acts given) done stands = record {
@@ -54,8 +56,8 @@ deed_stands up down old new stamp (Acts given) done stands = record {
   good = done.good;
   claims = done.window;
 }
-deed_stands {U} {D} up down old new stamp (Loads name rows) done stands =
-    let same : new.world ≡ old.world = load_world old new stamp name rows done.reply done.step in
+deed_stands {U} {D} up down old new stamp (Loads given) done stands =
+    let same : new.world ≡ old.world = load_world old new stamp given done.reply done.step in
     record {
       tied = subst (λ (w : Whole U D). AreTiedTo 0 new.book w) (sym same)
           (steps_tied 0 stamp old.book new.book (waiting_requests old.world.fop) (all_sent old.world) (all_confirmed old.world) done.entered stands.tied).tied;
@@ -79,10 +81,14 @@ new_tied config up down = record {
 pub new_claims : {U D : Type 0} (config : Config) (up : U) (down : D) → IsClaimed (new_world config up down)
 new_claims config up down = record { prefixes = (record { accepted = refl; confirmed = refl }, tt); sent_once = tt; accepted_once = tt }
 
+-- nor anything of procedures
+empty_good : IsGoodLog empty_log
+empty_good = record { names = tt; few = omega arith; steps = tt; of_known = tt; some = tt; numbered = tt; few_executions = omega arith; of_loaded = tt; of_begun = tt; executions = tt }
+
 new_stands : {U D : Type 0} (config : Config) (up : U) (down : D) → Stands (new_desk config up down)
 new_stands config up down = record {
   tied = new_tied config up down;
-  good = record { history = tt; requests = tt; few = omega arith; entered = refl; named = tt; alone = tt; stacks_named = tt; approved = tt; stacks_approved = tt; complete = tt };
+  good = record { history = tt; requests = tt; few = omega arith; entered = refl; named = tt; alone = tt; stacks_named = tt; approved = tt; stacks_approved = tt; log = empty_good; log_named = tt; complete = tt };
   claims = λ clean. new_claims config up down;
 }
 

@@ -1,5 +1,5 @@
 -- Each act keeps the tie between book and link.
-use Rattle.std.proofs.Common.{◌≡◌, ℕ, ◌≤◌, ◌==◌, true, Option, Some, None, List, [], ◌∷◌, ◌++◌, length, map, refl, sym, ◌∙◌, ap, subst, append-nil, arith}
+use Rattle.std.proofs.Common.{◌≡◌, ℕ, ◌<◌, ◌≤◌, ◌==◌, true, Option, Some, None, List, [], ◌∷◌, ◌++◌, length, map, refl, sym, ◌∙◌, ap, subst, append-nil, arith}
 use Rattle.std.specs.List.{flat_map}
 use Rattle.tc_types.specs.declared.frames.Frame.{Frame}
 use Rattle.tc_types.specs.declared.reports.Report.{Report}
@@ -7,6 +7,7 @@ use Rattle.tc_types.specs.declared.reports.Telemetry.{Telemetry}
 use Rattle.tc_types.specs.declared.requests.Request.{Request}
 use Rattle.tc_types.specs.declared.acts.LinkAct.{LinkAct}
 use Rattle.tc_types.specs.declared.acts.LinkAct.TheVariants as link_act
+use Rattle.tc_types.specs.declared.acts.StepAct.{StepAct}
 use Rattle.tc_types.specs.declared.acts.Act.{Act}
 use Rattle.tc_types.specs.declared.acts.Act.TheVariants as act
 use Rattle.tc_fop.specs.Machine.{Machine, Waiting, option_list}
@@ -22,20 +23,23 @@ use Rattle.tc_world.specs.World.{Whole, IsAsBefore, all_sent}
 use Rattle.tc_book.specs.declared.stamps.Stamp.{Stamp}
 use Rattle.tc_book.specs.Book.{Book, request_at}
 use Rattle.tc_book.specs.Good.{IsGoodBook}
-use Rattle.tc_book.specs.Acts.{acted as book_acted}
+use Rattle.tc_book.specs.Acts.{first_refusal, acted as book_acted}
+use Rattle.tc_book.specs.Logs.{step_tests, recorded, released_with}
 use Rattle.tc_desk.specs.declared.firsts.First.{First}
 use Rattle.tc_board.specs.Mirror.{MirrorState, no_mirror}
-use Rattle.tc_desk.specs.Commands.{payload_of}
+use Rattle.tc_desk.specs.Commands.{activity_at, payload_of}
 use Rattle.tc_desk.specs.State.{State}
 use Rattle.tc_desk.specs.Asks.{offer_at, has_buffer, taken_in, reports_after}
 use Rattle.tc_desk.specs.Effects.{heard_all}
-use Rattle.tc_desk.specs.Acts.{link_tests, refusal_of, released, acted}
-use Rattle.tc_desk.specs.Machine.{Passes, PutsDown, Reports, Boards, Flies, Does, StaysSame}
+use Rattle.tc_desk.specs.Acts.{link_tests, tests_behind, refusal_of, released, released_beside, acted}
+use Rattle.tc_desk.specs.Machine.{Passes, PutsDown, Reports, Boards, Flies, FliesBeside, Does, StaysSame}
 use Rattle.tc_desk.specs.Tied.{AreTied, AreTiedTo, IsTied}
 use Rattle.tc_book.proofs.PassingLemmas.{none_holds, not_false}
 use Rattle.tc_desk.proofs.HeardLemmas.{heard_tied, waits_no_more}
-use Rattle.tc_desk.proofs.BookSteps.{book_tied}
+use Rattle.tc_desk.proofs.BookSteps.{noted_tied, book_tied}
 use Rattle.tc_desk.proofs.OwnLemmas.{released_tied}
+use Rattle.tc_desk.proofs.StepLemmas.{none_behind, record_noted}
+use Rattle.tc_desk.proofs.TargetLemmas.{target_is_before}
 
 -- ---- the wait queue
 
@@ -119,15 +123,21 @@ release_tied o up down stamp n old v all (Some request) passes none tied =
     (subst (λ l. length l ≤ 1) (sym waits) (omega arith))
     (subst (λ l. AreTied o after l (all_sent old.world) (all_confirmed old.world)) (sym waits) tied)
 
+-- a release that no test refuses
+left_tied : {U D : Type 0} (o : ℕ) (up : Kind U Frame) (down : Kind D Report) (stamp : Stamp) (n : ℕ) (old new : State U D) (all : List Indication)
+    → ((m : ℕ) → activity_at old.book n ≡ Some m → m < n) → first_refusal (link_tests old.book (view_of old.world.fop) old.board.time (link_act.Release n)) ≡ None
+    → Flies up down (link_act.Release n) old new all → IsTied o old → AreTiedTo o (heard_all stamp old.mirror all (released stamp (link_act.Release n) old.book)) new.world
+left_tied o up down stamp n old new all before passes flies tied =
+    let tests = none_holds (link_tests old.book (view_of old.world.fop) old.board.time (link_act.Release n)) passes in
+    let none = none_waits old.world.fop (not_false _ tests.1.1.1.1.1.1.0) in
+    release_tied o up down stamp n old new.world all (request_at old.book n) flies.0 none
+    (released_tied o stamp old.book n (all_sent old.world) (all_confirmed old.world) before (not_false _ tests.1.1.0) tests.1.1.1.1.0 (subst (λ l. AreTied o old.book l (all_sent old.world) (all_confirmed old.world)) none tied))
+
 -- an act on the link keeps it
 flight_tied : {U D : Type 0} (o : ℕ) (up : Kind U Frame) (down : Kind D Report) (stamp : Stamp) (given : LinkAct) (old new : State U D) (all : List Indication)
     → IsGoodBook old.book → refusal_of stamp old (act.Link given) ≡ None → Flies up down given old new all → IsTied o old
     → AreTiedTo o (heard_all stamp old.mirror all (released stamp given old.book)) new.world
-flight_tied o up down stamp (link_act.Release n) old new all good passes flies tied =
-    let tests = none_holds (link_tests old.book (view_of old.world.fop) old.board.time (link_act.Release n)) passes in
-    let none = none_waits old.world.fop (not_false _ tests.1.1.1.1.1.1.0) in
-    release_tied o up down stamp n old new.world all (request_at old.book n) flies.0 none
-    (released_tied o stamp old.book n (all_sent old.world) (all_confirmed old.world) good (not_false _ tests.1.1.0) tests.1.1.1.1.0 (subst (λ l. AreTied o old.book l (all_sent old.world) (all_confirmed old.world)) none tied))
+flight_tied o up down stamp (link_act.Release n) old new all good passes flies tied = left_tied o up down stamp n old new all (target_is_before old.book good n) passes flies tied
 flight_tied o up down stamp (link_act.Direct given) old new all good passes flies tied = told_tied_alone o stamp old.mirror (event.Directive given) old.world new.world all old.book refl flies.0.tells tied
 flight_tied o up down stamp link_act.Tick old new all good passes flies tied = told_tied_alone o stamp old.mirror event.Tick old.world new.world all old.book refl flies.0.tells tied
 flight_tied o up down stamp link_act.Up old new all good passes flies tied = boards_tied o up down stamp old new all flies tied
@@ -142,6 +152,20 @@ flight_tied o up down stamp (link_act.Clock time) old new all good passes flies 
     subst (λ l. AreTiedTo o (heard_all stamp old.mirror l old.book) new.world) (sym flies.silent)
     (reports_tied o up down stamp flies.items old.world new.world old.book flies.reports tied)
 
+-- a record alone
+record_tied : {U D : Type 0} (o : ℕ) (stamp : Stamp) (given : StepAct) (at : State U D) → IsTied o at → AreTiedTo o (recorded stamp given at.book) at.world
+record_tied o stamp given at tied =
+    (noted_tied o stamp at.book (recorded stamp given at.book) (waiting_requests at.world.fop) (all_sent at.world) (all_confirmed at.world) (record_noted stamp given at.book) tied).tied
+
+-- a step, and the release that comes with it, if one does
+beside_tied : {U D : Type 0} (o : ℕ) (up : Kind U Frame) (down : Kind D Report) (stamp : Stamp) (given : StepAct) (beside : Option ℕ) (old new : State U D) (all : List Indication)
+    → IsGoodBook old.book → first_refusal (tests_behind old.book (view_of old.world.fop) old.board.time beside) ≡ None → FliesBeside up down beside old new all → IsTied o old
+    → AreTiedTo o (heard_all stamp old.mirror all (released_beside stamp beside (recorded stamp given old.book))) new.world
+beside_tied o up down stamp given None old new all good passes stands tied = alone_tied o stamp old.mirror old.world new.world all (recorded stamp given old.book) (stands.0, stands.3) (record_tied o stamp given old tied)
+beside_tied {U} {D} o up down stamp given (Some n) old new all good passes flies tied =
+    let noted : State U D = record old { book = recorded stamp given old.book } in
+    left_tied o up down stamp n noted new all (target_is_before old.book good n) passes flies (record_tied o stamp given old tied)
+
 -- an act keeps it
 went_tied : {U D : Type 0} (o : ℕ) (up : Kind U Frame) (down : Kind D Report) (stamp : Stamp) (given : Act) (old new : State U D) (all : List Indication) (first : First)
     → IsGoodBook old.book → refusal_of stamp old given ≡ None → Does up down stamp given old new all first → IsTied o old
@@ -150,6 +174,8 @@ went_tied o up down stamp (act.Book given) old new all first good passes does ti
     alone_tied o stamp old.mirror old.world new.world all (book_acted stamp given old.book) (does.link.0, does.link.3)
     (book_tied o stamp given old.book (waiting_requests old.world.fop) (all_sent old.world) (all_confirmed old.world) good passes tied).tied
 went_tied o up down stamp (act.Link given) old new all first good passes does tied = flight_tied o up down stamp given old new all good passes does.link tied
+went_tied o up down stamp (act.Step given) old new all first good passes does tied =
+    beside_tied o up down stamp given (released_with old.book given) old new all good (none_behind (step_tests stamp old.book given) _ passes) does.link tied
 went_tied {U} {D} o up down stamp (act.Ask asked) old new all first good passes does tied =
     alone_tied o stamp old.mirror old.world new.world all old.book (ap (λ (at : State U D). at.world) does.link.0, does.link.1) tied
 

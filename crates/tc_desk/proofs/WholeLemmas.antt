@@ -44,6 +44,7 @@ count_in_flight at (link_act.Clock time) all items count are counted = counted a
 count_put : {U D : Type 0} (at : State U D) (given : Act) (all : List Indication) (items : List Report) (count : ℕ) → is_question given ≡ false → ArePut at given all items → IsCounted at given all count → count ≡ length items
 count_put at (act.Book given) all items count asks are counted = counted ∙ sym (ap length are)
 count_put at (act.Link given) all items count asks are counted = count_in_flight at given all items count are counted
+count_put at (act.Step given) all items count asks are counted = counted ∙ sym (ap length are)
 count_put at (act.Ask asked) all items count asks are counted = cc
 
 -- by the counts: a desk that is whole stays so exactly where they are even

@@ -17,7 +17,8 @@ use Rattle.tc_types.specs.declared.acts.Query.{Query}
 use Rattle.tc_types.specs.declared.acts.Query.TheVariants as query
 use Rattle.tc_types.specs.History.{entered, counts_of, rows_past}
 use Rattle.tc_types.specs.Lines.{places_line}
-use Rattle.tc_types.specs.Grammar.{line_text}
+use Rattle.tc_types.specs.ActGrammar.{line_text}
+use Rattle.tc_proc.specs.Logs.{execution_at}
 use Rattle.tc_book.specs.declared.stamps.Stamp.{Stamp}
 use Rattle.tc_types.specs.declared.frames.Frame.{Frame}
 use Rattle.tc_types.specs.declared.reports.Report.{Report}
@@ -27,7 +28,7 @@ use Rattle.tc_desk.specs.State.{State, new_desk}
 use Rattle.tc_desk.specs.Acts.{refusal_of, acted, first_of}
 use Rattle.tc_desk.specs.Machine.{stamp_of}
 use Rattle.tc_desk.specs.StatusLines.{status_lines, status_of}
-use Rattle.tc_desk.specs.Replies.{Reply, Replies, act_reply, history_lines, request_lines, refusal_reply}
+use Rattle.tc_desk.specs.Replies.{Reply, Replies, act_reply, history_lines, request_lines, log_lines, refusal_reply}
 
 abbrev first_entry : Form
 first_entry = record {
@@ -65,6 +66,7 @@ told book (query.History n after) = history_lines n (rows_past n after book.hist
 told book (query.Request n) = request_lines (request_at book n) (place_in book n)
 told book query.Link = status_lines (status_of listed listed (desk_of book))
 told book query.Schedule = []
+told book (query.Log execution) = log_lines book.log (execution_at book.log execution)
 
 told-replies : (book : Book) (asked : Query) → (asked ≡ query.Schedule → ⊥) → Replies listed listed (desk_of book) asked (told book asked)
 told-replies book query.Places other = refl
@@ -72,6 +74,7 @@ told-replies book (query.History n after) other = refl
 told-replies book (query.Request n) other = refl
 told-replies book query.Link other = refl
 told-replies book query.Schedule other = absurd (other refl)
+told-replies book (query.Log execution) other = refl
 
 -- the reply where no test holds
 abbrev served : Book → Stamp → Act → Reply

@@ -1,6 +1,6 @@
 -- What each kind of act is refused for, what it makes of the book by itself, and how its reply begins. An act on the book
 -- alone is the book's matter.
-use Rattle.std.specs.Prelude.{ℕ, ◌==◌, nat_lt, Bool, true, false, not, ◌&&◌, ◌||◌, Option, Some, None, is_some, List, [], ◌∷◌, count_by}
+use Rattle.std.specs.Prelude.{ℕ, ◌==◌, nat_lt, Bool, true, false, not, ◌&&◌, ◌||◌, Option, Some, None, is_some, List, [], ◌∷◌, ◌++◌, count_by}
 use Rattle.std.specs.Option.{option_map_or}
 use Rattle.tc_types.specs.declared.activities.ListedActivity.{ListedActivity}
 use Rattle.tc_types.specs.declared.places.Place.TheVariants.{Entered, Approved, Queued, Riding}
@@ -32,6 +32,7 @@ use Rattle.tc_book.specs.declared.firsts.First.TheVariants as book_first
 use Rattle.tc_book.specs.Book.{Book, stands, is_unknown, has_all_rows, want, moved}
 use Rattle.tc_book.specs.Stacks.{is_interlocked}
 use Rattle.tc_book.specs.Acts as on_book
+use Rattle.tc_book.specs.Logs.{step_tests, recorded, released_with}
 use Rattle.tc_desk.specs.declared.firsts.First.{First}
 use Rattle.tc_desk.specs.declared.firsts.First.TheVariants as first
 use Rattle.tc_desk.specs.State.{State}
@@ -82,9 +83,15 @@ link_tests book fop now link_act.Down = (has_all_rows book, DeskFull) ∷ []
 link_tests book fop now link_act.Work = []
 link_tests book fop now (link_act.Clock time) = (nat_lt time now, BadDirective) ∷ []
 
+-- what is tested behind a record: the release, where one comes with it
+abbrev pub tests_behind : Book → FopView → ℕ → Option ℕ → List (Bool × Refusal)
+tests_behind book fop now None = (has_all_rows book, DeskFull) ∷ []
+tests_behind book fop now (Some n) = link_tests book fop now (link_act.Release n)
+
 abbrev pub tests_of : {U D : Type 0} → Stamp → State U D → Act → List (Bool × Refusal)
 tests_of stamp at (act.Book given) = on_book.tests_of stamp at.book given
 tests_of stamp at (act.Link given) = link_tests at.book (view_of at.world.fop) at.board.time given
+tests_of stamp at (act.Step given) = step_tests stamp at.book given ++ tests_behind at.book (view_of at.world.fop) at.board.time (released_with at.book given)
 tests_of stamp at (act.Ask asked) = on_book.query_tests at.book asked
 
 -- what the first test that holds says
@@ -109,9 +116,15 @@ released stamp link_act.Down book = book
 released stamp link_act.Work book = book
 released stamp (link_act.Clock time) book = book
 
+-- those of a release that comes with a record, if one does
+abbrev pub released_beside : Stamp → Option ℕ → Book → Book
+released_beside stamp None book = book
+released_beside stamp (Some n) book = released stamp (link_act.Release n) book
+
 abbrev pub acted : Stamp → Act → Book → Book
 acted stamp (act.Book given) book = on_book.acted stamp given book
 acted stamp (act.Link given) book = released stamp given book
+acted stamp (act.Step given) book = released_beside stamp (released_with book given) (recorded stamp given book)
 acted stamp (act.Ask asked) book = book
 
 -- ---- how the reply begins
@@ -174,10 +187,12 @@ first_told board (link_act.Clock time) all = first.Now time
 abbrev pub first_of : {U D : Type 0} → State U D → Act → List Indication → First
 first_of at (act.Book given) all = first.Book (on_book.first_of at.book given)
 first_of at (act.Link given) all = first_told at.board given all
+first_of at (act.Step given) all = plain
 first_of at (act.Ask asked) all = plain
 
 -- a question changes nothing
 abbrev pub is_question : Act → Bool
 is_question (act.Book given) = false
 is_question (act.Link given) = false
+is_question (act.Step given) = false
 is_question (act.Ask asked) = true

@@ -47,6 +47,7 @@ ArePutInFlight at (link_act.Clock time) all items = (reports : List Telemetry) �
 abbrev pub ArePut : {U D : Type 0} → State U D → Act → List Indication → List Report → Type 0
 ArePut at (act.Book given) all items = items ≡ []
 ArePut at (act.Link given) all items = ArePutInFlight at given all items
+ArePut at (act.Step given) all items = items ≡ []
 ArePut at (act.Ask asked) all items = items ≡ []
 
 -- What flies down after an act is what flew there and what the act put behind it, with items left out; what came down stood

@@ -7,7 +7,6 @@ use Rattle.tc_types.specs.declared.acts.LinkAct.{LinkAct}
 use Rattle.tc_types.specs.declared.acts.LinkAct.TheVariants as link_act
 use Rattle.tc_types.specs.declared.acts.Act.{Act}
 use Rattle.tc_types.specs.declared.acts.Act.TheVariants as act
-use Rattle.tc_stack.specs.declared.stacks.StackRow.{StackRow}
 use Rattle.tc_world.specs.declared.events.Event.{Event}
 use Rattle.tc_world.specs.Links.{Kind}
 use Rattle.tc_world.specs.Sublist.{IsSublist}
@@ -17,7 +16,7 @@ use Rattle.tc_board.specs.Board.{BoardState, accepted, worked, clocked}
 use Rattle.tc_book.specs.declared.stamps.Stamp.{Stamp}
 use Rattle.tc_book.specs.Good.{IsGoodBook}
 use Rattle.tc_book.specs.Steps.{HasSteps}
-use Rattle.tc_desk.specs.Loads.{LoadStep}
+use Rattle.tc_desk.specs.Loads.{Loading, LoadStep}
 use Rattle.tc_desk.specs.Machine.{DeskStep}
 use Rattle.tc_desk.specs.Replies.{Reply}
 use Rattle.tc_desk.specs.Rows.{transmit_rows, confirm_rows}
@@ -42,6 +41,7 @@ board_in_flight (link_act.Clock time) board = clocked time board
 abbrev pub board_by : Act → BoardState → BoardState
 board_by (act.Book given) board = board
 board_by (act.Link given) board = board_in_flight given board
+board_by (act.Step given) board = board
 board_by (act.Ask asked) board = board
 
 -- The requests that an act adds to those that the FARM accepted are given to the spacecraft, each once, in order, and no others
@@ -82,10 +82,10 @@ pub record TellsTrue {U D : Type 0} (opened : ℕ) (at : State U D) : Type 0 whe
 
 -- ---- runs of acts and loads
 
--- what a desk is asked to do: an act, or the load of a stack under a name
+-- what a desk is asked to do: an act, or the load of a stack or of a procedure
 pub data Deed : Type 0 where
   Acts : Act → Deed
-  Loads : List ℕ → List StackRow → Deed
+  Loads : Loading → Deed
 
 -- an act is answered as a desk answers it, whatever the answer is: a good book, and what is claimed of the link, are its clauses
 pub record ActsOn {U D : Type 0} (up : Kind U Frame) (down : Kind D Report) (old : State U D) (stamp : Stamp) (given : Act) (new : State U D) : Type 0 where
@@ -94,16 +94,16 @@ pub record ActsOn {U D : Type 0} (up : Kind U Frame) (down : Kind D Report) (old
   pub good : IsGoodBook new.book
   pub window : new.world.clean ≡ true → IsClaimed new.world
 
--- a load likewise: a good book, and that the rows are entered one after the other in good books, are its clauses
-pub record LoadsOn {U D : Type 0} (old : State U D) (stamp : Stamp) (name : List ℕ) (rows : List StackRow) (new : State U D) : Type 0 where
+-- a load likewise: a good book, and that it goes by steps from one good book to the next, are its clauses
+pub record LoadsOn {U D : Type 0} (old : State U D) (stamp : Stamp) (given : Loading) (new : State U D) : Type 0 where
   pub reply : Reply
-  pub step : LoadStep old stamp name rows reply new
+  pub step : LoadStep old stamp given reply new
   pub good : IsGoodBook new.book
   pub entered : HasSteps stamp old.book new.book
 
 abbrev pub DeedOn : {U D : Type 0} → Kind U Frame → Kind D Report → State U D → Stamp → Deed → State U D → Type 0
 DeedOn up down old stamp (Acts given) new = ActsOn up down old stamp given new
-DeedOn up down old stamp (Loads name rows) new = LoadsOn old stamp name rows new
+DeedOn up down old stamp (Loads given) new = LoadsOn old stamp given new
 
 -- acts and loads of any persons at any moments, one after the other
 abbrev pub DeedsRun : {U D : Type 0} → Kind U Frame → Kind D Report → State U D → List (Stamp × Deed) → State U D → Type 0

@@ -21,6 +21,7 @@ use Rattle.tc_world.specs.World.{Whole, Happens, IsAsBefore}
 use Rattle.tc_board.specs.Board.{work_reports, worked, ClockReports, clocked}
 use Rattle.tc_book.specs.declared.stamps.Stamp.{Stamp}
 use Rattle.tc_desk.specs.declared.firsts.First.{First}
+use Rattle.tc_book.specs.Logs.{released_with}
 use Rattle.tc_desk.specs.State.{State}
 use Rattle.tc_desk.specs.Asks.{event_of, has_buffer, taken_in, board_after, reports_after, mirror_by}
 use Rattle.tc_desk.specs.Effects.{heard_all}
@@ -95,10 +96,20 @@ Flies up down link_act.Down old new all =
 Flies up down link_act.Work old new all = Works up down old new all
 Flies up down (link_act.Clock time) old new all = Clocks up down time old new all
 
+-- nothing is asked of the link, and nothing else goes on
+abbrev pub Stands : {U D : Type 0} → State U D → State U D → List Indication → Type 0
+Stands old new all = (new.world ≡ old.world) × (new.board ≡ old.board) × (new.mirror ≡ old.mirror) × (all ≡ [])
+
+-- a release that comes with a record, if one does
+abbrev pub FliesBeside : {U D : Type 0} → Kind U Frame → Kind D Report → Option ℕ → State U D → State U D → List Indication → Type 0
+FliesBeside up down None old new all = Stands old new all
+FliesBeside up down (Some n) old new all = Flies up down (link_act.Release n) old new all
+
 -- an act on the book alone asks nothing
 abbrev pub Goes : {U D : Type 0} → Kind U Frame → Kind D Report → Act → State U D → State U D → List Indication → Type 0
-Goes up down (act.Book given) old new all = (new.world ≡ old.world) × (new.board ≡ old.board) × (new.mirror ≡ old.mirror) × (all ≡ [])
+Goes up down (act.Book given) old new all = Stands old new all
 Goes up down (act.Link given) old new all = Flies up down given old new all
+Goes up down (act.Step given) old new all = FliesBeside up down (released_with old.book given) old new all
 Goes up down (act.Ask asked) old new all = (new ≡ old) × (all ≡ [])
 
 -- ---- acts

@@ -19,14 +19,21 @@ use Rattle.tc_book.specs.declared.stamps.Stamp.{Stamp}
 use Rattle.tc_desk.specs.declared.firsts.First.{First}
 use Rattle.tc_desk.specs.State.{State}
 use Rattle.tc_desk.specs.Asks.{event_of, taken_in, reports_after}
+use Rattle.tc_book.specs.Logs.{released_with}
 use Rattle.tc_desk.specs.Acts.{refusal_of}
 use Rattle.tc_desk.specs.Downlink.{came_down}
 use Rattle.tc_desk.specs.Machine.{Happened, Does, StaysSame}
+
+-- the event that a release is which comes with a record, if one does
+abbrev pub event_beside : {U D : Type 0} → State U D → Option ℕ → Option Event
+event_beside at None = None
+event_beside at (Some n) = event_of at (link_act.Release n)
 
 -- the event that an act is to the link, if it is one
 abbrev pub event_asked : {U D : Type 0} → State U D → Act → Option Event
 event_asked at (act.Book given) = None
 event_asked at (act.Link given) = event_of at given
+event_asked at (act.Step given) = event_beside at (released_with at.book given)
 event_asked at (act.Ask asked) = None
 
 -- what the link itself refuses
@@ -67,6 +74,7 @@ IsPutCount at (link_act.Clock time) all count = (reports : List Telemetry) → C
 abbrev pub IsCounted : {U D : Type 0} → State U D → Act → List Indication → ℕ → Type 0
 IsCounted at (act.Book given) all count = count ≡ 0
 IsCounted at (act.Link given) all count = IsPutCount at given all count
+IsCounted at (act.Step given) all count = count ≡ 0
 IsCounted at (act.Ask asked) all count = Unit {0}
 
 -- whether as much came down and flies down now as flew there and was put

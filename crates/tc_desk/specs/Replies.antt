@@ -14,6 +14,9 @@ use Rattle.tc_types.specs.History.{entered, counts_of, rows_past}
 use Rattle.tc_types.specs.Lines.{entered_line, approvals_line, stack_line, history_line, move_line, places_line, refusal_line}
 use Rattle.tc_types.specs.LinkLines.{accepted_line, word_line, verified_line, summarized_line, worked_line, time_line, mirror_line, activity_line}
 use Rattle.tc_types.specs.RequestLine.{request_line}
+use Rattle.tc_types.specs.ProcedureLines.{procedure_line, begun_line, execution_line, record_line}
+use Rattle.tc_types.specs.declared.rows.BegunExecution.{BegunExecution}
+use Rattle.tc_proc.specs.Logs.{LogState, execution_at, next_of, records_of}
 use Rattle.tc_world.specs.declared.events.Indication.{Indication}
 use Rattle.tc_world.specs.Links.{Kind}
 use Rattle.tc_board.specs.Schedule.{is_before}
@@ -33,12 +36,14 @@ Reply = List (List ℕ)
 abbrev pub refusal_reply : Refusal → Reply
 refusal_reply refusal = refusal_line refusal ∷ []
 
--- ok, or ok request N APID/COUNT, or ok approvals I of M, or ok stack NAME ROWS FIRST
+-- ok, or ok request N APID/COUNT, or ok approvals I of M, or ok stack NAME ROWS FIRST, or ok procedure NAME STEPS, or ok execution E
 abbrev pub book_line : BookFirst → List ℕ
 book_line book_first.Plain = codes "ok"
 book_line (book_first.Entered n identity) = entered_line n identity
 book_line (book_first.Approvals given wanted) = approvals_line given wanted
 book_line (book_first.Loaded name rows first) = stack_line name rows first
+book_line (book_first.ProcedureLoaded name steps) = procedure_line name steps
+book_line (book_first.Begun execution) = begun_line execution
 
 -- the same, or what came up, was lost, or came down
 abbrev pub first_line : First → List ℕ
@@ -84,6 +89,11 @@ pub record ShowsSchedule (mirror : MirrorState) (told : Reply) : Type 0 where
   pub ordered : IsSortedBy (λ a b. is_before a.time a.identity b.time b.identity) shown
   pub reply : told ≡ schedule_lines mirror.enabled shown
 
+-- the lines about an execution: which procedure it is of, and which step comes next; then what is recorded of it, in order
+abbrev pub log_lines : LogState → Option BegunExecution → Reply
+log_lines log None = []
+log_lines log (Some x) = execution_line x.execution x.procedure (next_of log x) ∷ map record_line (records_of log x.execution)
+
 -- the reply to a question
 abbrev pub Replies : {U D : Type 0} → Kind U Frame → Kind D Report → State U D → Query → Reply → Type 0
 Replies up down at query.Places reply = reply ≡ places_line (length (entered at.book.history)) (counts_of at.book.history) ∷ []
@@ -91,3 +101,4 @@ Replies up down at (query.History n after) reply = reply ≡ history_lines n (ro
 Replies up down at (query.Request n) reply = reply ≡ request_lines (request_at at.book n) (place_in at.book n)
 Replies up down at query.Link reply = reply ≡ status_lines (status_of up down at)
 Replies up down at query.Schedule reply = ShowsSchedule at.mirror reply
+Replies up down at (query.Log execution) reply = reply ≡ log_lines at.book.log (execution_at at.book.log execution)

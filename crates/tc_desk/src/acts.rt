@@ -8,6 +8,7 @@ pub mod load;
 pub mod lose;
 pub mod on_book;
 pub mod release;
+pub mod step;
 pub mod tick;
 pub mod up;
 pub mod work;

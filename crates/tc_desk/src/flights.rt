@@ -43,7 +43,7 @@ pub(crate) struct Flight<A: Allocator + Copy + Drop> {
     pub(crate) draft: Draft<A>,
 }
 
-/// Asks the link for an event, once there is room for so many rows.
+/// Asks the link for an event, once there is room for so many rows, and for one of the log.
 fn fly<U: Carrier<Frame> + Drop, D: Carrier<Report> + Drop, A: Allocator + Copy + Drop>(
     records: &mut Records<A>,
     world: &mut World<U, D, A>,
@@ -55,15 +55,16 @@ fn fly<U: Carrier<Frame> + Drop, D: Carrier<Report> + Drop, A: Allocator + Copy 
     ensures asked { Asked U.kind D.kind (λ flight. flight.said) event world.old world.new result }
     ensures still { may_move event ≡ false → IfOk result (λ flight. list_any tells_move flight.said ≡ false) }
     ensures book { records.new.book ≡ records.old.book }
+    ensures log { records.new.log ≡ records.old.log }
     ensures plain { IfOk result (λ flight. flight.first ≡ plain) }
     ensures put { IfOk result (λ flight. flight.put ≡ 0) }
     ensures kept_room { puts_down event ≡ false → D.covered world.old.down ≤ D.covered world.new.down }
     ensures most { IfOk result (λ flight. length flight.said ≤ 258) }
     ensures room { OnOk result (length records.new.book.history + rows < 2 ^ 32 → length records.new.book.history + rows ≤ records.new.most_rows) }
     ensures moves { IfOk result (λ flight. HasRoomFor rows flight.draft.moves) }
-    ensures batch { IfOk result (λ flight. HasRoomFor (batch_rows 0 rows) flight.draft.batch) }
+    ensures batch { IfOk result (λ flight. HasRoomFor (batch_rows 0 rows + 1) flight.draft.batch) }
 {
-    let draft = make_room(records, alloc, firsts::First::Plain, 0, rows)?;
+    let draft = make_room(records, alloc, firsts::First::Plain, 0, rows, 1)?;
     let said = world.step(event)?;
     Ok(Flight {
         first: PLAIN,
@@ -73,7 +74,7 @@ fn fly<U: Carrier<Frame> + Drop, D: Carrier<Report> + Drop, A: Allocator + Copy 
     })
 }
 
-/// Asks the link for an event, once there is room for so many rows.
+/// Asks the link for an event, once there is room for so many rows, and for one of the log.
 pub(crate) fn ask<U: Carrier<Frame> + Drop, D: Carrier<Report> + Drop, A: Allocator + Copy + Drop>(
     records: &mut Records<A>,
     world: &mut World<U, D, A>,
@@ -85,6 +86,7 @@ pub(crate) fn ask<U: Carrier<Frame> + Drop, D: Carrier<Report> + Drop, A: Alloca
     requires rows { has_all_rows records.old.book ≡ false }
     ensures asked { Asked U.kind D.kind (λ flight. flight.said) event world.old world.new result }
     ensures book { records.new.book ≡ records.old.book }
+    ensures log { records.new.log ≡ records.old.log }
     ensures alone { IfOk result (λ flight. ComesAlone flight.said) }
     ensures no_report { brings_down event ≡ false → IfOk result (λ flight. list_any tells_report flight.said ≡ false) }
     ensures plain { IfOk result (λ flight. flight.first ≡ plain) }
@@ -92,7 +94,7 @@ pub(crate) fn ask<U: Carrier<Frame> + Drop, D: Carrier<Report> + Drop, A: Alloca
     ensures most { IfOk result (λ flight. length flight.said ≤ 258) }
     ensures room { OnOk result (length records.new.book.history + rows ≤ records.new.most_rows) }
     ensures moves { IfOk result (λ flight. HasRoomFor rows flight.draft.moves) }
-    ensures batch { IfOk result (λ flight. HasRoomFor (batch_rows 0 rows) flight.draft.batch) }
+    ensures batch { IfOk result (λ flight. HasRoomFor (batch_rows 0 rows + 1) flight.draft.batch) }
 {
     let flight = fly(records, world, alloc, event, rows)?;
     Ok(flight)
@@ -110,10 +112,11 @@ pub(crate) fn pass<U: Carrier<Frame> + Drop, D: Carrier<Report> + Drop, A: Alloc
     ensures kept_room { puts_down event ≡ false → D.covered world.old.down ≤ D.covered world.new.down }
     ensures heard { IfOk result (λ flight. (stamp : Stamp) (mirror : MirrorState) (book : Book) → heard_all stamp mirror flight.said book ≡ book) }
     ensures book { records.new.book ≡ records.old.book }
+    ensures log { records.new.log ≡ records.old.log }
     ensures plain { IfOk result (λ flight. flight.first ≡ plain) }
     ensures put { IfOk result (λ flight. flight.put ≡ 0) }
     ensures moves { IfOk result (λ flight. HasRoomFor 0 flight.draft.moves) }
-    ensures batch { IfOk result (λ flight. HasRoomFor (batch_rows 0 0) flight.draft.batch) }
+    ensures batch { IfOk result (λ flight. HasRoomFor (batch_rows 0 0 + 1) flight.draft.batch) }
 {
     let flight = fly(records, world, alloc, event, 0)?;
     Ok(flight)

@@ -29,6 +29,7 @@ fn hear_fop<A: Allocator + Copy + Drop>(
     ensures requests { records.new.book.requests ≡ records.old.book.requests }
     ensures approvals { records.new.book.approvals ≡ records.old.book.approvals }
     ensures stack_approvals { records.new.book.stack_approvals ≡ records.old.book.stack_approvals }
+    ensures log { records.new.book.log ≡ records.old.book.log }
 {
     match given {
         signals::Indication::Sent(n) => {
@@ -61,6 +62,7 @@ fn hear<A: Allocator + Copy + Drop>(records: &mut Records<A>, stamp: &Stamp, sai
     ensures requests { records.new.book.requests ≡ records.old.book.requests }
     ensures approvals { records.new.book.approvals ≡ records.old.book.approvals }
     ensures stack_approvals { records.new.book.stack_approvals ≡ records.old.book.stack_approvals }
+    ensures log { records.new.book.log ≡ records.old.book.log }
 {
     match said {
         Indication::Fop(given) => hear_fop(records, stamp, given),
@@ -82,6 +84,7 @@ pub(crate) fn hear_all<A: Allocator + Copy + Drop>(
     ensures requests { records.new.book.requests ≡ records.old.book.requests }
     ensures approvals { records.new.book.approvals ≡ records.old.book.approvals }
     ensures stack_approvals { records.new.book.stack_approvals ≡ records.old.book.stack_approvals }
+    ensures log { records.new.book.log ≡ records.old.book.log }
 {
     for told in said {
         hear(records, stamp, told);
@@ -102,6 +105,7 @@ pub(crate) fn hear_telemetry<A: Allocator + Copy + Drop>(
     ensures requests { records.new.book.requests ≡ records.old.book.requests }
     ensures approvals { records.new.book.approvals ≡ records.old.book.approvals }
     ensures stack_approvals { records.new.book.stack_approvals ≡ records.old.book.stack_approvals }
+    ensures log { records.new.book.log ≡ records.old.book.log }
 {
     match item {
         Telemetry::Summary(_) => {}
@@ -132,6 +136,7 @@ pub(crate) fn hear_down<A: Allocator + Copy + Drop>(
     ensures requests { records.new.book.requests ≡ records.old.book.requests }
     ensures approvals { records.new.book.approvals ≡ records.old.book.approvals }
     ensures stack_approvals { records.new.book.stack_approvals ≡ records.old.book.stack_approvals }
+    ensures log { records.new.book.log ≡ records.old.book.log }
 {
     match said.first() {
         Some(Indication::Received(Report::Telemetry(item))) => {

@@ -33,6 +33,7 @@ pub(crate) fn try_move<A: Allocator + Copy + Drop>(
     ensures requests { records.new.book.requests ≡ records.old.book.requests }
     ensures approvals { records.new.book.approvals ≡ records.old.book.approvals }
     ensures stack_approvals { records.new.book.stack_approvals ≡ records.old.book.stack_approvals }
+    ensures log { records.new.book.log ≡ records.old.book.log }
 {
     let Some(request) = records.number_of(n) else {
         return;
@@ -60,6 +61,7 @@ pub(crate) fn follow<A: Allocator + Copy + Drop>(
     ensures requests { records.new.book.requests ≡ records.old.book.requests }
     ensures approvals { records.new.book.approvals ≡ records.old.book.approvals }
     ensures stack_approvals { records.new.book.stack_approvals ≡ records.old.book.stack_approvals }
+    ensures log { records.new.book.log ≡ records.old.book.log }
 {
     if let Some(n) = activity {
         try_move(records, stamp, n, places, to, cause);
@@ -85,6 +87,7 @@ pub(crate) fn try_move_with<A: Allocator + Copy + Drop>(
     ensures requests { records.new.book.requests ≡ records.old.book.requests }
     ensures approvals { records.new.book.approvals ≡ records.old.book.approvals }
     ensures stack_approvals { records.new.book.stack_approvals ≡ records.old.book.stack_approvals }
+    ensures log { records.new.book.log ≡ records.old.book.log }
 {
     if records.stands(request.get(), places) {
         let activity = activity_at(records, request.get());
@@ -107,6 +110,7 @@ pub(crate) fn report<A: Allocator + Copy + Drop>(
     ensures requests { records.new.book.requests ≡ records.old.book.requests }
     ensures approvals { records.new.book.approvals ≡ records.old.book.approvals }
     ensures stack_approvals { records.new.book.stack_approvals ≡ records.old.book.stack_approvals }
+    ensures log { records.new.book.log ≡ records.old.book.log }
 {
     if is_lawful(records.place_of(request.get()), to, Cause::Report) {
         records.record(*stamp, request, to, Cause::Report);

@@ -152,6 +152,10 @@ impl<U: Carrier<Frame> + Drop, D: Carrier<Report> + Drop, A: Allocator + Copy + 
                 let flight = self.fly(stamp, given)?;
                 Ok(flight)
             }
+            Act::Step(given) => {
+                let flight = self.step(stamp, given)?;
+                Ok(flight)
+            }
             Act::Ask(_) => unreachable!(),
         }
     }

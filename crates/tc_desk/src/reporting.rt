@@ -59,6 +59,7 @@ fn insert<A: Allocator + Copy + Drop>(
     ensures requests { records.new.book.requests ≡ records.old.book.requests }
     ensures approvals { records.new.book.approvals ≡ records.old.book.approvals }
     ensures stack_approvals { records.new.book.stack_approvals ≡ records.old.book.stack_approvals }
+    ensures log { records.new.book.log ≡ records.old.book.log }
 {
     let from = [Place::Riding, Place::Doubtful];
     if is_completed(verification) {
@@ -89,6 +90,7 @@ fn remove<A: Allocator + Copy + Drop>(
     ensures requests { records.new.book.requests ≡ records.old.book.requests }
     ensures approvals { records.new.book.approvals ≡ records.old.book.approvals }
     ensures stack_approvals { records.new.book.stack_approvals ≡ records.old.book.stack_approvals }
+    ensures log { records.new.book.log ≡ records.old.book.log }
 {
     if mirror.is_there(n) {
         try_move(
@@ -110,6 +112,7 @@ fn empty<A: Allocator + Copy + Drop>(records: &mut Records<A>, stamp: &Stamp, mi
     ensures requests { records.new.book.requests ≡ records.old.book.requests }
     ensures approvals { records.new.book.approvals ≡ records.old.book.approvals }
     ensures stack_approvals { records.new.book.stack_approvals ≡ records.old.book.stack_approvals }
+    ensures log { records.new.book.log ≡ records.old.book.log }
 {
     for n in 1..records.count() + 1 {
         remove(records, stamp, mirror, n);
@@ -130,6 +133,7 @@ pub(crate) fn hear_besides<A: Allocator + Copy + Drop>(
     ensures requests { records.new.book.requests ≡ records.old.book.requests }
     ensures approvals { records.new.book.approvals ≡ records.old.book.approvals }
     ensures stack_approvals { records.new.book.stack_approvals ≡ records.old.book.stack_approvals }
+    ensures log { records.new.book.log ≡ records.old.book.log }
 {
     let Some(request) = request else {
         return;

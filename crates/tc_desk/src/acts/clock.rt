@@ -37,7 +37,7 @@ impl<U: Carrier<Frame> + Drop, D: Carrier<Report> + Drop, A: Allocator + Copy + 
         if time.get() < self.board.now().get() {
             return Err(Refusal::BadDirective);
         }
-        let draft = make_room(&mut self.records, self.alloc, firsts::First::Plain, 0, 0)?;
+        let draft = make_room(&mut self.records, self.alloc, firsts::First::Plain, 0, 0, 0)?;
         self.world.reserve(MOST_REPORTS)?;
         let reports = self.board.clock(time)?;
         put_all(&mut self.world, &reports);

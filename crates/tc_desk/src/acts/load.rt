@@ -1,10 +1,10 @@
-//! The load of a stack: its rows are entered in the book, and the link is asked nothing.
-ghost use Rattle.std.specs.Prelude.{◌≡◌, IfOk};
+//! The load of a stack or of a procedure: the book takes it, and the link is asked nothing.
+ghost use Rattle.std.specs.Prelude.{◌≡◌, [], IfOk};
 ghost use Rattle.tc_types.specs.Tables.{applied};
 ghost use Rattle.tc_book.specs.Good.{IsGoodBook};
 ghost use Rattle.tc_book.specs.Steps.{HasSteps};
 ghost use Rattle.tc_book.specs.Tables.{image_of};
-ghost use Rattle.tc_desk.specs.Loads.{LoadAnswers};
+ghost use Rattle.tc_desk.specs.Loads.{LoadAnswers, Stack as StackGiven, Procedure as ProcedureGiven};
 ghost use Rattle.tc_desk.specs.Machine.{rows_new};
 
 use crate::dones::Done;
@@ -12,8 +12,10 @@ use crate::firsts::First;
 use crate::parts::Parts;
 use std::alloc::Allocator;
 use tc_book::acts::load::load;
+use tc_book::acts::load_procedure::load_procedure;
 use tc_book::drafts::Draft;
 use tc_book::stamps::Stamp;
+use tc_proc::procedures::Procedure;
 use tc_stack::stacks::Stack;
 use tc_types::frames::Frame;
 use tc_types::names::Name;
@@ -21,6 +23,26 @@ use tc_types::refusals::Refusal;
 use tc_types::reports::Report;
 use tc_world::carriers::Carrier;
 use tc_world::indications::Indications;
+
+/// What a load answers, of a draft that is filled: the link told nothing.
+fn answer<A: Allocator + Copy + Drop>(alloc: A, filled: Draft<A>) -> Done<A>
+    ensures first { result.first ≡ First.Book filled.first }
+    ensures said { result.said ≡ [] }
+    ensures moves { result.moves.items ≡ filled.moves.items }
+    ensures batch { result.batch.items ≡ filled.batch.items }
+{
+    let Draft {
+        first,
+        moves,
+        batch,
+    } = filled;
+    Done {
+        first: First::Book(first),
+        said: Indications::none(alloc),
+        moves,
+        batch,
+    }
+}
 
 impl<U: Carrier<Frame> + Drop, D: Carrier<Report> + Drop, A: Allocator + Copy + Drop> Parts<
     U,
@@ -34,7 +56,7 @@ impl<U: Carrier<Frame> + Drop, D: Carrier<Report> + Drop, A: Allocator + Copy + 
         name: Name,
         stack: &Stack,
     ) -> Result<Done<A>, Refusal>
-        ensures answers { LoadAnswers (λ done. done.said) (λ done. done.first) self.old stamp name stack.now self.new result }
+        ensures answers { LoadAnswers (λ done. done.said) (λ done. done.first) self.old stamp (StackGiven name stack.now) self.new result }
         ensures steps { HasSteps stamp self.old.book self.new.book }
         ensures moves { IfOk result (λ done. done.moves.items ≡ rows_new self.old self.new) }
         ensures batch { IfOk result (λ done. applied done.batch.items (image_of self.old.book) ≡ image_of self.new.book) }
@@ -42,16 +64,26 @@ impl<U: Carrier<Frame> + Drop, D: Carrier<Report> + Drop, A: Allocator + Copy + 
     {
         let mark = self.records.mark();
         let draft = load(&mut self.records, self.alloc, stamp, name, stack)?;
-        let Draft {
-            first,
-            moves,
-            batch,
-        } = self.records.fill(mark, draft);
-        Ok(Done {
-            first: First::Book(first),
-            said: Indications::none(self.alloc),
-            moves,
-            batch,
-        })
+        let filled = self.records.fill(mark, draft);
+        Ok(answer(self.alloc, filled))
+    }
+
+    /// Loads a procedure under this name, and fills its batch in; it makes no moves.
+    pub(crate) fn load_procedure(
+        &mut self,
+        stamp: Stamp,
+        name: Name,
+        procedure: &Procedure,
+    ) -> Result<Done<A>, Refusal>
+        ensures answers { LoadAnswers (λ done. done.said) (λ done. done.first) self.old stamp (ProcedureGiven name procedure.now) self.new result }
+        ensures steps { HasSteps stamp self.old.book self.new.book }
+        ensures moves { IfOk result (λ done. done.moves.items ≡ rows_new self.old self.new) }
+        ensures batch { IfOk result (λ done. applied done.batch.items (image_of self.old.book) ≡ image_of self.new.book) }
+        ensures good { IsGoodBook self.new.book }
+    {
+        let mark = self.records.mark();
+        let draft = load_procedure(&mut self.records, self.alloc, stamp, name, procedure)?;
+        let filled = self.records.fill(mark, draft);
+        Ok(answer(self.alloc, filled))
     }
 }

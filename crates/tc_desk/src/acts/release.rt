@@ -1,16 +1,24 @@
 //! The act `release`: an approved request leaves the desk.
-ghost use Rattle.std.specs.Prelude.{◌≡◌, ◌||◌, false, IfOk};
+ghost use Rattle.std.specs.Prelude.{◌≡◌, ◌+◌, ◌≤◌, ◌||◌, true, false, IfErr, IfOk, None, Some, [], ◌∷◌, length};
+ghost use Rattle.std.specs.List.{list_any};
 ghost use Rattle.std.specs.Option.{option_map_or};
 ghost use Rattle.tc_types.specs.declared.acts.Act.TheVariants as act;
 ghost use Rattle.tc_types.specs.declared.acts.LinkAct.TheVariants as link_act;
+ghost use Rattle.tc_types.specs.declared.places.Place.TheVariants.{Approved};
+ghost use Rattle.tc_board.specs.Mirror.{MirrorState};
+ghost use Rattle.tc_book.specs.Acts.{first_refusal};
 ghost use Rattle.tc_book.specs.Batch.{HoldsRoom};
+ghost use Rattle.tc_book.specs.Book.{stands, request_at, has_all_rows};
 ghost use Rattle.tc_book.specs.Stacks.{is_interlocked};
 ghost use Rattle.tc_fop.specs.Calls.{is_taking};
-ghost use Rattle.tc_desk.specs.Commands.{may_not_ride};
+ghost use Rattle.tc_desk.specs.Acts.{link_tests, released};
+ghost use Rattle.tc_desk.specs.Asks.{brings_down, offer_at};
+ghost use Rattle.tc_desk.specs.Commands.{activity_at, may_not_ride};
+ghost use Rattle.tc_desk.specs.Effects.{heard_all, tells_report};
 ghost use Rattle.tc_desk.specs.Parts.{IsPutCount, Responds};
 
 use crate::commands::{activity_at, payload_of};
-use crate::flights::{Flight, MOST_ROWS, ask};
+use crate::flights::{Flight, ask};
 use crate::hearing::hear_all;
 use crate::moving::follow;
 use crate::parts::Parts;
@@ -18,13 +26,29 @@ use std::alloc::Allocator;
 use tc_book::records::Records;
 use tc_book::stamps::Stamp;
 use tc_fop::signals::FopState;
+use tc_fop::views::FopView;
 use tc_types::causes::Cause;
 use tc_types::frames::Frame;
+use tc_types::numbers::RequestNumber;
 use tc_types::places::Place;
 use tc_types::refusals::Refusal;
 use tc_types::reports::Report;
 use tc_world::carriers::Carrier;
-use tc_world::events::Event;
+use tc_world::events::{Event, Indication};
+
+/// The most rows that a release makes: the request's own, that of its activity, and the 516 of what the link tells.
+pub(crate) const MOST_RELEASE_ROWS: usize = 518;
+
+/// A request that may be released.
+#[derive(Drop)]
+pub(crate) struct Departure {
+    /// The request.
+    pub(crate) number: RequestNumber,
+    /// How it is offered to the FOP.
+    pub(crate) event: Event,
+    /// The activity that rides with it, where it is an insert.
+    pub(crate) activity: Option<u32>,
+}
 
 /// The service takes requests in S1, S2 and S3.
 fn is_taking(state: FopState) -> bool
@@ -61,6 +85,86 @@ fn may_not_ride<A: Allocator + Copy + Drop>(records: &Records<A>, activity: Opti
     }
 }
 
+/// The departure of request `n`; or why it may not be released, where the FOP stands so.
+pub(crate) fn prepare<A: Allocator + Copy + Drop>(
+    records: &Records<A>,
+    view: FopView,
+    n: u32,
+) -> Result<Departure, Refusal>
+    ensures refused { IfErr result (λ refusal. first_refusal (link_tests records.now.book view 0 (link_act.Release n)) ≡ Some refusal) }
+    ensures free { IfOk result (λ departure. first_refusal (link_tests records.now.book view 0 (link_act.Release n)) ≡ None) }
+    ensures number { IfOk result (λ departure. departure.number ≡ n) }
+    ensures event { IfOk result (λ departure. offer_at records.now.book n (request_at records.now.book n) ≡ Some departure.event) }
+    ensures quiet { IfOk result (λ departure. brings_down departure.event ≡ false) }
+    ensures activity { IfOk result (λ departure. departure.activity ≡ activity_at records.now.book n) }
+    ensures here { IfOk result (λ departure. stands records.now.book n (Approved ∷ []) ≡ true) }
+    ensures rows { IfOk result (λ departure. has_all_rows records.now.book ≡ false) }
+{
+    let Some(number) = records.number_of(n) else {
+        return Err(Refusal::UnknownRequest);
+    };
+    let Some(request) = records.request(n) else {
+        return Err(Refusal::UnknownRequest);
+    };
+    if records.stands(n, &[Place::Entered]) {
+        return Err(Refusal::NotApproved);
+    }
+    if !records.stands(n, &[Place::Approved]) {
+        return Err(Refusal::WrongPlace);
+    }
+    let activity = activity_at(records, n);
+    if is_locked(records, n, activity) {
+        return Err(Refusal::Interlock);
+    }
+    if may_not_ride(records, activity) {
+        return Err(Refusal::BadActivity);
+    }
+    if !is_taking(view.state) {
+        return Err(Refusal::ServiceNotActive);
+    }
+    if view.waiting != 0 {
+        return Err(Refusal::WaitQueueFull);
+    }
+    if records.has_all_rows() {
+        return Err(Refusal::DeskFull);
+    }
+    let event = Event::Offer {
+        request: number,
+        body: payload_of(records, &request.body),
+    };
+    Ok(Departure {
+        number,
+        event,
+        activity,
+    })
+}
+
+/// A request that was offered leaves the desk: its row, that of the activity that rides with it, and those of what the link told.
+pub(crate) fn depart<A: Allocator + Copy + Drop>(
+    records: &mut Records<A>,
+    stamp: &Stamp,
+    number: RequestNumber,
+    activity: Option<u32>,
+    said: &[Indication],
+)
+    requires few { length said.now ≤ 258 }
+    requires room { length records.old.book.history + 518 ≤ records.old.most_rows }
+    requires no_report { list_any tells_report said.now ≡ false }
+    requires here { stands records.old.book number (Approved ∷ []) ≡ true }
+    requires rides { activity ≡ activity_at records.old.book number }
+    ensures book { (mirror : MirrorState) → records.new.book ≡ heard_all stamp.now mirror said.now (released stamp.now (link_act.Release number) records.old.book) }
+    ensures rows { length records.new.book.history ≤ length records.old.book.history + 518 }
+    ensures requests { records.new.book.requests ≡ records.old.book.requests }
+    ensures approvals { records.new.book.approvals ≡ records.old.book.approvals }
+    ensures stack_approvals { records.new.book.stack_approvals ≡ records.old.book.stack_approvals }
+    ensures log { records.new.book.log ≡ records.old.book.log }
+{
+    let (from, to, cause) = ([Place::Approved], Place::Riding, Cause::Release);
+    records.record(*stamp, number, Place::Queued, Cause::Release);
+    follow(records, stamp, activity, &from, to, cause);
+    hear_all(records, stamp, said);
+}
+
 impl<U: Carrier<Frame> + Drop, D: Carrier<Report> + Drop, A: Allocator + Copy + Drop> Parts<
     U,
     D,
@@ -72,46 +176,25 @@ impl<U: Carrier<Frame> + Drop, D: Carrier<Report> + Drop, A: Allocator + Copy + 
         ensures put { IfOk result (λ flight. IsPutCount self.old (link_act.Release n) flight.said flight.put) }
         ensures room { IfOk result (λ flight. HoldsRoom self.old.book self.new.book flight.draft.moves flight.draft.batch) }
     {
-        let Some(number) = self.records.number_of(n) else {
-            return Err(Refusal::UnknownRequest);
-        };
-        let Some(request) = self.records.request(n) else {
-            return Err(Refusal::UnknownRequest);
-        };
-        if self.records.stands(n, &[Place::Entered]) {
-            return Err(Refusal::NotApproved);
-        }
-        if !self.records.stands(n, &[Place::Approved]) {
-            return Err(Refusal::WrongPlace);
-        }
-        let activity = activity_at(&self.records, n);
-        if is_locked(&self.records, n, activity) {
-            return Err(Refusal::Interlock);
-        }
-        if may_not_ride(&self.records, activity) {
-            return Err(Refusal::BadActivity);
-        }
-        let view = self.world.fop_view();
-        if !is_taking(view.state) {
-            return Err(Refusal::ServiceNotActive);
-        }
-        if view.waiting != 0 {
-            return Err(Refusal::WaitQueueFull);
-        }
-        if self.records.has_all_rows() {
-            return Err(Refusal::DeskFull);
-        }
-        let event = Event::Offer {
-            request: number,
-            body: payload_of(&self.records, &request.body),
-        };
-        let most = 2 + MOST_ROWS;
-        let flight = ask(&mut self.records, &mut self.world, self.alloc, event, most)?;
-        let (from, to, cause) = ([Place::Approved], Place::Riding, Cause::Release);
-        self.records
-            .record(stamp, number, Place::Queued, Cause::Release);
-        follow(&mut self.records, &stamp, activity, &from, to, cause);
-        hear_all(&mut self.records, &stamp, flight.said.as_slice());
+        let Departure {
+            number,
+            event,
+            activity,
+        } = prepare(&self.records, self.world.fop_view(), n)?;
+        let flight = ask(
+            &mut self.records,
+            &mut self.world,
+            self.alloc,
+            event,
+            MOST_RELEASE_ROWS,
+        )?;
+        depart(
+            &mut self.records,
+            &stamp,
+            number,
+            activity,
+            flight.said.as_slice(),
+        );
         Ok(flight)
     }
 }

@@ -46,7 +46,7 @@ impl<U: Carrier<Frame> + Drop, D: Carrier<Report> + Drop, A: Allocator + Copy + 
         ensures put { IfOk result (λ flight. IsPutCount self.old link_act.Work flight.said flight.put) }
         ensures room { IfOk result (λ flight. HoldsRoom self.old.book self.new.book flight.draft.moves flight.draft.batch) }
     {
-        let draft = make_room(&mut self.records, self.alloc, firsts::First::Plain, 0, 0)?;
+        let draft = make_room(&mut self.records, self.alloc, firsts::First::Plain, 0, 0, 0)?;
         self.world.reserve(MOST_REPORTS)?;
         let first = first_of_work(self.board.oldest());
         let reports = self.board.work()?;

@@ -19,4 +19,5 @@ loop-told-preserved g c =
       c.hear.ensures.requests ∙ kept.3,
       c.hear.ensures.approvals ∙ kept.4,
       c.hear.ensures.stack_approvals ∙ kept.5,
+      c.hear.ensures.log ∙ kept.6,
     )

@@ -5,7 +5,7 @@ use Rattle.tc_desk.proofs.EmptyLemmas.{removed_to, shown_to, is_shown, removed_m
 use Rattle.tc_desk.proofs.reporting.empty.Goals as goal
 
 pub loop-n-init : goal.loop-n-init
-loop-n-init g c = (refl, omega arith, let none = shown_none c.args.mirror.now.told c.args.records.now.book.requests in omega (arith, none), refl, refl, refl)
+loop-n-init g c = (refl, omega arith, let none = shown_none c.args.mirror.now.told c.args.records.now.book.requests in omega (arith, none), refl, refl, refl, refl)
 
 pub remove-requires : goal.remove-requires
 remove-requires g c = record {
@@ -54,6 +54,7 @@ loop-n-preserved g c =
       c.remove.ensures.requests ∙ kept.3,
       c.remove.ensures.approvals ∙ kept.4,
       c.remove.ensures.stack_approvals ∙ kept.5,
+      c.remove.ensures.log ∙ kept.6,
     )
 
 pub returns-clause-book : goal.returns-clause-book
@@ -85,3 +86,6 @@ returns-clause-approvals g c = c.loop-n.invariant.4
 
 pub returns-clause-stack_approvals : goal.returns-clause-stack_approvals
 returns-clause-stack_approvals g c = c.loop-n.invariant.5
+
+pub returns-clause-log : goal.returns-clause-log
+returns-clause-log g c = c.loop-n.invariant.6

@@ -10,3 +10,4 @@ invariant-loop-n g l =
     × (l.records.book.requests ≡ l.fn.records.book.requests)
     × (l.records.book.approvals ≡ l.fn.records.book.approvals)
     × (l.records.book.stack_approvals ≡ l.fn.records.book.stack_approvals)
+    × (l.records.book.log ≡ l.fn.records.book.log)

@@ -1,4 +1,5 @@
 -- A load keeps what stands of a desk.
+use Rattle.tc_desk.specs.Loads.{Stack}
 use Rattle.tc_desk.specs.Standing.{IsStanding}
 use Rattle.tc_desk.proofs.LoadLemmas.{answered_stands}
 use Rattle.tc_desk.proofs.StandingLemmas.{stands_once}
@@ -9,7 +10,7 @@ use Rattle.tc_desk.proofs.desks.Desk.load_stack.Goals as goal
 stands : (g : given.Over) (c : goal.After-load_stack g)
     → IsStanding g.U.Carrier.kind g.D.Carrier.kind (record { parts = c.load_stack.new.self; opened = c.self.inside.opened; whole = c.self.inside.whole })
 stands g c =
-    answered_stands g.U.Carrier.kind g.D.Carrier.kind (λ done. done.said) (λ done. done.first) (record { by = c.args.by; moment = c.args.moment }) c.args.name c.args.stack.now
+    answered_stands g.U.Carrier.kind g.D.Carrier.kind (λ done. done.said) (λ done. done.first) (record { by = c.args.by; moment = c.args.moment }) (Stack c.args.name c.args.stack.now)
     (record { parts = c.self.inside.parts; opened = c.self.inside.opened; whole = c.self.inside.whole }) c.load_stack.new.self c.load_stack.result
     c.load_stack.ensures.answers c.load_stack.ensures.steps c.self.invariant
 
