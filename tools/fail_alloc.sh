@@ -1,18 +1,19 @@
 #!/bin/bash
-# Refuses the built program its requests for memory, one after the other, on the first run's script, and checks how each
-# run ends. A run may end in these ways, and in no other:
+# tools/fail_alloc.sh [PROGRAM [SCRIPT [LINE..]]] refuses the built program its requests for memory, one after the other, on a script,
+# the first run's where none is given, and checks how each run ends. A run may end in these ways, and in no other:
 #   - all lines are right (the request was not needed);
 #   - the right lines, then `refused 30 Memory` for one line, and the others as if that line were not there;
 #   - the right lines, then `refused 31 Store` for one line, and `refused 32 Stopped` for each one after it;
 #   - the right lines, `tcdesk: cannot use memory` or, where the tables could not be made, `.. tables` on standard error, and
 #     status 2.
 # The number of the refused request goes up until a run asks for less memory than that. Status 1 where a run ended in
-# another way.
+# another way, or where no run was refused 30 at one of the LINEs, counted from 1 among those that are answered.
 set -u
 
 top=$(cd "$(dirname "${BASH_SOURCE[0]}")/.." && pwd) || exit 1
 program=${1:-$top/crates/tc_cli/out/tc_cli}
 script=${2:-$top/examples/first-run.tc}
+wanted=("${@:3}")
 [[ -x $program ]] || { echo "fail_alloc: $program is not built" >&2; exit 1; }
 
 work=$(mktemp -d) || exit 1
@@ -40,8 +41,8 @@ whole=$(answer "${lines[@]}"; echo .)
 whole=${whole%.}
 last=${whole#"${fronts[count]}"}
 
-# Each allowed output, with the status that belongs to it.
-declare -A allowed
+# Each allowed output, with the status that belongs to it, and of those that are refused 30 the line.
+declare -A allowed line_of
 allowed["0$whole"]=right
 allowed["1${fronts[count]}refused 30 Memory"$'\n']=memory
 allowed["1${fronts[count]}refused 31 Store"$'\n']=store
@@ -53,6 +54,7 @@ for ((k = 0; k < count; k++)); do
     without=$(answer "${lines[@]:0:k}" "${lines[@]:k+1}"; echo .)
     without=${without%.}
     allowed["1${fronts[k]}refused 30 Memory"$'\n'"${without#"${fronts[k]}"}"]=memory
+    line_of["1${fronts[k]}refused 30 Memory"$'\n'"${without#"${fronts[k]}"}"]=$((k + 1))
     stopped=${fronts[k]}"refused 31 Store"$'\n'
     for ((j = k + 1; j <= count; j++)); do
         stopped+="refused 32 Stopped"$'\n'
@@ -62,6 +64,7 @@ done
 # ---- the runs
 
 declare -A seen=([right]=0 [memory]=0 [store]=0 [ended]=0)
+declare -A refused
 runs=0
 bad=0
 
@@ -87,6 +90,7 @@ try() {
         printf 'fail_alloc: request %s: status %s, output\n%s%s\n' "$1" "$status" "$out" "$error" >&2
     else
         seen[$how]=$((seen[$how] + 1))
+        [[ -z ${line_of["$status$out"]:-} ]] || refused[${line_of["$status$out"]}]=1
     fi
     return 0
 }
@@ -97,4 +101,7 @@ while try "$at"; do
 done
 
 echo "fail_alloc: $runs runs: ${seen[ended]} ended for memory, ${seen[memory]} refused 30, ${seen[store]} refused 31, ${seen[right]} unharmed, $bad bad"
+for line in "${wanted[@]}"; do
+    [[ -n ${refused[$line]:-} ]] || { bad=$((bad + 1)); echo "fail_alloc: line $line was never refused 30" >&2; }
+done
 ((bad == 0))

@@ -228,6 +228,32 @@ move 12 230 ann 2 Sent Completed report
 places 3: 0 1 0 0 0 0 0 0 0 2 0 0 0 0 0
 TEXT
 )$'\n'
+procedure=$(cat <<'TEXT'
+ok request 1 5/0
+move 1 100 ann 1 - Entered enter
+ok approvals 1 of 1
+move 2 110 bob 1 Entered Approved approve
+ok
+started
+ok procedure warm 3
+ok execution 1
+ok
+refused 15 Countersign
+ok
+move 3 170 ann 1 Approved Queued release
+move 4 170 ann 1 Queued Sent transmit
+ok accepted 1
+ok work 5/0
+ok tm 1,7 5/0 step 0 code 0
+move 5 200 ann 1 Sent Completed report
+ok
+execution 1 warm next 0
+step 1 150 ann done -
+step 2 170 ann done bob
+step 3 210 ann done -
+places 1: 0 0 0 0 0 0 0 0 0 1 0 0 0 0 0
+TEXT
+)$'\n'
 refused=$'refused 1 BadText\n'
 
 : >input
@@ -243,6 +269,7 @@ mkdir examples
 cp "$top"/examples/*.csv examples
 cp "$top"/tools/cases/data/*.csv .
 check "a stack with an interlock" 1 "$stack" "" run "$top/examples/stack.tc"
+check "a procedure with a second person" 1 "$procedure" "" run "$top/examples/procedure.tc"
 fop='fop S6 vs 0 nn 0 sent 0 wait 0 count 1 timer 0 k 10 t1 10 limit 3'
 link='link up 0 down 0 premise kept'
 word=$'ok\nok clcw 01'
@@ -300,16 +327,23 @@ check "a path of a directory" 2 "$moved" "tcdesk: cannot use folder" run unread
 printf '0 ann stack s1 two.csv\n0 ann stack s1 missing.csv\n' >unread
 loaded=$'ok stack s1 2 1\nmove 1 0 ann 1 - Entered enter\nmove 2 0 ann 2 - Entered enter\n'
 check "a path of no file under a name that is used" 2 "$loaded" "tcdesk: cannot use missing.csv" run unread
+printf '%s\n0 ann procedure p1 missing.csv\n0 ann places\n' "$entry" >unread
+check "a path of no file of a procedure" 2 "$moved" "tcdesk: cannot use missing.csv" run unread
 printf '0 ann stack s1 \377\n' >unread
 check "a path that is not UTF-8" 1 "$refused$none" "" run unread
-# A stack has 65,536 bytes at most.
+# A stack has 65,536 bytes at most, and so has a procedure.
 one_row=$'ok stack s1 1 1\nmove 1 0 ann 1 - Entered enter\nplaces 1: 1 0 0 0 0 0 0 0 0 0 0 0 0 0 0\n'
 echo '0 ann stack s1 filled.csv' >fills
-fill() { { cat critical.csv; head -c $(($1 - $(stat -c %s critical.csv))) /dev/zero | tr '\0' '\n'; } >filled.csv; }
-fill 65536
+fill() { { cat "$1"; head -c $(($2 - $(stat -c %s "$1"))) /dev/zero | tr '\0' '\n'; } >filled.csv; }
+fill critical.csv 65536
 check "a stack of 65,536 bytes" 0 "$one_row" "" run fills
-fill 65537
+fill critical.csv 65537
 check "a stack of 65,537 bytes" 1 $'refused 17 TooLong\n'"$none" "" run fills
+echo '0 ann procedure p1 filled.csv' >fills
+fill longest-steps.csv 65536
+check "a procedure of 65,536 bytes" 0 $'ok procedure p1 100\n'"$none" "" run fills
+fill longest-steps.csv 65537
+check "a procedure of 65,537 bytes" 1 $'refused 17 TooLong\n'"$none" "" run fills
 "$program" run "$top/examples/first-run.tc" >/dev/full 2>err
 if [[ $? == 2 ]] && grep -qF "tcdesk: cannot use output" err; then
     passed=$((passed + 1))

@@ -7,6 +7,7 @@ use tc_room::rooms::Room;
 use tc_types::acts::{Act, BookAct, LinkAct};
 use tc_types::directives::Directive;
 use tc_types::entries::Entry;
+use tc_types::loads::LoadKind;
 use tc_types::names::Name;
 use tc_types::numbers::{Apid, Moment, Service, Subtype};
 use tc_types::places::PLACES;
@@ -145,7 +146,7 @@ impl Subject for Room {
         let name = format!(in alloc; "s{number}").ok()?;
         let name = Name::read(name.as_str().as_bytes())?;
         let (by, moment) = (Name::read(AUTHOR)?, Moment::new(0)?);
-        match self.load_stack(alloc, by, moment, name, text) {
+        match self.load(alloc, by, moment, LoadKind::Stack, name, text) {
             Ok(_) => Some(()),
             Err(_) => None,
         }

@@ -13,7 +13,7 @@ use Rattle.tc_types.specs.declared.acts.Act.TheVariants as act
 use Rattle.tc_types.specs.declared.acts.Query.TheVariants as query
 use Rattle.tc_types.specs.History.{counts_of, entered}
 use Rattle.tc_types.specs.Lines.{places_line}
-use Rattle.tc_types.specs.Grammar.{HasLongAct}
+use Rattle.tc_types.specs.ActGrammar.{HasLongAct}
 use Rattle.tc_types.specs.Loads.{LoadLine, SpellsLoad, line_of}
 use Rattle.tc_types.specs.declared.loads.Load.{Load}
 use Rattle.tc_types.specs.declared.refusals.Refusal.{Refusal}

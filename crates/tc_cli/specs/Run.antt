@@ -3,7 +3,7 @@ use Rattle.std.specs.Prelude.{◌≡◌, ◌≢◌, ◌⊎◌, ℕ, ◌==◌, Bo
 use Rattle.std.specs.List.{list_any, flat_map}
 use Rattle.std.specs.Io.KnownBytes.{Appends}
 use Rattle.bstr.specs.Text.{lines_of, without_terminator}
-use Rattle.tc_types.specs.Grammar.{HasLongAct}
+use Rattle.tc_types.specs.ActGrammar.{HasLongAct}
 use Rattle.tc_types.specs.History.{counts_of, entered}
 use Rattle.tc_types.specs.Loads.{LoadLine, SpellsLoad}
 use Rattle.tc_types.specs.Lines.{places_line}
@@ -28,14 +28,14 @@ abbrev pub is_skipped : List ℕ → Bool
 is_skipped [] = true
 is_skipped (first ∷ others) = first == 35
 
--- a line that loads the stack at a path
+-- a line that loads the stack or the procedure at a path
 abbrev pub IsLoadLine : List ℕ → LoadLine → Type 0
 IsLoadLine line load = SpellsLoad line load × (¬ HasLongAct line)
 
 -- the text that was found at its path is loaded
 abbrev pub LoadsFile : Standing → List ℕ → List FileText → Reply → Standing → Type 0
 LoadsFile old line files reply new =
-    (load : LoadLine) × (text : List ℕ) × IsLoadLine line load × (files ≡ file_at load.path text ∷ []) × RoomLoad old (loader_of load) load.name text reply new
+    (load : LoadLine) × (text : List ℕ) × IsLoadLine line load × (files ≡ file_at load.path text ∷ []) × RoomLoad old (loader_of load) load.kind load.name text reply new
 
 -- a line that loads nothing asks for no file, and is answered by itself
 abbrev pub AnswersScriptLine : Standing → List ℕ → List FileText → Reply → Standing → Type 0
@@ -92,7 +92,7 @@ abbrev pub AnswersNext : Standing → List (List ℕ) → Reply → Type 0
 AnswersNext at [] reply = (after : Standing) × AsksPlaces at reply after
 AnswersNext at (line ∷ lines) reply = (after : Standing) × (files : List FileText) × (is_skipped line ≡ false) × AnswersScriptLine at line files reply after
 
--- the next line loads the stack at a path
+-- the next line loads the stack or the procedure at a path
 abbrev pub LoadsNext : List (List ℕ) → Type 0
 LoadsNext [] = ⊥
 LoadsNext (line ∷ lines) = (load : LoadLine) × (is_skipped line ≡ false) × IsLoadLine line load

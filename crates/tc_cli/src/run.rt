@@ -27,12 +27,12 @@ use tc_types::counted::Counted;
 use tc_types::load_reader::read_load;
 use tc_types::loads::Load;
 
-/// How many bytes of a file are read: one more than a stack may have, so that a longer one is refused as too long.
+/// How many bytes of a file are read: one more than a stack or a procedure may have, so that a longer one is refused as too long.
 const MOST_FILE_BYTES: usize = 65_537;
 
 /// Runs the lines of a script on a desk where nothing happened yet, and writes what they are answered, and at the end
 /// what `places` is answered. Gives the exit status: 1 where any line or that question was refused, else 0. A line that loads
-/// a stack takes its text from this source of files; a path that gives none ends the run.
+/// a stack or a procedure takes its text from this source of files; a path that gives none ends the run.
 ///
 /// The script is read whole before a line is run: where that fails, the writer is as it was. The reader and the writer
 /// begin to count here, so that a caller sees which of them failed. What the writer holds back is the caller's to flush.
@@ -122,14 +122,14 @@ fn is_skipped(line: &[u8]) -> bool
     }
 }
 
-/// What a line that loads a stack is answered, once the text at its path is there.
+/// What a line that loads a stack or a procedure is answered, once the text at its path is there.
 fn answer_file<P: Paths>(
     alloc: Global,
     room: &mut Room,
     load: &Load<'_>,
     paths: &mut P,
 ) -> Result<Answer, ScriptFault>
-    ensures answered { IfOk result (λ answer. (reply : Reply) × (text : List ℕ) × RoomLoad room.old (loader_of (line_of load.now)) load.now.name text reply room.new
+    ensures answered { IfOk result (λ answer. (reply : Reply) × (text : List ℕ) × RoomLoad room.old (loader_of (line_of load.now)) load.now.kind load.now.name text reply room.new
         × Gives (P.given paths.old) (P.given paths.new) (file_at load.now.path.now text ∷ [])
         × (string_bytes answer.text ≡ ended reply) × (answer.refused ≡ is_refused reply)) }
     ensures fault { IfErr result (λ fault. (fault ≡ ScriptFault.Memory) ⊎ (fault ≡ ScriptFault.Path)) }

@@ -33,7 +33,7 @@ pub enum ScriptFault {
     /// The tables of the desk could not be made. No line was run.
     #[error("tables")]
     Tables,
-    /// A line loads the stack at a path that gives no text. The lines before it stand, and were answered.
+    /// A line loads the stack or the procedure at a path that gives no text. The lines before it stand, and were answered.
     #[error("path")]
     Path,
     /// The window is not even and 2 to 254, or the channel is above 63. No line was run.

@@ -1,3 +1,4 @@
 mod MemoryLemmas
 mod RoomLemmas
 pub mod LoadLemmas
+mod LogLemmas

@@ -5,7 +5,7 @@ use Rattle.std.proofs.lemmas.List.{length-map, length-take}
 use Rattle.std.proofs.lemmas.Bool.Decides.{nat_tests}
 use Rattle.sqlite_trees.specs.declared.memory.MemStore.{MemStore}
 use Rattle.sqlite.specs.Held.{Held}
-use Rattle.tc_types.specs.Grammar.{HasLongAct, SpellsLine, act_text}
+use Rattle.tc_types.specs.ActGrammar.{HasLongAct, SpellsLine, act_text}
 use Rattle.tc_types.specs.History.{entered, count_at, counts_of}
 use Rattle.tc_types.specs.Tables.{empty_image, tallies_by}
 use Rattle.tc_types.specs.declared.rows.Tally.{Tally}
@@ -64,6 +64,7 @@ carried old new stamp given first said rows acts free does are = inl (by_kind gi
         → Serves listed listed old stamp given (act_reply first said rows) new
     by_kind (act.Book on_book) _ carries = carries
     by_kind (act.Link on_link) _ carries = carries
+    by_kind (act.Step on_step) _ carries = carries
     by_kind (act.Ask asked) is carries = cc
 
 -- a question that the tables answered

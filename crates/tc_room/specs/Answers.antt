@@ -5,7 +5,7 @@ use Rattle.tc_types.specs.declared.refusals.Refusal.TheVariants.{BadText, TooLon
 use Rattle.tc_types.specs.declared.acts.Act.TheVariants as act
 use Rattle.tc_types.specs.declared.acts.Query.TheVariants as query
 use Rattle.tc_types.specs.declared.acts.Line.{Line}
-use Rattle.tc_types.specs.Grammar.{HasLongAct, SpellsLine, act_text}
+use Rattle.tc_types.specs.ActGrammar.{HasLongAct, SpellsLine, act_text}
 use Rattle.tc_book.specs.declared.stamps.Stamp.{Stamp}
 use Rattle.tc_desk.specs.Machine.{stamp_of}
 use Rattle.tc_desk.specs.Replies.{Reply, refusal_reply}

@@ -1,62 +1,82 @@
--- The load of a stack in a room: its text is read, the desk takes all of its rows, and the tables hold them.
+-- The load of a stack or of a procedure in a room: its text is read, the desk takes all of it, and the tables hold it.
 use Rattle.std.specs.Prelude.{◌≡◌, ◌⊎◌, ℕ, true, false, None, MatchBool, Result, Ok, Err, List}
+use Rattle.tc_types.specs.declared.loads.LoadKind.{LoadKind}
+use Rattle.tc_types.specs.declared.loads.LoadKind.TheVariants as kind
 use Rattle.tc_types.specs.declared.refusals.Refusal.{Refusal}
 use Rattle.tc_types.specs.declared.refusals.Refusal.TheVariants.{Memory, Store, Stopped}
 use Rattle.tc_types.specs.Loads.{LoadLine}
-use Rattle.tc_stack.specs.declared.stacks.StackRow.{StackRow}
 use Rattle.tc_csv.specs.declared.faults.Fault.{Fault}
 use Rattle.tc_csv.specs.Faults.{rule_refusal}
+use Rattle.tc_stack.specs.declared.stacks.StackRow.{StackRow}
 use Rattle.tc_stack.specs.StackTexts.{SpellsStack, IsStackFault}
+use Rattle.tc_proc.specs.declared.procedures.Step.{Step}
+use Rattle.tc_proc.specs.Procedures.{SpellsProcedure, IsProcedureFault}
 use Rattle.tc_book.specs.declared.stamps.Stamp.{Stamp}
 use Rattle.tc_book.specs.Acts.{first_refusal}
-use Rattle.tc_book.specs.Loads.{load_tests}
 use Rattle.tc_book.specs.Tables.{image_of}
-use Rattle.tc_desk.specs.Loads.{LoadStep}
+use Rattle.tc_desk.specs.Loads.{Loading, Stack, Procedure, LoadStep, tests_of_load}
 use Rattle.tc_desk.specs.Replies.{Reply, refusal_reply}
+use Rattle.tc_room.specs.declared.loadings.Spelled.{Spelled}
+use Rattle.tc_room.specs.declared.loadings.Spelled.TheVariants as spelled
 use Rattle.tc_room.specs.Joined.{HasImage}
 use Rattle.tc_room.specs.Room.{Standing}
 
+-- what was read of a text, under a name
+abbrev pub loading_of : List ℕ → Spelled → Loading
+loading_of name (spelled.Stack rows) = Stack name rows
+loading_of name (spelled.Procedure steps) = Procedure name steps
+
+-- a text of this kind spells what is loaded under a name
+abbrev pub SpellsLoading : LoadKind → List ℕ → List ℕ → Loading → Type 0
+SpellsLoading kind.Stack name text given = (rows : List StackRow) × SpellsStack text rows × (given ≡ Stack name rows)
+SpellsLoading kind.Procedure name text given = (steps : List Step) × SpellsProcedure text steps × (given ≡ Procedure name steps)
+
+-- what is wrong with a text of this kind that spells nothing
+abbrev pub IsTextFault : LoadKind → List ℕ → Fault → Type 0
+IsTextFault kind.Stack text fault = IsStackFault text fault
+IsTextFault kind.Procedure text fault = IsProcedureFault text fault
+
 -- why a text is not read: it breaks a rule, the first that it breaks, or memory was refused
-abbrev pub IsNoStack : List ℕ → Refusal → Type 0
-IsNoStack text refusal = (refusal ≡ Memory) ⊎ ((fault : Fault) × IsStackFault text fault × (refusal ≡ rule_refusal fault.rule))
+abbrev pub IsNotRead : LoadKind → List ℕ → Refusal → Type 0
+IsNotRead kind text refusal = (refusal ≡ Memory) ⊎ ((fault : Fault) × IsTextFault kind text fault × (refusal ≡ rule_refusal fault.rule))
 
 -- the desk machine made a load, and the tables hold its book
-pub record StepsLoad (old : Standing) (stamp : Stamp) (name : List ℕ) (rows : List StackRow) (reply : Reply) (new : Standing) : Type 0 where
-  pub desk : LoadStep old.desk stamp name rows reply new.desk
+pub record StepsLoad (old : Standing) (stamp : Stamp) (given : Loading) (reply : Reply) (new : Standing) : Type 0 where
+  pub desk : LoadStep old.desk stamp given reply new.desk
   pub tables : HasImage new.tables (image_of new.desk.book)
   pub going : new.stopped ≡ false
 
 -- The database failed at a load that no test refused, and the room has stopped. Its tables hold the book as it was before.
-pub record FailsLoad (old : Standing) (stamp : Stamp) (name : List ℕ) (rows : List StackRow) (told : Reply) (new : Standing) : Type 0 where
-  pub free : first_refusal (load_tests stamp old.desk.book name rows) ≡ None
+pub record FailsLoad (old : Standing) (stamp : Stamp) (given : Loading) (told : Reply) (new : Standing) : Type 0 where
+  pub free : first_refusal (tests_of_load stamp old.desk.book given) ≡ None
   pub reply : told ≡ refusal_reply Store
   pub stopped : new.stopped ≡ true
   pub tables : HasImage new.tables (image_of old.desk.book)
 
--- the rows of a stack are loaded, or refused, or the database fails
-abbrev pub LoadsRows : Standing → Stamp → List ℕ → List StackRow → Reply → Standing → Type 0
-LoadsRows old stamp name rows reply new = StepsLoad old stamp name rows reply new ⊎ FailsLoad old stamp name rows reply new
+-- what was read is loaded, or refused, or the database fails
+abbrev pub LoadsRead : Standing → Stamp → Loading → Reply → Standing → Type 0
+LoadsRead old stamp given reply new = StepsLoad old stamp given reply new ⊎ FailsLoad old stamp given reply new
 
--- a text that spells no stack changes nothing, and of one that does the rows are loaded
-abbrev pub LoadsText : Standing → Stamp → List ℕ → List ℕ → Reply → Standing → Type 0
-LoadsText old stamp name text reply new =
-    ((refusal : Refusal) × IsNoStack text refusal × (reply ≡ refusal_reply refusal) × (new ≡ old))
-    ⊎ ((rows : List StackRow) × SpellsStack text rows × LoadsRows old stamp name rows reply new)
+-- a text that spells nothing of its kind changes nothing, and what another spells is loaded
+abbrev pub LoadsText : Standing → Stamp → LoadKind → List ℕ → List ℕ → Reply → Standing → Type 0
+LoadsText old stamp kind name text reply new =
+    ((refusal : Refusal) × IsNotRead kind text refusal × (reply ≡ refusal_reply refusal) × (new ≡ old))
+    ⊎ ((given : Loading) × SpellsLoading kind name text given × LoadsRead old stamp given reply new)
 
 -- One load: a room that has stopped says so and stays as it was.
-abbrev pub RoomLoad : Standing → Stamp → List ℕ → List ℕ → Reply → Standing → Type 0
-RoomLoad old stamp name text reply new = MatchBool old.stopped
+abbrev pub RoomLoad : Standing → Stamp → LoadKind → List ℕ → List ℕ → Reply → Standing → Type 0
+RoomLoad old stamp kind name text reply new = MatchBool old.stopped
     ((reply ≡ refusal_reply Stopped) × (new ≡ old))
-    (LoadsText old stamp name text reply new)
+    (LoadsText old stamp kind name text reply new)
 
--- the answer to a load, of which the lines of a reply are made: of rows, in a room that goes on, and of a text
-abbrev pub AnswersRows : {X : Type 0} → (X → Reply) → Standing → Stamp → List ℕ → List StackRow → Standing → Result X Refusal → Type 0
-AnswersRows lines old stamp name rows new (Ok answer) = LoadsRows old stamp name rows (lines answer) new
-AnswersRows lines old stamp name rows new (Err refusal) = LoadsRows old stamp name rows (refusal_reply refusal) new
+-- the answer to a load, of which the lines of a reply are made: of what was read, in a room that goes on, and of a text
+abbrev pub AnswersRead : {X : Type 0} → (X → Reply) → Standing → Stamp → Loading → Standing → Result X Refusal → Type 0
+AnswersRead lines old stamp given new (Ok answer) = LoadsRead old stamp given (lines answer) new
+AnswersRead lines old stamp given new (Err refusal) = LoadsRead old stamp given (refusal_reply refusal) new
 
-abbrev pub AnswersLoad : {X : Type 0} → (X → Reply) → Standing → Stamp → List ℕ → List ℕ → Standing → Result X Refusal → Type 0
-AnswersLoad lines old stamp name text new (Ok answer) = RoomLoad old stamp name text (lines answer) new
-AnswersLoad lines old stamp name text new (Err refusal) = RoomLoad old stamp name text (refusal_reply refusal) new
+abbrev pub AnswersLoad : {X : Type 0} → (X → Reply) → Standing → Stamp → LoadKind → List ℕ → List ℕ → Standing → Result X Refusal → Type 0
+AnswersLoad lines old stamp kind name text new (Ok answer) = RoomLoad old stamp kind name text (lines answer) new
+AnswersLoad lines old stamp kind name text new (Err refusal) = RoomLoad old stamp kind name text (refusal_reply refusal) new
 
 -- who loads, and when
 abbrev pub loader_of : LoadLine → Stamp

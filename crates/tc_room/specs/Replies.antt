@@ -1,6 +1,9 @@
 -- The bytes of replies: lines, each ended by LF.
-use Rattle.std.specs.Prelude.{ℕ, Bool, false, List, [], ◌∷◌, ◌++◌, nat_eq, codes}
+use Rattle.std.specs.Prelude.{ℕ, ◌==◌, Bool, false, List, [], ◌∷◌, ◌++◌, filter, map, nat_eq, codes}
 use Rattle.std.specs.List.{flat_map, starts_with}
+use Rattle.tc_types.specs.ProcedureLines.{execution_line, record_line}
+use Rattle.tc_types.specs.declared.rows.BegunExecution.{BegunExecution}
+use Rattle.tc_types.specs.declared.rows.StepRecord.{StepRecord}
 use Rattle.tc_desk.specs.Replies.{Reply}
 
 -- whether a reply is a refusal
@@ -11,3 +14,11 @@ is_refused (first ∷ others) = starts_with nat_eq first (codes "refused")
 -- lines as they are written: each ended by LF
 abbrev pub ended : List (List ℕ) → List ℕ
 ended lines = flat_map (λ (line : List ℕ). line ++ 10 ∷ []) lines
+
+-- the lines of those of these records that are of this execution, in order
+abbrev pub records_told : ℕ → List StepRecord → Reply
+records_told execution records = map record_line (filter (λ (r : StepRecord). r.execution == execution) records)
+
+-- the lines about an execution, where this step comes next, and these are the records of all
+abbrev pub execution_lines : BegunExecution → ℕ → List StepRecord → Reply
+execution_lines begun next records = execution_line begun.execution begun.procedure next ∷ records_told begun.execution records

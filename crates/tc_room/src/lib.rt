@@ -4,6 +4,7 @@
 
 pub mod answers;
 pub mod desks;
+mod loadings;
 pub mod memory;
 pub mod replies;
 pub mod rooms;

@@ -8,6 +8,7 @@ use tc_room::desks::ListDesk;
 use tc_room::rooms::{Found, Room};
 use tc_stack::readers::read_stack;
 use tc_types::acts::{Act, BookAct};
+use tc_types::loads::LoadKind;
 use tc_types::moves::Move;
 use tc_types::names::Name;
 use tc_types::numbers::Moment;
@@ -67,7 +68,7 @@ impl Acting for Room {
         name: Name,
         text: &[u8],
     ) -> Result<(First, Vec<Move>), Refusal> {
-        let done = self.load_stack(alloc, by, moment, name, text)?;
+        let done = self.load(alloc, by, moment, LoadKind::Stack, name, text)?;
         Ok((done.first, done.moves))
     }
 }

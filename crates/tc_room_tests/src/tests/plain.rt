@@ -344,8 +344,11 @@ fn plain_entry(apid: u16) -> Option<Entry> {
 /// Whether a first line tells of the entry of this request with this identity.
 fn is_first(first: firsts::First, number: u32, apid: u16, count: u16) -> bool {
     match first {
-        firsts::First::Plain | firsts::First::Loaded { .. } | firsts::First::Approvals { .. } =>
-            false,
+        firsts::First::Plain
+        | firsts::First::Loaded { .. }
+        | firsts::First::Approvals { .. }
+        | firsts::First::ProcedureLoaded { .. }
+        | firsts::First::Begun { .. } => false,
         firsts::First::Entered { request, identity } => {
             let is_identity = identity.apid.get() == apid && identity.count.get() == count;
             request.get() == number && is_identity

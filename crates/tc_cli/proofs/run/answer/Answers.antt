@@ -1,6 +1,6 @@
 use Rattle.std.proofs.Common.{inl, inr, ◌∷◌, [], refl}
 use Rattle.std.proofs.lemmas.Result.{IfErr-weaker, IfOk-weaker}
-use Rattle.tc_types.specs.Grammar.{HasLongAct}
+use Rattle.tc_types.specs.ActGrammar.{HasLongAct}
 use Rattle.tc_types.specs.Loads.{line_of}
 use Rattle.tc_cli.specs.Files.{file_at}
 use Rattle.tc_cli.proofs.RunLemmas.{file_fault, gives_none, loads_nothing, loads_short}

@@ -4,7 +4,7 @@ use Rattle.tc_room.specs.Joined.{HasImage}
 use Rattle.tc_room.specs.Room.{ListState, Standing}
 use Rattle.tc_room.proofs.LoadLemmas.{load_carried, load_refused}
 use Rattle.tc_room.proofs.RoomLemmas.{joined_stopped}
-use Rattle.tc_room.proofs.rooms.Room.load_rows.Goals as goal
+use Rattle.tc_room.proofs.rooms.Room.load_spelled.Goals as goal
 
 pub returns-in_err-loaded-clause-answered : goal.returns-in_err-loaded-clause-answered
 returns-in_err-loaded-clause-answered c =
@@ -12,7 +12,7 @@ returns-in_err-loaded-clause-answered c =
     let going : c.self.inside.stopped ≡ false = ap (λ (s : Standing). s.stopped) c.self.view_is ∙ c.requires.going in
     let why = c.in_err-loaded.ensures.answers in
     rw (gone, ← c.self.view_is)
-    (inl (record { desk = load_refused _ _ _ _ _ _ why; tables = subst (λ (at : ListState). HasImage c.self.inside.tables (image_of at.book)) (sym why.same) (c.self.invariant.held going); going = going }))
+    (inl (record { desk = load_refused _ _ _ _ _ why; tables = subst (λ (at : ListState). HasImage c.self.inside.tables (image_of at.book)) (sym why.same) (c.self.invariant.held going); going = going }))
 
 pub invariant_of-self-in-Ok : goal.invariant_of-self-in-Ok
 invariant_of-self-in-Ok c = record {
@@ -28,7 +28,7 @@ returns-in-Ok-clause-answered c =
     let going : c.self.inside.stopped ≡ false = ap (λ (s : Standing). s.stopped) c.self.view_is ∙ c.requires.going in
     let written = subst (HasImage c.write.new.tables) c.in_ok-loaded.ensures.batch (rw c.deref.ensures.value at (c.in-Ok.ensures.written _ (c.self.invariant.held going))) in
     rw (← c.self.view_is)
-    (inl (record { desk = load_carried _ _ _ _ _ _ _ _ c.in_ok-loaded.ensures.answers c.in_ok-loaded.ensures.moves; tables = written; going = going }))
+    (inl (record { desk = load_carried _ _ _ _ _ _ _ c.in_ok-loaded.ensures.answers c.in_ok-loaded.ensures.moves; tables = written; going = going }))
 
 pub returns-in-Err-clause-answered : goal.returns-in-Err-clause-answered
 returns-in-Err-clause-answered c =
