@@ -98,7 +98,7 @@ pub approval_of-more : (approvals : List Approval) (r : Request) (m : ℕ) (pers
 approval_of-more approvals r m person same = ap (with_persons r) (approvers_of-more approvals r.number m person same)
 
 -- the numbers of these requests are k, k + 1, k + 2 and so on
-AreNumbered : ℕ → List Request → Type 0
+pub AreNumbered : ℕ → List Request → Type 0
 AreNumbered k [] = Unit {0}
 AreNumbered k (r ∷ rs) = (r.number ≡ k) × AreNumbered (k + 1) rs
 
@@ -114,7 +114,7 @@ kept_past approvals m person k (r ∷ rs) all less =
     ∙ ap (λ l. approval_of (approvals ++ given_by m person ∷ []) r ∷ l) (kept_past approvals m person (k + 1) rs all.1 (omega (arith, less)))
 
 -- what is kept, after an approval
-kept_given : (approvals : List Approval) (m : ℕ) (person : List ℕ) (k j : ℕ) (d : ApprovalState) (requests : List Request) → AreNumbered k requests → m ≡ k + j → j < length requests
+pub kept_given : (approvals : List Approval) (m : ℕ) (person : List ℕ) (k j : ℕ) (d : ApprovalState) (requests : List Request) → AreNumbered k requests → m ≡ k + j → j < length requests
     → set (map (approval_of approvals) requests) j (approved person (get_or (map (approval_of approvals) requests) j d)) ≡ map (approval_of (approvals ++ given_by m person ∷ [])) requests
 unfolding AreNumbered
 kept_given approvals m person k j d [] all is low = absurd (omega arith)
@@ -130,29 +130,36 @@ kept_given approvals m person k (suc j) d (r ∷ rs) all is low =
     ∙ ap (λ l. approval_of (approvals ++ given_by m person ∷ []) r ∷ l) (kept_given approvals m person (k + 1) j d rs all.1 (omega (arith, is)) (omega arith))
 
 -- requests that may follow one another are numbered
-numbered : (before requests : List Request) → AllAfter IsGoodRequest before requests → AreNumbered (length before + 1) requests
+pub numbered : (before requests : List Request) → AllAfter IsGoodRequest before requests → AreNumbered (length before + 1) requests
 unfolding AreNumbered
 numbered before [] all = tt
 numbered before (r ∷ rs) all = (all.0.number, subst (λ n. AreNumbered (n + 1) rs) (length-append before (r ∷ [])) (numbered (before ++ r ∷ []) rs all.1))
 
+-- the number of the one at a place
+pub number_at : (k j : ℕ) (requests : List Request) (r : Request) → AreNumbered k requests → slice_get requests j ≡ Some r → r.number ≡ k + j
+unfolding AreNumbered
+number_at k j [] r all is = cc
+number_at k zero (x ∷ xs) r all is = let same : x ≡ r = cc in subst (λ (y : Request). y.number ≡ k + 0) same (omega (arith, all.0))
+number_at k (suc j) (x ∷ xs) r all is = let rest = number_at (k + 1) j xs r all.1 is in omega (arith, rest)
+
 -- what each of a map has
-all_mapped : {X Y : Type 0} (P : Y → Type 0) (f : X → Y) (xs : List X) → AllByRecursion (λ x. P (f x)) xs → AllByRecursion P (map f xs)
+pub all_mapped : {X Y : Type 0} (P : Y → Type 0) (f : X → Y) (xs : List X) → AllByRecursion (λ x. P (f x)) xs → AllByRecursion P (map f xs)
 all_mapped P f [] all = tt
 all_mapped P f (x ∷ xs) all = (all.0, all_mapped P f xs all.1)
 
 -- the way back
-all_before : {X Y : Type 0} (P : Y → Type 0) (f : X → Y) (xs : List X) → AllByRecursion P (map f xs) → AllByRecursion (λ x. P (f x)) xs
+pub all_before : {X Y : Type 0} (P : Y → Type 0) (f : X → Y) (xs : List X) → AllByRecursion P (map f xs) → AllByRecursion (λ x. P (f x)) xs
 all_before P f [] all = tt
 all_before P f (x ∷ xs) all = (all.0, all_before P f xs all.1)
 
 -- one of them is another
-all_set : {X : Type 0} (P : X → Type 0) (xs : List X) (j : ℕ) (d y : X) → AllByRecursion P xs → (P (get_or xs j d) → P y) → j < length xs → AllByRecursion P (set xs j y)
+pub all_set : {X : Type 0} (P : X → Type 0) (xs : List X) (j : ℕ) (d y : X) → AllByRecursion P xs → (P (get_or xs j d) → P y) → j < length xs → AllByRecursion P (set xs j y)
 all_set P [] j d y all may low = tt
 all_set P (x ∷ xs) zero d y all may low = (may all.0, all.1)
 all_set P (x ∷ xs) (suc j) d y all may low = (all.0, all_set P xs j d y all.1 may (omega arith))
 
 -- what is made of the one at a place
-found_at : {X Y : Type 0} (f : X → Y) (xs : List X) (j : ℕ) (d : Y) (x : X) → slice_get xs j ≡ Some x → get_or (map f xs) j d ≡ f x
+pub found_at : {X Y : Type 0} (f : X → Y) (xs : List X) (j : ℕ) (d : Y) (x : X) → slice_get xs j ≡ Some x → get_or (map f xs) j d ≡ f x
 found_at f [] j d x is = cc
 found_at f (y ∷ xs) zero d x is = let same : y ≡ x = cc in ap f same
 found_at f (y ∷ xs) (suc j) d x is = found_at f xs j d x is

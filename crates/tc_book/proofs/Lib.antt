@@ -20,3 +20,9 @@ pub mod LogLemmas
 pub mod LoadLemmas
 pub mod RowLemmas
 pub mod ApproveLemmas
+pub mod OpeningLemmas
+pub mod ReopenLemmas
+pub mod SoundLemmas
+pub mod GivenLemmas
+pub mod StackGivenLemmas
+pub mod CompleteLemmas

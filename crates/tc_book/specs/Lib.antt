@@ -9,6 +9,12 @@ pub mod Loads
 pub mod Logs
 pub mod Steps
 pub mod Tables
+pub mod Opening
+pub mod Held
+pub mod Sound
+pub mod Known
+pub mod GoodApprovals
+pub mod SoundParts
 pub mod Answers
 pub mod Batch
 pub mod Places

@@ -12,7 +12,7 @@ use tc_types::numbers::RequestNumber;
 use tc_types::refusals::Refusal;
 
 /// The approval of request `n`.
-fn approvals_of(kept: &[Approvals], n: u32) -> Option<&Approvals>
+pub(crate) fn approvals_of(kept: &[Approvals], n: u32) -> Option<&Approvals>
     ensures { MatchOption result (kept_approval kept.now n ≡ None) (λ approvals. kept_approval kept.now n ≡ Some approvals.now) }
 {
     if n == 0 {

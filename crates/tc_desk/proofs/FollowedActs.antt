@@ -1,5 +1,5 @@
 -- Each act keeps it that the mirror follows the spacecraft.
-use Rattle.std.proofs.Common.{◌≡◌, ℕ, None, List, [], ◌++◌, refl, sym, ◌∙◌, ap, subst, arith}
+use Rattle.std.proofs.Common.{◌≡◌, ℕ, true, None, List, [], ◌++◌, refl, sym, ◌∙◌, ap, subst, arith}
 use Rattle.std.specs.List.{AllByRecursion, IsDistinct}
 use Rattle.std.proofs.lemmas.List.Sums.{fold-append}
 use Rattle.tc_types.specs.declared.acts.Act.{Act}
@@ -37,7 +37,7 @@ use Rattle.tc_desk.specs.Effects.{heard_all}
 use Rattle.tc_desk.specs.Followed.{roll_of, IsPayloadOf, IsFlown, IsNamedDown, mirror_through, IsFollowed}
 use Rattle.tc_desk.specs.Machine.{Does, StaysSame}
 use Rattle.tc_desk.specs.Riders.{carried_by, NoneIsOf}
-use Rattle.tc_desk.specs.State.{State, DeskState, made_desk}
+use Rattle.tc_desk.specs.State.{State, DeskState, new_desk}
 use Rattle.tc_desk.specs.Tied.{IsTied}
 use Rattle.tc_desk.proofs.BoardSteps.{StepsOn, told_comes, goes_steps}
 use Rattle.tc_desk.proofs.FollowLaws.{FollowsSteps}
@@ -176,15 +176,16 @@ nothing_scheduled : IsSchedule []
 unfolding IsDistinct
 nothing_scheduled = record { few = omega arith; apart = tt }
 
--- a desk that was just made: nothing flies
-pub made_followed : {U D : Type 0} (up : Kind U Frame) (down : Kind D Report) (config : Config) (u : U) (d : D) → up.content u ≡ [] → down.content d ≡ [] → IsFollowed up down (made_desk config u d)
-made_followed {U} {D} up down config u d up_empty down_empty = record {
-  payloads = payloads_start (IsPayloadOf made.parts.book) (seen up down made.parts.world) refl refl refl up_empty;
+-- a desk that was just opened, over any book: nothing flies
+pub over_followed : {U D : Type 0} (up : Kind U Frame) (down : Kind D Report) (config : Config) (book : Book) (opened : ℕ) (u : U) (d : D) → up.content u ≡ [] → down.content d ≡ []
+    → IsFollowed up down (record { parts = record (new_desk config u d) { book = book }; opened = opened; whole = true })
+over_followed {U} {D} up down config book opened u d up_empty down_empty = record {
+  payloads = payloads_start (IsPayloadOf book) (seen up down at.world) refl refl refl up_empty;
   board = record { requests = tt; activities = tt; schedule = nothing_scheduled };
   named = record { buffer = tt; activities = tt };
-  flying = subst (AllByRecursion (IsNamedDown (IsFlown made.parts.book (all_sent made.parts.world)))) (sym down_empty) tt;
-  follows = λ whole. ap (λ (items : List Report). mirror_through made.parts.book items made.parts.mirror) down_empty;
+  flying = subst (AllByRecursion (IsNamedDown (IsFlown book (all_sent at.world)))) (sym down_empty) tt;
+  follows = λ whole. ap (λ (items : List Report). mirror_through book items at.mirror) down_empty;
 }
   where
-    made : DeskState U D
-    made = made_desk config u d
+    at : State U D
+    at = new_desk config u d

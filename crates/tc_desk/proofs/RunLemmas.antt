@@ -1,14 +1,19 @@
--- Whatever acts and loads follow on a desk that was made new, its rows tell true.
-use Rattle.std.proofs.Common.{◌≡◌, inl, inr, true, List, [], ◌∷◌, refl, sym, ap, subst, arith}
+-- Whatever acts and loads follow on a desk with a new link, the rows that came since it was opened tell true.
+use Rattle.std.proofs.Common.{◌≡◌, ℕ, inl, inr, true, List, [], ◌∷◌, length, drop, refl, sym, ap, subst, arith}
+use Rattle.std.proofs.Math.Seq.{drop-length}
 use Rattle.tc_types.specs.declared.frames.Frame.{Frame}
 use Rattle.tc_types.specs.declared.reports.Report.{Report}
+use Rattle.tc_types.specs.declared.causes.Cause.TheVariants.{Transmit, Confirm}
+use Rattle.tc_types.specs.declared.moves.Move.{Move}
 use Rattle.tc_types.specs.declared.acts.Act.{Act}
 use Rattle.tc_types.specs.declared.acts.Act.TheVariants as act
 use Rattle.tc_fop.specs.Requests.{waiting_requests}
 use Rattle.tc_world.specs.Links.{Kind}
+use Rattle.tc_world.specs.Sublist.{IsSublist}
 use Rattle.tc_world.specs.Window.{IsClaimed, all_confirmed}
 use Rattle.tc_world.specs.World.{Whole, all_sent}
 use Rattle.tc_book.specs.declared.stamps.Stamp.{Stamp}
+use Rattle.tc_book.specs.Book.{Book, empty_book}
 use Rattle.tc_book.specs.Good.{IsGoodBook}
 use Rattle.tc_proc.specs.GoodLogs.{IsGoodLog}
 use Rattle.tc_proc.specs.Logs.{empty_log}
@@ -18,88 +23,100 @@ use Rattle.tc_desk.specs.Machine.{DeskStep, Serves, Carries}
 use Rattle.tc_desk.specs.Replies.{Reply}
 use Rattle.tc_desk.specs.Headline.{Deed, Acts, Loads, DeedOn, DeedsRun, TellsTrue}
 use Rattle.tc_desk.specs.Loads.{Loading, LoadStep}
+use Rattle.tc_desk.specs.Rows.{moved_for}
 use Rattle.tc_desk.specs.Tied.{AreTiedTo, IsTied}
 use Rattle.tc_desk.proofs.BookSteps.{steps_tied}
 use Rattle.tc_desk.proofs.TiedActs.{does_tied, same_tied}
 use Rattle.tc_desk.proofs.HeadlineLemmas.{taken_once}
 
--- what stands after so many acts
-record Stands {U D : Type 0} (at : State U D) : Type 0 where
-  tied : IsTied 0 at
+-- what stands after so many acts on a desk that was opened once so many rows stood
+record Stands {U D : Type 0} (opened : ℕ) (at : State U D) : Type 0 where
+  tied : IsTied opened at
   good : IsGoodBook at.book
   claims : at.world.clean ≡ true → IsClaimed at.world
 
-carries_tied : {U D : Type 0} (up : Kind U Frame) (down : Kind D Report) (old new : State U D) (stamp : Stamp) (given : Act) (reply : Reply) → IsGoodBook old.book
-    → Carries up down old stamp given reply new → IsTied 0 old → IsTied 0 new
-carries_tied up down old new stamp given reply good carries tied = does_tied 0 up down stamp given old new carries.all carries.first good carries.free carries.does tied
+carries_tied : {U D : Type 0} (o : ℕ) (up : Kind U Frame) (down : Kind D Report) (old new : State U D) (stamp : Stamp) (given : Act) (reply : Reply) → IsGoodBook old.book
+    → Carries up down old stamp given reply new → IsTied o old → IsTied o new
+carries_tied o up down old new stamp given reply good carries tied = does_tied o up down stamp given old new carries.all carries.first good carries.free carries.does tied
 
-serves_tied : {U D : Type 0} (up : Kind U Frame) (down : Kind D Report) (old new : State U D) (stamp : Stamp) (given : Act) (reply : Reply) → IsGoodBook old.book
-    → Serves up down old stamp given reply new → IsTied 0 old → IsTied 0 new
-serves_tied up down old new stamp (act.Book given) reply good serves tied = carries_tied up down old new stamp (act.Book given) reply good serves tied
-serves_tied up down old new stamp (act.Link given) reply good serves tied = carries_tied up down old new stamp (act.Link given) reply good serves tied
-serves_tied up down old new stamp (act.Step given) reply good serves tied = carries_tied up down old new stamp (act.Step given) reply good serves tied
-serves_tied up down old new stamp (act.Ask asked) reply good serves tied = subst (IsTied 0) (sym serves.2) tied
+serves_tied : {U D : Type 0} (o : ℕ) (up : Kind U Frame) (down : Kind D Report) (old new : State U D) (stamp : Stamp) (given : Act) (reply : Reply) → IsGoodBook old.book
+    → Serves up down old stamp given reply new → IsTied o old → IsTied o new
+serves_tied o up down old new stamp (act.Book given) reply good serves tied = carries_tied o up down old new stamp (act.Book given) reply good serves tied
+serves_tied o up down old new stamp (act.Link given) reply good serves tied = carries_tied o up down old new stamp (act.Link given) reply good serves tied
+serves_tied o up down old new stamp (act.Step given) reply good serves tied = carries_tied o up down old new stamp (act.Step given) reply good serves tied
+serves_tied o up down old new stamp (act.Ask asked) reply good serves tied = subst (IsTied o) (sym serves.2) tied
 
-step_tied : {U D : Type 0} (up : Kind U Frame) (down : Kind D Report) (old new : State U D) (stamp : Stamp) (given : Act) (reply : Reply) → IsGoodBook old.book
-    → DeskStep up down old stamp given reply new → IsTied 0 old → IsTied 0 new
-step_tied up down old new stamp given reply good (inl serves) tied = serves_tied up down old new stamp given reply good serves tied
-step_tied up down old new stamp given reply good (inr refused) tied = same_tied 0 up down old new refused.1.same tied
+step_tied : {U D : Type 0} (o : ℕ) (up : Kind U Frame) (down : Kind D Report) (old new : State U D) (stamp : Stamp) (given : Act) (reply : Reply) → IsGoodBook old.book
+    → DeskStep up down old stamp given reply new → IsTied o old → IsTied o new
+step_tied o up down old new stamp given reply good (inl serves) tied = serves_tied o up down old new stamp given reply good serves tied
+step_tied o up down old new stamp given reply good (inr refused) tied = same_tied o up down old new refused.1.same tied
 
 -- a load leaves the link
 load_world : {U D : Type 0} (old new : State U D) (stamp : Stamp) (given : Loading) (reply : Reply) → LoadStep old stamp given reply new → new.world ≡ old.world
 load_world {U} {D} old new stamp given reply (inl carries) = ap (λ (at : State U D). at.world) carries.has.is
 load_world {U} {D} old new stamp given reply (inr refused) = ap (λ (at : State U D). at.world) refused.1.same
 
-deed_stands : {U D : Type 0} (up : Kind U Frame) (down : Kind D Report) (old new : State U D) (stamp : Stamp) (deed : Deed) → DeedOn up down old stamp deed new → Stands old → Stands new
-deed_stands up down old new stamp (Acts given) done stands = record {
-  tied = step_tied up down old new stamp given done.reply stands.good done.step stands.tied;
+deed_stands : {U D : Type 0} (o : ℕ) (up : Kind U Frame) (down : Kind D Report) (old new : State U D) (stamp : Stamp) (deed : Deed) → DeedOn up down old stamp deed new → Stands o old → Stands o new
+deed_stands o up down old new stamp (Acts given) done stands = record {
+  tied = step_tied o up down old new stamp given done.reply stands.good done.step stands.tied;
   good = done.good;
   claims = done.window;
 }
-deed_stands {U} {D} up down old new stamp (Loads given) done stands =
+deed_stands {U} {D} o up down old new stamp (Loads given) done stands =
     let same : new.world ≡ old.world = load_world old new stamp given done.reply done.step in
     record {
-      tied = subst (λ (w : Whole U D). AreTiedTo 0 new.book w) (sym same)
-          (steps_tied 0 stamp old.book new.book (waiting_requests old.world.fop) (all_sent old.world) (all_confirmed old.world) done.entered stands.tied).tied;
+      tied = subst (λ (w : Whole U D). AreTiedTo o new.book w) (sym same)
+          (steps_tied o stamp old.book new.book (waiting_requests old.world.fop) (all_sent old.world) (all_confirmed old.world) done.entered stands.tied).tied;
       good = done.good;
       claims = subst (λ (w : Whole U D). w.clean ≡ true → IsClaimed w) (sym same) stands.claims;
     }
 
-run_stands : {U D : Type 0} (up : Kind U Frame) (down : Kind D Report) (deeds : List (Stamp × Deed)) (old new : State U D) → DeedsRun up down old deeds new → Stands old → Stands new
-run_stands up down [] old new run stands = subst Stands (sym run) stands
-run_stands up down (given ∷ others) old new run stands = run_stands up down others run.0 new run.2 (deed_stands up down old run.0 given.0 given.1 run.1 stands)
+run_stands : {U D : Type 0} (o : ℕ) (up : Kind U Frame) (down : Kind D Report) (deeds : List (Stamp × Deed)) (old new : State U D) → DeedsRun up down old deeds new → Stands o old → Stands o new
+run_stands o up down [] old new run stands = subst (Stands o) (sym run) stands
+run_stands o up down (given ∷ others) old new run stands = run_stands o up down others run.0 new run.2 (deed_stands o up down old run.0 given.0 given.1 run.1 stands)
 
--- nothing is told wrongly where nothing happened
-pub new_tied : {U D : Type 0} (config : Config) (up : U) (down : D) → IsTied 0 (new_desk config up down)
-new_tied config up down = record {
-  waits = tt;
-  sent = tt;
-  apart = record { riders = tt; next_riders = tt; apart = tt; next_apart = tt };
-  rows = record { few = omega arith; transmits = refl; confirms = refl };
-}
+-- a link where nothing happened yet is tied to any book: no row came since
+pub over_tied : {U D : Type 0} (config : Config) (book : Book) (up : U) (down : D) → IsTied (length book.history) (record (new_desk config up down) { book = book })
+over_tied config book up down =
+    let none : drop (length book.history) book.history ≡ [] = drop-length book.history in
+    record {
+      waits = tt;
+      sent = tt;
+      apart = record { riders = tt; next_riders = tt; apart = tt; next_apart = tt };
+      rows = record {
+        few = omega arith;
+        transmits = ap (moved_for Transmit) none;
+        confirms = subst (λ (rows : List Move). IsSublist (moved_for Confirm rows) []) (sym none) refl;
+      };
+    }
 
 pub new_claims : {U D : Type 0} (config : Config) (up : U) (down : D) → IsClaimed (new_world config up down)
 new_claims config up down = record { prefixes = (record { accepted = refl; confirmed = refl }, tt); sent_once = tt; accepted_once = tt }
 
--- nor anything of procedures
+-- nothing of procedures is wrong where there is nothing
 empty_good : IsGoodLog empty_log
 empty_good = record { names = tt; few = omega arith; steps = tt; of_known = tt; some = tt; numbered = tt; few_executions = omega arith; of_loaded = tt; of_begun = tt; executions = tt }
 
-new_stands : {U D : Type 0} (config : Config) (up : U) (down : D) → Stands (new_desk config up down)
-new_stands config up down = record {
-  tied = new_tied config up down;
-  good = record { history = tt; requests = tt; few = omega arith; entered = refl; named = tt; alone = tt; stacks_named = tt; approved = tt; stacks_approved = tt; log = empty_good; log_named = tt; complete = tt };
-  claims = λ clean. new_claims config up down;
-}
+-- nor of a book
+empty_book_good : IsGoodBook empty_book
+empty_book_good = record { history = tt; requests = tt; few = omega arith; entered = refl; named = tt; alone = tt; stacks_named = tt; approved = tt; stacks_approved = tt; log = empty_good; log_named = tt; complete = tt }
 
--- the rows tell true after any acts and loads
-pub run_tells : {U D : Type 0} (kind : Kind U Frame) (other : Kind D Report) (config : Config) (up : U) (down : D) (deeds : List (Stamp × Deed)) (at : State U D)
-    → DeedsRun kind other (new_desk config up down) deeds at → TellsTrue 0 at
-run_tells kind other config up down deeds at run =
-    let stands = run_stands kind other deeds (new_desk config up down) at run (new_stands config up down) in
+over_stands : {U D : Type 0} (config : Config) (book : Book) (up : U) (down : D) → IsGoodBook book → Stands (length book.history) (record (new_desk config up down) { book = book })
+over_stands config book up down good = record { tied = over_tied config book up down; good = good; claims = λ clean. new_claims config up down }
+
+-- the rows that came since tell true after any acts and loads
+pub run_tells_since : {U D : Type 0} (kind : Kind U Frame) (other : Kind D Report) (config : Config) (book : Book) (up : U) (down : D) (deeds : List (Stamp × Deed)) (at : State U D)
+    → IsGoodBook book → DeedsRun kind other (record (new_desk config up down) { book = book }) deeds at → TellsTrue (length book.history) at
+run_tells_since kind other config book up down deeds at good run =
+    let stands = run_stands (length book.history) kind other deeds (record (new_desk config up down) { book = book }) at run (over_stands config book up down good) in
     record {
       transmitted = stands.tied.rows.transmits;
       confirmed = stands.tied.rows.confirms;
       window = stands.claims;
-      once = λ clean. taken_once 0 at stands.tied (stands.claims clean);
+      once = λ clean. taken_once (length book.history) at stands.tied (stands.claims clean);
     }
+
+-- all rows, where none stood before
+pub run_tells : {U D : Type 0} (kind : Kind U Frame) (other : Kind D Report) (config : Config) (up : U) (down : D) (deeds : List (Stamp × Deed)) (at : State U D)
+    → DeedsRun kind other (new_desk config up down) deeds at → TellsTrue 0 at
+run_tells kind other config up down deeds at run = run_tells_since kind other config empty_book up down deeds at empty_book_good run

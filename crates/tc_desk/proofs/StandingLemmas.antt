@@ -1,5 +1,5 @@
 -- What stands of a desk between two acts stands after each.
-use Rattle.std.proofs.Common.{◌∷◌, [], ◌∙◌, ap, Option, ◌≡◌, true, None, List, sym, subst}
+use Rattle.std.proofs.Common.{◌∷◌, [], ◌∙◌, ap, Option, ◌≡◌, ℕ, true, None, List, length, sym, subst}
 use Rattle.tc_types.specs.declared.frames.Frame.{Frame}
 use Rattle.tc_types.specs.declared.reports.Report.{Report}
 use Rattle.tc_types.specs.declared.reports.Report.TheVariants as report
@@ -13,12 +13,13 @@ use Rattle.tc_world.proofs.Bridge.{OnlyLoses}
 use Rattle.tc_board.specs.Schedule.{ScheduleState, IsSchedule, summary_of}
 use Rattle.tc_board.specs.Mirror.{MirrorState, mirror_after, mirror_of}
 use Rattle.tc_book.specs.declared.stamps.Stamp.{Stamp}
+use Rattle.tc_book.specs.Book.{Book}
 use Rattle.tc_book.specs.Good.{IsGoodBook}
 use Rattle.tc_desk.specs.declared.firsts.First.{First}
 use Rattle.tc_desk.specs.declared.configs.Config.{Config}
 use Rattle.tc_desk.specs.Downlink.{came_down, KeepsWhole}
 use Rattle.tc_desk.specs.Followed.{mirror_through}
-use Rattle.tc_desk.specs.State.{made_desk, State, DeskState}
+use Rattle.tc_desk.specs.State.{new_desk, State, DeskState}
 use Rattle.tc_desk.specs.Acts.{refusal_of}
 use Rattle.tc_desk.specs.Machine.{Does, StaysSame}
 use Rattle.tc_desk.specs.Headline.{TakenOnce, TellsTrue}
@@ -26,9 +27,9 @@ use Rattle.tc_desk.specs.Tied.{IsTied}
 use Rattle.tc_desk.specs.Standing.{IsStanding}
 use Rattle.tc_desk.proofs.DownLemmas.{does_down}
 use Rattle.tc_desk.proofs.FollowLaws.{FollowsSteps}
-use Rattle.tc_desk.proofs.FollowedActs.{does_followed, same_followed, made_followed}
+use Rattle.tc_desk.proofs.FollowedActs.{does_followed, same_followed, over_followed}
 use Rattle.tc_desk.proofs.ReadActs.{does_read}
-use Rattle.tc_desk.proofs.RunLemmas.{new_tied, new_claims}
+use Rattle.tc_desk.proofs.RunLemmas.{over_tied, new_claims}
 use Rattle.tc_desk.proofs.TiedActs.{does_tied, same_tied}
 use Rattle.tc_desk.proofs.HeadlineLemmas.{same_claims, taken_once}
 
@@ -67,13 +68,22 @@ stands_true up down desk stands = record {
   once = stands_once up down desk stands;
 }
 
--- of a desk that was just made
-pub made_stands : {U D : Type 0} (up : Kind U Frame) (down : Kind D Report) (config : Config) (u : U) (d : D) → up.content u ≡ [] → down.content d ≡ [] → IsStanding up down (made_desk config u d)
-made_stands up down config u d empty_up empty_down = record {
-  tied = new_tied config u d;
+-- of a desk that was just opened, over any book
+over_stands : {U D : Type 0} (up : Kind U Frame) (down : Kind D Report) (config : Config) (book : Book) (u : U) (d : D) → up.content u ≡ [] → down.content d ≡ []
+    → IsStanding up down (record { parts = record (new_desk config u d) { book = book }; opened = length book.history; whole = true })
+over_stands up down config book u d empty_up empty_down = record {
+  tied = over_tied config book u d;
   claims = λ clean. new_claims config u d;
-  followed = made_followed up down config u d empty_up empty_down;
+  followed = over_followed up down config book (length book.history) u d empty_up empty_down;
 }
+
+-- the same, of parts that are known by an equation
+pub opened_stands : {U D : Type 0} (up : Kind U Frame) (down : Kind D Report) (config : Config) (book : Book) (u : U) (d : D) (parts : State U D) (opened : ℕ)
+    → up.content u ≡ [] → down.content d ≡ [] → parts ≡ record (new_desk config u d) { book = book } → opened ≡ length parts.book.history
+    → IsStanding up down (record { parts = parts; opened = opened; whole = true })
+opened_stands {U} {D} up down config book u d parts opened empty_up empty_down are rows =
+    subst (λ (o : ℕ). IsStanding up down (record { parts = parts; opened = o; whole = true })) (sym rows)
+    (subst (λ (p : State U D). IsStanding up down (record { parts = p; opened = length p.book.history; whole = true })) (sym are) (over_stands up down config book u d empty_up empty_down))
 
 -- a summary that was read makes the mirror what it carries
 pub summary_read : {U D : Type 0} (up : Kind U Frame) (down : Kind D Report) (stamp : Stamp) (given : Act) (old new : State U D) (all : List Indication) (first : First)

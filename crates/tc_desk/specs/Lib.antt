@@ -1,4 +1,5 @@
 pub mod State
+pub mod Opening
 pub mod Commands
 pub mod Asks
 pub mod Effects

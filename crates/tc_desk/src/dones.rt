@@ -1,6 +1,9 @@
 //! What an act answers.
+ghost use Rattle.std.specs.Prelude.{◌≡◌, []};
+
 use crate::firsts::First;
 use std::alloc::Allocator;
+use tc_book::drafts::Draft;
 use tc_types::moves::Move;
 use tc_types::rows::Row;
 use tc_world::indications::Indications;
@@ -25,4 +28,24 @@ pub(crate) struct Acted<A: Allocator + Copy + Drop> {
     pub(crate) done: Done<A>,
     /// Whether as much came down and flies down now as flew there before and was put.
     pub(crate) kept: bool,
+}
+
+/// What the book alone made, of a draft that is filled: the link told nothing.
+pub(crate) fn answer<A: Allocator + Copy + Drop>(alloc: A, filled: Draft<A>) -> Done<A>
+    ensures first { result.first ≡ First.Book filled.first }
+    ensures said { result.said ≡ [] }
+    ensures moves { result.moves.items ≡ filled.moves.items }
+    ensures batch { result.batch.items ≡ filled.batch.items }
+{
+    let Draft {
+        first,
+        moves,
+        batch,
+    } = filled;
+    Done {
+        first: First::Book(first),
+        said: Indications::none(alloc),
+        moves,
+        batch,
+    }
 }

@@ -16,6 +16,7 @@ mod hearing;
 pub mod laws;
 mod moving;
 mod parts;
+mod reopening;
 mod reporting;
 pub mod status_texts;
 pub mod statuses;

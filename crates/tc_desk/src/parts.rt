@@ -9,6 +9,7 @@ ghost use Rattle.tc_book.specs.Batch.{GoesOn, HoldsRoom};
 ghost use Rattle.tc_desk.specs.State.{IsConfig, new_desk};
 ghost use Rattle.tc_desk.specs.Acts.{is_question};
 ghost use Rattle.tc_desk.specs.Machine.{rows_new};
+ghost use Rattle.tc_farm.specs.Farm.{new_farm};
 ghost use Rattle.tc_world.specs.Window.{IsClaimed};
 ghost use Rattle.tc_desk.specs.Downlink.{came_down};
 ghost use Rattle.tc_desk.specs.Parts.{IsCounted, IsEven, IsPutCount, Responds};
@@ -70,6 +71,21 @@ fn count_down(said: &[Indication]) -> usize
     }
 }
 
+/// The FARM of a desk that is made so. `BadDirective` unless the window is even and 2 to 254 and the channel 0 to 63.
+pub(crate) fn farm_of(config: Config) -> Result<Farm, Refusal>
+    ensures farm { IfOk result (λ farm. farm ≡ new_farm config.window) }
+    ensures config { OnOk result (IsConfig config) }
+    ensures refused { IfErr result (λ refusal. (refusal ≡ BadDirective) × (¬ IsConfig config)) }
+{
+    let Some(farm) = Farm::new(config.window) else {
+        return Err(Refusal::BadDirective);
+    };
+    if config.channel > 63 {
+        return Err(Refusal::BadDirective);
+    }
+    Ok(farm)
+}
+
 /// Whether two counts are together as much as two others.
 fn is_even(before: usize, put: usize, came: usize, after: usize) -> bool
     ensures { result ≡ (before + put == came + after) }
@@ -101,17 +117,32 @@ impl<U: Carrier<Frame> + Drop, D: Carrier<Report> + Drop, A: Allocator + Copy + 
         ensures config { IfOk result (λ parts. IsConfig config) }
         ensures refused { IfErr result (λ refusal. ((refusal ≡ BadDirective) × (¬ IsConfig config)) ⊎ ((refusal ≡ Memory) × IsConfig config)) }
     {
-        let Some(farm) = Farm::new(config.window) else {
-            return Err(Refusal::BadDirective);
-        };
-        if config.channel > 63 {
-            return Err(Refusal::BadDirective);
-        }
+        let farm = farm_of(config)?;
+        Parts::over(alloc, Records::new(alloc), config, farm, up, down)
+    }
+
+    /// The parts of a desk over this book, where nothing happened yet on the link, over these carriers, which are empty. Answers
+    /// `Memory` where that is refused.
+    pub(crate) fn over(
+        alloc: A,
+        records: Records<A>,
+        config: Config,
+        farm: Farm,
+        up: U,
+        down: D,
+    ) -> Result<Self, Refusal>
+        requires config { IsConfig config }
+        requires farm { farm ≡ new_farm config.window }
+        requires up { U.kind.content up ≡ [] }
+        requires down { D.kind.content down ≡ [] }
+        ensures desk { IfOk result (λ parts. parts ≡ record (new_desk config up down) { book = records.book }) }
+        ensures refused { IfErr result (λ refusal. refusal ≡ Memory) }
+    {
         let fop = Fop::new(alloc, K, T1, LIMIT)?;
         let board = Board::new(alloc, Moment::new(START).unwrap())?;
         Ok(Parts {
             alloc,
-            records: Records::new(alloc),
+            records,
             world: World::new(alloc, fop, farm, up, down, config.channel)?,
             board,
             mirror: Mirror::new(alloc),

@@ -6,3 +6,5 @@ pub mod StateLemmas
 pub mod StepLemmas
 pub mod WorkedCases
 pub mod WorkedLogs
+pub mod AfterLemmas
+pub mod ReopenLemmas

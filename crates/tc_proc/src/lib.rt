@@ -6,5 +6,6 @@ pub mod logs;
 pub mod procedures;
 pub mod readers;
 pub mod records;
+mod reopening;
 mod states;
 mod steps;

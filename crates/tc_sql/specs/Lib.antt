@@ -4,3 +4,4 @@ pub mod Puts
 pub mod Builds
 pub mod Lists
 pub mod Numbered
+pub mod Schemas

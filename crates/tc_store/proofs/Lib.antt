@@ -12,6 +12,10 @@ pub mod ProcedureStepLemmas
 pub mod ExecutionLemmas
 pub mod RecordLemmas
 pub mod ReadLemmas
+pub mod LoadLemmas
+pub mod TextLemmas
+pub mod ToldLemmas
 pub mod HistoryLemmas
 pub mod StepLemmas
 pub mod CreateLemmas
+pub mod PlainLemmas

@@ -12,3 +12,6 @@ pub mod Executions
 pub mod Records
 pub mod Schema
 pub mod Steps
+pub mod Told
+pub mod Reads
+pub mod Loads

@@ -8,6 +8,9 @@ pub enum StoreFault {
     /// The tables are to be made in an empty database, and this one has some already.
     #[error("the database is not empty")]
     NotEmpty,
+    /// The tables that stand are not a desk's.
+    #[error("the tables are not a desk's")]
+    Foreign,
     /// Before the commit: nothing was written.
     #[error("before the commit: {0}")]
     Before(sqlite::Error),

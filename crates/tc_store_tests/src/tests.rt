@@ -7,6 +7,8 @@ use tc_types::names::Name;
 use tc_types::numbers::{Moment, RequestNumber};
 use tc_types::places::Place;
 
+mod loads;
+mod opens;
 mod procedures;
 mod stacks;
 mod stops;

@@ -1,5 +1,5 @@
 //! The load of a stack or of a procedure: the book takes it, and the link is asked nothing.
-ghost use Rattle.std.specs.Prelude.{◌≡◌, [], IfOk};
+ghost use Rattle.std.specs.Prelude.{◌≡◌, IfOk};
 ghost use Rattle.tc_types.specs.Tables.{applied};
 ghost use Rattle.tc_book.specs.Good.{IsGoodBook};
 ghost use Rattle.tc_book.specs.Steps.{HasSteps};
@@ -7,13 +7,11 @@ ghost use Rattle.tc_book.specs.Tables.{image_of};
 ghost use Rattle.tc_desk.specs.Loads.{LoadAnswers, Stack as StackGiven, Procedure as ProcedureGiven};
 ghost use Rattle.tc_desk.specs.Machine.{rows_new};
 
-use crate::dones::Done;
-use crate::firsts::First;
+use crate::dones::{Done, answer};
 use crate::parts::Parts;
 use std::alloc::Allocator;
 use tc_book::acts::load::load;
 use tc_book::acts::load_procedure::load_procedure;
-use tc_book::drafts::Draft;
 use tc_book::stamps::Stamp;
 use tc_proc::procedures::Procedure;
 use tc_stack::stacks::Stack;
@@ -22,27 +20,6 @@ use tc_types::names::Name;
 use tc_types::refusals::Refusal;
 use tc_types::reports::Report;
 use tc_world::carriers::Carrier;
-use tc_world::indications::Indications;
-
-/// What a load answers, of a draft that is filled: the link told nothing.
-fn answer<A: Allocator + Copy + Drop>(alloc: A, filled: Draft<A>) -> Done<A>
-    ensures first { result.first ≡ First.Book filled.first }
-    ensures said { result.said ≡ [] }
-    ensures moves { result.moves.items ≡ filled.moves.items }
-    ensures batch { result.batch.items ≡ filled.batch.items }
-{
-    let Draft {
-        first,
-        moves,
-        batch,
-    } = filled;
-    Done {
-        first: First::Book(first),
-        said: Indications::none(alloc),
-        moves,
-        batch,
-    }
-}
 
 impl<U: Carrier<Frame> + Drop, D: Carrier<Report> + Drop, A: Allocator + Copy + Drop> Parts<
     U,

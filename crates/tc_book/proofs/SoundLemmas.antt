@@ -1,0 +1,83 @@
+-- The parts of sound tables are the whole.
+use Rattle.std.proofs.Common.{◌≡◌, ◌+◌, ◌<◌, ◌^◌, Option, Some, None, List, [], ◌∷◌, length, map, cond, refl, sym, ◌∙◌, ap, arith}
+use Rattle.std.specs.Prelude.{count_by, unwrap_or}
+use Rattle.std.proofs.lemmas.List.Sums.{sum_by-cons}
+use Rattle.tc_types.specs.declared.places.Place.{Place}
+use Rattle.tc_types.specs.declared.places.Place.TheVariants.{Entered}
+use Rattle.tc_types.specs.declared.requests.Request.{Request}
+use Rattle.tc_types.specs.declared.rows.PlacedRequest.{PlacedRequest}
+use Rattle.tc_types.specs.declared.rows.LoadedStack.{LoadedStack}
+use Rattle.tc_types.specs.declared.rows.Tally.{Tally}
+use Rattle.tc_types.specs.Lawful.{is_among}
+use Rattle.tc_types.specs.History.{place_of, count_at}
+use Rattle.tc_types.specs.declared.moves.Move.{Move}
+use Rattle.tc_types.specs.Tables.{Image, tallies_by}
+use Rattle.tc_proc.specs.GoodLogs.{IsGoodLog}
+use Rattle.tc_book.specs.Book.{Book, stands}
+use Rattle.tc_book.specs.Good.{IsGoodBook}
+use Rattle.tc_book.specs.GoodApprovals.{AreGoodApprovals}
+use Rattle.tc_book.specs.Opening.{opened_places, is_opened}
+use Rattle.tc_book.specs.Sound.{IsSound, book_of}
+use Rattle.tc_book.specs.SoundParts.{IsSoundStart, IsSoundRest}
+use Rattle.tc_book.specs.Stacks.{stacks_of}
+use Rattle.tc_book.specs.Tables.{placed, image_of}
+
+-- the book is good
+pub sound_book : (image : Image) → IsSoundStart image → AreGoodApprovals (book_of image).requests image.approvals → IsSoundRest image → IsGoodLog (book_of image).log → IsGoodBook (book_of image)
+sound_book image start approvals rest log = record {
+  history = start.past.history;
+  requests = start.requests.requests;
+  few = start.requests.few;
+  entered = start.entered;
+  named = approvals.named;
+  alone = approvals.alone;
+  stacks_named = rest.stacks_named;
+  approved = approvals.approved;
+  stacks_approved = rest.stacks_approved;
+  log = log;
+  log_named = rest.log_named;
+  complete = rest.complete;
+}
+
+pub sound_whole : (image : Image) → IsSoundStart image → AreGoodApprovals (book_of image).requests image.approvals → IsSoundRest image → IsGoodLog (book_of image).log → IsSound image
+sound_whole image start approvals rest log = record {
+  book = sound_book image start approvals rest log;
+  placed = start.past.placed;
+  tallied = start.past.tallied;
+  stacks = start.requests.stacks;
+  persons = rest.persons;
+  numbers = start.past.numbers;
+}
+
+-- sound tables are those of the book that they tell of
+told : (image : Image) (requests : List PlacedRequest) (tallies : List Tally) (stacks : List LoadedStack) → requests ≡ image.requests → tallies ≡ image.tallies → stacks ≡ image.stacks
+    → record image { requests = requests; tallies = tallies; stacks = stacks } ≡ image
+told image requests tallies stacks by_requests by_tallies by_stacks =
+    ap (λ (l : List PlacedRequest). record image { requests = l; tallies = tallies; stacks = stacks }) by_requests
+    ∙ ap (λ (l : List Tally). record image { tallies = l; stacks = stacks }) by_tallies
+    ∙ ap (λ (l : List LoadedStack). record image { stacks = l }) by_stacks
+
+pub told_image : (image : Image) → IsSound image → image_of (book_of image) ≡ image
+told_image image sound =
+    told image (map (placed image.moves) (book_of image).requests) (tallies_by (count_at image.moves)) (stacks_of (book_of image).requests) (sym sound.placed) (sym sound.tallied) (sym sound.stacks)
+
+-- as many requests are moved by an opening as the rows say
+opened_alike : (history : List Move) (at : Option Place) → is_opened (unwrap_or at Entered) ≡ is_among opened_places at
+opened_alike history None = refl
+opened_alike history (Some at) = refl
+
+pub opened_counted : (book : Book) (requests : List Request) → count_by (λ (p : PlacedRequest). is_opened p.place) (map (placed book.history) requests) ≡ count_by (λ (r : Request). stands book r.number opened_places) requests
+opened_counted book [] = refl
+opened_counted book (r ∷ requests) =
+    sum_by-cons (λ (p : PlacedRequest). cond (is_opened p.place) 1 0) (placed book.history r) (map (placed book.history) requests)
+    ∙ ap (λ t. cond t 1 0 + count_by (λ (p : PlacedRequest). is_opened p.place) (map (placed book.history) requests)) (opened_alike book.history (place_of book.history r.number))
+    ∙ ap (λ n. cond (stands book r.number opened_places) 1 0 + n) (opened_counted book requests)
+    ∙ sym (sum_by-cons (λ (x : Request). cond (stands book x.number opened_places) 1 0) r requests)
+
+-- so the rows of an opening find numbers
+pub numbers_found : (image : Image) → IsSound image → length image.moves + count_by (λ (r : Request). stands (book_of image) r.number opened_places) (book_of image).requests < 2 ^ 32
+numbers_found image sound =
+    let same : count_by (λ (p : PlacedRequest). is_opened p.place) image.requests ≡ count_by (λ (r : Request). stands (book_of image) r.number opened_places) (book_of image).requests =
+    ap (count_by (λ (p : PlacedRequest). is_opened p.place)) sound.placed ∙ opened_counted (book_of image) (book_of image).requests in
+    let numbers = sound.numbers in
+    omega (arith, same, numbers)

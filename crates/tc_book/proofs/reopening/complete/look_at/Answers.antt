@@ -1,0 +1,1 @@
+-- By itself, or with its stack.

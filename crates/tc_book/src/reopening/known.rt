@@ -1,0 +1,255 @@
+//! The requests of the tables that were left.
+ghost use Rattle.std.specs.Prelude.{◌≡◌, ◌⊎◌, ◌↔◌, ℕ, List, ◌≤◌, ◌<◌, ◌++◌, ◌∷◌, [], length, map, vec_capacity, IfSome, IsSomeAnd, IsTrue, IfOk, IfErr, OnOk, false};
+ghost use Rattle.std.specs.List.{list_any};
+ghost use Rattle.tc_types.specs.declared.refusals.Refusal.TheVariants.{Memory, Store};
+ghost use Rattle.tc_types.specs.declared.requests.Request.{Request as SomeRequest};
+ghost use Rattle.tc_types.specs.declared.rows.PlacedRequest.{PlacedRequest as SomePlaced};
+ghost use Rattle.tc_types.specs.History.{AllAfter};
+ghost use Rattle.tc_types.specs.Names.{is_same_name};
+ghost use Rattle.tc_types.specs.Schedule.{KeepsScheduleRule};
+ghost use Rattle.tc_stack.specs.Stacks.{IsEarlier};
+ghost use Rattle.tc_book.specs.Book.{form_of, next_identity, request_in};
+ghost use Rattle.tc_book.specs.Good.{IsNextRow, IsGoodOrigin, IsGoodRequest};
+ghost use Rattle.tc_book.specs.Known.{AreTakenRequests, AreKnown};
+ghost use Rattle.tc_book.specs.Places.{AreCounted};
+ghost use Rattle.tc_book.specs.Stacks.{has_stack};
+ghost use Rattle.tc_book.specs.Targets.{HasGoodTarget};
+
+use crate::acts::enter::{is_bad_activity, target_of};
+use crate::counts::{count_one, next_identity, reserve_counts};
+use crate::pushes::push_within;
+use crate::reading::{is_same_identity, request_in};
+use crate::records::MOST_REQUESTS;
+use crate::stacks::{has_name, push_name};
+use std::alloc::Allocator;
+use tc_types::entries::Entry;
+use tc_types::names::{Name, is_same_name};
+use tc_types::refusals::Refusal;
+use tc_types::requests::{Command, Form, Identity, Origin, Request};
+use tc_types::rows::PlacedRequest;
+
+/// The most lines that a stack has.
+const MOST_LINES: u32 = 200;
+
+/// Requests of which each may follow those before it, how many each application process has, and the names of their stacks.
+#[derive(Drop)]
+pub(crate) struct KnownRequests<A: Allocator + Copy + Drop> {
+    /// The requests.
+    pub(crate) requests: Vec<Request, A>,
+    /// How many each application process has.
+    pub(crate) counts: Vec<u32, A>,
+    /// The names of their stacks.
+    pub(crate) stacks: Vec<Name, A>,
+}
+
+/// Whether this is the next identity of its application process.
+fn is_next_identity(counts: &[u32], identity: &Identity) -> bool
+    ensures { (requests : List SomeRequest) → AreCounted requests counts.now → IsTrue result ↔ (identity.now ≡ next_identity requests identity.now.apid) }
+{
+    is_same_identity(identity, &next_identity(counts, identity.apid))
+}
+
+/// Whether a request, where it is a schedule command, asks for its completion and completes.
+fn keeps_schedule_rule(request: &Request) -> bool
+    ensures { IsTrue result ↔ KeepsScheduleRule (form_of request.now) }
+{
+    let form = Form {
+        apid: request.body.identity.apid,
+        ack: request.body.ack,
+        critical: request.critical,
+        command: request.body.command,
+        outcome: request.body.outcome,
+    };
+    Entry::new(form).is_some()
+}
+
+/// Whether the request that a command names, where it names one, is among these, and is one that it may name.
+fn has_good_target(requests: &[Request], command: &Command) -> bool
+    ensures { IsTrue result ↔ HasGoodTarget requests.now command.now }
+{
+    let Some(target) = target_of(command) else {
+        return true;
+    };
+    match request_in(requests, target) {
+        Some(named) => !is_bad_activity(command, &named),
+        None => false,
+    }
+}
+
+/// Whether a row goes on with the stack of this request, by the same author.
+fn is_next_row(author: &Name, origin: &Origin, before: &Request) -> bool
+    ensures { IsTrue result ↔ IsNextRow author.now origin.now before.now }
+{
+    let Some(last) = &before.origin else {
+        return false;
+    };
+    let goes_on = origin.line > last.line && origin.line - last.line == 1;
+    goes_on && is_same_name(&before.author, author) && is_same_name(&last.stack, &origin.stack)
+}
+
+/// Whether a row goes on with the stack of the last of these requests, by the same author.
+fn goes_on(requests: &[Request], author: &Name, origin: &Origin) -> bool
+    requires { length requests.now ≤ 65535 }
+    ensures { IsTrue result ↔ IsSomeAnd (request_in requests.now (length requests.now)) (IsNextRow author.now origin.now) }
+{
+    match request_in(requests, requests.len() as u32) {
+        Some(before) => is_next_row(author, origin, &before),
+        None => false,
+    }
+}
+
+/// Whether a line that has to be completed first, if there is one, is an earlier one.
+fn is_earlier(after: Option<u32>, line: u32) -> bool
+    ensures { IsTrue result ↔ IfSome after (IsEarlier line) }
+{
+    match after {
+        Some(named) => named > 0 && named < line,
+        None => true,
+    }
+}
+
+/// Whether the next request may be this row of a stack, where the stacks so far have these names.
+fn is_good_origin(requests: &[Request], stacks: &[Name], author: &Name, origin: &Origin) -> bool
+    requires few { length requests.now ≤ 65535 }
+    requires stacks { (name : List ℕ) → has_stack name requests.now ≡ list_any (λ known. is_same_name known name) stacks.now }
+    ensures { IsTrue result ↔ IsGoodOrigin requests.now author.now origin.now }
+{
+    let begins = origin.line == 1 && !has_name(stacks, &origin.stack);
+    let follows = begins || goes_on(requests, author, origin);
+    follows && origin.line <= MOST_LINES && is_earlier(origin.after, origin.line)
+}
+
+/// Whether the next request may have come from here.
+fn may_come_from(requests: &[Request], stacks: &[Name], request: &Request) -> bool
+    requires few { length requests.now ≤ 65535 }
+    requires stacks { (name : List ℕ) → has_stack name requests.now ≡ list_any (λ known. is_same_name known name) stacks.now }
+    ensures { IsTrue result ↔ IfSome request.now.origin (IsGoodOrigin requests.now request.now.author) }
+{
+    match &request.origin {
+        Some(origin) => is_good_origin(requests, stacks, &request.author, origin),
+        None => true,
+    }
+}
+
+/// Whether this request may follow these.
+fn may_follow(requests: &[Request], counts: &[u32], stacks: &[Name], request: &Request) -> bool
+    requires few { length requests.now < 65535 }
+    requires known { AreKnown requests.now counts.now stacks.now }
+    ensures { IsTrue result ↔ IsGoodRequest requests.now request.now }
+{
+    let is_numbered = request.number.get() as usize == requests.len() + 1;
+    let is_named = is_next_identity(counts, &request.body.identity);
+    let is_fit = keeps_schedule_rule(request) && has_good_target(requests, &request.body.command);
+    is_numbered && is_named && is_fit && may_come_from(requests, stacks, request)
+}
+
+/// Appends a request that may follow these.
+fn push_known<A: Allocator + Copy + Drop>(
+    requests: &mut Vec<Request, A>,
+    counts: &mut Vec<u32, A>,
+    stacks: &mut Vec<Name, A>,
+    request: &Request,
+)
+    requires few { length requests.old.items < 65535 }
+    requires known { AreKnown requests.old.items counts.old.items stacks.old.items }
+    requires good { IsGoodRequest requests.old.items request.now }
+    requires room { length requests.old.items < vec_capacity requests.old }
+    requires stack_room { length requests.old.items < vec_capacity stacks.old }
+    requires counts { 2048 ≤ length counts.old.items }
+    ensures requests { requests.new.items ≡ requests.old.items ++ request.now ∷ [] }
+    ensures known { AreKnown requests.new.items counts.new.items stacks.new.items }
+    ensures room { vec_capacity requests.old ≤ vec_capacity requests.new }
+    ensures stack_room { vec_capacity stacks.old ≤ vec_capacity stacks.new }
+    ensures counts { length counts.new.items ≡ length counts.old.items }
+{
+    // read for the proof alone: there is a count of each process
+    let _apid = request.body.identity.apid.get();
+    push_name(stacks, &request.origin);
+    count_one(counts, request.body.identity.apid);
+    push_within(requests, *request);
+}
+
+/// Appends the requests of these rows to none, as long as each may follow those before it: whether all may.
+fn push_all<A: Allocator + Copy + Drop>(
+    requests: &mut Vec<Request, A>,
+    counts: &mut Vec<u32, A>,
+    stacks: &mut Vec<Name, A>,
+    rows: &[PlacedRequest],
+) -> bool
+    requires empty { requests.old.items ≡ [] }
+    requires few { length rows.now ≤ 65535 }
+    requires known { AreKnown requests.old.items counts.old.items stacks.old.items }
+    requires room { length rows.now ≤ vec_capacity requests.old }
+    requires stack_room { length rows.now ≤ vec_capacity stacks.old }
+    requires counts { 2048 ≤ length counts.old.items }
+    ensures requests { IsTrue result → requests.new.items ≡ map (λ (p : SomePlaced). p.request) rows.now }
+    ensures known { AreKnown requests.new.items counts.new.items stacks.new.items }
+    ensures bad { result ≡ false → ¬ AllAfter IsGoodRequest [] (map (λ (p : SomePlaced). p.request) rows.now) }
+{
+    for row in rows {
+        if !may_follow(requests, counts, stacks, &row.request) {
+            return false;
+        }
+        push_known(requests, counts, stacks, &row.request);
+    }
+    true
+}
+
+/// Room for so many requests, and none there yet.
+fn known_none<A: Allocator + Copy + Drop>(
+    alloc: A,
+    count: usize,
+) -> Result<KnownRequests<A>, Refusal>
+    ensures empty { IfOk result (λ known. known.requests.items ≡ []) }
+    ensures known { IfOk result (λ known. AreKnown known.requests.items known.counts.items known.stacks.items) }
+    ensures room { IfOk result (λ known. count ≤ vec_capacity known.requests) }
+    ensures stack_room { IfOk result (λ known. count ≤ vec_capacity known.stacks) }
+    ensures counts { IfOk result (λ known. 2048 ≤ length known.counts.items) }
+    ensures refused { IfErr result (λ why. why ≡ Memory) }
+{
+    let Ok(requests) = Vec::with_capacity(alloc, count) else {
+        return Err(Refusal::Memory);
+    };
+    let Ok(stacks) = Vec::with_capacity(alloc, count) else {
+        return Err(Refusal::Memory);
+    };
+    let mut counts = Vec::new(alloc);
+    match reserve_counts(&mut counts) {
+        Ok(()) => Ok(KnownRequests {
+            requests,
+            counts,
+            stacks,
+        }),
+        Err(_) => Err(Refusal::Memory),
+    }
+}
+
+/// The requests of these rows. Answers `Store` where no desk could have written them, and `Memory` where that is refused.
+pub(crate) fn requests_of<A: Allocator + Copy + Drop>(
+    alloc: A,
+    rows: &[PlacedRequest],
+) -> Result<KnownRequests<A>, Refusal>
+    ensures requests { IfOk result (λ known. known.requests.items ≡ map (λ (p : SomePlaced). p.request) rows.now) }
+    ensures known { IfOk result (λ known. AreKnown known.requests.items known.counts.items known.stacks.items) }
+    ensures few { IfOk result (λ known. length known.requests.items ≤ 65535) }
+    ensures bad { IfErr result (λ why. why ≡ Store → ¬ AreTakenRequests (map (λ (p : SomePlaced). p.request) rows.now)) }
+    ensures refused { IfErr result (λ why. (why ≡ Store) ⊎ (why ≡ Memory)) }
+{
+    if rows.len() > MOST_REQUESTS {
+        return Err(Refusal::Store);
+    }
+    let KnownRequests {
+        mut requests,
+        mut counts,
+        mut stacks,
+    } = known_none(alloc, rows.len())?;
+    if push_all(&mut requests, &mut counts, &mut stacks, rows) {
+        Ok(KnownRequests {
+            requests,
+            counts,
+            stacks,
+        })
+    } else {
+        Err(Refusal::Store)
+    }
+}

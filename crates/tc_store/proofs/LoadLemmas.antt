@@ -1,0 +1,124 @@
+-- What calls that only read leave, one after another, and how the rows of a table are read.
+use Rattle.std.proofs.Common.{◌≡◌, ℕ, ◌+◌, ◌<◌, zero, suc, arith, pos, List, [], ◌∷◌, ◌++◌, map, filter, take, length, get_or, true, false, refl, sym, ap, ap₂, subst, ◌∙◌, IsTrue, Result, Ok, Err, OnOk}
+use Rattle.std.specs.List.{AllByRecursion}
+use Rattle.std.proofs.lemmas.List.{get_or-map, length-map, take_more}
+use Rattle.sqlite_value.specs.declared.value.Value.TheVariants.{Int}
+use Rattle.sqlite_value.specs.Order.{Row}
+use Rattle.sqlite_trees.specs.Tree.{IsTable}
+use Rattle.sqlite_trees.specs.declared.store.Store.{Ghosts}
+use Rattle.sqlite_sql.specs.Term.{Term, eval_all}
+use Rattle.sqlite.specs.Given.{IsPlain}
+use Rattle.sqlite.specs.Listing.{understood}
+use Rattle.sqlite.specs.State.{State, Shown, FailsToQuery, HasCleanDisk, Survives, CommitsShowing}
+use Rattle.sqlite.specs.Held.{Held, state}
+use Rattle.sqlite.specs.declared.error.Error.{Error}
+use Rattle.sqlite.proofs.StateLemmas.{survives_then, survives_weaker}
+use Rattle.sqlite.proofs.Callers.{never_commits}
+use Rattle.tc_types.specs.Tables.{Image}
+use Rattle.tc_sql.specs.Contents.{has_tree, rows_in}
+use Rattle.tc_sql.specs.Numbered.{numbered_from, numbered}
+use Rattle.tc_sql.specs.Lists.{passes, no_limit, ListsFrom}
+use Rattle.tc_sql.proofs.Changes.{matches_at}
+use Rattle.tc_sql.proofs.Selects.{listed, listed_as}
+use Rattle.tc_store.specs.Schema.{schema_1, contents, Holds}
+use Rattle.tc_store.specs.Reads.{Stays, Spares}
+use Rattle.tc_store.proofs.ReadLemmas.{rising, still_holds, fails_holding}
+
+-- ---- what a read leaves
+
+module _ {S : Type 0} (g : Ghosts S) where
+  pub stays_then : (old mid new : Held S) → Stays g old mid → Stays g mid new → Stays g old new
+  stays_then old mid new one two = record { holds = λ image h. two.holds image (one.holds image h) }
+
+  pub spares_then : (old mid new : Held S) → (HasCleanDisk (state g mid) → Stays g old mid) → Spares g old mid → Spares g mid new → Spares g old new
+  spares_then old mid new stays one two = record {
+    kept = λ clean is_open image h. two.kept clean is_open image ((stays (omega (arith, clean, two.crash.clean))).holds image h);
+    crash =
+        survives_then (state g old) (state g mid) (state g new) (λ _. (image : Image) → Holds (state g old).now image → ⊥) (λ _. (image : Image) → Holds (state g mid).now image → ⊥)
+        (λ _. (image : Image) → Holds (state g old).now image → ⊥) (λ clean db none. none) (λ clean db none image h. none image ((stays (omega (arith, clean, two.crash.clean))).holds image h)) one.crash two.crash;
+    outside = λ h. two.outside (one.outside h);
+  }
+
+  pub spares_in_crash : (old new : Held S) (image : Image) → Holds (state g old).now image → Spares g old new → Survives (state g old) (state g new) (λ _. ⊥)
+  spares_in_crash old new image h it = survives_weaker (state g old) (state g new) _ _ (λ clean db none. none image h) it.crash
+
+  module _ (text : List ℕ) (plain : IsPlain (understood schema_1 text)) (params : Row) (old new : Held S) where
+    quiet : Survives (state g old) (state g new) (CommitsShowing text params (state g old)) → Survives (state g old) (state g new) (λ _. (image : Image) → Holds (state g old).now image → ⊥)
+    quiet =
+        survives_weaker (state g old) (state g new) (CommitsShowing text params (state g old)) (λ _. (image : Image) → Holds (state g old).now image → ⊥)
+        (λ _ db commits image held. never_commits text params (state g old) db (subst (λ s. IsPlain (understood s text)) (sym held.schema) plain) commits)
+
+    pub stays_after : (rows : List Row) → Shown text params (state g old) (state g new) rows → Stays g old new
+    stays_after rows h = record { holds = λ image held. still_holds text plain params image (state g old) (state g new) held rows h }
+
+    pub spares_after : (rows : List Row) → (HasCleanDisk (state g new) → Shown text params (state g old) (state g new) rows) → Survives (state g old) (state g new) (CommitsShowing text params (state g old))
+        → (old.in_transaction ≡ false → new.in_transaction ≡ false) → Spares g old new
+    spares_after rows h survives outside = record {
+      kept = λ clean is_open image held. still_holds text plain params image (state g old) (state g new) held rows (h clean);
+      crash = quiet survives;
+      outside = outside;
+    }
+
+    pub spares_failing : (e : Error) → (IsTrue (state g old).is_open → (state g old).now ≡ (state g old).committed) → (HasCleanDisk (state g new) → FailsToQuery text params (state g old) (state g new) e)
+        → Survives (state g old) (state g new) (CommitsShowing text params (state g old)) → (old.in_transaction ≡ false → new.in_transaction ≡ false) → Spares g old new
+    spares_failing e settled h survives outside = record {
+      kept = λ clean is_open image held. fails_holding text plain params image (state g old) (state g new) held e settled (h clean) is_open;
+      crash = quiet survives;
+      outside = outside;
+    }
+
+-- ---- the rows of a table
+
+filter_true : {X : Type 0} (xs : List X) → filter (λ _. true) xs ≡ xs
+filter_true [] = refl
+filter_true (x ∷ xs) = ap (λ l. x ∷ l) (filter_true xs)
+
+-- what columns show of a row
+abbrev shown_of : List Term → Row → Row
+shown_of columns r = eval_all columns ([] ∷ r ∷ [])
+
+-- a table whose key is a number
+pub rows_keyed : {X : Type 0} (tree : ℕ) (columns : List Term) (row shown : X → Row) (text : List ℕ) → ListsFrom schema_1 tree text [] columns no_limit → (xs : List X) (image : Image) (old new : State)
+    → (rows : List Row) → has_tree tree (contents image) ≡ true → rows_in tree (contents image) ≡ map row xs → ((x : X) → shown_of columns (row x) ≡ shown x) → Holds old.now image → Shown text [] old new rows → rows ≡ map shown xs
+rows_keyed tree columns row shown text lists xs image old new rows named is showed held h =
+    let at = rising tree row xs image old held named is in
+    listed tree [] columns no_limit [] schema_1 text old new held.schema lists rows at.1 h
+    ∙ listed_as tree [] columns no_limit [] row shown (λ x. true) xs old.now.trees at.0 (λ x. refl) showed
+    ∙ ap (map shown) (filter_true xs)
+
+-- one whose rows are numbered in the order in which they came
+shown_numbered : {X : Type 0} (columns : List Term) (values : X → Row) → ((n : ℕ) (x : X) → shown_of columns (Int (pos n) ∷ values x) ≡ values x) → (n : ℕ) (xs : List X)
+    → map (shown_of columns) (filter (passes [] []) (numbered_from n (map values xs))) ≡ map values xs
+shown_numbered columns values showed n [] = refl
+shown_numbered columns values showed n (x ∷ xs) = ap₂ (λ a b. a ∷ b) (showed n x) (shown_numbered columns values showed (n + 1) xs)
+
+pub rows_numbered : {X : Type 0} (tree : ℕ) (columns : List Term) (values : X → Row) (text : List ℕ) → ListsFrom schema_1 tree text [] columns no_limit → (xs : List X) (image : Image) (old new : State)
+    → (rows : List Row) → has_tree tree (contents image) ≡ true → rows_in tree (contents image) ≡ numbered (map values xs) → ((n : ℕ) (x : X) → shown_of columns (Int (pos n) ∷ values x) ≡ values x)
+    → Holds old.now image → Shown text [] old new rows → rows ≡ map values xs
+rows_numbered tree columns values text lists xs image old new rows named is showed held h =
+    let at = matches_at old.now.trees tree (contents image) held.rows named in
+    listed tree [] columns no_limit [] schema_1 text old new held.schema lists rows (subst IsTable (sym at.0) at.1) h
+    ∙ ap (λ all. map (shown_of columns) (filter (passes [] []) all)) (at.0 ∙ is)
+    ∙ shown_numbered columns values showed 1 xs
+
+-- one row more was read
+all_at : {X : Type 0} (P : X → Type 0) (xs : List X) (k : ℕ) (d : X) → k < length xs → AllByRecursion P xs → P (get_or xs k d)
+all_at P [] k d within all = absurd (omega (arith, within))
+all_at P (x ∷ xs) zero d within all = all.0
+all_at P (x ∷ xs) (suc k) d within all = all_at P xs k d (omega (arith, within)) all.1
+
+pub read_more : {X : Type 0} (shown : X → Row) (Told : X → Type 0) (rows : List Row) (all items : List X) (k : ℕ) (d : Row) (x : X) → k < length rows → AllByRecursion Told all → rows ≡ map shown all
+    → ((was : X) → Told was → get_or rows k d ≡ shown was → x ≡ was) → items ≡ take k all → items ++ x ∷ [] ≡ take (k + 1) all
+read_more shown Told rows all items k d x within told are reads so_far =
+    let low : k < length all = omega (arith, within, ap length are, length-map all shown) in
+    let row : get_or rows k d ≡ shown (get_or all k x) = ap (λ l. get_or l k d) are ∙ get_or-map shown all k x d low in
+    ap₂ (λ a b. a ++ b ∷ []) so_far (reads (get_or all k x) (all_at Told all k x low told) row) ∙ sym (take_more all k x low)
+
+-- rows that nothing is asked of
+pub all_told : {X : Type 0} (xs : List X) → AllByRecursion (λ (_ : X). Unit {0}) xs
+all_told [] = tt
+all_told (x ∷ xs) = (tt, all_told xs)
+
+pub on_ok : {T E : Type 0} (r : Result T E) (P Q : Type 0) → OnOk r P → (P → Q) → OnOk r Q
+on_ok (Ok x) P Q h f = f h
+on_ok (Err e) P Q h f = tt

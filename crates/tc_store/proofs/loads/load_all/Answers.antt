@@ -1,0 +1,8 @@
+use Rattle.tc_store.proofs.LoadLemmas.{spares_in_crash, on_ok}
+use Rattle.tc_store.proofs.loads.load_all.Goals as goal
+
+pub returns-clause-same : goal.returns-clause-same
+returns-clause-same g c clean image held = on_ok c.load_tables.result _ _ (c.load_tables.ensures.same clean) (λ stays. stays.holds image held)
+
+pub returns-clause-crash : goal.returns-clause-crash
+returns-clause-crash g c image held = spares_in_crash g.S.Store c.args.conn.now c.load_tables.new.conn image held c.load_tables.ensures.left

@@ -1,0 +1,6 @@
+use Rattle.std.proofs.Common.{◌≡◌, List, map, take}
+use Rattle.std.specs.List.{AllByRecursion}
+use Rattle.tc_store.proofs.loads.rows.read_all.Given as goal
+
+abbrev pub invariant-rows : goal.invariant-rows
+invariant-rows g l = (all : List g.row.T.Denot) → AllByRecursion g.T.Loads.is_told all → l.rows ≡ map g.T.Loads.shown all → l.found.items ≡ take l.row-index all

@@ -1,0 +1,17 @@
+-- What calls that only read leave.
+use Rattle.std.specs.Prelude.{◌≡◌, false, IsTrue}
+use Rattle.sqlite_trees.specs.declared.store.Store.{Ghosts}
+use Rattle.sqlite.specs.State.{HasCleanDisk, Survives}
+use Rattle.sqlite.specs.Held.{Held, state}
+use Rattle.tc_types.specs.Tables.{Image}
+use Rattle.tc_store.specs.Schema.{Holds}
+
+-- the tables hold what they held
+pub record Stays {S : Type 0} (g : Ghosts S) (old new : Held S) : Type 0 where
+  pub holds : (image : Image) → Holds (state g old).now image → Holds (state g new).now image
+
+-- so they do, also after a fault, where the connection is open, and a crash leaves no other tables than before
+pub record Spares {S : Type 0} (g : Ghosts S) (old new : Held S) : Type 0 where
+  pub kept : HasCleanDisk (state g new) → IsTrue (state g new).is_open → (image : Image) → Holds (state g old).now image → Holds (state g new).now image
+  pub crash : Survives (state g old) (state g new) (λ _. (image : Image) → Holds (state g old).now image → ⊥)
+  pub outside : old.in_transaction ≡ false → new.in_transaction ≡ false

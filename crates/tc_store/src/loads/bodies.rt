@@ -1,0 +1,141 @@
+//! What a row of the table `request` shows.
+ghost use Rattle.std.specs.Prelude.{◌≡◌, ◌==◌, ℕ, pos, true, if◌then◌else◌, Some, None, IfOk, IfErr};
+ghost use Rattle.sqlite_value.specs.declared.value.Value.TheVariants.{Int, Text};
+ghost use Rattle.sqlite_value.specs.Order.{column};
+ghost use Rattle.tc_types.specs.declared.requests.Ack.{Ack as SomeAck};
+ghost use Rattle.tc_types.specs.declared.requests.Outcome.{Outcome as SomeOutcome};
+ghost use Rattle.tc_types.specs.declared.rows.PlacedRequest.{PlacedRequest as Was};
+ghost use Rattle.tc_types.specs.Grammar.{IsOutcome, outcome_word};
+ghost use Rattle.tc_store.specs.Requests.{ack_number, request_given};
+ghost use Rattle.tc_store.specs.Told.{IsToldRequest};
+ghost use Rattle.tc_store.specs.Faults.{is_of_read};
+
+use crate::cells::{flag_at, name_at, number_at, place_at, request_at, second_at, text_at};
+use crate::faults::StoreFault;
+use crate::loads::commands::command_in;
+use sqlite::Row;
+use tc_types::entry_reader::outcome;
+use tc_types::numbers::{Apid, SequenceCount};
+use tc_types::requests::{Ack, Body, Identity, Origin, Outcome, Request};
+use tc_types::rows::PlacedRequest;
+
+/// A number of two bytes.
+fn short_at(row: &Row, at: usize) -> Result<u16, StoreFault>
+    ensures reads { IfOk result (λ n. column row.now at ≡ Int (pos n)) }
+    ensures kind { IfErr result (λ e. is_of_read e ≡ true) }
+{
+    let number = number_at(row, at)?;
+    match u16::try_from(number) {
+        Ok(short) => Ok(short),
+        Err(_) => Err(StoreFault::Damaged),
+    }
+}
+
+/// The name on board, in the columns 1 and 2.
+fn identity_in(row: &Row) -> Result<Identity, StoreFault>
+    ensures same { IfOk result (λ identity. (was : Was) → row.now ≡ request_given was → identity ≡ was.request.body.identity) }
+    ensures kind { IfErr result (λ e. is_of_read e ≡ true) }
+{
+    let apid = short_at(row, 1)?;
+    let count = short_at(row, 2)?;
+    match (Apid::new(apid), SequenceCount::new(count)) {
+        (Some(apid), Some(count)) => Ok(Identity { apid, count }),
+        _ => Err(StoreFault::Damaged),
+    }
+}
+
+/// The reports that are asked for: 8 for acceptance, 4 for start, 2 for progress, 1 for completion.
+fn ack_at(row: &Row, at: usize) -> Result<Ack, StoreFault>
+    ensures same { IfOk result (λ ack. (was : SomeAck) → column row.now at ≡ Int (pos (ack_number was)) → ack ≡ was) }
+    ensures kind { IfErr result (λ e. is_of_read e ≡ true) }
+{
+    let number = number_at(row, at)?;
+    if number > 15 {
+        return Err(StoreFault::Damaged);
+    }
+    Ok(Ack {
+        acceptance: number >= 8,
+        start: number % 8 >= 4,
+        progress: number % 4 >= 2,
+        completion: number % 2 == 1,
+    })
+}
+
+/// How the rehearsal spacecraft will behave, by its word.
+fn outcome_at(row: &Row, at: usize) -> Result<Outcome, StoreFault>
+    ensures same { IfOk result (λ outcome. (was : SomeOutcome) → IsOutcome was → column row.now at ≡ Text (outcome_word was) → outcome ≡ was) }
+    ensures kind { IfErr result (λ e. is_of_read e ≡ true) }
+{
+    let text = text_at(row, at)?;
+    match outcome(text.as_bytes()) {
+        Some(outcome) => Ok(outcome),
+        None => Err(StoreFault::Damaged),
+    }
+}
+
+/// The line that has to be completed before, none by 0.
+fn line_before(prior: u32) -> Option<u32>
+    ensures { result ≡ (if prior == 0 then None else Some prior) }
+{
+    if prior == 0 { None } else { Some(prior) }
+}
+
+/// The row of a stack that a request was loaded with, in the columns 11 to 13.
+fn origin_in(row: &Row) -> Result<Option<Origin>, StoreFault>
+    ensures same { IfOk result (λ origin. (was : Was) → IsToldRequest was → row.now ≡ request_given was → origin ≡ was.request.origin) }
+    ensures kind { IfErr result (λ e. is_of_read e ≡ true) }
+{
+    let stack = second_at(row, 11)?;
+    let line = number_at(row, 12)?;
+    let prior = number_at(row, 13)?;
+    match stack {
+        Some(stack) => Ok(Some(Origin {
+            stack,
+            line,
+            after: line_before(prior),
+        })),
+        None => {
+            if line == 0 && prior == 0 {
+                Ok(None)
+            } else {
+                Err(StoreFault::Damaged)
+            }
+        }
+    }
+}
+
+/// What was asked for, in the columns 1 to 3 and 5 to 9.
+fn body_in(row: &Row) -> Result<Body, StoreFault>
+    ensures same { IfOk result (λ body. (was : Was) → IsToldRequest was → row.now ≡ request_given was → body ≡ was.request.body) }
+    ensures kind { IfErr result (λ e. is_of_read e ≡ true) }
+{
+    Ok(Body {
+        identity: identity_in(row)?,
+        ack: ack_at(row, 3)?,
+        command: command_in(row)?,
+        outcome: outcome_at(row, 9)?,
+    })
+}
+
+/// The request that a row shows, and where it stands.
+pub(crate) fn read_request(row: &Row) -> Result<PlacedRequest, StoreFault>
+    ensures same { IfOk result (λ placed. (was : Was) → IsToldRequest was → row.now ≡ request_given was → placed ≡ was) }
+    ensures kind { IfErr result (λ e. is_of_read e ≡ true) }
+{
+    let number = request_at(row, 0)?;
+    let body = body_in(row)?;
+    let critical = flag_at(row, 4)?;
+    let author = name_at(row, 10)?;
+    let origin = origin_in(row)?;
+    let place = place_at(row, 14)?;
+    Ok(PlacedRequest {
+        request: Request {
+            number,
+            body,
+            critical,
+            author,
+            origin,
+        },
+        place,
+    })
+}

@@ -1,0 +1,105 @@
+//! The command that a row of the table `request` shows.
+ghost use Rattle.std.specs.Prelude.{◌≡◌, pos, true, IfOk, IfErr, IfSome};
+ghost use Rattle.tc_types.specs.declared.rows.PlacedRequest.{PlacedRequest as Was};
+ghost use Rattle.tc_store.specs.Requests.{request_given};
+ghost use Rattle.tc_store.specs.Told.{IsToldRequest, ShowsCommand};
+ghost use Rattle.tc_store.specs.Faults.{is_of_read};
+
+use crate::cells::{number_at, signed_at};
+use crate::faults::StoreFault;
+use sqlite::Row;
+use tc_types::numbers::{Moment, Offset, Service, Subtype};
+use tc_types::requests::Command;
+
+/// A moment, by a number of either sign.
+fn moment_of(seconds: i64) -> Option<Moment>
+    ensures { IfSome result (λ moment. seconds ≡ pos moment) }
+{
+    match u32::try_from(seconds) {
+        Ok(seconds) => Moment::new(seconds),
+        Err(_) => None,
+    }
+}
+
+/// A command of any service but 11.
+fn plain_of(service: u32, subtype: u32, target: u32, time: i64) -> Option<Command>
+    ensures { IfSome result (ShowsCommand service subtype target time) }
+{
+    if target != 0 || time != 0 {
+        return None;
+    }
+    match (u8::try_from(service), u8::try_from(subtype)) {
+        (Ok(service), Ok(subtype)) => Some(Command::Plain {
+            service: Service::new(service)?,
+            subtype: Subtype::new(subtype)?,
+        }),
+        _ => None,
+    }
+}
+
+/// A command of service 11 that names neither a request nor a time.
+fn bare_of(subtype: u32) -> Option<Command>
+    ensures { IfSome result (ShowsCommand 11 subtype 0 (pos 0)) }
+{
+    match subtype {
+        1 => Some(Command::EnableSchedule),
+        2 => Some(Command::DisableSchedule),
+        3 => Some(Command::ResetSchedule),
+        17 => Some(Command::SummarizeAll),
+        _ => None,
+    }
+}
+
+/// A command of service 11.
+fn schedule_of(subtype: u32, target: u32, time: i64) -> Option<Command>
+    ensures { IfSome result (ShowsCommand 11 subtype target time) }
+{
+    if subtype == 4 {
+        let time = moment_of(time)?;
+        return Some(Command::InsertActivity { target, time });
+    }
+    if subtype == 7 {
+        let offset = Offset::new(time)?;
+        return Some(Command::ShiftActivity { target, offset });
+    }
+    if subtype == 15 && target == 0 {
+        let offset = Offset::new(time)?;
+        return Some(Command::ShiftAll { offset });
+    }
+    if time != 0 {
+        return None;
+    }
+    if subtype == 5 {
+        return Some(Command::DeleteActivity { target });
+    }
+    if target != 0 {
+        return None;
+    }
+    bare_of(subtype)
+}
+
+/// The command with these columns, if there is one.
+fn command_of(service: u32, subtype: u32, target: u32, time: i64) -> Option<Command>
+    ensures { IfSome result (ShowsCommand service subtype target time) }
+{
+    if service == 11 {
+        schedule_of(subtype, target, time)
+    } else {
+        plain_of(service, subtype, target, time)
+    }
+}
+
+/// The command, in the columns 5 to 8.
+pub(crate) fn command_in(row: &Row) -> Result<Command, StoreFault>
+    ensures same { IfOk result (λ command. (was : Was) → IsToldRequest was → row.now ≡ request_given was → command ≡ was.request.body.command) }
+    ensures kind { IfErr result (λ e. is_of_read e ≡ true) }
+{
+    let service = number_at(row, 5)?;
+    let subtype = number_at(row, 6)?;
+    let target = number_at(row, 7)?;
+    let time = signed_at(row, 8)?;
+    match command_of(service, subtype, target, time) {
+        Some(command) => Ok(command),
+        None => Err(StoreFault::Damaged),
+    }
+}

@@ -1,0 +1,49 @@
+//! The table `execution`, in order of number.
+ghost use Rattle.std.specs.Prelude.{◌≡◌, true, IfOk, IfErr, OnOk, ⊤};
+ghost use Rattle.sqlite.specs.State.{HasCleanDisk};
+ghost use Rattle.sqlite.specs.Held.{state};
+ghost use Rattle.tc_types.specs.Tables.{Image};
+ghost use Rattle.tc_store.specs.Executions.{execution_given};
+ghost use Rattle.tc_store.specs.Schema.{Holds};
+ghost use Rattle.tc_store.specs.Reads.{Stays, Spares};
+ghost use Rattle.tc_store.specs.Faults.{is_of_read};
+
+use crate::cells::{moment_at, name_at, number_at};
+use crate::faults::StoreFault;
+use crate::loads::rows::{Loads, read_all, rows_of};
+use sqlite::{Alter, Connection, Row};
+use std::alloc::Global;
+use tc_types::rows::BegunExecution;
+
+impl Loads for BegunExecution {
+    ghost shown = { execution_given };
+
+    ghost is_told = { λ _. ⊤ };
+
+    fn read(row: &Row) -> Result<BegunExecution, StoreFault> {
+        Ok(BegunExecution {
+            execution: number_at(row, 0)?,
+            procedure: name_at(row, 1)?,
+            by: name_at(row, 2)?,
+            moment: moment_at(row, 3)?,
+        })
+    }
+}
+
+/// The executions that were begun. The tables stay, also where the read fails.
+pub(crate) fn load_executions<S: Alter>(
+    conn: &mut Connection<S>,
+    alloc: Global,
+) -> Result<Vec<BegunExecution>, StoreFault>
+    ensures rows { HasCleanDisk (state S.Store conn.new) → IfOk result (λ found. (image : Image) → Holds (state S.Store conn.old).now image → found.items ≡ image.executions) }
+    ensures same { HasCleanDisk (state S.Store conn.new) → OnOk result (Stays S.Store conn.old conn.new) }
+    ensures left { Spares S.Store conn.old conn.new }
+    ensures kind { IfErr result (λ e. is_of_read e ≡ true) }
+{
+    let rows = rows_of(
+        conn,
+        "SELECT num, procedure, person, moment FROM execution ORDER BY num",
+        &[],
+    )?;
+    read_all(alloc, rows.as_slice())
+}

@@ -1,0 +1,45 @@
+//! The table `request`, in order of number.
+ghost use Rattle.std.specs.Prelude.{◌≡◌, true, IfOk, IfErr, OnOk};
+ghost use Rattle.sqlite.specs.State.{HasCleanDisk};
+ghost use Rattle.sqlite.specs.Held.{state};
+ghost use Rattle.tc_types.specs.Tables.{Image};
+ghost use Rattle.tc_store.specs.Requests.{request_given};
+ghost use Rattle.tc_store.specs.Schema.{Holds};
+ghost use Rattle.tc_store.specs.Told.{IsTold, IsToldRequest};
+ghost use Rattle.tc_store.specs.Reads.{Stays, Spares};
+ghost use Rattle.tc_store.specs.Faults.{is_of_read};
+
+use crate::faults::StoreFault;
+use crate::loads::bodies::read_request;
+use crate::loads::rows::{Loads, read_all, rows_of};
+use sqlite::{Alter, Connection, Row};
+use std::alloc::Global;
+use tc_types::rows::PlacedRequest;
+
+impl Loads for PlacedRequest {
+    ghost shown = { request_given };
+
+    ghost is_told = { IsToldRequest };
+
+    fn read(row: &Row) -> Result<PlacedRequest, StoreFault> {
+        read_request(row)
+    }
+}
+
+/// The requests that were entered, each with its place. The tables stay, also where the read fails.
+pub(crate) fn load_requests<S: Alter>(
+    conn: &mut Connection<S>,
+    alloc: Global,
+) -> Result<Vec<PlacedRequest>, StoreFault>
+    ensures rows { HasCleanDisk (state S.Store conn.new) → IfOk result (λ found. (image : Image) → IsTold image → Holds (state S.Store conn.old).now image → found.items ≡ image.requests) }
+    ensures same { HasCleanDisk (state S.Store conn.new) → OnOk result (Stays S.Store conn.old conn.new) }
+    ensures left { Spares S.Store conn.old conn.new }
+    ensures kind { IfErr result (λ e. is_of_read e ≡ true) }
+{
+    let rows = rows_of(
+        conn,
+        "SELECT num, apid, cnt, ack, critical, service, subtype, target, at_time, outcome, author, stack, line, prior, place FROM request ORDER BY num",
+        &[],
+    )?;
+    read_all(alloc, rows.as_slice())
+}
