@@ -19,6 +19,7 @@ mod words;
 use crate::acts::{entries_text, flights_text, moves_text, nights_text};
 use crate::loads::loads_text;
 use crate::reads::{filled, reads_text, requests_in};
+use crate::rooms::MemoryRoom;
 use crate::stores::history_text;
 use crate::subjects::Subject;
 use crate::words::{Asked, Kind, read_words};
@@ -26,7 +27,6 @@ use sqlite::MemStore;
 use std::env;
 use std::process::ExitCode;
 use std::rt::{Clock, Env};
-use tc_room::rooms::Room;
 use tc_store::tables::Tables;
 
 /// The bare store.
@@ -84,37 +84,37 @@ fn of_store<R: Clock + AllocGlobal>(rt: &R, kind: Kind, count: u32) -> Option<St
 
 /// Entries in a room.
 fn entries_of_room<R: Clock + AllocGlobal>(rt: &R, count: u32) -> Option<String> {
-    let mut room = Room::opened(rt.alloc())?;
+    let mut room = MemoryRoom::opened(rt.alloc())?;
     entries_text(rt, rt.alloc(), &mut room, count)
 }
 
 /// Moves in a room.
 fn moves_of_room<R: Clock + AllocGlobal>(rt: &R, count: u32) -> Option<String> {
-    let mut room = Room::opened(rt.alloc())?;
+    let mut room = MemoryRoom::opened(rt.alloc())?;
     moves_text(rt, rt.alloc(), &mut room, count)
 }
 
 /// Flights in a room.
 fn flights_of_room<R: Clock + AllocGlobal>(rt: &R, count: u32) -> Option<String> {
-    let mut room = Room::opened(rt.alloc())?;
+    let mut room = MemoryRoom::opened(rt.alloc())?;
     flights_text(rt, rt.alloc(), &mut room, count)
 }
 
 /// Nights of the on-board schedule in a room.
 fn nights_of_room<R: Clock + AllocGlobal>(rt: &R, count: u32) -> Option<String> {
-    let mut room = Room::opened(rt.alloc())?;
+    let mut room = MemoryRoom::opened(rt.alloc())?;
     nights_text(rt, rt.alloc(), &mut room, count)
 }
 
 /// Loads of stacks in a room.
 fn loads_of_room<R: Clock + AllocGlobal>(rt: &R, count: u32) -> Option<String> {
-    let mut room = Room::opened(rt.alloc())?;
+    let mut room = MemoryRoom::opened(rt.alloc())?;
     loads_text(rt, rt.alloc(), &mut room, count)
 }
 
 /// Questions in a room with so many moves.
 fn reads_of_room<R: Clock + AllocGlobal>(rt: &R, count: u32) -> Option<String> {
-    let mut room = Room::opened(rt.alloc())?;
+    let mut room = MemoryRoom::opened(rt.alloc())?;
     moves_text(rt, rt.alloc(), &mut room, count)?;
     reads_text(rt, rt.alloc(), &mut room, count)
 }

@@ -1,6 +1,7 @@
 //! The room.
 use crate::entries::{AUTHOR, OTHER, PROCESSES, form_of};
 use crate::subjects::{ACTIVITIES, Subject};
+use sqlite::MemStore;
 use std::alloc::Global;
 use tc_desk::configs::Config;
 use tc_room::rooms::Room;
@@ -22,8 +23,11 @@ const CONFIG: Config = Config {
 /// How long a night is, in seconds.
 const NIGHT: u32 = 86_400;
 
+/// A desk and its tables in memory.
+pub type MemoryRoom = Room<MemStore>;
+
 /// An act on the book.
-fn does(room: &mut Room, by: &[u8], act: BookAct) -> Option<()> {
+fn does(room: &mut MemoryRoom, by: &[u8], act: BookAct) -> Option<()> {
     match room.act(Name::read(by)?, Moment::new(0)?, Act::Book(act)) {
         Ok(_) => Some(()),
         Err(_) => None,
@@ -31,7 +35,7 @@ fn does(room: &mut Room, by: &[u8], act: BookAct) -> Option<()> {
 }
 
 /// An act on the link.
-fn asks(room: &mut Room, act: LinkAct) -> Option<()> {
+fn asks(room: &mut MemoryRoom, act: LinkAct) -> Option<()> {
     match room.act(Name::read(AUTHOR)?, Moment::new(0)?, Act::Link(act)) {
         Ok(_) => Some(()),
         Err(_) => None,
@@ -48,7 +52,7 @@ fn plain() -> Option<Command> {
 
 /// A request of one of ten application processes in turn, which asks for its completion, and for its acceptance where that is
 /// said.
-fn commands(room: &mut Room, place: u32, command: Command, acceptance: bool) -> Option<()> {
+fn commands(room: &mut MemoryRoom, place: u32, command: Command, acceptance: bool) -> Option<()> {
     let apid = Apid::new((place % PROCESSES) as u16)?;
     let entry = Entry::new(Form {
         apid,
@@ -66,7 +70,7 @@ fn commands(room: &mut Room, place: u32, command: Command, acceptance: bool) -> 
 }
 
 /// A command of the schedule is approved, flies, is carried out and confirmed, and its completion is read.
-fn carries(room: &mut Room, request: u32) -> Option<()> {
+fn carries(room: &mut MemoryRoom, request: u32) -> Option<()> {
     does(room, OTHER, BookAct::Approve { request })?;
     asks(room, LinkAct::Release { request })?;
     asks(room, LinkAct::Up)?;
@@ -77,7 +81,7 @@ fn carries(room: &mut Room, request: u32) -> Option<()> {
 }
 
 /// A request and, behind it, the insert of it for this time: both are entered and approved, and the insert is carried out.
-fn inserts(room: &mut Room, target: u32, time: Moment) -> Option<()> {
+fn inserts(room: &mut MemoryRoom, target: u32, time: Moment) -> Option<()> {
     commands(room, target, plain()?, true)?;
     commands(
         room,
@@ -89,9 +93,9 @@ fn inserts(room: &mut Room, target: u32, time: Moment) -> Option<()> {
     carries(room, target.checked_add(1)?)
 }
 
-impl Subject for Room {
-    fn opened(alloc: Global) -> Option<Room> {
-        Room::open(alloc, CONFIG).ok()
+impl Subject for MemoryRoom {
+    fn opened(alloc: Global) -> Option<MemoryRoom> {
+        Room::open_in_memory(alloc, CONFIG).ok()
     }
 
     fn enters(&mut self, place: u32) -> Option<()> {

@@ -1,3 +1,4 @@
+mod KeptLemmas
 mod RunLemmas
 mod ScriptLemmas
 mod WordLemmas

@@ -30,18 +30,18 @@ kept_out least most other n r is out = rw is (go (nat_le least n && nat_le n mos
     go false e = refl
     go true e = let parts = both _ _ e in absurd (out (leb-true _ _ parts.0) (leb-true _ _ parts.1))
 
--- the texts that a u8 reads as a number from least to most are those which the parser of an argument lets through
+-- the texts that a u32 reads as a number from least to most are those which the parser of an argument lets through
 module _ (E : Type 0) (least most other : ℕ) (text : Text) where
-  passes : (n : ℕ) → ParsesUnsigned {E = E} 8 10 text (Ok n) → accepts false (parser.Unsigned least most) text ≡ (nat_le least n && nat_le n most)
+  passes : (n : ℕ) → ParsesUnsigned {E = E} 32 10 text (Ok n) → accepts false (parser.Unsigned least most) text ≡ (nat_le least n && nat_le n most)
   passes n h =
-      let small : digits_value 10 (without_leading_plus text) < 256 = h.0.1 in
+      let small : digits_value 10 (without_leading_plus text) < 4294967296 = h.0.1 in
       let own = Accepts-accepts false (parser.Unsigned (digits_value 10 (without_leading_plus text)) (digits_value 10 (without_leading_plus text))) text
       (h.0.0, omega arith, omega arith, omega arith) in
       let numeral : is_numeral (without_leading_plus text) ≡ true = (both _ _ own).0 in
       let wide : nat_lt (digits_value 10 (without_leading_plus text)) (2 ^ 64) ≡ true = lt-ltb _ _ (omega arith) in
       rw (numeral, wide, h.1) refl
 
-  read_text : most < 256 → (r : Option ℕ) → ReadsOne {T = ℕ} {E = E} (ParsesUnsigned 8 10) text r → kept least most other r ≡ number_in least most other (Some text)
+  read_text : most < 4294967296 → (r : Option ℕ) → ReadsOne {T = ℕ} {E = E} (ParsesUnsigned 32 10) text r → kept least most other r ≡ number_in least most other (Some text)
   read_text small (Some n) h = rw (passes n h, h.1) refl
   read_text small None h = go (accepts false (parser.Unsigned least most) text) refl
     where
@@ -57,8 +57,8 @@ read_weaker gives weaker less t (Some v) h = less t (Ok v) h
 read_weaker gives weaker less t None h = (h.0, less t (Err h.0) h.1)
 
 -- what was read of an option is the number that stands in the rows
-pub read_number : {E : Type 0} (gives : List ℕ → Result ℕ E → Type 0) → ((t : List ℕ) (r : Result ℕ E) → gives t r → ParsesUnsigned 8 10 t r)
-    → (f : Found) (id : Text) (least most other : ℕ) (r : Option ℕ) → most < 256
+pub read_number : {E : Type 0} (gives : List ℕ → Result ℕ E → Type 0) → ((t : List ℕ) (r : Result ℕ E) → gives t r → ParsesUnsigned 32 10 t r)
+    → (f : Found) (id : Text) (least most other : ℕ) (r : Option ℕ) → most < 4294967296
     → (one_text f id ≡ None → r ≡ None) → ((t : List ℕ) → one_text f id ≡ Some t → ReadsOne {T = ℕ} {E = E} gives t r)
     → kept least most other r ≡ number_in least most other (one_of id (rows_of f))
 read_number {E = E} gives less f id least most other r small none value =
@@ -66,4 +66,4 @@ read_number {E = E} gives less f id least most other r small none value =
   where
     go : (o : Option Text) → one_text f id ≡ o → kept least most other r ≡ number_in least most other o
     go None e = rw (none e) refl
-    go (Some t) e = read_text E least most other t small r (read_weaker gives (ParsesUnsigned 8 10) less t r (value t e))
+    go (Some t) e = read_text E least most other t small r (read_weaker gives (ParsesUnsigned 32 10) less t r (value t e))

@@ -7,7 +7,7 @@ use Rattle.clap.specs.Words.{with_subcommand}
 use Rattle.clap.specs.declared.builder.value_parser.ValueParser.TheVariants as parser
 use Rattle.tc_desk.specs.declared.configs.Config.{Config}
 use Rattle.tc_cli.specs.declared.words.Line.{Line}
-use Rattle.tc_cli.specs.declared.words.Line.TheVariants.{Run}
+use Rattle.tc_cli.specs.declared.words.Line.TheVariants.{Run, RunKept}
 
 -- ---- the commands
 
@@ -33,9 +33,28 @@ channel_rule = record (new_rule (codes "vc")) {
   parser = Some (parser.Unsigned 0 63);
 }
 
--- run SCRIPT [--w N] [--vc N], each option at most once
+-- --db FILE: the database file that keeps the desk; a new desk where it is not given
+abbrev pub database_rule : Rule
+database_rule = record (new_rule (codes "db")) {
+  long = Some (codes "db");
+  value_names = 1;
+}
+
+-- --at MOMENT: when the desk in the file is opened, 0 to 4,102,444,799, and 0 where it is not given
+abbrev pub moment_rule : Rule
+moment_rule = record (new_rule (codes "at")) {
+  long = Some (codes "at");
+  value_names = 1;
+  defaults = codes "0" ∷ [];
+  parser = Some (parser.Unsigned 0 4102444799);
+}
+
+-- run SCRIPT [--w N] [--vc N] [--db FILE] [--at MOMENT], each option at most once
+abbrev pub script_app : App
+script_app = with_rule (with_rule (with_rule (new_app (codes "run")) script_rule) window_rule) channel_rule
+
 abbrev pub run_app : App
-run_app = with_rule (with_rule (with_rule (new_app (codes "run")) script_rule) window_rule) channel_rule
+run_app = with_rule (with_rule script_app database_rule) moment_rule
 
 -- the program's name, without its commands; one of them has to be named
 abbrev pub bare_app : App
@@ -48,9 +67,11 @@ desk_app = with_subcommand bare_app run_app.top
 
 -- ---- what the words ask for
 
--- a command with what it was given: the script, the window and the channel
+-- a command with what it was given: the script, the window and the channel; and, on a desk that is kept, the database file and the moment of
+-- its opening
 pub data Asked : Type 0 where
   run : Text → ℕ → ℕ → Asked
+  run_kept : Text → ℕ → ℕ → Text → ℕ → Asked
 
 -- the text that was given for an argument, or `-` where there was none
 abbrev pub given : Text → List Row → Text
@@ -71,23 +92,37 @@ given_window rows = number_in 2 254 20 (one_of (codes "w") rows)
 abbrev pub given_channel : List Row → ℕ
 given_channel rows = number_in 0 63 3 (one_of (codes "vc") rows)
 
+-- the moment that was given, or stands in the rows by default
+abbrev pub given_moment : List Row → ℕ
+given_moment rows = number_in 0 4102444799 0 (one_of (codes "at") rows)
+
+-- what a run was given, where a database file was, or none
+abbrev pub asked_with : Option Text → List Row → Asked
+asked_with None rows = run (given (codes "SCRIPT") rows) (given_window rows) (given_channel rows)
+asked_with (Some database) rows = run_kept (given (codes "SCRIPT") rows) (given_window rows) (given_channel rows) database (given_moment rows)
+
+abbrev pub asked_of : List Row → Asked
+asked_of rows = asked_with (first_of (codes "db") rows) rows
+
 -- what the matches of a command ask for, where none is `run -`
 abbrev pub asked : Option (Text × List Row) → Asked
 asked None = run (codes "-") 20 3
-asked (Some command) =
-    run (given (codes "SCRIPT") command.1) (given_window command.1) (given_channel command.1)
+asked (Some command) = asked_of command.1
 
 -- the window that is asked for is odd
 abbrev pub AsksOddWindow : Asked → Type 0
 AsksOddWindow (run script window channel) = window % 2 ≡ 1
+AsksOddWindow (run_kept script window channel database moment) = window % 2 ≡ 1
 
 -- what a line asks for
 abbrev pub asked_by : Line → Asked
 asked_by (Run script config) = run script.now config.window config.channel
+asked_by (RunKept script config database moment) = run_kept script.now config.window config.channel database.now moment
 
 -- what a line's desk is made with
 abbrev pub config_of : Line → Config
 config_of (Run script config) = config
+config_of (RunKept script config database moment) = config
 
 -- the window is 2 to 254, and the channel has 6 bits
 abbrev pub IsInRange : Config → Type 0

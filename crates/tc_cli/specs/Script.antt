@@ -5,8 +5,8 @@ use Rattle.tc_types.specs.declared.counted.Counts.{Counts}
 use Rattle.tc_types.specs.Counts.{no_counts}
 use Rattle.tc_cli.specs.declared.script.ScriptFault.{ScriptFault}
 use Rattle.tc_cli.specs.declared.script.ScriptFault.TheVariants.{Script, Output, Memory, Tables, Config, Path}
-use Rattle.tc_room.specs.declared.memory.OpenFault.{OpenFault}
-use Rattle.tc_room.specs.declared.memory.OpenFault.TheVariants as opening
+use Rattle.tc_types.specs.declared.refusals.Refusal.{Refusal}
+use Rattle.tc_types.specs.declared.refusals.Refusal.TheVariants as refusal
 
 -- more was read than a script may have, by reads that gave 4,096 bytes at most
 pub record IsTooLong (counts : Counts) (old new : Option (List ℕ)) : Type 0 where
@@ -34,7 +34,7 @@ written_counts (Err Config) = no_counts
 written_counts (Err Path) = no_counts
 
 -- why a run ends where its room could not be opened
-abbrev pub fault_of : OpenFault → ScriptFault
-fault_of opening.Config = Config
-fault_of opening.Memory = Memory
-fault_of (opening.Tables why) = Tables
+abbrev pub fault_of : Refusal → ScriptFault
+fault_of refusal.BadDirective = Config
+fault_of refusal.Memory = Memory
+fault_of _ = Tables

@@ -2,23 +2,30 @@
 //!
 //! `tcdesk run SCRIPT` takes the lines of the file SCRIPT, or of the standard input where SCRIPT is `-`, and prints
 //! what the desk answers. Given no words at all it is `tcdesk run -`. The options `--w N` and `--vc N` choose the FARM's
-//! window and the virtual channel.
+//! window and the virtual channel. With `--db FILE` the desk is kept in a database file, and is opened there at the moment `--at MOMENT`.
 #![tactic(auto)]
 
+mod kept;
 mod paths;
 mod run;
 mod script;
 mod words;
 
+use kept::run_kept;
 use paths::HostPaths;
 use run::run_script;
-use script::ScriptFault;
+use script::{ScriptFault, read_script};
+use sqlite::{Connection, Error, ErrorCode};
+use sqlite_disk::Wary;
+use sqlite_std_file::FileFrom;
+use sqlite_store::FileStore;
 use std::alloc::{AllocError, Global};
 use std::process::ExitCode;
-use std::rt::{Env, Files};
+use std::rt::Files;
 use std::{env, fs, io};
 use tc_desk::configs::Config;
 use tc_types::counted::Counted;
+use tc_types::numbers::Moment;
 use words::{Line, UsageFault, read_words};
 
 /// The exit status of a fault: of usage, of a file or of memory.
@@ -31,7 +38,7 @@ fn main(rt: HostRuntime) -> ExitCode {
     ExitCode::from(run_program(&rt))
 }
 
-fn run_program<R: Env + Files + Input + Print + Eprint + AllocGlobal>(rt: &R) -> u8 {
+fn run_program(rt: &HostRuntime) -> u8 {
     let alloc = rt.alloc();
     match env::args(rt) {
         Ok(args) => match args.collect::<Vec<String>>(alloc) {
@@ -43,7 +50,7 @@ fn run_program<R: Env + Files + Input + Print + Eprint + AllocGlobal>(rt: &R) ->
     }
 }
 
-fn run_args<R: Files + Input + Print + Eprint + AllocGlobal>(rt: &R, args: &[String]) -> u8 {
+fn run_args(rt: &HostRuntime, args: &[String]) -> u8 {
     if args.len() < 2 {
         return run_words(rt, &NO_WORDS);
     }
@@ -57,9 +64,9 @@ fn borrowed<'a>(alloc: Global, args: &'a [String]) -> Result<Vec<&'a str>, Alloc
     args.iter().map(|arg| arg.as_str()).collect(alloc)
 }
 
-fn run_words<R: Files + Input + Print + Eprint + AllocGlobal>(rt: &R, words: &[&str]) -> u8 {
+fn run_words(rt: &HostRuntime, words: &[&str]) -> u8 {
     match read_words(rt.alloc(), words) {
-        Ok(Line::Run { script, config }) => run_path(rt, script, config),
+        Ok(line) => run_line(rt, line),
         Err(UsageFault::Memory) => cannot_use(rt, "memory"),
         Err(fault @ UsageFault::OddWindow) => {
             let _ = eprintln!(rt; "tcdesk: {fault}");
@@ -72,18 +79,44 @@ fn run_words<R: Files + Input + Print + Eprint + AllocGlobal>(rt: &R, words: &[&
     }
 }
 
-fn run_path<R: Files + Input + Print + Eprint + AllocGlobal>(
-    rt: &R,
-    path: &str,
-    config: Config,
-) -> u8 {
+fn run_line(rt: &HostRuntime, line: Line<'_>) -> u8 {
+    match line {
+        Line::Run { script, config } => run_new(rt, script, config),
+        Line::RunKept {
+            script,
+            config,
+            database,
+            moment,
+        } => run_kept_in(rt, script, config, database, moment),
+    }
+}
+
+fn run_new(rt: &HostRuntime, script: &str, config: Config) -> u8 {
     let mut paths = HostPaths::new(rt.alloc(), rt);
-    match run_at(rt, path, config, &mut paths) {
+    let ended = run_at(rt, script, config, &mut paths);
+    status_of(rt, ended, script, "tables", &paths)
+}
+
+fn run_kept_in(rt: &HostRuntime, script: &str, config: Config, file: &str, moment: Moment) -> u8 {
+    let mut paths = HostPaths::new(rt.alloc(), rt);
+    let ended = run_on_file(rt, script, config, file, moment, &mut paths);
+    status_of(rt, ended, script, file, &paths)
+}
+
+/// The exit status of a run of a script on tables of this name. Says on the standard error what could not be used.
+fn status_of<R: Files + Eprint>(
+    rt: &R,
+    ended: Result<u8, ScriptFault>,
+    script: &str,
+    tables: &str,
+    paths: &HostPaths<'_, R>,
+) -> u8 {
+    match ended {
         Ok(status) => status,
-        Err(ScriptFault::Script) => cannot_use(rt, path),
+        Err(ScriptFault::Script) => cannot_use(rt, script),
         Err(ScriptFault::Output) => cannot_use(rt, "output"),
         Err(ScriptFault::Memory) => cannot_use(rt, "memory"),
-        Err(ScriptFault::Tables) => cannot_use(rt, "tables"),
+        Err(ScriptFault::Tables) => cannot_use(rt, tables),
         Err(ScriptFault::Config) => cannot_use(rt, "config"),
         Err(ScriptFault::Path) => cannot_use(rt, paths.unread()),
     }
@@ -100,13 +133,55 @@ fn run_at<R: Files + Input + Print + AllocGlobal>(
         let mut reader = Counted::new(rt.reader());
         return run_script(rt.alloc(), config, &mut reader, paths, &mut writer);
     }
+    let mut reader = Counted::new(open_script(rt, path)?);
+    run_script(rt.alloc(), config, &mut reader, paths, &mut writer)
+}
+
+fn open_script<R: Files>(rt: &R, path: &str) -> Result<R::File, ScriptFault> {
     match fs::open(rt, path) {
-        Ok(file) => {
-            let mut reader = Counted::new(file);
-            run_script(rt.alloc(), config, &mut reader, paths, &mut writer)
-        }
+        Ok(file) => Ok(file),
         Err(error) if error.kind() == io::ErrorKind::OutOfMemory => Err(ScriptFault::Memory),
         Err(_) => Err(ScriptFault::Script),
+    }
+}
+
+/// The text of a script, read whole.
+fn text_at<R: Files + Input + AllocGlobal>(rt: &R, path: &str) -> Result<Vec<u8>, ScriptFault> {
+    if path == "-" {
+        return read_script(rt.alloc(), &mut Counted::new(rt.reader()));
+    }
+    read_script(rt.alloc(), &mut Counted::new(open_script(rt, path)?))
+}
+
+/// Runs a script on the desk that a file keeps, opened at a moment. The script is read whole before the file is opened; the file is closed at
+/// the end, so that it alone holds everything.
+fn run_on_file(
+    rt: &HostRuntime,
+    script: &str,
+    config: Config,
+    file: &str,
+    moment: Moment,
+    paths: &mut HostPaths<'_, HostRuntime>,
+) -> Result<u8, ScriptFault> {
+    let text = text_at(rt, script)?;
+    let store = open_database(rt, file)?;
+    let mut writer = Counted::new(io::writer(rt));
+    let (ended, store) = run_kept(rt.alloc(), store, config, moment, &text, paths, &mut writer);
+    match store.close() {
+        Ok(()) => ended,
+        Err(_) => Err(ScriptFault::Tables),
+    }
+}
+
+/// The database in a file, which is made where there is none. Of what the file holds nothing is supposed.
+fn open_database(
+    rt: &HostRuntime,
+    file: &str,
+) -> Result<Connection<FileStore<FileFrom<Wary>>>, ScriptFault> {
+    match Connection::open_from(rt, file, false, Wary) {
+        Ok(store) => Ok(store),
+        Err((Error::SqliteFailure(ErrorCode::OutOfMemory), _)) => Err(ScriptFault::Memory),
+        Err(_) => Err(ScriptFault::Tables),
     }
 }
 

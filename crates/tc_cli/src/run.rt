@@ -12,12 +12,13 @@ ghost use Rattle.std.specs.String.{string_bytes};
 ghost use Rattle.tc_types.specs.Loads.{LoadLine, line_of};
 ghost use Rattle.tc_room.specs.Loads.{RoomLoad, loader_of};
 ghost use Rattle.tc_cli.specs.Files.{FileText, Gives, file_at};
-ghost use Rattle.tc_cli.specs.Run.{AnswersScriptLine, IsAnswered, IsCutShort, IsLoadLine, LeavesPart, Stops, StopsAfter, TakesLine, TakesLines};
+ghost use Rattle.tc_cli.specs.Run.{AnswersScriptLine, IsAnswered, IsCutShort, IsLoadLine, LeavesPart, RunsLines, Stops, StopsAfter, TakesLine, TakesLines};
 ghost use Rattle.tc_cli.specs.Run.{is_skipped, script_lines};
 
 use crate::paths::{PathFault, Paths};
 use crate::script::{ScriptFault, read_script};
 use bstr::ByteSlice;
+use sqlite::Alter;
 use std::alloc::Global;
 use std::io::{Read, Write};
 use tc_desk::configs::Config;
@@ -75,9 +76,28 @@ fn run_text<P: Paths, W: Write>(
     ensures fault { IfErr result (λ fault. fault ≢ ScriptFault.Script) }
     ensures counted { counts_of writer.new ≡ written_counts result }
 {
-    let mut room = Room::open(alloc, config)?;
-    let refused = run_lines(alloc, &mut room, text, paths, writer)?;
-    let last = run_places(alloc, &mut room, writer)?;
+    let mut room = Room::open_in_memory(alloc, config)?;
+    run_room(alloc, &mut room, text, paths, writer)
+}
+
+/// Runs the lines of a script in a room, and asks the question `places`. It never fails with `Script`.
+pub(crate) fn run_room<S: Alter + Drop, P: Paths, W: Write>(
+    alloc: Global,
+    room: &mut Room<S>,
+    text: &[u8],
+    paths: &mut P,
+    writer: &mut Counted<W>,
+) -> Result<u8, ScriptFault>
+    requires { counts_of writer.old ≡ no_counts }
+    ensures answered { IfOk result (λ status.
+        RunsLines S.Store room.old text.now status (P.given paths.old) (P.given paths.new) (W.contents (inner_of writer.old)) (W.contents (inner_of writer.new)) room.new) }
+    ensures stopped { IfErr result (λ fault. StopsAfter S.Store fault room.old (script_lines text.now)
+        (P.given paths.old) (P.given paths.new) (W.contents (inner_of writer.old)) (W.contents (inner_of writer.new))) }
+    ensures fault { IfErr result (λ fault. fault ≢ ScriptFault.Script) }
+    ensures counted { counts_of writer.new ≡ written_counts result }
+{
+    let refused = run_lines(alloc, room, text, paths, writer)?;
+    let last = run_places(alloc, room, writer)?;
     Ok(status_of(refused | last))
 }
 
@@ -89,7 +109,7 @@ fn status_of(refused: bool) -> u8
 }
 
 /// Writes all bytes, until a write fails.
-fn put<W: Write>(writer: &mut Counted<W>, bytes: &[u8]) -> Result<(), ScriptFault>
+pub(crate) fn put<W: Write>(writer: &mut Counted<W>, bytes: &[u8]) -> Result<(), ScriptFault>
     requires { counts_of writer.old ≡ no_counts }
     ensures written { OnOk result (Appends (W.contents (inner_of writer.old)) (W.contents (inner_of writer.new)) bytes.now) }
     ensures cut { OnErr result ((part : List ℕ) × IsCutShort bytes.now part
@@ -123,13 +143,13 @@ fn is_skipped(line: &[u8]) -> bool
 }
 
 /// What a line that loads a stack or a procedure is answered, once the text at its path is there.
-fn answer_file<P: Paths>(
+fn answer_file<S: Alter + Drop, P: Paths>(
     alloc: Global,
-    room: &mut Room,
+    room: &mut Room<S>,
     load: &Load<'_>,
     paths: &mut P,
 ) -> Result<Answer, ScriptFault>
-    ensures answered { IfOk result (λ answer. (reply : Reply) × (text : List ℕ) × RoomLoad room.old (loader_of (line_of load.now)) load.now.kind load.now.name text reply room.new
+    ensures answered { IfOk result (λ answer. (reply : Reply) × (text : List ℕ) × RoomLoad S.Store room.old (loader_of (line_of load.now)) load.now.kind load.now.name text reply room.new
         × Gives (P.given paths.old) (P.given paths.new) (file_at load.now.path.now text ∷ [])
         × (string_bytes answer.text ≡ ended reply) × (answer.refused ≡ is_refused reply)) }
     ensures fault { IfErr result (λ fault. (fault ≡ ScriptFault.Memory) ⊎ (fault ≡ ScriptFault.Path)) }
@@ -146,13 +166,13 @@ fn answer_file<P: Paths>(
 }
 
 /// What a line that is not skipped is answered.
-fn answer<P: Paths>(
+fn answer<S: Alter + Drop, P: Paths>(
     alloc: Global,
-    room: &mut Room,
+    room: &mut Room<S>,
     line: &[u8],
     paths: &mut P,
 ) -> Result<Answer, ScriptFault>
-    ensures answered { IfOk result (λ answer. (reply : Reply) × (files : List FileText) × AnswersScriptLine room.old line.now files reply room.new
+    ensures answered { IfOk result (λ answer. (reply : Reply) × (files : List FileText) × AnswersScriptLine S.Store room.old line.now files reply room.new
         × Gives (P.given paths.old) (P.given paths.new) files
         × (string_bytes answer.text ≡ ended reply) × (answer.refused ≡ is_refused reply)) }
     ensures fault { IfErr result (λ fault. (fault ≡ ScriptFault.Memory) ⊎ ((fault ≡ ScriptFault.Path) × ((load : LoadLine) × IsLoadLine line.now load))) }
@@ -168,19 +188,19 @@ fn answer<P: Paths>(
 }
 
 /// Takes one line, and says whether it was refused.
-fn run_line<P: Paths, W: Write>(
+fn run_line<S: Alter + Drop, P: Paths, W: Write>(
     alloc: Global,
-    room: &mut Room,
+    room: &mut Room<S>,
     line: &[u8],
     paths: &mut P,
     writer: &mut Counted<W>,
 ) -> Result<bool, ScriptFault>
     requires { counts_of writer.old ≡ no_counts }
-    ensures taken { IfOk result (λ refused. (replies : List Reply) × (files : List FileText) × TakesLine room.old line.now files replies room.new
+    ensures taken { IfOk result (λ refused. (replies : List Reply) × (files : List FileText) × TakesLine S.Store room.old line.now files replies room.new
         × Gives (P.given paths.old) (P.given paths.new) files
         × Appends (W.contents (inner_of writer.old)) (W.contents (inner_of writer.new)) (flat_map ended replies)
         × (refused ≡ list_any is_refused replies)) }
-    ensures stopped { IfErr result (λ fault. (part : List ℕ) × (more : List FileText) × LeavesPart fault room.old (line.now ∷ []) part
+    ensures stopped { IfErr result (λ fault. (part : List ℕ) × (more : List FileText) × LeavesPart S.Store fault room.old (line.now ∷ []) part
         × Gives (P.given paths.old) (P.given paths.new) more
         × Appends (W.contents (inner_of writer.old)) (W.contents (inner_of writer.new)) part) }
     ensures fault { IfErr result (λ fault. fault ≢ ScriptFault.Script) }
@@ -195,19 +215,19 @@ fn run_line<P: Paths, W: Write>(
 }
 
 /// Takes each line in turn, and says whether any was refused.
-fn run_lines<P: Paths, W: Write>(
+fn run_lines<S: Alter + Drop, P: Paths, W: Write>(
     alloc: Global,
-    room: &mut Room,
+    room: &mut Room<S>,
     text: &[u8],
     paths: &mut P,
     writer: &mut Counted<W>,
 ) -> Result<bool, ScriptFault>
     requires { counts_of writer.old ≡ no_counts }
-    ensures taken { IfOk result (λ refused. (replies : List Reply) × (files : List FileText) × TakesLines room.old (script_lines text.now) files replies room.new
+    ensures taken { IfOk result (λ refused. (replies : List Reply) × (files : List FileText) × TakesLines S.Store room.old (script_lines text.now) files replies room.new
         × Gives (P.given paths.old) (P.given paths.new) files
         × Appends (W.contents (inner_of writer.old)) (W.contents (inner_of writer.new)) (flat_map ended replies)
         × (refused ≡ list_any is_refused replies)) }
-    ensures stopped { IfErr result (λ fault. StopsAfter fault room.old (script_lines text.now)
+    ensures stopped { IfErr result (λ fault. StopsAfter S.Store fault room.old (script_lines text.now)
         (P.given paths.old) (P.given paths.new) (W.contents (inner_of writer.old)) (W.contents (inner_of writer.new))) }
     ensures fault { IfErr result (λ fault. fault ≢ ScriptFault.Script) }
     ensures counted { counts_of writer.new ≡ written_counts result }
@@ -220,16 +240,16 @@ fn run_lines<P: Paths, W: Write>(
 }
 
 /// Asks the question `places`, and says whether it was refused.
-fn run_places<W: Write>(
+fn run_places<S: Alter + Drop, W: Write>(
     alloc: Global,
-    room: &mut Room,
+    room: &mut Room<S>,
     writer: &mut Counted<W>,
 ) -> Result<bool, ScriptFault>
     requires { counts_of writer.old ≡ no_counts }
-    ensures taken { IfOk result (λ refused. (reply : Reply) × AsksPlaces room.old reply room.new
+    ensures taken { IfOk result (λ refused. (reply : Reply) × AsksPlaces S.Store room.old reply room.new
         × Appends (W.contents (inner_of writer.old)) (W.contents (inner_of writer.new)) (ended reply)
         × (refused ≡ is_refused reply)) }
-    ensures stopped { IfErr result (λ fault. (part : List ℕ) × LeavesPart fault room.old [] part
+    ensures stopped { IfErr result (λ fault. (part : List ℕ) × LeavesPart S.Store fault room.old [] part
         × Appends (W.contents (inner_of writer.old)) (W.contents (inner_of writer.new)) part) }
     ensures fault { IfErr result (λ fault. fault ≢ ScriptFault.Script) }
     ensures kept { IsKept room.old.desk.book }

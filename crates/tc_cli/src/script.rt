@@ -7,8 +7,8 @@ ghost use Rattle.tc_cli.specs.declared.script.ScriptFault.TheVariants.{Memory};
 
 use std::alloc::{AllocError, AllocFailed, Global};
 use std::io::Read;
-use tc_room::memory::OpenFault;
 use tc_types::counted::Counted;
+use tc_types::refusals::Refusal;
 use thiserror::Error;
 
 /// How many bytes a script has at most.
@@ -57,14 +57,14 @@ impl<T: Drop> From<AllocFailed<T>> for ScriptFault {
     }
 }
 
-impl From<OpenFault> for ScriptFault {
+impl From<Refusal> for ScriptFault {
     ghost from_gives = { λ given fault. fault ≡ fault_of given };
 
-    fn from(fault: OpenFault) -> ScriptFault {
-        match fault {
-            OpenFault::Config => ScriptFault::Config,
-            OpenFault::Memory => ScriptFault::Memory,
-            OpenFault::Tables(_) => ScriptFault::Tables,
+    fn from(refusal: Refusal) -> ScriptFault {
+        match refusal {
+            Refusal::BadDirective => ScriptFault::Config,
+            Refusal::Memory => ScriptFault::Memory,
+            _ => ScriptFault::Tables,
         }
     }
 }

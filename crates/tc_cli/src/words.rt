@@ -1,11 +1,12 @@
 //! The words of the command line.
-ghost use Rattle.std.specs.Prelude.{◌%◌, ◌≡◌, ◌≤◌, ◌⊎◌, ◌≢◌, [], Err, IfErr, IfOk, OnOk, codes, false, map, true};
-ghost use Rattle.clap.specs.Words.{app_of, fault_of, found_of, kind_of, one_of, rows_of};
-ghost use Rattle.clap.specs.Words.{rule_of, subcommand_of, subcommand_rows_of, takes};
+ghost use Rattle.std.specs.Prelude.{◌%◌, ◌≡◌, ◌↔◌, ◌≤◌, ◌⊎◌, ◌≢◌, [], Err, IsTrue, IfErr, IfOk, OnOk, codes, false, map, option_map, true};
+ghost use Rattle.clap.specs.Words.{app_of, fault_of, first_of, found_of, kind_of, one_of, rows_of};
+ghost use Rattle.clap.specs.Words.{rule_of, subcommand_of, subcommand_rows_of, takes, with_rule};
 ghost use Rattle.clap.specs.declared.builder.command.Command.TheViews.{out-Command};
+ghost use Rattle.tc_types.specs.Numbers.{IsMoment};
 ghost use Rattle.tc_desk.specs.State.{IsConfig};
-ghost use Rattle.tc_cli.specs.CommandLine.{AsksOddWindow, IsInRange, asked, asked_by, bare_app, channel_rule, config_of};
-ghost use Rattle.tc_cli.specs.CommandLine.{desk_app, given, given_channel, given_window, number_in, run_app};
+ghost use Rattle.tc_cli.specs.CommandLine.{AsksOddWindow, IsInRange, asked, asked_by, asked_of, bare_app, channel_rule, config_of, database_rule};
+ghost use Rattle.tc_cli.specs.CommandLine.{desk_app, given, given_channel, given_moment, given_window, moment_rule, number_in, run_app, script_app};
 ghost use Rattle.tc_cli.specs.CommandLine.{script_rule, window_rule};
 
 use clap::builder::ValueParser;
@@ -13,13 +14,24 @@ use clap::error::ErrorKind;
 use clap::{Arg, ArgMatches, Command};
 use std::alloc::{AllocError, Global};
 use tc_desk::configs::Config;
+use tc_types::numbers::Moment;
 use thiserror::Error;
 
 /// What the words of a command line ask the program to do.
 #[derive(Clone, Copy, Debug, PartialEq, Eq)]
 pub enum Line<'a> {
     /// Run the script at this path, or the standard input where it is `-`, on a new desk with this window and channel.
-    Run { script: &'a str, config: Config },
+    Run {
+        script: &'a str,
+        config: Config,
+    },
+    /// The same on the desk that a database file keeps, opened at a moment.
+    RunKept {
+        script: &'a str,
+        config: Config,
+        database: &'a str,
+        moment: Moment,
+    },
 }
 
 /// Why the words of a command line ask for nothing.
@@ -61,6 +73,13 @@ pub fn read_words<'a>(alloc: Global, words: &'a [&'a str]) -> Result<Line<'a>, U
     }
 }
 
+/// Whether a window is even.
+fn is_even(window: u16) -> bool
+    ensures { IsTrue result ↔ (window % 2 ≡ 0) }
+{
+    window % 2 == 0
+}
+
 /// The line, where its window is even.
 fn even<'a>(line: Line<'a>) -> Result<Line<'a>, UsageFault>
     requires { IsInRange (config_of line) }
@@ -69,8 +88,30 @@ fn even<'a>(line: Line<'a>) -> Result<Line<'a>, UsageFault>
     ensures fault { IfErr result (λ fault. (fault ≡ UsageFault.OddWindow) × AsksOddWindow (asked_by line.entry)) }
 {
     match line {
-        Line::Run { config, .. } if config.window % 2 == 0 => Ok(line),
-        Line::Run { .. } => Err(UsageFault::OddWindow),
+        Line::Run { script, config } => {
+            if is_even(config.window) {
+                Ok(Line::Run { script, config })
+            } else {
+                Err(UsageFault::OddWindow)
+            }
+        }
+        Line::RunKept {
+            script,
+            config,
+            database,
+            moment,
+        } => {
+            if is_even(config.window) {
+                Ok(Line::RunKept {
+                    script,
+                    config,
+                    database,
+                    moment,
+                })
+            } else {
+                Err(UsageFault::OddWindow)
+            }
+        }
     }
 }
 
@@ -90,14 +131,28 @@ fn line_of<'a>(matches: &ArgMatches<'a>) -> Line<'a>
     ensures range { IsInRange (config_of result) }
 {
     match matches.subcommand() {
-        Some((_, inner)) => Line::Run {
-            script: text_of(inner, "SCRIPT"),
-            config: config_of(inner),
-        },
+        Some((_, inner)) => run_line_of(inner),
         None => Line::Run {
             script: "-",
             config: CONFIG,
         },
+    }
+}
+
+fn run_line_of<'a>(matches: &ArgMatches<'a>) -> Line<'a>
+    ensures asked { asked_by result ≡ asked_of (rows_of (found_of matches.now)) }
+    ensures range { IsInRange (config_of result) }
+{
+    let script = text_of(matches, "SCRIPT");
+    let config = config_of(matches);
+    match path_of(matches, "db") {
+        Some(database) => Line::RunKept {
+            script,
+            config,
+            database,
+            moment: moment_of(matches),
+        },
+        None => Line::Run { script, config },
     }
 }
 
@@ -107,18 +162,36 @@ fn config_of(matches: &ArgMatches<'_>) -> Config
     ensures range { IsInRange result }
 {
     Config {
-        window: u16::from(number_of(matches, "w", 2, 254, 20)),
-        channel: number_of(matches, "vc", 0, 63, 3),
+        window: number_of(matches, "w", 2, 254, 20) as u16,
+        channel: number_of(matches, "vc", 0, 63, 3) as u8,
+    }
+}
+
+/// The moment of the opening.
+fn moment_of(matches: &ArgMatches<'_>) -> Moment
+    ensures { result ≡ given_moment (rows_of (found_of matches.now)) }
+{
+    moment_from(number_of(matches, "at", 0, 4_102_444_799, 0))
+}
+
+/// The moment of these seconds, which are in range.
+fn moment_from(seconds: u32) -> Moment
+    requires { IsMoment seconds }
+    ensures { result ≡ seconds }
+{
+    match Moment::new(seconds) {
+        Some(moment) => moment,
+        None => unreachable!(),
     }
 }
 
 /// The number of an option where it is one from least to most, and else another.
-fn number_of(matches: &ArgMatches<'_>, id: &str, least: u8, most: u8, other: u8) -> u8
+fn number_of(matches: &ArgMatches<'_>, id: &str, least: u32, most: u32, other: u32) -> u32
     requires { (least ≤ other) × (other ≤ most) }
     ensures value { result ≡ number_in least most other (one_of id.now (rows_of (found_of matches.now))) }
     ensures range { (least ≤ result) × (result ≤ most) }
 {
-    match matches.get_one::<u8>(id) {
+    match matches.get_one::<u32>(id) {
         Some(number) if least <= number && number <= most => number,
         _ => other,
     }
@@ -131,6 +204,13 @@ fn text_of<'a>(matches: &ArgMatches<'a>, id: &str) -> &'a str
         Some(text) => text,
         None => "-",
     }
+}
+
+/// The path that was given for an option, if one was.
+fn path_of<'a>(matches: &ArgMatches<'a>, id: &str) -> Option<&'a str>
+    ensures { option_map (λ path. path.now) result ≡ first_of id.now (rows_of (found_of matches.now)) }
+{
+    matches.get_str(id)
 }
 
 // ---- the commands
@@ -166,11 +246,26 @@ fn run_command<'a>(alloc: Global) -> Result<Command<'a>, AllocError>
     ensures app { IfOk result (λ command. app_of command ≡ run_app) }
     ensures local { IfOk result (λ command. (out-Command command).has_globals ≡ false) }
 {
+    with_database(alloc, script_command(alloc)?)
+}
+
+fn script_command<'a>(alloc: Global) -> Result<Command<'a>, AllocError>
+    ensures app { IfOk result (λ command. app_of command ≡ script_app) }
+    ensures local { IfOk result (λ command. (out-Command command).has_globals ≡ false) }
+{
     Command::new(alloc, "run")
-        .about("Run the lines of a script on a new desk")
+        .about("Run the lines of a script on a desk: a new one, or one that is kept in a file")
         .arg(script_arg(alloc))?
         .arg(window_arg(alloc))?
         .arg(channel_arg(alloc))
+}
+
+fn with_database<'a>(alloc: Global, command: Command<'a>) -> Result<Command<'a>, AllocError>
+    requires local { (out-Command command).has_globals ≡ false }
+    ensures app { IfOk result (λ more. app_of more ≡ with_rule (with_rule (app_of command.entry) database_rule) moment_rule) }
+    ensures local { IfOk result (λ more. (out-Command more).has_globals ≡ false) }
+{
+    command.arg(database_arg(alloc))?.arg(moment_arg(alloc))
 }
 
 fn script_arg<'a>(alloc: Global) -> Arg<'a>
@@ -204,4 +299,25 @@ fn channel_arg<'a>(alloc: Global) -> Arg<'a>
         .value_parser(ValueParser::Unsigned(0, 63))
         .default_value("3")
         .help("The virtual channel: 0 to 63")
+}
+
+fn database_arg<'a>(alloc: Global) -> Arg<'a>
+    ensures rule { rule_of result ≡ database_rule }
+    ensures local { result.global ≡ false }
+{
+    Arg::new(alloc, "db").long("db").value_name("FILE").help(
+        "The database file that keeps the desk; it is made where there is none",
+    )
+}
+
+fn moment_arg<'a>(alloc: Global) -> Arg<'a>
+    ensures rule { rule_of result ≡ moment_rule }
+    ensures local { result.global ≡ false }
+{
+    Arg::new(alloc, "at")
+        .long("at")
+        .value_name("MOMENT")
+        .value_parser(ValueParser::Unsigned(0, 4_102_444_799))
+        .default_value("0")
+        .help("The moment at which the desk in the file is opened: Unix seconds, 0 to 4102444799")
 }

@@ -1,4 +1,5 @@
-mod MemoryLemmas
 mod RoomLemmas
+mod TableLemmas
+mod OpeningLemmas
 pub mod LoadLemmas
 mod LogLemmas

@@ -1,5 +1,9 @@
 -- The loads of a room.
-use Rattle.std.proofs.Common.{◌≡◌, inl, inr, ℕ, false, Ok, Err, Result, List, refl, ap}
+use Rattle.std.proofs.Common.{◌≡◌, inl, inr, ℕ, Bool, true, false, Ok, Err, Result, List, refl, ap}
+use Rattle.std.specs.Prelude.{MatchBool}
+use Rattle.sqlite_trees.specs.declared.store.Store.{Ghosts}
+use Rattle.sqlite.specs.Held.{state}
+use Rattle.sqlite.specs.State.{HasCleanDisk}
 use Rattle.tc_types.specs.declared.loads.LoadKind.{LoadKind}
 use Rattle.tc_types.specs.declared.moves.Move.{Move}
 use Rattle.tc_types.specs.declared.refusals.Refusal.{Refusal}
@@ -9,26 +13,31 @@ use Rattle.tc_desk.specs.declared.firsts.First.{First}
 use Rattle.tc_desk.specs.Loads.{Loading, HasLoaded, RefusesLoad, LoadStep}
 use Rattle.tc_desk.specs.Machine.{rows_new}
 use Rattle.tc_desk.specs.Replies.{Reply, act_reply, refusal_reply}
-use Rattle.tc_room.specs.Loads.{SpellsLoading, IsNotRead, LoadsRead, RoomLoad, AnswersRead, AnswersLoad}
-use Rattle.tc_room.specs.Room.{ListState, Standing}
+use Rattle.tc_room.specs.Joined.{HoldsBook, Standing}
+use Rattle.tc_room.specs.Loads.{SpellsLoading, IsNotRead, LoadsRead, LoadsText, RoomLoad, AnswersRead, AnswersLoad}
+use Rattle.tc_room.specs.Room.{ListState}
+
+on_false : (b : Bool) (A B : Type 0) → b ≡ false → B → MatchBool b A B
+on_false false A B is h = h
+on_false true A B is h = absurd (let e : true ≡ false = is in cc)
 
 -- a text that spells nothing of its kind
-pub load_unread : (old : Standing) (stamp : Stamp) (kind : LoadKind) (name text : List ℕ) (refusal : Refusal) → old.stopped ≡ false → IsNotRead kind text refusal
-    → RoomLoad old stamp kind name text (refusal_reply refusal) old
-load_unread old stamp kind name text refusal going why = rw going (inl (refusal, why, refl, refl))
+pub load_unread : {S : Type 0} (g : Ghosts S) (old : Standing S) (stamp : Stamp) (kind : LoadKind) (name text : List ℕ) (refusal : Refusal) → old.stopped ≡ false → IsNotRead kind text refusal
+    → RoomLoad g old stamp kind name text (refusal_reply refusal) old
+load_unread g old stamp kind name text refusal going why = λ held clean. rw going (inl (refusal, why, refl, refl))
 
 -- what one spells that does
-pub load_read : (old new : Standing) (stamp : Stamp) (kind : LoadKind) (name text : List ℕ) (given : Loading) (reply : Reply) → old.stopped ≡ false → SpellsLoading kind name text given
-    → LoadsRead old stamp given reply new → RoomLoad old stamp kind name text reply new
-load_read old new stamp kind name text given reply going spells (inl steps) = rw going (inr (given, spells, inl (record { desk = steps.desk; tables = steps.tables; going = steps.going })))
-load_read old new stamp kind name text given reply going spells (inr fails) =
-    rw going (inr (given, spells, inr (record { free = fails.free; reply = fails.reply; stopped = fails.stopped; tables = fails.tables })))
+load_read : {S : Type 0} (g : Ghosts S) (old new : Standing S) (stamp : Stamp) (kind : LoadKind) (name text : List ℕ) (given : Loading) (reply : Reply) → SpellsLoading kind name text given
+    → LoadsRead g old stamp given reply new → LoadsText g old stamp kind name text reply new
+load_read g old new stamp kind name text given reply spells (inl steps) = inr (given, spells, inl (record { desk = steps.desk; tables = steps.tables; going = steps.going }))
+load_read g old new stamp kind name text given reply spells (inr fails) =
+    inr (given, spells, inr (record { free = fails.free; reply = fails.reply; stopped = fails.stopped; tables = fails.tables }))
 
 -- and the answer to it
-pub load_answered : {X : Type 0} (lines : X → Reply) (old new : Standing) (stamp : Stamp) (kind : LoadKind) (name text : List ℕ) (given : Loading) (answer : Result X Refusal) → old.stopped ≡ false
-    → SpellsLoading kind name text given → AnswersRead lines old stamp given new answer → AnswersLoad lines old stamp kind name text new answer
-load_answered lines old new stamp kind name text given (Ok done) going spells loads = load_read old new stamp kind name text given (lines done) going spells loads
-load_answered lines old new stamp kind name text given (Err refusal) going spells loads = load_read old new stamp kind name text given (refusal_reply refusal) going spells loads
+pub load_answered : {X S : Type 0} (lines : X → Reply) (g : Ghosts S) (old new : Standing S) (stamp : Stamp) (kind : LoadKind) (name text : List ℕ) (given : Loading) (answer : Result X Refusal) → old.stopped ≡ false
+    → SpellsLoading kind name text given → (HoldsBook g old → HasCleanDisk (state g new.tables) → AnswersRead lines g old stamp given new answer) → AnswersLoad lines g old stamp kind name text new answer
+load_answered lines g old new stamp kind name text given (Ok done) going spells loads = λ held clean. on_false old.stopped _ _ going (load_read g old new stamp kind name text given (lines done) spells (loads held clean))
+load_answered lines g old new stamp kind name text given (Err refusal) going spells loads = λ held clean. on_false old.stopped _ _ going (load_read g old new stamp kind name text given (refusal_reply refusal) spells (loads held clean))
 
 -- the desk refused
 pub load_refused : (old new : ListState) (stamp : Stamp) (given : Loading) (refusal : Refusal) → RefusesLoad stamp given old new refusal

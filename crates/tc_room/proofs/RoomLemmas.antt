@@ -1,10 +1,11 @@
 -- The steps of a room.
 use Rattle.std.proofs.Common.{◌≡◌, ◌∙◌, inl, inr, ℕ, zero, suc, nat_lt, map, take, [], ◌∷◌, arith, Bool, true, false, Option, Some, None, Result, Ok, Err, List, refl, sym, ap, subst, length}
-use Rattle.std.specs.Prelude.{◌≢◌, ◌≤◌, ◌↔◌, is_none}
+use Rattle.std.specs.Prelude.{◌≢◌, ◌≤◌, ◌↔◌, IsTrue, is_none}
 use Rattle.std.proofs.lemmas.List.{length-map, length-take}
 use Rattle.std.proofs.lemmas.Bool.Decides.{nat_tests}
-use Rattle.sqlite_trees.specs.declared.memory.MemStore.{MemStore}
-use Rattle.sqlite.specs.Held.{Held}
+use Rattle.sqlite_trees.specs.declared.store.Store.{Ghosts}
+use Rattle.sqlite.specs.Held.{Held, state}
+use Rattle.sqlite.specs.State.{HasCleanDisk}
 use Rattle.tc_types.specs.ActGrammar.{HasLongAct, SpellsLine, act_text}
 use Rattle.tc_types.specs.History.{entered, count_at, counts_of}
 use Rattle.tc_types.specs.Tables.{empty_image, tallies_by}
@@ -31,23 +32,31 @@ use Rattle.tc_desk.specs.declared.firsts.First.{First}
 use Rattle.tc_desk.specs.Acts.{is_question, refusal_of}
 use Rattle.tc_desk.specs.Machine.{Carries, DeskStep, Does, Refuses, Serves, StaysSame, rows_new}
 use Rattle.tc_desk.specs.Replies.{Reply, act_reply, history_lines, Replies, refusal_reply, request_lines}
-use Rattle.tc_room.specs.Joined.{HasImage, IsJoined, IsKept}
+use Rattle.tc_store.specs.Schema.{Holds}
+use Rattle.tc_room.specs.Joined.{HasImage, HoldsBook, IsKept, Standing}
 use Rattle.tc_room.specs.Answers.{IsUnread}
-use Rattle.tc_room.specs.Room.{IsNewDesk, ListState, RoomStep, Standing}
+use Rattle.tc_room.specs.Room.{IsNewDesk, ListState, RoomStep}
 
 -- a room goes on: its flag, as its view told it
-pub goes_on : (inside view : Standing) (told : Bool) → inside ≡ view → told ≡ view.stopped → told ≡ false → inside.stopped ≡ false
-goes_on inside view told same is none = ap (λ (s : Standing). s.stopped) same ∙ sym is ∙ none
+pub goes_on : {S : Type 0} (inside view : Standing S) (told : Bool) → inside ≡ view → told ≡ view.stopped → told ≡ false → inside.stopped ≡ false
+goes_on {S} inside view told same is none = ap (λ (s : Standing S). s.stopped) same ∙ sym is ∙ none
 
 -- the desk machine's step, and the tables that hold its book
-pub steps : (old new : Standing) (stamp : Stamp) (given : Act) (reply : Reply) → old.stopped ≡ false
-    → DeskStep listed listed old.desk stamp given reply new.desk → HasImage new.tables (image_of new.desk.book) → new.stopped ≡ false → RoomStep old stamp given reply new
-steps old new stamp given reply going step holds goes = rw going (inl (record { desk = step; tables = holds; going = goes }))
+pub steps : {S : Type 0} (g : Ghosts S) (old new : Standing S) (stamp : Stamp) (given : Act) (reply : Reply) → old.stopped ≡ false
+    → DeskStep listed listed old.desk stamp given reply new.desk → (HoldsBook g old → HasCleanDisk (state g new.tables) → HasImage g new.tables (image_of new.desk.book))
+    → new.stopped ≡ false → RoomStep g old stamp given reply new
+steps g old new stamp given reply going step holds goes = λ held clean. rw going (inl (record { desk = step; tables = holds held clean; going = goes }))
+
+-- so it is of what changes no table
+pub steps_same : {S : Type 0} (g : Ghosts S) (at : Standing S) (stamp : Stamp) (given : Act) (reply : Reply) → at.stopped ≡ false
+    → DeskStep listed listed at.desk stamp given reply at.desk → RoomStep g at stamp given reply at
+steps_same g at stamp given reply going step = steps g at at stamp given reply going step (λ held clean. held going clean) going
 
 -- the database failed
-pub fails : (old new : Standing) (stamp : Stamp) (given : Act) → old.stopped ≡ false → refusal_of stamp old.desk given ≡ None → new.stopped ≡ true
-    → HasImage new.tables (image_of old.desk.book) → RoomStep old stamp given (refusal_reply Store) new
-fails old new stamp given going free stopped holds = rw going (inr (record { free = free; reply = refl; stopped = stopped; tables = holds }))
+pub fails : {S : Type 0} (g : Ghosts S) (old new : Standing S) (stamp : Stamp) (given : Act) → old.stopped ≡ false → refusal_of stamp old.desk given ≡ None → new.stopped ≡ true
+    → (HoldsBook g old → HasCleanDisk (state g new.tables) → IsTrue (state g new.tables).is_open → HasImage g new.tables (image_of old.desk.book))
+    → RoomStep g old stamp given (refusal_reply Store) new
+fails g old new stamp given going free stopped holds = λ held clean. rw going (inr (record { free = free; reply = refl; stopped = stopped; tables = holds held clean }))
 
 -- the desk refused
 pub refused : (old new : ListState) (stamp : Stamp) (given : Act) (refusal : Refusal) → Refuses listed listed stamp given old new refusal
@@ -100,10 +109,6 @@ good-few book good = rw (good.entered, length-map) good.few
 pub kept_good : (book : Book) → ((history : List Move) → IsConserved history) → IsGoodBook book → IsKept book
 kept_good book nobody_is_lost good = record { good = good; conserved = nobody_is_lost book.history }
 
--- a room that has stopped keeps nothing of its tables
-pub joined_stopped : (book : Book) (tables : Held MemStore) → IsGoodBook book → IsJoined book tables true
-joined_stopped book tables good = record { held = λ going. cc; good = good }
-
 pub not_some : {X : Type 0} (o : Option X) → ((x : X) → o ≡ Some x → ⊥) → o ≡ None
 not_some None none = refl
 not_some (Some x) none = absurd (none x refl)
@@ -122,9 +127,9 @@ unread text read refusal was only long others = record {
 empty_tables : image_of empty_book ≡ empty_image
 empty_tables = refl
 
-pub new_held : (config : Config) (desk : ListState) (tables : Held MemStore) → IsNewDesk config desk → HasImage tables empty_image → HasImage tables (image_of desk.book)
-new_held config desk tables (up, down, _, _, new) made =
-    subst (λ (book : Book). HasImage tables (image_of book)) (sym (ap (λ (at : ListState). at.book) new)) (subst (HasImage tables) (sym empty_tables) made)
+pub new_held : {S : Type 0} (g : Ghosts S) (config : Config) (desk : ListState) (tables : Held S) → IsNewDesk config desk → Holds (state g tables).now empty_image → HasImage g tables (image_of desk.book)
+new_held g config desk tables (up, down, _, _, new) made =
+    subst (λ (book : Book). HasImage g tables (image_of book)) (sym (ap (λ (at : ListState). at.book) new)) (subst (HasImage g tables) (sym empty_tables) (record { holds = made }))
 
 -- the amounts of a book's tallies are its counts
 pub amounts_counted : (history : List Move) → map (λ (t : Tally). t.amount) (tallies_by (count_at history)) ≡ counts_of history

@@ -1,5 +1,6 @@
 -- What a line is answered in a room.
 use Rattle.std.specs.Prelude.{◌≡◌, ◌≢◌, ◌≤◌, ◌↔◌, ◌⊎◌, ℕ, List, length}
+use Rattle.sqlite_trees.specs.declared.store.Store.{Ghosts}
 use Rattle.tc_types.specs.declared.refusals.Refusal.{Refusal}
 use Rattle.tc_types.specs.declared.refusals.Refusal.TheVariants.{BadText, TooLong}
 use Rattle.tc_types.specs.declared.acts.Act.TheVariants as act
@@ -9,7 +10,8 @@ use Rattle.tc_types.specs.ActGrammar.{HasLongAct, SpellsLine, act_text}
 use Rattle.tc_book.specs.declared.stamps.Stamp.{Stamp}
 use Rattle.tc_desk.specs.Machine.{stamp_of}
 use Rattle.tc_desk.specs.Replies.{Reply, refusal_reply}
-use Rattle.tc_room.specs.Room.{Standing, RoomStep}
+use Rattle.tc_room.specs.Joined.{Standing}
+use Rattle.tc_room.specs.Room.{RoomStep}
 
 -- A line that is refused as it is read: with TooLong exactly where its act is too long, and else with BadText, where no
 -- line with an act of 200 bytes or fewer is spelled so.
@@ -19,11 +21,11 @@ pub record IsUnread (line : List ℕ) (refusal : Refusal) : Type 0 where
   pub unspelled : (read : Line) → SpellsLine line read → ¬ (length (act_text read.act) ≤ 200)
 
 -- A line is answered: one that cannot be read is refused, also where the room has stopped; another makes a step.
-abbrev pub AnswersLine : Standing → List ℕ → Reply → Standing → Type 0
-AnswersLine old line reply new =
+abbrev pub AnswersLine : {S : Type 0} → Ghosts S → Standing S → List ℕ → Reply → Standing S → Type 0
+AnswersLine g old line reply new =
     ((refusal : Refusal) × IsUnread line refusal × (reply ≡ refusal_reply refusal) × (new ≡ old))
-    ⊎ ((read : Line) × SpellsLine line read × ¬ HasLongAct line × RoomStep old (stamp_of read) read.act reply new)
+    ⊎ ((read : Line) × SpellsLine line read × ¬ HasLongAct line × RoomStep g old (stamp_of read) read.act reply new)
 
 -- the question `places`, whoever asks
-abbrev pub AsksPlaces : Standing → Reply → Standing → Type 0
-AsksPlaces old reply new = (stamp : Stamp) → RoomStep old stamp (act.Ask query.Places) reply new
+abbrev pub AsksPlaces : {S : Type 0} → Ghosts S → Standing S → Reply → Standing S → Type 0
+AsksPlaces g old reply new = (stamp : Stamp) → RoomStep g old stamp (act.Ask query.Places) reply new

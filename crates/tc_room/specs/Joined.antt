@@ -1,18 +1,34 @@
 -- What joins a desk and its tables.
-use Rattle.std.specs.Prelude.{◌≡◌, Bool, false}
-use Rattle.sqlite_trees.specs.declared.memory.MemStore.{MemStore}
+use Rattle.std.specs.Prelude.{◌≡◌, ℕ, Bool, false}
+use Rattle.sqlite_trees.specs.declared.store.Store.{Ghosts}
 use Rattle.sqlite.specs.Held.{Held, state}
-use Rattle.sqlite.specs.Steps.{over_memory}
+use Rattle.sqlite.specs.State.{HasCleanDisk}
+use Rattle.tc_types.specs.declared.frames.Frame.{Frame}
+use Rattle.tc_types.specs.declared.reports.Report.{Report}
 use Rattle.tc_types.specs.Tables.{Image}
+use Rattle.tc_world.specs.InFlight.{InFlight}
 use Rattle.tc_book.specs.Book.{Book}
 use Rattle.tc_book.specs.Conserved.{IsConserved}
 use Rattle.tc_book.specs.Good.{IsGoodBook}
 use Rattle.tc_book.specs.Tables.{image_of}
+use Rattle.tc_desk.specs.State.{State}
 use Rattle.tc_store.specs.Schema.{Holds}
 
--- tables in memory that hold these rows and no other
-pub record HasImage (tables : Held MemStore) (image : Image) : Type 0 where
-  pub holds : Holds (state over_memory tables).now image
+-- where a room over a store stands: its desk, its tables, and whether it has stopped
+pub record Standing (S : Type 0) : Type 0 where
+  pub desk : State (InFlight Frame) (InFlight Report)
+  -- how many rows of the history stood once the desk was made
+  pub opened : ℕ
+  pub tables : Held S
+  pub stopped : Bool
+
+-- tables that hold these rows and no other
+pub record HasImage {S : Type 0} (g : Ghosts S) (tables : Held S) (image : Image) : Type 0 where
+  pub holds : Holds (state g tables).now image
+
+-- While a room goes on, its tables hold the book of its desk, if the disk gave back what was written. A room that has stopped knows nothing of them.
+abbrev pub HoldsBook : {S : Type 0} → Ghosts S → Standing S → Type 0
+HoldsBook g room = room.stopped ≡ false → HasCleanDisk (state g room.tables) → HasImage g room.tables (image_of room.desk.book)
 
 -- A book that the desk could have written, with a history row for each move, numbered in order, that says where its
 -- request stood; each request that was entered stands at a place, and the counts of the fifteen places sum to those
@@ -20,8 +36,3 @@ pub record HasImage (tables : Held MemStore) (image : Image) : Type 0 where
 pub record IsKept (book : Book) : Type 0 where
   pub good : IsGoodBook book
   pub conserved : IsConserved book.history
-
--- the desk's book is good; and while the room has not stopped, the tables hold it
-pub record IsJoined (book : Book) (tables : Held MemStore) (stopped : Bool) : Type 0 where
-  pub held : stopped ≡ false → HasImage tables (image_of book)
-  pub good : IsGoodBook book

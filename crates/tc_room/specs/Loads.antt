@@ -1,5 +1,8 @@
 -- The load of a stack or of a procedure in a room: its text is read, the desk takes all of it, and the tables hold it.
-use Rattle.std.specs.Prelude.{◌≡◌, ◌⊎◌, ℕ, true, false, None, MatchBool, Result, Ok, Err, List}
+use Rattle.std.specs.Prelude.{◌≡◌, ◌⊎◌, ℕ, true, false, None, MatchBool, IsTrue, Result, Ok, Err, List}
+use Rattle.sqlite_trees.specs.declared.store.Store.{Ghosts}
+use Rattle.sqlite.specs.Held.{state}
+use Rattle.sqlite.specs.State.{HasCleanDisk}
 use Rattle.tc_types.specs.declared.loads.LoadKind.{LoadKind}
 use Rattle.tc_types.specs.declared.loads.LoadKind.TheVariants as kind
 use Rattle.tc_types.specs.declared.refusals.Refusal.{Refusal}
@@ -18,8 +21,7 @@ use Rattle.tc_desk.specs.Loads.{Loading, Stack, Procedure, LoadStep, tests_of_lo
 use Rattle.tc_desk.specs.Replies.{Reply, refusal_reply}
 use Rattle.tc_room.specs.declared.loadings.Spelled.{Spelled}
 use Rattle.tc_room.specs.declared.loadings.Spelled.TheVariants as spelled
-use Rattle.tc_room.specs.Joined.{HasImage}
-use Rattle.tc_room.specs.Room.{Standing}
+use Rattle.tc_room.specs.Joined.{HasImage, HoldsBook, Standing}
 
 -- what was read of a text, under a name
 abbrev pub loading_of : List ℕ → Spelled → Loading
@@ -41,42 +43,44 @@ abbrev pub IsNotRead : LoadKind → List ℕ → Refusal → Type 0
 IsNotRead kind text refusal = (refusal ≡ Memory) ⊎ ((fault : Fault) × IsTextFault kind text fault × (refusal ≡ rule_refusal fault.rule))
 
 -- the desk machine made a load, and the tables hold its book
-pub record StepsLoad (old : Standing) (stamp : Stamp) (given : Loading) (reply : Reply) (new : Standing) : Type 0 where
+pub record StepsLoad {S : Type 0} (g : Ghosts S) (old : Standing S) (stamp : Stamp) (given : Loading) (reply : Reply) (new : Standing S) : Type 0 where
   pub desk : LoadStep old.desk stamp given reply new.desk
-  pub tables : HasImage new.tables (image_of new.desk.book)
+  pub tables : HasImage g new.tables (image_of new.desk.book)
   pub going : new.stopped ≡ false
 
--- The database failed at a load that no test refused, and the room has stopped. Its tables hold the book as it was before.
-pub record FailsLoad (old : Standing) (stamp : Stamp) (given : Loading) (told : Reply) (new : Standing) : Type 0 where
+-- The database failed at a load that no test refused, and the room has stopped. Its tables hold the book as it was before, where the database is
+-- still open.
+pub record FailsLoad {S : Type 0} (g : Ghosts S) (old : Standing S) (stamp : Stamp) (given : Loading) (told : Reply) (new : Standing S) : Type 0 where
   pub free : first_refusal (tests_of_load stamp old.desk.book given) ≡ None
   pub reply : told ≡ refusal_reply Store
   pub stopped : new.stopped ≡ true
-  pub tables : HasImage new.tables (image_of old.desk.book)
+  pub tables : IsTrue (state g new.tables).is_open → HasImage g new.tables (image_of old.desk.book)
 
 -- what was read is loaded, or refused, or the database fails
-abbrev pub LoadsRead : Standing → Stamp → Loading → Reply → Standing → Type 0
-LoadsRead old stamp given reply new = StepsLoad old stamp given reply new ⊎ FailsLoad old stamp given reply new
+abbrev pub LoadsRead : {S : Type 0} → Ghosts S → Standing S → Stamp → Loading → Reply → Standing S → Type 0
+LoadsRead g old stamp given reply new = StepsLoad g old stamp given reply new ⊎ FailsLoad g old stamp given reply new
 
 -- a text that spells nothing of its kind changes nothing, and what another spells is loaded
-abbrev pub LoadsText : Standing → Stamp → LoadKind → List ℕ → List ℕ → Reply → Standing → Type 0
-LoadsText old stamp kind name text reply new =
+abbrev pub LoadsText : {S : Type 0} → Ghosts S → Standing S → Stamp → LoadKind → List ℕ → List ℕ → Reply → Standing S → Type 0
+LoadsText g old stamp kind name text reply new =
     ((refusal : Refusal) × IsNotRead kind text refusal × (reply ≡ refusal_reply refusal) × (new ≡ old))
-    ⊎ ((given : Loading) × SpellsLoading kind name text given × LoadsRead old stamp given reply new)
+    ⊎ ((given : Loading) × SpellsLoading kind name text given × LoadsRead g old stamp given reply new)
 
--- One load: a room that has stopped says so and stays as it was.
-abbrev pub RoomLoad : Standing → Stamp → LoadKind → List ℕ → List ℕ → Reply → Standing → Type 0
-RoomLoad old stamp kind name text reply new = MatchBool old.stopped
+-- One load in a room whose tables hold its book, over a disk that gave back what was written: a room that has stopped says so and stays as it
+-- was.
+abbrev pub RoomLoad : {S : Type 0} → Ghosts S → Standing S → Stamp → LoadKind → List ℕ → List ℕ → Reply → Standing S → Type 0
+RoomLoad g old stamp kind name text reply new = HoldsBook g old → HasCleanDisk (state g new.tables) → MatchBool old.stopped
     ((reply ≡ refusal_reply Stopped) × (new ≡ old))
-    (LoadsText old stamp kind name text reply new)
+    (LoadsText g old stamp kind name text reply new)
 
 -- the answer to a load, of which the lines of a reply are made: of what was read, in a room that goes on, and of a text
-abbrev pub AnswersRead : {X : Type 0} → (X → Reply) → Standing → Stamp → Loading → Standing → Result X Refusal → Type 0
-AnswersRead lines old stamp given new (Ok answer) = LoadsRead old stamp given (lines answer) new
-AnswersRead lines old stamp given new (Err refusal) = LoadsRead old stamp given (refusal_reply refusal) new
+abbrev pub AnswersRead : {X S : Type 0} → (X → Reply) → Ghosts S → Standing S → Stamp → Loading → Standing S → Result X Refusal → Type 0
+AnswersRead lines g old stamp given new (Ok answer) = LoadsRead g old stamp given (lines answer) new
+AnswersRead lines g old stamp given new (Err refusal) = LoadsRead g old stamp given (refusal_reply refusal) new
 
-abbrev pub AnswersLoad : {X : Type 0} → (X → Reply) → Standing → Stamp → LoadKind → List ℕ → List ℕ → Standing → Result X Refusal → Type 0
-AnswersLoad lines old stamp kind name text new (Ok answer) = RoomLoad old stamp kind name text (lines answer) new
-AnswersLoad lines old stamp kind name text new (Err refusal) = RoomLoad old stamp kind name text (refusal_reply refusal) new
+abbrev pub AnswersLoad : {X S : Type 0} → (X → Reply) → Ghosts S → Standing S → Stamp → LoadKind → List ℕ → List ℕ → Standing S → Result X Refusal → Type 0
+AnswersLoad lines g old stamp kind name text new (Ok answer) = RoomLoad g old stamp kind name text (lines answer) new
+AnswersLoad lines g old stamp kind name text new (Err refusal) = RoomLoad g old stamp kind name text (refusal_reply refusal) new
 
 -- who loads, and when
 abbrev pub loader_of : LoadLine → Stamp

@@ -3,8 +3,9 @@
 #![tactic(auto)]
 
 pub mod answers;
+pub mod counts;
 pub mod desks;
 mod loadings;
-pub mod memory;
+pub mod opening;
 pub mod replies;
 pub mod rooms;

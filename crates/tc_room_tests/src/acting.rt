@@ -1,5 +1,6 @@
 //! What acts are carried out on and questions are asked of: a room, and a desk whose batches are kept. Nothing is promised of them
 //! here: what a test does with them needs no proof but that of its own loops and indexes.
+use sqlite::MemStore;
 use std::alloc::Global;
 use std::mem;
 use tc_desk::dones::Done;
@@ -49,7 +50,7 @@ pub trait Asked: Acting {
     fn told(&mut self, request: u32, after: u32) -> Result<Vec<Move>, Refusal>;
 }
 
-impl Acting for Room {
+impl Acting for Room<MemStore> {
     fn acts(
         &mut self,
         by: Name,
@@ -73,7 +74,7 @@ impl Acting for Room {
     }
 }
 
-impl Asked for Room {
+impl Asked for Room<MemStore> {
     fn counted(&mut self) -> Result<[u32; PLACES], Refusal> {
         Ok(self.counts()?.places)
     }

@@ -1,14 +1,25 @@
 //! A room as a test sees it. Nothing is promised of it here: what a test does with it needs
 //! no proof but that of its own loops and indexes.
+use sqlite::{Connection, MemStore};
 use std::alloc::{AllocError, Global};
+use tc_desk::configs::Config;
 use tc_room::answers::{Answer, answer_line, answer_load, answer_places};
-use tc_room::rooms::{Counts, Room};
+use tc_room::counts::Counts;
+use tc_room::opening::Opened;
+use tc_room::replies::opening_reply;
+use tc_room::rooms::Room;
 use tc_types::acts::{Act, BookAct};
 use tc_types::loads::Load;
 use tc_types::moves::Move;
 use tc_types::names::Name;
 use tc_types::numbers::Moment;
 use tc_types::refusals::Refusal;
+
+/// How each desk is opened.
+const CONFIG: Config = Config {
+    window: 20,
+    channel: 3,
+};
 
 /// A desk and its tables.
 pub trait SeenRoom {
@@ -36,7 +47,7 @@ pub trait SeenRoom {
     fn told(&mut self, request: u32, after: u32) -> Result<Vec<Move>, Refusal>;
 }
 
-impl SeenRoom for Room {
+impl SeenRoom for Room<MemStore> {
     fn answers(&mut self, alloc: Global, line: &[u8]) -> Result<Answer, AllocError> {
         answer_line(alloc, self, line)
     }
@@ -67,5 +78,60 @@ impl SeenRoom for Room {
 
     fn told(&mut self, request: u32, after: u32) -> Result<Vec<Move>, Refusal> {
         self.history(request, after)
+    }
+}
+
+/// A room that was opened, and the lines of the moves which that made.
+#[derive(Drop)]
+pub struct Again<R: Drop> {
+    /// The room.
+    pub room: R,
+    /// The lines.
+    pub told: String,
+}
+
+/// What a room leaves, and what is opened over it.
+pub trait SeenLeft: Drop + Sized {
+    /// Opens a room over what this one left, at a moment.
+    fn opens_again(self, alloc: Global, at: Moment) -> Result<Again<Self>, Refusal>;
+
+    /// Opens a room over what this one left, once statements were run on it: whether each was run, and why the room was refused.
+    fn opens_changed(self, alloc: Global, changes: &[&str]) -> Result<Again<Self>, Refusal>;
+}
+
+/// Opens a room over a database, at a moment.
+fn opened(
+    alloc: Global,
+    store: Connection<MemStore>,
+    at: Moment,
+) -> Result<Again<Room<MemStore>>, Refusal> {
+    match Room::open(alloc, store, CONFIG, at) {
+        Ok(opened) => {
+            let Opened { room, moves } = opened;
+            match opening_reply(alloc, &moves) {
+                Ok(told) => Ok(Again { room, told }),
+                Err(_) => Err(Refusal::Memory),
+            }
+        }
+        Err((refusal, _store)) => Err(refusal),
+    }
+}
+
+impl SeenLeft for Room<MemStore> {
+    fn opens_again(self, alloc: Global, at: Moment) -> Result<Again<Self>, Refusal> {
+        opened(alloc, self.into_connection(), at)
+    }
+
+    fn opens_changed(self, alloc: Global, changes: &[&str]) -> Result<Again<Self>, Refusal> {
+        let mut store = self.into_connection();
+        for change in changes {
+            if store.execute(change, &[]).is_err() {
+                return Err(Refusal::BadText);
+            }
+        }
+        match Moment::new(500) {
+            Some(at) => opened(alloc, store, at),
+            None => Err(Refusal::BadText),
+        }
     }
 }

@@ -8,6 +8,7 @@ use tc_types::numbers::{Moment, RequestNumber};
 use tc_types::places::Place;
 
 mod loads;
+mod opening;
 mod plain;
 mod rooms;
 

@@ -161,6 +161,7 @@ pub(crate) fn load_all<S: Alter>(
     ensures same { HasCleanDisk (state S.Store conn.new) → (image : Rows) → Holds (state S.Store conn.old).now image → OnOk result (Holds (state S.Store conn.new).now image) }
     ensures kept { HasCleanDisk (state S.Store conn.new) → IsTrue (state S.Store conn.new).is_open → (image : Rows) → Holds (state S.Store conn.old).now image → Holds (state S.Store conn.new).now image }
     ensures crash { (image : Rows) → Holds (state S.Store conn.old).now image → Survives (state S.Store conn.old) (state S.Store conn.new) (λ _. ⊥) }
+    ensures clean { HasCleanDisk (state S.Store conn.new) → HasCleanDisk (state S.Store conn.old) }
     ensures kind { IfErr result (λ e. is_of_read e ≡ true) }
     ensures outside { conn.old.in_transaction ≡ false → conn.new.in_transaction ≡ false }
 {

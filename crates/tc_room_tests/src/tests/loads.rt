@@ -101,7 +101,7 @@ fn answers_cases<R: SeenRoom>(rt: &impl Abort, alloc: Global, room: &mut R) -> R
 
 #[test]
 fn answers_each_load(rt: HostRuntime) -> Result<(), Fail> {
-    let mut room = Room::open(rt.alloc(), CONFIG)?;
+    let mut room = Room::open_in_memory(rt.alloc(), CONFIG)?;
     answers_cases(&rt, rt.alloc(), &mut room)
 }
 

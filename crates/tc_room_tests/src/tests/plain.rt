@@ -258,7 +258,7 @@ fn answers_as_defined<A: Asked>(rt: &impl Abort, alloc: Global, asked: &mut A) -
 
 #[test]
 fn a_room_answers_as_the_definitions_do(rt: HostRuntime) -> Result<(), Fail> {
-    let mut room = Room::open(rt.alloc(), CONFIG)?;
+    let mut room = Room::open_in_memory(rt.alloc(), CONFIG)?;
     answers_as_defined(&rt, rt.alloc(), &mut room)
 }
 

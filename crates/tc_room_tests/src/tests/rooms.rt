@@ -68,7 +68,7 @@ fn answers_cases<R: SeenRoom>(
 
 #[test]
 fn answers_each_line(rt: HostRuntime) -> Result<(), Fail> {
-    let mut room = Room::open(rt.alloc(), CONFIG)?;
+    let mut room = Room::open_in_memory(rt.alloc(), CONFIG)?;
     let counts = "places 1: 0 0 0 0 0 0 0 0 0 0 0 0 1 0 0\n";
     answers_cases(&rt, rt.alloc(), &mut room, &CASES, counts)
 }
@@ -125,7 +125,7 @@ const APPROVALS: [Case; 14] = [
 
 #[test]
 fn answers_each_approval(rt: HostRuntime) -> Result<(), Fail> {
-    let mut room = Room::open(rt.alloc(), CONFIG)?;
+    let mut room = Room::open_in_memory(rt.alloc(), CONFIG)?;
     let counts = "places 2: 0 1 0 0 0 0 0 0 0 0 0 0 1 0 0\n";
     answers_cases(&rt, rt.alloc(), &mut room, &APPROVALS, counts)
 }
@@ -166,7 +166,7 @@ const FLIGHT: [Case; 10] = [
 
 #[test]
 fn answers_each_line_of_a_flight(rt: HostRuntime) -> Result<(), Fail> {
-    let mut room = Room::open(rt.alloc(), CONFIG)?;
+    let mut room = Room::open_in_memory(rt.alloc(), CONFIG)?;
     let counts = "places 1: 0 0 0 0 1 0 0 0 0 0 0 0 0 0 0\n";
     answers_cases(&rt, rt.alloc(), &mut room, &FLIGHT, counts)
 }
@@ -195,7 +195,7 @@ fn tells_of_one<R: SeenRoom>(rt: &impl Abort, alloc: Global, room: &mut R) -> Re
 
 #[test]
 fn tells_what_the_tables_hold(rt: HostRuntime) -> Result<(), Fail> {
-    let mut room = Room::open(rt.alloc(), CONFIG)?;
+    let mut room = Room::open_in_memory(rt.alloc(), CONFIG)?;
     tells_of_one(&rt, rt.alloc(), &mut room)
 }
 

@@ -6,18 +6,18 @@ use Rattle.tc_cli.proofs.run.run_lines.Goals as goal
 pub loop-line-init : goal.loop-line-init
 loop-line-init g c =
     let all : c.into_iter-line-iterator.result ≡ script_lines c.args.text.now = search rules in
-    record { run = has_run-start _ _ _ _ _ all; counts = c.requires }
+    record { run = has_run-start g.S.Store _ _ _ _ _ all; counts = c.requires }
 
 pub returns-clause-taken : goal.returns-clause-taken
-returns-clause-taken g c = has_run-end _ _ _ _ _ _ _ _ _ c.loop-line.invariant.run c.in-None.ensures.steps.0
+returns-clause-taken g c = has_run-end g.S.Store _ _ _ _ _ _ _ _ _ c.loop-line.invariant.run c.in-None.ensures.steps.0
 
 pub loop-line-preserved : goal.loop-line-preserved
 loop-line-preserved g c = record {
-  run = has_run-step _ _ _ _ _ _ _ _ _ _ _ _ _ _ _ c.loop-line.invariant.run c.in-Some.ensures.steps c.in_ok-refused.ensures.taken;
+  run = has_run-step g.S.Store _ _ _ _ _ _ _ _ _ _ _ _ _ _ _ c.loop-line.invariant.run c.in-Some.ensures.steps c.in_ok-refused.ensures.taken;
   counts = c.in_ok-refused.ensures.counted;
 }
 
 pub returns-in_err-refused-clause-stopped : goal.returns-in_err-refused-clause-stopped
 returns-in_err-refused-clause-stopped g c =
     let gone : c.from_residual.result ≡ Err c.in_err-refused.field-0.0 = grind arith in
-    rw gone (stopped_in_line _ _ _ _ _ _ _ _ _ _ _ _ _ _ c.loop-line.invariant.run c.in-Some.ensures.steps c.in_err-refused.ensures.stopped)
+    rw gone (stopped_in_line g.S.Store _ _ _ _ _ _ _ _ _ _ _ _ _ _ c.loop-line.invariant.run c.in-Some.ensures.steps c.in_err-refused.ensures.stopped)

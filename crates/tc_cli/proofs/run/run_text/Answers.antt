@@ -1,40 +1,12 @@
-use Rattle.std.proofs.Common.{◌≡◌, Err}
-use Rattle.tc_cli.proofs.RunLemmas.{is_fault, run_answered, run_stopped, run_stopped_at_end, stops_unopened}
+use Rattle.std.proofs.lemmas.Result.{IfErr-weaker, IfOk-weaker}
+use Rattle.tc_cli.proofs.RunLemmas.{run_answered, run_stopped, stops_unopened}
 use Rattle.tc_cli.proofs.run.run_text.Goals as goal
 
 pub returns-in_err-room-clause-stopped : goal.returns-in_err-room-clause-stopped
 returns-in_err-room-clause-stopped g c = stops_unopened _ _ _ _ _ c.from_residual.result c.from_residual.ensures.1
 
-pub returns-in_err-refused-clause-stopped : goal.returns-in_err-refused-clause-stopped
-returns-in_err-refused-clause-stopped g c =
-    let gone : c.from_residual-in_err-refused.result ≡ Err c.in_err-refused.field-0.0 = is_fault _ _ c.from_residual-in_err-refused.ensures.1 in
-    rw gone (run_stopped _ _ _ _ _ _ _ _ c.in_ok-room.ensures.opened c.in_err-refused.ensures.stopped)
-
-pub returns-in_err-last-clause-stopped : goal.returns-in_err-last-clause-stopped
-returns-in_err-last-clause-stopped g c =
-    let gone : c.from_residual-in_err-last.result ≡ Err c.in_err-last.field-0.0 = is_fault _ _ c.from_residual-in_err-last.ensures.1 in
-    rw gone (run_stopped_at_end _ _ _ _ _ _ _ _ _ _ _ c.in_ok-room.ensures.opened c.in_ok-refused.ensures.taken c.in_err-last.ensures.stopped)
-
 pub returns-clause-answered : goal.returns-clause-answered
-returns-clause-answered g c = rw c.status_of.ensures
-    (run_answered _ _ _ _ _ _ _ _ _ _ _ _ c.in_ok-room.ensures.opened c.in_ok-refused.ensures.taken c.in_ok-last.ensures.taken c.in_ok-last.ensures.kept)
+returns-clause-answered g c = IfOk-weaker c.run_room.result _ _ (λ status run. run_answered _ _ _ _ _ _ _ _ _ c.in_ok-room.ensures.opened run) c.run_room.ensures.answered
 
-pub returns-in_err-last-clause-fault : goal.returns-in_err-last-clause-fault
-returns-in_err-last-clause-fault g c =
-    let gone : c.from_residual-in_err-last.result ≡ Err c.in_err-last.field-0.0 = is_fault _ _ c.from_residual-in_err-last.ensures.1 in
-    rw gone c.in_err-last.ensures.fault
-
-pub returns-in_err-last-clause-counted : goal.returns-in_err-last-clause-counted
-returns-in_err-last-clause-counted g c =
-    let gone : c.from_residual-in_err-last.result ≡ Err c.in_err-last.field-0.0 = is_fault _ _ c.from_residual-in_err-last.ensures.1 in
-    rw gone c.in_err-last.ensures.counted
-
-pub returns-in_err-refused-clause-fault : goal.returns-in_err-refused-clause-fault
-returns-in_err-refused-clause-fault g c =
-    let gone : c.from_residual-in_err-refused.result ≡ Err c.in_err-refused.field-0.0 = is_fault _ _ c.from_residual-in_err-refused.ensures.1 in
-    rw gone c.in_err-refused.ensures.fault
-
-pub returns-in_err-refused-clause-counted : goal.returns-in_err-refused-clause-counted
-returns-in_err-refused-clause-counted g c =
-    let gone : c.from_residual-in_err-refused.result ≡ Err c.in_err-refused.field-0.0 = is_fault _ _ c.from_residual-in_err-refused.ensures.1 in
-    rw gone c.in_err-refused.ensures.counted
+pub returns-clause-stopped : goal.returns-clause-stopped
+returns-clause-stopped g c = IfErr-weaker c.run_room.result _ _ (λ fault stops. run_stopped _ _ _ _ _ _ _ _ c.in_ok-room.ensures.opened stops) c.run_room.ensures.stopped

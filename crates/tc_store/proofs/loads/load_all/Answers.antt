@@ -1,3 +1,4 @@
+use Rattle.std.proofs.Common.{arith}
 use Rattle.tc_store.proofs.LoadLemmas.{spares_in_crash, on_ok}
 use Rattle.tc_store.proofs.loads.load_all.Goals as goal
 
@@ -6,3 +7,6 @@ returns-clause-same g c clean image held = on_ok c.load_tables.result _ _ (c.loa
 
 pub returns-clause-crash : goal.returns-clause-crash
 returns-clause-crash g c image held = spares_in_crash g.S.Store c.args.conn.now c.load_tables.new.conn image held c.load_tables.ensures.left
+
+pub returns-clause-clean : goal.returns-clause-clean
+returns-clause-clean g c clean = omega (arith, clean, c.load_tables.ensures.left.crash.clean)

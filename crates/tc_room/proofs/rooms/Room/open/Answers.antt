@@ -1,28 +1,25 @@
--- The tables of a new desk hold its book.
-use Rattle.std.proofs.Common.{arith, ◌≡◌, Err, refl}
-use Rattle.tc_room.proofs.RoomLemmas.{new_held}
+use Rattle.std.proofs.Common.{◌∙◌, ap, subst, sym}
+use Rattle.std.proofs.lemmas.Result.{IfErr-weaker}
+use Rattle.sqlite.specs.Held.{Held, state}
+use Rattle.tc_store.specs.Schema.{Holds}
+use Rattle.tc_room.proofs.OpeningLemmas.{keeps_same, not_empty}
 use Rattle.tc_room.proofs.rooms.Room.open.Goals as goal
 
-pub invariant_of-result : goal.invariant_of-result
-invariant_of-result c = record {
-  held = λ going. new_held c.args.config c.in_ok-make_desk.field-0.parts c.in_ok-make_tables.field-0 c.in_ok-make_desk.ensures.made c.in_ok-make_tables.ensures.made;
-  good = c.in_ok-make_desk.ensures.good;
-}
+pub returns-in-Ok-clause-kept : goal.returns-in-Ok-clause-kept
+returns-in-Ok-clause-kept g c = IfErr-weaker c.open_left.result _ _
+    (λ e kept clean is_open. record {
+      empty = λ none. absurd (not_empty (sym c.in-Ok.ensures.ours ∙ none));
+      held = λ image held. kept clean is_open image (subst (λ (t : Held _). Holds (state g.S.Store t).now image) (sym c.in-Ok.ensures.same) held);
+    })
+    c.open_left.ensures.kept
 
-pub returns-clause-opened : goal.returns-clause-opened
-returns-clause-opened c = record {
-  desk = c.in_ok-make_desk.ensures.made;
-  opened = c.in_ok-make_desk.ensures.opened;
-  tables = new_held c.args.config c.in_ok-make_desk.field-0.parts c.in_ok-make_tables.field-0 c.in_ok-make_desk.ensures.made c.in_ok-make_tables.ensures.made;
-  going = refl;
-}
+pub returns-in-Err-Foreign-default-clause-kept : goal.returns-in-Err-Foreign-default-clause-kept
+returns-in-Err-Foreign-default-clause-kept g c = IfErr-weaker c.open_new.result _ _
+    (λ e kept clean is_open. keeps_same _ _ (kept clean is_open ∙ ap (λ (h : Held _). (state g.S.Store h).now) c.in-Err-Foreign-default.ensures.kept))
+    c.open_new.ensures.kept
 
-pub returns-in_err-make_tables-clause-refused : goal.returns-in_err-make_tables-clause-refused
-returns-in_err-make_tables-clause-refused c =
-    let gone : c.from_residual-in_err-make_tables.result ≡ Err c.in_err-make_tables.field-0.0 = grind arith in
-    rw gone ((λ is. absurd (c.in_err-make_tables.ensures.config is)), (λ unfit. absurd (unfit c.in_ok-make_desk.ensures.config)))
-
-pub returns-in_err-make_tables-clause-cause : goal.returns-in_err-make_tables-clause-cause
-returns-in_err-make_tables-clause-cause c =
-    let gone : c.from_residual-in_err-make_tables.result ≡ Err c.in_err-make_tables.field-0.0 = grind arith in
-    rw gone c.in_err-make_tables.ensures.cause
+pub returns-in-Err-Foreign-default-clause-foreign : goal.returns-in-Err-Foreign-default-clause-foreign
+returns-in-Err-Foreign-default-clause-foreign g c = IfErr-weaker c.open_new.result _ _
+    (λ e untouched some other.
+    untouched (λ none. some (sym (ap (λ (h : Held _). (state g.S.Store h).now.schema) c.in-Err-Foreign-default.ensures.kept) ∙ none)) ∙ c.in-Err-Foreign-default.ensures.kept)
+    c.open_new.ensures.untouched

@@ -1,0 +1,13 @@
+use Rattle.std.proofs.Common.{inr}
+use Rattle.std.proofs.lemmas.Result.{IfErr-weaker, IfOk-weaker}
+use Rattle.tc_cli.proofs.kept.run_kept.Goals as goal
+
+pub returns-in-Ok-clause-answered : goal.returns-in-Ok-clause-answered
+returns-in-Ok-clause-answered g c = IfOk-weaker c.run_opened-ended.result _ _
+    (λ status run. (c.in-Ok.opened.room, c.in-Ok.opened.moves.items, c.run_opened-ended.new.room, c.in-Ok.ensures.opened, rw c.deref.ensures.value at run, c.into_connection.ensures))
+    c.run_opened-ended.ensures.answered
+
+pub returns-in-Ok-clause-stopped : goal.returns-in-Ok-clause-stopped
+returns-in-Ok-clause-stopped g c = IfErr-weaker c.run_opened-ended.result _ _
+    (λ fault stops. inr (c.in-Ok.opened.room, c.in-Ok.opened.moves.items, c.in-Ok.ensures.opened, rw c.deref.ensures.value at stops))
+    c.run_opened-ended.ensures.stopped

@@ -1,0 +1,72 @@
+//! The run of a script on a desk that is kept in a database.
+ghost use Rattle.std.specs.Prelude.{◌≡◌, ◌≢◌, ℕ, List, Option, IfErr, IfOk, map};
+ghost use Rattle.std.specs.Io.KnownBytes.{Appends};
+ghost use Rattle.tc_types.specs.Counts.{counts_of, inner_of, no_counts};
+ghost use Rattle.tc_types.specs.Lines.{move_line};
+ghost use Rattle.tc_room.specs.Replies.{ended};
+ghost use Rattle.tc_cli.specs.Kept.{RunsKept, RunsOpened, StopsKept, StopsOpened};
+ghost use Rattle.tc_cli.specs.Run.{script_lines};
+ghost use Rattle.tc_cli.specs.Script.{written_counts};
+
+use crate::paths::Paths;
+use crate::run::{put, run_room};
+use crate::script::ScriptFault;
+use sqlite::{Alter, Connection};
+use std::alloc::Global;
+use std::io::Write;
+use tc_desk::configs::Config;
+use tc_room::opening::Opened;
+use tc_room::replies::opening_reply;
+use tc_room::rooms::Room;
+use tc_types::counted::Counted;
+use tc_types::moves::Move;
+use tc_types::numbers::Moment;
+
+/// Writes the moves that an opening made, and runs the lines of a script in the room that it opened.
+fn run_opened<S: Alter + Drop, P: Paths, W: Write>(
+    alloc: Global,
+    room: &mut Room<S>,
+    moves: &[Move],
+    text: &[u8],
+    paths: &mut P,
+    writer: &mut Counted<W>,
+) -> Result<u8, ScriptFault>
+    requires { counts_of writer.old ≡ no_counts }
+    ensures answered { IfOk result (λ status. RunsOpened S.Store room.old moves.now text.now status (P.given paths.old) (P.given paths.new) (W.contents (inner_of writer.old)) (W.contents (inner_of writer.new)) room.new) }
+    ensures stopped { IfErr result (λ fault. StopsOpened S.Store room.old moves.now fault (script_lines text.now) (P.given paths.old) (P.given paths.new) (W.contents (inner_of writer.old)) (W.contents (inner_of writer.new))) }
+    ensures fault { IfErr result (λ fault. fault ≢ ScriptFault.Script) }
+    ensures counted { counts_of writer.new ≡ written_counts result }
+{
+    let told = opening_reply(alloc, moves)?;
+    put(writer, told.as_bytes())?;
+    run_room(alloc, room, text, paths, writer)
+}
+
+/// Runs the lines of a script, that was read, on the desk that is kept in a database, opened at a moment: writes the moves that the
+/// opening made, what the lines are answered, and at the end what `places` is answered. Gives the exit status, as
+/// `run_script` does, and the connection. Where the desk could not be opened the fault is `Tables`, or `Config` or `Memory`, no line was run,
+/// and the tables are as they were.
+pub fn run_kept<S: Alter + Drop, P: Paths, W: Write>(
+    alloc: Global,
+    store: Connection<S>,
+    config: Config,
+    moment: Moment,
+    text: &[u8],
+    paths: &mut P,
+    writer: &mut Counted<W>,
+) -> (Result<u8, ScriptFault>, Connection<S>)
+    requires { counts_of writer.old ≡ no_counts }
+    ensures answered { IfOk result.0 (λ status. RunsKept S.Store config moment store text.now status (P.given paths.old) (P.given paths.new) (W.contents (inner_of writer.old)) (W.contents (inner_of writer.new)) result.1) }
+    ensures stopped { IfErr result.0 (λ fault. StopsKept S.Store config moment store fault (script_lines text.now) (P.given paths.old) (P.given paths.new) (W.contents (inner_of writer.old)) (W.contents (inner_of writer.new))) }
+    ensures fault { IfErr result.0 (λ fault. fault ≢ ScriptFault.Script) }
+    ensures counted { counts_of writer.new ≡ written_counts result.0 }
+{
+    match Room::open(alloc, store, config, moment) {
+        Ok(opened) => {
+            let Opened { mut room, moves } = opened;
+            let ended = run_opened(alloc, &mut room, &moves, text, paths, writer);
+            (ended, room.into_connection())
+        }
+        Err((refusal, store)) => (Err(ScriptFault::from(refusal)), store),
+    }
+}

@@ -1,0 +1,18 @@
+use Rattle.std.proofs.Common.{arith, refl}
+use Rattle.sqlite.specs.Held.{state}
+use Rattle.sqlite.specs.State.{HasCleanDisk}
+use Rattle.tc_room.proofs.TableLemmas.{written}
+use Rattle.tc_room.proofs.opening.open_left.Goals as goal
+
+pub returns-in-Ok-write-clause-left : goal.returns-in-Ok-write-clause-left
+returns-in-Ok-write-clause-left g c = rw c.over.ensures (λ clean image told held.
+    let before : HasCleanDisk (state g.S.Store c.reopen.new.tables) = omega (arith, clean, c.write.ensures.crash.clean) in
+    let left = c.in-Ok.ensures.read before image told held in
+    record {
+      sound = left.sound;
+      reopened = left.reopened;
+      opened = c.in-Ok.ensures.opened;
+      made = left.made;
+      tables = written g.S.Store c.reopen.new.tables c.write.new.self image c.in-Ok.left.done.batch.items _ left.writes c.write.ensures.crash clean (λ _. record { holds = c.in-Ok.ensures.same before image held }) (rw c.deref.ensures.value at (c.in-Ok-write.ensures.written clean));
+      going = refl;
+    })

@@ -1,0 +1,54 @@
+-- What opens a room over tables that were left.
+use Rattle.std.specs.Prelude.{◌≡◌, ℕ, false, List, [], drop, length}
+use Rattle.sqlite_trees.specs.declared.store.Store.{Ghosts}
+use Rattle.sqlite.specs.Effect.{Database}
+use Rattle.sqlite.specs.Held.{Held, state}
+use Rattle.sqlite.specs.State.{HasCleanDisk}
+use Rattle.tc_sql.specs.Builds.{no_schema}
+use Rattle.tc_types.specs.declared.frames.Frame.{Frame}
+use Rattle.tc_types.specs.declared.reports.Report.{Report}
+use Rattle.tc_types.specs.declared.moves.Move.{Move}
+use Rattle.tc_types.specs.declared.rows.Row.{Row}
+use Rattle.tc_types.specs.Tables.{Image, applied}
+use Rattle.tc_world.specs.InFlight.{InFlight}
+use Rattle.tc_book.specs.Sound.{IsSound}
+use Rattle.tc_book.specs.Tables.{image_of}
+use Rattle.tc_desk.specs.declared.configs.Config.{Config}
+use Rattle.tc_desk.specs.Opening.{reopened_parts}
+use Rattle.tc_store.specs.Schema.{Holds}
+use Rattle.tc_store.specs.Told.{IsTold}
+use Rattle.tc_room.specs.Joined.{HasImage, Standing}
+use Rattle.tc_room.specs.Room.{IsJustOpened, ListState}
+
+-- a desk as it is opened at a moment over these tables, with nothing in flight
+abbrev pub IsReopened : Config → ℕ → Image → ListState → Type 0
+IsReopened config moment image desk = (up : InFlight Frame) × (down : InFlight Report) × (up.content ≡ []) × (down.content ≡ []) × (desk ≡ reopened_parts config moment image up down)
+
+-- A desk that was opened at a moment over tables with these rows, which a desk could have written, the moves that this made, and the batch that
+-- turns the tables into those of its book.
+pub record ReadsLeft (config : Config) (moment : ℕ) (image : Image) (desk : ListState) (moves : List Move) (batch : List Row) : Type 0 where
+  pub sound : IsSound image
+  pub reopened : IsReopened config moment image desk
+  pub made : moves ≡ drop (length image.moves) desk.book.history
+  pub writes : applied batch image ≡ image_of desk.book
+
+-- A room that was opened at a moment over tables with these rows, which a desk could have written, and the moves that this made: its desk is what
+-- the opening makes of them, and its tables hold its book.
+pub record OpensLeft {S : Type 0} (g : Ghosts S) (config : Config) (moment : ℕ) (image : Image) (moves : List Move) (room : Standing S) : Type 0 where
+  pub sound : IsSound image
+  pub reopened : IsReopened config moment image room.desk
+  pub opened : room.opened ≡ length room.desk.book.history
+  pub made : moves ≡ drop (length image.moves) room.desk.book.history
+  pub tables : HasImage g room.tables (image_of room.desk.book)
+  pub going : room.stopped ≡ false
+
+-- A room that was opened at a moment over a database, and the moves that this made: over one with no table nothing happened yet, and none was
+-- made; over tables that hold an image, if the disk gave back what was written, they are what that leaves.
+pub record OpensAs {S : Type 0} (g : Ghosts S) (config : Config) (moment : ℕ) (store : Held S) (moves : List Move) (room : Standing S) : Type 0 where
+  pub anew : (state g store).now.schema ≡ no_schema → IsJustOpened g config room × (moves ≡ [])
+  pub left : HasCleanDisk (state g room.tables) → (image : Image) → IsTold image → Holds (state g store).now image → OpensLeft g config moment image moves room
+
+-- a database that has the tables of a desk, or none at all, has what it had
+pub record KeepsTables (old new : Database) : Type 0 where
+  pub empty : old.schema ≡ no_schema → new ≡ old
+  pub held : (image : Image) → Holds old image → Holds new image

@@ -1,0 +1,45 @@
+//! How many requests stand at each place, as the tables say.
+ghost use Rattle.std.specs.Prelude.{◌≡◌, ◌≤◌, ◌^◌, IfSome, OnSome, IsTrue, MatchOption, map, sum};
+ghost use Rattle.sqlite.specs.Held.{state};
+ghost use Rattle.sqlite.specs.State.{HasCleanDisk};
+ghost use Rattle.tc_types.specs.Tables.{Image};
+ghost use Rattle.tc_types.specs.declared.rows.Tally.{Tally};
+ghost use Rattle.tc_room.specs.Joined.{HasImage};
+
+use sqlite::Alter;
+use tc_store::tables::Tables;
+use tc_types::places::PLACES;
+
+/// How many requests were entered, and how many stand at each place.
+#[derive(Clone, Copy, Debug, PartialEq, Eq)]
+pub struct Counts {
+    /// How many were entered.
+    pub entered: u32,
+    /// How many stand at each place, in order of number.
+    pub places: [u32; PLACES],
+}
+
+/// How many requests stand at all places together, if that is below 2^32.
+fn total(places: &[u32; PLACES]) -> Option<u32>
+    ensures { MatchOption result (2 ^ 32 ≤ sum places.now) (λ all. all ≡ sum places.now) }
+{
+    let mut all: u32 = 0;
+    for amount in places {
+        all = all.checked_add(*amount)?;
+    }
+    Some(all)
+}
+
+/// How many requests were entered and how many stand at each place: the amounts of the tallies. `None` where they cannot be read, or are
+/// more together than there are numbers.
+pub(crate) fn count_all<S: Alter + Drop>(tables: &mut Tables<S>) -> Option<Counts>
+    ensures places { HasCleanDisk (state S.Store tables.new) → IfSome result (λ found. (image : Image) → HasImage S.Store tables.old image → found.places ≡ map (λ (t : Tally). t.amount) image.tallies) }
+    ensures entered { IfSome result (λ found. found.entered ≡ sum found.places) }
+    ensures same { HasCleanDisk (state S.Store tables.new) → OnSome result ((image : Image) → HasImage S.Store tables.old image → HasImage S.Store tables.new image) }
+    ensures kept { HasCleanDisk (state S.Store tables.new) → IsTrue (state S.Store tables.new).is_open → (image : Image) → HasImage S.Store tables.old image → HasImage S.Store tables.new image }
+    ensures clean { HasCleanDisk (state S.Store tables.new) → HasCleanDisk (state S.Store tables.old) }
+{
+    let places = tables.counts().ok()?;
+    let entered = total(&places)?;
+    Some(Counts { entered, places })
+}

@@ -1,0 +1,173 @@
+//! How a room is opened over a database: an empty one becomes the tables of a desk where nothing happened yet, and over the tables that
+//! were left in another the desk is opened again.
+ghost use Rattle.std.specs.Prelude.{◌≡◌, ◌≢◌, ◌⊎◌, ◌↔◌, false, [], drop, length, IsTrue, IfErr, IfOk, OnOk};
+ghost use Rattle.sqlite.specs.Held.{state};
+ghost use Rattle.sqlite.specs.State.{HasCleanDisk};
+ghost use Rattle.sqlite.specs.Steps.{over_memory};
+ghost use Rattle.tc_sql.specs.Builds.{no_schema};
+ghost use Rattle.tc_types.specs.declared.refusals.Refusal.TheVariants.{BadDirective, Memory, Store};
+ghost use Rattle.tc_types.specs.Tables.{Image as Rows};
+ghost use Rattle.tc_book.specs.Good.{IsGoodBook};
+ghost use Rattle.tc_desk.specs.State.{IsConfig};
+ghost use Rattle.tc_store.specs.Schema.{schema_1, Holds};
+ghost use Rattle.tc_store.specs.Told.{IsTold};
+ghost use Rattle.tc_room.specs.Opening.{KeepsTables, OpensAs, OpensLeft, ReadsLeft};
+ghost use Rattle.tc_room.specs.Room.{IsJustOpened};
+
+use crate::desks::{ReopenedDesk, make_desk, reopen_desk};
+use crate::rooms::Room;
+use sqlite::{Alter, Connection, MemStore};
+use std::alloc::Global;
+use tc_desk::configs::Config;
+use tc_desk::desks::Reopened;
+use tc_store::faults::StoreFault;
+use tc_store::tables::Tables;
+use tc_types::moves::Move;
+use tc_types::numbers::Moment;
+use tc_types::refusals::Refusal;
+
+/// A room that was opened.
+#[derive(Drop)]
+pub struct Opened<S: Alter + Drop> {
+    /// The room.
+    pub room: Room<S>,
+    /// The moves that the opening made, by the desk itself, in order.
+    pub moves: Vec<Move>,
+}
+
+/// Opens a desk over what the tables tell. `Store` where they cannot be read, or no desk could have written them; else `Memory` where that
+/// is refused.
+fn reopen<S: Alter + Drop>(
+    alloc: Global,
+    tables: &mut Tables<S>,
+    config: Config,
+    moment: Moment,
+) -> Result<ReopenedDesk, Refusal>
+    requires fit { IsConfig config }
+    ensures read { HasCleanDisk (state S.Store tables.new) → IfOk result (λ opened. (image : Rows) → IsTold image → Holds (state S.Store tables.old).now image → ReadsLeft config moment image opened.desk.parts opened.done.moves.items opened.done.batch.items) }
+    ensures opened { IfOk result (λ opened. opened.desk.opened ≡ length opened.desk.parts.book.history) }
+    ensures good { IfOk result (λ opened. IsGoodBook opened.desk.parts.book) }
+    ensures same { HasCleanDisk (state S.Store tables.new) → OnOk result ((image : Rows) → Holds (state S.Store tables.old).now image → Holds (state S.Store tables.new).now image) }
+    ensures kept { HasCleanDisk (state S.Store tables.new) → IsTrue (state S.Store tables.new).is_open → (image : Rows) → Holds (state S.Store tables.old).now image → Holds (state S.Store tables.new).now image }
+    ensures clean { HasCleanDisk (state S.Store tables.new) → HasCleanDisk (state S.Store tables.old) }
+    ensures kind { IfErr result (λ why. (why ≡ Memory) ⊎ (why ≡ Store)) }
+{
+    match tables.load() {
+        Ok(image) => reopen_desk(alloc, &image, config, moment),
+        Err(_) => Err(Refusal::Store),
+    }
+}
+
+/// Whether a desk may be made so: a window that is even and 2 to 254, and a channel of 0 to 63.
+fn is_fit(config: Config) -> bool
+    ensures { IsTrue result ↔ IsConfig config }
+{
+    2 <= config.window && config.window <= 254 && config.window % 2 == 0 && config.channel <= 63
+}
+
+/// Opens a room over tables that were left, and writes what that makes of them in one batch.
+fn open_left<S: Alter + Drop>(
+    alloc: Global,
+    tables: Tables<S>,
+    config: Config,
+    moment: Moment,
+) -> Result<Opened<S>, (Refusal, Connection<S>)>
+    requires fit { IsConfig config }
+    ensures left { IfOk result (λ opened. HasCleanDisk (state S.Store opened.room.tables) → (image : Rows) → IsTold image → Holds (state S.Store tables).now image → OpensLeft S.Store config moment image opened.moves.items opened.room) }
+    ensures going { IfOk result (λ opened. opened.room.stopped ≡ false) }
+    ensures kept { IfErr result (λ e. HasCleanDisk (state S.Store e.1) → IsTrue (state S.Store e.1).is_open → (image : Rows) → Holds (state S.Store tables).now image → Holds (state S.Store e.1).now image) }
+    ensures kind { IfErr result (λ e. (e.0 ≡ Memory) ⊎ (e.0 ≡ Store)) }
+{
+    let mut tables = tables;
+    let Reopened { desk, done } = match reopen(alloc, &mut tables, config, moment) {
+        Ok(left) => left,
+        Err(refusal) => return Err((refusal, tables.into_connection())),
+    };
+    match tables.write(&done.batch) {
+        Ok(()) => Ok(Opened {
+            room: Room::over(desk, tables),
+            moves: done.moves,
+        }),
+        Err(_) => Err((Refusal::Store, tables.into_connection())),
+    }
+}
+
+/// Makes the tables of a desk where nothing happened yet in an empty database, and opens a room over them.
+fn open_new<S: Alter + Drop>(
+    alloc: Global,
+    store: Connection<S>,
+    config: Config,
+) -> Result<Opened<S>, (Refusal, Connection<S>)>
+    requires fit { IsConfig config }
+    ensures made { IfOk result (λ opened. IsJustOpened S.Store config opened.room) }
+    ensures none { IfOk result (λ opened. opened.moves.items ≡ []) }
+    ensures empty { OnOk result ((state S.Store store).now.schema ≡ no_schema) }
+    ensures kept { IfErr result (λ e. HasCleanDisk (state S.Store e.1) → IsTrue (state S.Store e.1).is_open → (state S.Store e.1).now ≡ (state S.Store store).now) }
+    ensures untouched { IfErr result (λ e. (state S.Store store).now.schema ≢ no_schema → e.1 ≡ store) }
+    ensures kind { IfErr result (λ e. (e.0 ≡ Memory) ⊎ (e.0 ≡ Store)) }
+{
+    let desk = match make_desk(alloc, config) {
+        Ok(desk) => desk,
+        Err(refusal) => return Err((refusal, store)),
+    };
+    match Tables::create(alloc, store) {
+        Ok(tables) => Ok(Opened {
+            room: Room::over(desk, tables),
+            moves: Vec::new(alloc),
+        }),
+        Err((_, store)) => Err((Refusal::Store, store)),
+    }
+}
+
+impl<S: Alter + Drop> Room<S> {
+    /// Opens a room over a database, at a moment. An empty database becomes the tables of a desk where nothing happened yet. Over the tables
+    /// that were left in another the desk is opened again: it moves each request that was on its way, which is written in one batch.
+    /// Refused, and the connection handed back, with `BadDirective` exactly where the window is not even and 2 to 254 or the channel is
+    /// above 63; with `Memory` where that is refused; and with `Store` where the database fails, or its tables are no desk's or tell
+    /// what no desk could have written. Then nothing was written.
+    pub fn open(
+        alloc: Global,
+        store: Connection<S>,
+        config: Config,
+        moment: Moment,
+    ) -> Result<Opened<S>, (Refusal, Connection<S>)>
+        ensures opened { IfOk result (λ opened. OpensAs S.Store config moment store opened.moves.items opened.room) }
+        ensures going { IfOk result (λ opened. opened.room.stopped ≡ false) }
+        ensures ours { OnOk result (((state S.Store store).now.schema ≡ no_schema) ⊎ ((state S.Store store).now.schema ≡ schema_1)) }
+        ensures config { OnOk result (IsConfig config) }
+        ensures refused { IfErr result (λ e. (e.0 ≡ BadDirective) ↔ (¬ IsConfig config)) }
+        ensures kind { IfErr result (λ e. (e.0 ≡ BadDirective) ⊎ (e.0 ≡ Memory) ⊎ (e.0 ≡ Store)) }
+        ensures kept { IfErr result (λ e. HasCleanDisk (state S.Store e.1) → IsTrue (state S.Store e.1).is_open → KeepsTables (state S.Store store).now (state S.Store e.1).now) }
+        ensures foreign { IfErr result (λ e. (state S.Store store).now.schema ≢ no_schema → (state S.Store store).now.schema ≢ schema_1 → e.1 ≡ store) }
+    {
+        if !is_fit(config) {
+            return Err((Refusal::BadDirective, store));
+        }
+        match Tables::open(alloc, store) {
+            Ok(tables) => open_left(alloc, tables, config, moment),
+            Err((StoreFault::Foreign, store)) => open_new(alloc, store, config),
+            Err((_, store)) => Err((Refusal::Store, store)),
+        }
+    }
+}
+
+impl Room<MemStore> {
+    /// A room over a new database in memory, where nothing happened yet. Refused with `BadDirective` exactly where the window is not even
+    /// and 2 to 254 or the channel is above 63; else with `Memory` where that is refused, and with `Store` where the database could
+    /// not take the tables.
+    pub fn open_in_memory(alloc: Global, config: Config) -> Result<Room<MemStore>, Refusal>
+        ensures opened { IfOk result (λ room. IsJustOpened over_memory config room) }
+        ensures config { OnOk result (IsConfig config) }
+        ensures refused { IfErr result (λ refusal. (refusal ≡ BadDirective) ↔ (¬ IsConfig config)) }
+        ensures kind { IfErr result (λ refusal. (refusal ≡ BadDirective) ⊎ (refusal ≡ Memory) ⊎ (refusal ≡ Store)) }
+    {
+        let desk = make_desk(alloc, config)?;
+        let Ok(store) = Connection::open_in_memory(alloc) else {
+            return Err(Refusal::Memory);
+        };
+        match Tables::create(alloc, store) {
+            Ok(tables) => Ok(Room::over(desk, tables)),
+            Err(_) => Err(Refusal::Store),
+        }
+    }
+}
