@@ -12,7 +12,7 @@ use Rattle.tc_room.specs.Replies.{ended}
 use Rattle.tc_cli.specs.Files.{FileText, Gives}
 use Rattle.tc_cli.specs.Run.{IsCutShort, RunsLines, StopsAfter, StopsAtOnce}
 use Rattle.tc_cli.specs.declared.script.ScriptFault.{ScriptFault}
-use Rattle.tc_cli.specs.declared.script.ScriptFault.TheVariants.{Script, Output, Memory, Tables, Config, Path}
+use Rattle.tc_cli.specs.declared.script.ScriptFault.TheVariants.{Output, Memory}
 
 -- the lines of the moves that an opening made
 abbrev pub opening_text : List Move → List ℕ

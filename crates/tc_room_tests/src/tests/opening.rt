@@ -148,8 +148,8 @@ const CHANGES: [Change; 22] = [
     ("UPDATE request SET target = 6 WHERE num = 5", false),
     ("UPDATE request SET line = 1 WHERE num = 1", false),
     ("UPDATE request SET num = 9 WHERE num = 5", false),
-    ("UPDATE move SET from_place = 3 WHERE seq = 21", false),
-    ("UPDATE move SET to_place = 3 WHERE seq = 22", false),
+    ("UPDATE move SET from_place = 2 WHERE seq = 21", false),
+    ("UPDATE move SET to_place = 4 WHERE seq = 22", false),
     ("UPDATE move SET cause = 1 WHERE seq = 22", false),
     ("UPDATE move SET seq = 30 WHERE seq = 22", false),
     ("UPDATE move SET person = 'eve' WHERE seq = 22", true),
@@ -162,7 +162,7 @@ const CHANGES: [Change; 22] = [
         "UPDATE request_approval SET person = 'ann' WHERE request = 1",
         false,
     ),
-    ("CREATE TABLE other (a INTEGER)", false),
+    ("CREATE TABLE other (a INTEGER) STRICT", false),
 ];
 
 /// What a desk could have written is opened, and nothing else.

@@ -1,8 +1,8 @@
-use Rattle.std.proofs.Common.{◌≡◌, ◌∙◌, [], Err, List, ℕ, arith, refl, subst, sym}
+use Rattle.std.proofs.Common.{◌≡◌, ◌∙◌, [], Err, List, ℕ, arith, refl, subst}
 use Rattle.std.specs.Io.KnownBytes.{Appends}
 use Rattle.std.proofs.KnownBytes.{Appends-nil}
 use Rattle.tc_types.specs.Counts.{inner_of}
-use Rattle.tc_cli.specs.declared.script.ScriptFault.TheVariants.{Memory, Output, Script}
+use Rattle.tc_cli.specs.declared.script.ScriptFault.TheVariants.{Memory}
 use Rattle.tc_cli.proofs.RunLemmas.{is_fault, memory_is_other, output_is_other, stopped_in_question}
 use Rattle.tc_cli.proofs.run.run_places.Goals as goal
 
