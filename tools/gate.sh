@@ -1,7 +1,7 @@
 #!/bin/bash
 # The gate, from nothing: the layout of files, every proof, all tests and the program as two compilers build it, with the few edits of
 # must-fail/ (`rt ci`); the edits of wrong/, many in a check, and the test of the tool that tries them; then the built
-# program's words, files, statuses, faulty streams, and each of its requests for memory refused in turn.
+# program's words, files, statuses, desks that are kept in a file, faulty streams, and each of its requests for memory refused in turn.
 # It stops at the first part that fails. At its end it prints what each part took: docs/GATE.md has that table for each
 # landing.
 #
@@ -60,8 +60,10 @@ part "the test of the tool for edits" tools/edits_test.py
 part "edits of wrong/, many in a check" tools/edits.py "${asked[@]}"
 part "the program runs" sh -c './tcdesk run - </dev/null >/dev/null'
 part "program cases" tools/program_cases.sh
+part "desks that are kept" tools/kept_cases.sh
 part "streams that fail" tools/stream_cases.sh
 part "memory refused" tools/fail_alloc.sh
 part "memory refused to a load" tools/fail_load.sh
+part "memory refused to a desk that is kept" tools/fail_kept.sh
 table
 echo "gate: all parts passed"
