@@ -124,7 +124,7 @@ impl<S: Alter + Drop> Room<S> {
     /// that were left in another the desk is opened again: it moves each request that was on its way, which is written in one batch.
     /// Refused, and the connection handed back, with `BadDirective` exactly where the window is not even and 2 to 254 or the channel is
     /// above 63; with `Memory` where that is refused; and with `Store` where the database fails, or its tables are no desk's or tell
-    /// what no desk could have written. Then nothing was written.
+    /// what no desk could have written. Then the tables are as they were, as long as the database is open.
     pub fn open(
         alloc: Global,
         store: Connection<S>,
