@@ -1,3 +1,4 @@
+mod CrashLemmas
 mod KeptLemmas
 mod RunLemmas
 mod ScriptLemmas

@@ -306,6 +306,7 @@ module _ {S : Type 0} (g : Ghosts S) where
         written = rw all (Appends-trans _ _ _ _ _ written appends);
         status_is = ap (λ (b : Bool). if b then 1 else 0) (sym any);
         kept = kept;
+        held = λ held. step_held end after (record { by = []; moment = 0 }) (act.Ask query.Places) reply (asks _) (lines_held start end (script_lines input) files replies takes held);
         told = λ held clean. places_told end after reply asks (lines_held start end (script_lines input) files replies takes held) clean;
       }
 

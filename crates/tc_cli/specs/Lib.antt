@@ -1,4 +1,5 @@
 pub mod CommandLine
+pub mod Crash
 pub mod Files
 pub mod Kept
 pub mod Run

@@ -86,6 +86,8 @@ pub record RunsLines {S : Type 0} (g : Ghosts S) (start : Standing S) (input : L
   pub written : Appends old new (flat_map ended (replies ++ last ∷ []))
   pub status_is : status ≡ status_of (replies ++ last ∷ [])
   pub kept : IsKept end.desk.book
+  -- the tables hold the book in the end too
+  pub held : HoldsBook g start → HoldsBook g after
   -- the numbers that are printed are those of the book
   pub told : HoldsBook g start → HasCleanDisk (state g after.tables) → TellsBook end.desk.book last
 

@@ -6,17 +6,24 @@
 #![tactic(auto)]
 
 mod kept;
+mod laws;
 mod paths;
 mod run;
 mod script;
 mod words;
+
+ghost use Rattle.std.specs.Prelude.{IfOk};
+ghost use Rattle.sqlite_wal.specs.Files.{image_at};
+ghost use Rattle.sqlite.specs.State.{HasCleanDisk};
+ghost use Rattle.sqlite.specs.Start.{FindsIn};
+ghost use Rattle.sqlite.specs.Files.{file_state, IsOpened};
 
 use kept::run_kept;
 use paths::HostPaths;
 use run::run_script;
 use script::{ScriptFault, read_script};
 use sqlite::{Connection, Error, ErrorCode};
-use sqlite_disk::Wary;
+use sqlite_disk::{Start, Wary};
 use sqlite_std_file::FileFrom;
 use sqlite_store::FileStore;
 use std::alloc::{AllocError, Global};
@@ -164,7 +171,7 @@ fn run_on_file(
     paths: &mut HostPaths<'_, HostRuntime>,
 ) -> Result<u8, ScriptFault> {
     let text = text_at(rt, script)?;
-    let store = open_database(rt, file)?;
+    let store = open_database(rt, file, Wary)?;
     let mut writer = Counted::new(io::writer(rt));
     let (ended, store) = run_kept(rt.alloc(), store, config, moment, &text, paths, &mut writer);
     match store.close() {
@@ -173,12 +180,17 @@ fn run_on_file(
     }
 }
 
-/// The database in a file, which is made where there is none. Of what the file holds nothing is supposed.
-fn open_database(
+/// The database in a file, which is made where there is none. It is what the two files held as they were opened, whatever that is: `start` stands for
+/// it.
+fn open_database<S: Start>(
     rt: &HostRuntime,
     file: &str,
-) -> Result<Connection<FileStore<FileFrom<Wary>>>, ScriptFault> {
-    match Connection::open_from(rt, file, false, Wary) {
+    start: S,
+) -> Result<Connection<FileStore<FileFrom<S>>>, ScriptFault>
+    ensures opened { IfOk result (λ c. HasCleanDisk (file_state c) → IsOpened c) }
+    ensures found { IfOk result (λ c. HasCleanDisk (file_state c) → FindsIn (image_at S.Start) (file_state c)) }
+{
+    match Connection::open_from(rt, file, false, start) {
         Ok(store) => Ok(store),
         Err((Error::SqliteFailure(ErrorCode::OutOfMemory), _)) => Err(ScriptFault::Memory),
         Err(_) => Err(ScriptFault::Tables),

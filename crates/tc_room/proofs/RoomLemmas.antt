@@ -33,9 +33,12 @@ use Rattle.tc_desk.specs.Acts.{is_question, refusal_of}
 use Rattle.tc_desk.specs.Machine.{Carries, DeskStep, Does, Refuses, Serves, StaysSame, rows_new}
 use Rattle.tc_desk.specs.Replies.{Reply, act_reply, history_lines, Replies, refusal_reply, request_lines}
 use Rattle.tc_store.specs.Schema.{Holds}
+use Rattle.tc_store.specs.Steps.{LeavesOnly}
+use Rattle.tc_room.specs.Crash.{LeavesActs}
 use Rattle.tc_room.specs.Joined.{HasImage, HoldsBook, IsKept, Standing}
 use Rattle.tc_room.specs.Answers.{IsUnread}
-use Rattle.tc_room.specs.Room.{IsNewDesk, ListState, RoomStep}
+use Rattle.tc_room.proofs.TableLemmas.{only_image}
+use Rattle.tc_room.specs.Room.{IsNewDesk, ListState, MakesBook, RoomStep}
 
 -- a room goes on: its flag, as its view told it
 pub goes_on : {S : Type 0} (inside view : Standing S) (told : Bool) → inside ≡ view → told ≡ view.stopped → told ≡ false → inside.stopped ≡ false
@@ -54,9 +57,11 @@ steps_same g at stamp given reply going step = steps g at at stamp given reply g
 
 -- the database failed
 pub fails : {S : Type 0} (g : Ghosts S) (old new : Standing S) (stamp : Stamp) (given : Act) → old.stopped ≡ false → refusal_of stamp old.desk given ≡ None → new.stopped ≡ true
-    → (HoldsBook g old → HasCleanDisk (state g new.tables) → IsTrue (state g new.tables).is_open → HasImage g new.tables (image_of old.desk.book))
+    → (HoldsBook g old → HasCleanDisk (state g new.tables) → IsTrue (state g new.tables).is_open → Holds (state g new.tables).now (image_of old.desk.book))
+    → (HoldsBook g old → HasCleanDisk (state g new.tables) → LeavesActs g new.tables old.desk.book (MakesBook old.desk stamp given))
     → RoomStep g old stamp given (refusal_reply Store) new
-fails g old new stamp given going free stopped holds = λ held clean. rw going (inr (record { free = free; reply = refl; stopped = stopped; tables = holds held clean }))
+fails g old new stamp given going free stopped holds leaves = λ held clean.
+    rw going (inr (record { free = free; reply = refl; stopped = stopped; tables = holds held clean; crash = leaves held clean }))
 
 -- the desk refused
 pub refused : (old new : ListState) (stamp : Stamp) (given : Act) (refusal : Refusal) → Refuses listed listed stamp given old new refusal
@@ -127,9 +132,10 @@ unread text read refusal was only long others = record {
 empty_tables : image_of empty_book ≡ empty_image
 empty_tables = refl
 
-pub new_held : {S : Type 0} (g : Ghosts S) (config : Config) (desk : ListState) (tables : Held S) → IsNewDesk config desk → Holds (state g tables).now empty_image → HasImage g tables (image_of desk.book)
-new_held g config desk tables (up, down, _, _, new) made =
-    subst (λ (book : Book). HasImage g tables (image_of book)) (sym (ap (λ (at : ListState). at.book) new)) (subst (HasImage g tables) (sym empty_tables) (record { holds = made }))
+pub new_held : {S : Type 0} (g : Ghosts S) (config : Config) (desk : ListState) (tables : Held S) → IsNewDesk config desk → Holds (state g tables).now empty_image
+    → LeavesOnly (state g tables) (state g tables).now.trees → HasImage g tables (image_of desk.book)
+new_held g config desk tables (up, down, _, _, new) made only =
+    subst (λ (book : Book). HasImage g tables (image_of book)) (sym (ap (λ (at : ListState). at.book) new)) (subst (HasImage g tables) (sym empty_tables) (only_image g tables empty_image made only))
 
 -- the amounts of a book's tallies are its counts
 pub amounts_counted : (history : List Move) → map (λ (t : Tally). t.amount) (tallies_by (count_at history)) ≡ counts_of history

@@ -13,6 +13,7 @@ use Rattle.tc_book.specs.Good.{IsGoodBook}
 use Rattle.tc_book.specs.Tables.{image_of}
 use Rattle.tc_desk.specs.State.{State}
 use Rattle.tc_store.specs.Schema.{Holds}
+use Rattle.tc_room.specs.Crash.{Leaves}
 
 -- where a room over a store stands: its desk, its tables, and whether it has stopped
 pub record Standing (S : Type 0) : Type 0 where
@@ -22,9 +23,10 @@ pub record Standing (S : Type 0) : Type 0 where
   pub tables : Held S
   pub stopped : Bool
 
--- tables that hold these rows and no other
+-- tables that hold these rows and no other, also after a crash
 pub record HasImage {S : Type 0} (g : Ghosts S) (tables : Held S) (image : Image) : Type 0 where
   pub holds : Holds (state g tables).now image
+  pub leaves : Leaves g tables (λ left. left ≡ image)
 
 -- While a room goes on, its tables hold the book of its desk, if the disk gave back what was written. A room that has stopped knows nothing of them.
 abbrev pub HoldsBook : {S : Type 0} → Ghosts S → Standing S → Type 0

@@ -1,4 +1,5 @@
 pub mod Answers
+pub mod Crash
 pub mod Joined
 pub mod Opening
 pub mod Replies

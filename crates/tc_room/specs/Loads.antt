@@ -16,12 +16,16 @@ use Rattle.tc_proc.specs.declared.procedures.Step.{Step}
 use Rattle.tc_proc.specs.Procedures.{SpellsProcedure, IsProcedureFault}
 use Rattle.tc_book.specs.declared.stamps.Stamp.{Stamp}
 use Rattle.tc_book.specs.Acts.{first_refusal}
+use Rattle.tc_book.specs.Book.{Book}
 use Rattle.tc_book.specs.Tables.{image_of}
 use Rattle.tc_desk.specs.Loads.{Loading, Stack, Procedure, LoadStep, tests_of_load}
 use Rattle.tc_desk.specs.Replies.{Reply, refusal_reply}
 use Rattle.tc_room.specs.declared.loadings.Spelled.{Spelled}
 use Rattle.tc_room.specs.declared.loadings.Spelled.TheVariants as spelled
+use Rattle.tc_store.specs.Schema.{Holds}
+use Rattle.tc_room.specs.Crash.{LeavesActs}
 use Rattle.tc_room.specs.Joined.{HasImage, HoldsBook, Standing}
+use Rattle.tc_room.specs.Room.{ListState}
 
 -- what was read of a text, under a name
 abbrev pub loading_of : List ℕ → Spelled → Loading
@@ -48,13 +52,18 @@ pub record StepsLoad {S : Type 0} (g : Ghosts S) (old : Standing S) (stamp : Sta
   pub tables : HasImage g new.tables (image_of new.desk.book)
   pub going : new.stopped ≡ false
 
+-- one load makes this book
+abbrev pub LoadsBook : ListState → Stamp → Loading → Book → Type 0
+LoadsBook old stamp given book = (reply : Reply) × (new : ListState) × LoadStep old stamp given reply new × (book ≡ new.book)
+
 -- The database failed at a load that no test refused, and the room has stopped. Its tables hold the book as it was before, where the database is
--- still open.
+-- still open. After a crash they hold that, or the load is there as a whole.
 pub record FailsLoad {S : Type 0} (g : Ghosts S) (old : Standing S) (stamp : Stamp) (given : Loading) (told : Reply) (new : Standing S) : Type 0 where
   pub free : first_refusal (tests_of_load stamp old.desk.book given) ≡ None
   pub reply : told ≡ refusal_reply Store
   pub stopped : new.stopped ≡ true
-  pub tables : IsTrue (state g new.tables).is_open → HasImage g new.tables (image_of old.desk.book)
+  pub tables : IsTrue (state g new.tables).is_open → Holds (state g new.tables).now (image_of old.desk.book)
+  pub crash : LeavesActs g new.tables old.desk.book (LoadsBook old.desk stamp given)
 
 -- what was read is loaded, or refused, or the database fails
 abbrev pub LoadsRead : {S : Type 0} → Ghosts S → Standing S → Stamp → Loading → Reply → Standing S → Type 0

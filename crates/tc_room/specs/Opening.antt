@@ -1,5 +1,6 @@
 -- What opens a room over tables that were left.
 use Rattle.std.specs.Prelude.{◌≡◌, ℕ, false, List, [], drop, length}
+use Rattle.sqlite_trees.specs.Tree.{Trees}
 use Rattle.sqlite_trees.specs.declared.store.Store.{Ghosts}
 use Rattle.sqlite.specs.Effect.{Database}
 use Rattle.sqlite.specs.Held.{Held, state}
@@ -9,7 +10,7 @@ use Rattle.tc_types.specs.declared.frames.Frame.{Frame}
 use Rattle.tc_types.specs.declared.reports.Report.{Report}
 use Rattle.tc_types.specs.declared.moves.Move.{Move}
 use Rattle.tc_types.specs.declared.rows.Row.{Row}
-use Rattle.tc_types.specs.Tables.{Image, applied}
+use Rattle.tc_types.specs.Tables.{Image, empty_image, applied}
 use Rattle.tc_world.specs.InFlight.{InFlight}
 use Rattle.tc_book.specs.Sound.{IsSound}
 use Rattle.tc_book.specs.Tables.{image_of}
@@ -17,6 +18,7 @@ use Rattle.tc_desk.specs.declared.configs.Config.{Config}
 use Rattle.tc_desk.specs.Opening.{reopened_parts}
 use Rattle.tc_store.specs.Schema.{Holds}
 use Rattle.tc_store.specs.Told.{IsTold}
+use Rattle.tc_room.specs.Crash.{HasRows, LeavesOr}
 use Rattle.tc_room.specs.Joined.{HasImage, Standing}
 use Rattle.tc_room.specs.Room.{IsJustOpened, ListState}
 
@@ -52,3 +54,12 @@ pub record OpensAs {S : Type 0} (g : Ghosts S) (config : Config) (moment : ℕ) 
 pub record KeepsTables (old new : Database) : Type 0 where
   pub empty : old.schema ≡ no_schema → new ≡ old
   pub held : (image : Image) → Holds old image → Holds new image
+
+-- the tables of the desk that is opened at a moment over tables with these rows
+abbrev pub OpensTo : Config → ℕ → Image → Trees → Type 0
+OpensTo config moment image trees = IsTold image → IsSound image × (desk : ListState) × IsReopened config moment image desk × HasRows trees (image_of desk.book)
+
+-- What a crash leaves of an opening that was refused: what it left before, or the whole of what an opening makes of it.
+pub record LeavesOpening {S : Type 0} (g : Ghosts S) (config : Config) (moment : ℕ) (store left : Held S) : Type 0 where
+  pub anew : (state g store).now.schema ≡ no_schema → LeavesOr g store left (λ trees. HasRows trees empty_image)
+  pub held : (image : Image) → Holds (state g store).now image → LeavesOr g store left (OpensTo config moment image)

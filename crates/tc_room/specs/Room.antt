@@ -10,12 +10,15 @@ use Rattle.tc_types.specs.declared.refusals.Refusal.TheVariants.{Store, Stopped}
 use Rattle.tc_types.specs.declared.acts.Act.{Act}
 use Rattle.tc_world.specs.InFlight.{InFlight, listed}
 use Rattle.tc_book.specs.declared.stamps.Stamp.{Stamp}
+use Rattle.tc_book.specs.Book.{Book}
 use Rattle.tc_book.specs.Tables.{image_of}
 use Rattle.tc_desk.specs.declared.configs.Config.{Config}
 use Rattle.tc_desk.specs.State.{State, new_desk}
 use Rattle.tc_desk.specs.Acts.{refusal_of}
 use Rattle.tc_desk.specs.Machine.{DeskStep}
 use Rattle.tc_desk.specs.Replies.{Reply, refusal_reply}
+use Rattle.tc_store.specs.Schema.{Holds}
+use Rattle.tc_room.specs.Crash.{LeavesActs}
 use Rattle.tc_room.specs.Joined.{HasImage, HoldsBook, Standing}
 
 -- a desk over links that lose only what they are told to lose
@@ -39,13 +42,18 @@ pub record StepsDesk {S : Type 0} (g : Ghosts S) (old : Standing S) (stamp : Sta
   pub tables : HasImage g new.tables (image_of new.desk.book)
   pub going : new.stopped ≡ false
 
+-- one step of the desk machine makes this book
+abbrev pub MakesBook : ListState → Stamp → Act → Book → Type 0
+MakesBook old stamp given book = (reply : Reply) × (new : ListState) × DeskStep listed listed old stamp given reply new × (book ≡ new.book)
+
 -- The database failed at what no test refused, and the room has stopped. Its tables hold the book as it was before, where the database is still
--- open.
+-- open. After a crash they hold that, or what was asked is there as a whole.
 pub record FailsStore {S : Type 0} (g : Ghosts S) (old : Standing S) (stamp : Stamp) (given : Act) (told : Reply) (new : Standing S) : Type 0 where
   pub free : refusal_of stamp old.desk given ≡ None
   pub reply : told ≡ refusal_reply Store
   pub stopped : new.stopped ≡ true
-  pub tables : IsTrue (state g new.tables).is_open → HasImage g new.tables (image_of old.desk.book)
+  pub tables : IsTrue (state g new.tables).is_open → Holds (state g new.tables).now (image_of old.desk.book)
+  pub crash : LeavesActs g new.tables old.desk.book (MakesBook old.desk stamp given)
 
 -- One step of a room whose tables hold its book, over a disk that gave back what was written: a room that has stopped says so and stays as it
 -- was; else an act or a question is answered as the desk machine answers it, or the database fails.

@@ -4,6 +4,8 @@ ghost use Rattle.sqlite.specs.Held.{state};
 ghost use Rattle.sqlite.specs.State.{HasCleanDisk};
 ghost use Rattle.tc_types.specs.Tables.{Image};
 ghost use Rattle.tc_types.specs.declared.rows.Tally.{Tally};
+ghost use Rattle.tc_store.specs.Schema.{Holds};
+ghost use Rattle.tc_room.specs.Crash.{Leaves};
 ghost use Rattle.tc_room.specs.Joined.{HasImage};
 
 use sqlite::Alter;
@@ -36,7 +38,8 @@ pub(crate) fn count_all<S: Alter + Drop>(tables: &mut Tables<S>) -> Option<Count
     ensures places { HasCleanDisk (state S.Store tables.new) → IfSome result (λ found. (image : Image) → HasImage S.Store tables.old image → found.places ≡ map (λ (t : Tally). t.amount) image.tallies) }
     ensures entered { IfSome result (λ found. found.entered ≡ sum found.places) }
     ensures same { HasCleanDisk (state S.Store tables.new) → OnSome result ((image : Image) → HasImage S.Store tables.old image → HasImage S.Store tables.new image) }
-    ensures kept { HasCleanDisk (state S.Store tables.new) → IsTrue (state S.Store tables.new).is_open → (image : Image) → HasImage S.Store tables.old image → HasImage S.Store tables.new image }
+    ensures kept { HasCleanDisk (state S.Store tables.new) → IsTrue (state S.Store tables.new).is_open → (image : Image) → HasImage S.Store tables.old image → Holds (state S.Store tables.new).now image }
+    ensures left { HasCleanDisk (state S.Store tables.new) → (image : Image) → HasImage S.Store tables.old image → Leaves S.Store tables.new (λ left. left ≡ image) }
     ensures clean { HasCleanDisk (state S.Store tables.new) → HasCleanDisk (state S.Store tables.old) }
 {
     let places = tables.counts().ok()?;

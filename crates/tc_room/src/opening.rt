@@ -6,12 +6,13 @@ ghost use Rattle.sqlite.specs.State.{HasCleanDisk};
 ghost use Rattle.sqlite.specs.Steps.{over_memory};
 ghost use Rattle.tc_sql.specs.Builds.{no_schema};
 ghost use Rattle.tc_types.specs.declared.refusals.Refusal.TheVariants.{BadDirective, Memory, Store};
-ghost use Rattle.tc_types.specs.Tables.{Image as Rows};
+ghost use Rattle.tc_types.specs.Tables.{Image as Rows, empty_image};
 ghost use Rattle.tc_book.specs.Good.{IsGoodBook};
 ghost use Rattle.tc_desk.specs.State.{IsConfig};
 ghost use Rattle.tc_store.specs.Schema.{schema_1, Holds};
 ghost use Rattle.tc_store.specs.Told.{IsTold};
-ghost use Rattle.tc_room.specs.Opening.{KeepsTables, OpensAs, OpensLeft, ReadsLeft};
+ghost use Rattle.tc_room.specs.Crash.{HasRows, LeavesOr};
+ghost use Rattle.tc_room.specs.Opening.{KeepsTables, LeavesOpening, OpensAs, OpensLeft, OpensTo, ReadsLeft};
 ghost use Rattle.tc_room.specs.Room.{IsJustOpened};
 
 use crate::desks::{ReopenedDesk, make_desk, reopen_desk};
@@ -50,6 +51,7 @@ fn reopen<S: Alter + Drop>(
     ensures same { HasCleanDisk (state S.Store tables.new) → OnOk result ((image : Rows) → Holds (state S.Store tables.old).now image → Holds (state S.Store tables.new).now image) }
     ensures kept { HasCleanDisk (state S.Store tables.new) → IsTrue (state S.Store tables.new).is_open → (image : Rows) → Holds (state S.Store tables.old).now image → Holds (state S.Store tables.new).now image }
     ensures clean { HasCleanDisk (state S.Store tables.new) → HasCleanDisk (state S.Store tables.old) }
+    ensures crash { HasCleanDisk (state S.Store tables.new) → (image : Rows) → Holds (state S.Store tables.old).now image → LeavesOr S.Store tables.old tables.new (λ _. ⊥) }
     ensures kind { IfErr result (λ why. (why ≡ Memory) ⊎ (why ≡ Store)) }
 {
     match tables.load() {
@@ -76,6 +78,7 @@ fn open_left<S: Alter + Drop>(
     ensures left { IfOk result (λ opened. HasCleanDisk (state S.Store opened.room.tables) → (image : Rows) → IsTold image → Holds (state S.Store tables).now image → OpensLeft S.Store config moment image opened.moves.items opened.room) }
     ensures going { IfOk result (λ opened. opened.room.stopped ≡ false) }
     ensures kept { IfErr result (λ e. HasCleanDisk (state S.Store e.1) → IsTrue (state S.Store e.1).is_open → (image : Rows) → Holds (state S.Store tables).now image → Holds (state S.Store e.1).now image) }
+    ensures crash { IfErr result (λ e. HasCleanDisk (state S.Store e.1) → (image : Rows) → Holds (state S.Store tables).now image → LeavesOr S.Store tables e.1 (OpensTo config moment image)) }
     ensures kind { IfErr result (λ e. (e.0 ≡ Memory) ⊎ (e.0 ≡ Store)) }
 {
     let mut tables = tables;
@@ -103,6 +106,7 @@ fn open_new<S: Alter + Drop>(
     ensures none { IfOk result (λ opened. opened.moves.items ≡ []) }
     ensures empty { OnOk result ((state S.Store store).now.schema ≡ no_schema) }
     ensures kept { IfErr result (λ e. HasCleanDisk (state S.Store e.1) → IsTrue (state S.Store e.1).is_open → (state S.Store e.1).now ≡ (state S.Store store).now) }
+    ensures crash { IfErr result (λ e. HasCleanDisk (state S.Store e.1) → LeavesOr S.Store store e.1 (λ trees. HasRows trees empty_image)) }
     ensures untouched { IfErr result (λ e. (state S.Store store).now.schema ≢ no_schema → e.1 ≡ store) }
     ensures kind { IfErr result (λ e. (e.0 ≡ Memory) ⊎ (e.0 ≡ Store)) }
 {
@@ -138,6 +142,8 @@ impl<S: Alter + Drop> Room<S> {
         ensures refused { IfErr result (λ e. (e.0 ≡ BadDirective) ↔ (¬ IsConfig config)) }
         ensures kind { IfErr result (λ e. (e.0 ≡ BadDirective) ⊎ (e.0 ≡ Memory) ⊎ (e.0 ≡ Store)) }
         ensures kept { IfErr result (λ e. HasCleanDisk (state S.Store e.1) → IsTrue (state S.Store e.1).is_open → KeepsTables (state S.Store store).now (state S.Store e.1).now) }
+        // also after a crash they are as they were, or all of the opening is there
+        ensures crash { IfErr result (λ e. HasCleanDisk (state S.Store e.1) → LeavesOpening S.Store config moment store e.1) }
         ensures foreign { IfErr result (λ e. (state S.Store store).now.schema ≢ no_schema → (state S.Store store).now.schema ≢ schema_1 → e.1 ≡ store) }
     {
         if !is_fit(config) {

@@ -3,7 +3,7 @@ use Rattle.tc_book.specs.Tables.{image_of}
 use Rattle.tc_room.specs.Joined.{HasImage, Standing}
 use Rattle.tc_room.specs.Room.{ListState}
 use Rattle.tc_room.proofs.LoadLemmas.{load_carried, load_refused}
-use Rattle.tc_room.proofs.TableLemmas.{not_written, written}
+use Rattle.tc_room.proofs.TableLemmas.{leaves_acts, not_written, written}
 use Rattle.tc_room.proofs.rooms.Room.load_spelled.Goals as goal
 
 pub returns-in_err-loaded-clause-answered : goal.returns-in_err-loaded-clause-answered
@@ -20,7 +20,7 @@ returns-in-Ok-clause-answered g c =
     rw (← c.self.view_is)
     (λ held clean. inl (record {
       desk = load_carried _ _ _ _ _ _ _ c.in_ok-loaded.ensures.answers c.in_ok-loaded.ensures.moves;
-      tables = written g.S.Store _ _ _ c.in_ok-loaded.loaded.batch.items _ c.in_ok-loaded.ensures.batch c.write.ensures.crash clean (held going) (rw c.deref.ensures.value at (c.in-Ok.ensures.written clean));
+      tables = written g.S.Store c.self.inside.tables c.write.new.self (image_of c.self.inside.desk.parts.book) c.in_ok-loaded.loaded.batch.items _ c.in_ok-loaded.ensures.batch c.write.ensures.crash clean (λ was. (held going was).holds) (rw c.deref.ensures.value at (c.in-Ok.ensures.written clean)) (c.in-Ok.ensures.durable clean);
       going = going;
     }))
 
@@ -32,5 +32,7 @@ returns-in-Err-clause-answered g c =
       free = c.in_ok-loaded.ensures.answers.free;
       reply = refl;
       stopped = refl;
-      tables = not_written g.S.Store _ _ _ c.write.ensures.crash clean (held going) (c.in-Err.ensures.kept clean);
+      tables = not_written g.S.Store c.self.inside.tables c.write.new.self (image_of c.self.inside.desk.parts.book) c.write.ensures.crash clean (λ was. (held going was).holds) (c.in-Err.ensures.kept clean);
+      crash = leaves_acts g.S.Store c.self.inside.tables c.write.new.self c.self.inside.desk.parts.book _ c.in_ok-loaded.loaded.batch.items _ (rw c.deref.ensures.value at c.write.ensures.crash) clean (held going) c.in_ok-loaded.ensures.batch
+          (_, _, load_carried _ _ _ _ _ _ _ c.in_ok-loaded.ensures.answers c.in_ok-loaded.ensures.moves, refl);
     }))
