@@ -12,7 +12,7 @@ use Rattle.tc_store.specs.Schema.{Holds}
 
 -- a desk's tables are found, with such rows
 abbrev pub HoldsSome : (Image → Type 0) → Database → Type 0
-HoldsSome May db = ∥ (image : Image) × May image × Holds db image ∥₁
+HoldsSome May db = ∥ ((image : Image) × May image × Holds db image) ∥₁
 
 -- a connection was opened over two files that held what a crash left of another
 pub record IsReopened {D E : Type 0} {g : disk.Ghosts D} {h : disk.Ghosts E} (last : Held (FileStore D g)) (found : Held (FileStore E h)) : Type 0 where
