@@ -14,6 +14,7 @@ pub mod RecordLemmas
 pub mod ReadLemmas
 pub mod LoadLemmas
 pub mod TextLemmas
+pub mod PageLemmas
 pub mod ToldLemmas
 pub mod HistoryLemmas
 pub mod StepLemmas

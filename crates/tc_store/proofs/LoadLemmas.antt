@@ -1,5 +1,5 @@
 -- What calls that only read leave, one after another, and how the rows of a table are read.
-use Rattle.std.proofs.Common.{◌≡◌, ℕ, ◌+◌, ◌<◌, zero, suc, arith, pos, List, [], ◌∷◌, ◌++◌, map, filter, take, length, get_or, true, false, refl, sym, ap, ap₂, subst, ◌∙◌, IsTrue, Result, Ok, Err, OnOk}
+use Rattle.std.proofs.Common.{◌≡◌, rules, ℕ, ◌+◌, ◌<◌, zero, suc, arith, pos, List, [], ◌∷◌, ◌++◌, map, filter, take, length, get_or, true, false, refl, sym, ap, ap₂, subst, ◌∙◌, IsTrue, Result, Ok, Err, OnOk}
 use Rattle.std.specs.List.{AllByRecursion}
 use Rattle.std.proofs.lemmas.List.{get_or-map, length-map, take_more}
 use Rattle.sqlite_value.specs.declared.value.Value.TheVariants.{Int}
@@ -27,6 +27,12 @@ use Rattle.tc_store.proofs.ReadLemmas.{rising, still_holds, fails_holding}
 -- ---- what a read leaves
 
 module _ {S : Type 0} (g : Ghosts S) where
+  pub stays_same : (held : Held S) → Stays g held held
+  stays_same held = record { holds = λ image h. h }
+
+  pub spares_same : (held : Held S) → Spares g held held
+  spares_same held = record { kept = λ clean is_open image h. h; crash = search rules; outside = λ h. h }
+
   pub stays_then : (old mid new : Held S) → Stays g old mid → Stays g mid new → Stays g old new
   stays_then old mid new one two = record { holds = λ image h. two.holds image (one.holds image h) }
 

@@ -7,7 +7,6 @@ use Rattle.sqlite.specs.State.{State, Shown}
 use Rattle.tc_types.specs.Tables.{Image}
 use Rattle.tc_sql.specs.Lists.{ListsFrom, no_limit}
 use Rattle.tc_store.specs.Meta.{meta_tree}
-use Rattle.tc_store.specs.Moves.{move_tree, move_row, move_shown, move_columns}
 use Rattle.tc_store.specs.Requests.{request_tree, request_row, request_given}
 use Rattle.tc_store.specs.Tallies.{tally_tree, tally_row, tally_given}
 use Rattle.tc_store.specs.Executions.{execution_tree, execution_row, execution_given}
@@ -17,7 +16,7 @@ use Rattle.tc_store.specs.StackApprovals.{stack_approval_tree, stack_approval_va
 use Rattle.tc_store.specs.Procedures.{procedure_tree, procedure_values}
 use Rattle.tc_store.specs.ProcedureSteps.{step_tree, step_values}
 use Rattle.tc_store.specs.Records.{record_tree, record_values}
-use Rattle.tc_store.specs.Loads.{all_move_text, all_request_text, all_request_columns, all_tally_text, all_tally_columns, all_execution_text, all_execution_columns, all_approval_text, all_approval_columns, all_stack_text, all_stack_columns, all_stack_approval_text, all_stack_approval_columns, all_procedure_text, all_procedure_columns, all_step_text, all_step_columns, all_record_text, all_record_columns, all_version_text, all_version_columns}
+use Rattle.tc_store.specs.Loads.{all_request_text, all_request_columns, all_tally_text, all_tally_columns, all_execution_text, all_execution_columns, all_approval_text, all_approval_columns, all_stack_text, all_stack_columns, all_stack_approval_text, all_stack_approval_columns, all_procedure_text, all_procedure_columns, all_step_text, all_step_columns, all_record_text, all_record_columns, all_version_text, all_version_columns}
 use Rattle.tc_store.specs.Schema.{schema_1, Holds}
 use Rattle.tc_store.proofs.LoadLemmas.{rows_keyed, rows_numbered}
 
@@ -83,13 +82,6 @@ all_record_is = record { names = _; command = refl; plain = (refl, refl); unlist
 
 pub all_record_shown : (image : Image) (old new : State) (rows : List Row) → Holds old.now image → Shown all_record_text [] old new rows → rows ≡ map record_values image.records
 all_record_shown image old new rows held h = rows_numbered record_tree all_record_columns record_values all_record_text all_record_is image.records image old new rows refl refl (λ n x. refl) held h
-
-pub all_move_is : ListsFrom schema_1 move_tree all_move_text [] move_columns no_limit
-unfolding understood everything
-all_move_is = record { names = _; command = refl; plain = (refl, refl); unlisted = refl }
-
-pub all_move_shown : (image : Image) (old new : State) (rows : List Row) → Holds old.now image → Shown all_move_text [] old new rows → rows ≡ map move_shown image.moves
-all_move_shown image old new rows held h = rows_keyed move_tree move_columns move_row move_shown all_move_text all_move_is image.moves image old new rows refl refl (λ x. refl) held h
 
 pub all_version_is : ListsFrom schema_1 meta_tree all_version_text [] all_version_columns no_limit
 unfolding understood everything

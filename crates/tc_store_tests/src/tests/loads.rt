@@ -1,5 +1,5 @@
 //! All tables as they are loaded: what was written comes back, over several pages too, and a row that no desk writes is found.
-use super::tables::{asked, made};
+use super::tables::{asked, made, made_under};
 use super::{entered, moment, name, number};
 use crate::seen::SeenTables;
 use sqlite::MemStore;
@@ -279,6 +279,22 @@ fn every_row_comes_back(rt: HostRuntime) -> Result<(), Fail> {
     loads(&rt, rt.alloc(), &mut tables)
 }
 
+/// Writes these moves, and loads them back.
+fn come_back<T: SeenTables>(
+    rt: &impl Abort,
+    alloc: Global,
+    tables: &mut T,
+    moves: &[Move],
+) -> Result<(), Fail> {
+    let mut batch = Vec::new(alloc);
+    for row in moves {
+        batch.push(Row::Moved(*row))?;
+    }
+    tables.writes(batch.as_slice())?;
+    assert!(rt; tables.remembers(moves)?);
+    Ok(())
+}
+
 /// Writes so many moves, and loads them back.
 fn loads_moves<T: SeenTables>(
     rt: &impl Abort,
@@ -287,18 +303,15 @@ fn loads_moves<T: SeenTables>(
     count: u32,
 ) -> Result<(), Fail> {
     let moves = moves(rt, alloc, count)?;
-    let mut batch = Vec::new(alloc);
-    for row in moves.as_slice() {
-        batch.push(Row::Moved(*row))?;
-    }
-    tables.writes(batch.as_slice())?;
-    assert!(rt; tables.remembers(moves.as_slice())?);
-    Ok(())
+    come_back(rt, alloc, tables, moves.as_slice())
 }
+
+/// How many steps a statement may take: two for each row of a page, and a few. To scan three pages takes more.
+const PAGE_STEPS: u64 = 2_100;
 
 #[test]
 fn a_history_of_three_pages_comes_back(rt: HostRuntime) -> Result<(), Fail> {
-    let mut tables = made(&rt, rt.alloc());
+    let mut tables = made_under(&rt, rt.alloc(), Some(PAGE_STEPS));
     loads_moves(&rt, rt.alloc(), &mut tables, 2_500)
 }
 
@@ -306,6 +319,19 @@ fn a_history_of_three_pages_comes_back(rt: HostRuntime) -> Result<(), Fail> {
 fn a_history_of_full_pages_comes_back(rt: HostRuntime) -> Result<(), Fail> {
     let mut tables = made(&rt, rt.alloc());
     loads_moves(&rt, rt.alloc(), &mut tables, 2_000)
+}
+
+#[test]
+fn a_move_behind_full_pages_comes_back(rt: HostRuntime) -> Result<(), Fail> {
+    let mut tables = made(&rt, rt.alloc());
+    loads_moves(&rt, rt.alloc(), &mut tables, 2_001)
+}
+
+#[test]
+fn a_move_of_number_0_comes_back(rt: HostRuntime) -> Result<(), Fail> {
+    let mut tables = made(&rt, rt.alloc());
+    let moves = [entered(&rt, 0, 1), entered(&rt, u32::MAX, 2)];
+    come_back(&rt, rt.alloc(), &mut tables, &moves)
 }
 
 /// Statements that leave tables which no desk writes, each of another kind.

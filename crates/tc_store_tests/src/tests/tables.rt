@@ -28,7 +28,7 @@ pub fn made(rt: &impl Abort, alloc: Global) -> Tables<MemStore> {
 }
 
 /// The same, where a statement that takes more steps than these is refused.
-fn made_under(rt: &impl Abort, alloc: Global, steps: Option<u64>) -> Tables<MemStore> {
+pub fn made_under(rt: &impl Abort, alloc: Global, steps: Option<u64>) -> Tables<MemStore> {
     let mut conn = Connection::open_in_memory(alloc).expect(rt, "a database");
     conn.set_step_limit(steps);
     match made_in(alloc, conn) {
