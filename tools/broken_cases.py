@@ -319,6 +319,8 @@ def changes_of(desk, dice):
                 values = [getattr(desk.tables, name)[row][at]] + new_values(desk, name, at, row, dice)[:2]
                 changes += [with_copy(desk, name, row, at, it) for it in values]
             changes += [set_value(desk, name, "rowid", row, it) for it in (10**6, -1)]
+    for name in ("request", "move", "execution"):
+        changes += [with_copy(desk, name, 0, 0, it) for it in (0, -1, -2**63, 2**63 - 1)]
     return changes
 
 

@@ -1,9 +1,9 @@
 -- The texts that read all rows of a table, or a page of them, and the columns that they show.
-use Rattle.std.specs.Prelude.{ℕ, ℤ, pos, int_lt, List, [], ◌∷◌, filter, codes}
+use Rattle.std.specs.Prelude.{ℕ, ℤ, pos, int_le, List, [], ◌∷◌, filter, codes}
 use Rattle.sqlite_value.specs.declared.value.Value.TheVariants.{Int}
 use Rattle.sqlite_value.specs.declared.keys.Collation.TheVariants.{Binary}
 use Rattle.sqlite_sql.specs.declared.ops.BinaryOp.TheVariants.{Compare}
-use Rattle.sqlite_sql.specs.declared.ops.CompareOp.TheVariants.{Gt}
+use Rattle.sqlite_sql.specs.declared.ops.CompareOp.TheVariants.{Ge}
 use Rattle.sqlite_sql.specs.Term.{Term, lit, col, op2}
 use Rattle.tc_types.specs.declared.moves.Move.{Move}
 
@@ -67,19 +67,19 @@ all_version_text = codes "SELECT name, value FROM meta ORDER BY rowid"
 abbrev pub all_version_columns : List Term
 all_version_columns = col 1 1 ∷ col 1 2 ∷ []
 
--- the moves with a greater number than this one
-abbrev pub moves_past : ℤ → List Move → List Move
-moves_past after moves = filter (λ (m : Move). int_lt after (pos m.seq)) moves
+-- the moves from this number on
+abbrev pub moves_from : ℤ → List Move → List Move
+moves_from first moves = filter (λ (m : Move). int_le first (pos m.seq)) moves
 
 -- how many moves a full page has
 abbrev pub page_size : ℕ
 page_size = 1000
 
 abbrev pub move_page_text : List ℕ
-move_page_text = codes "SELECT seq, request, from_place, to_place, cause, person, moment FROM move WHERE seq > ?1 ORDER BY seq LIMIT 1000"
+move_page_text = codes "SELECT seq, request, from_place, to_place, cause, person, moment FROM move WHERE seq >= ?1 ORDER BY seq LIMIT 1000"
 
 abbrev pub move_page_tests : List Term
-move_page_tests = op2 (Compare Gt Binary) (col 1 0) (col 0 0) ∷ []
+move_page_tests = op2 (Compare Ge Binary) (col 1 0) (col 0 0) ∷ []
 
 abbrev pub move_page_limit : Term
 move_page_limit = lit (Int (pos page_size))
