@@ -363,12 +363,20 @@ def fresh_tables(folder):
         connection.close()
 
 
+def left_beside(folder):
+    """What a run left beside the file that it should not: only a log may stay there, whose header has no row behind it."""
+    names = [it for it in os.listdir(folder) if it not in ("desk.db", "fresh")]
+    return [it for it in names if it != "desk.db-wal" or os.path.getsize(f"{folder}/{it}") >= 100]
+
+
 def why_not_refused(ran, folder, before, tables):
     """How a run differs from one that refuses a file and leaves it; nothing where it does not."""
     if ran.status != 2 or ran.lines or ran.errors != "tcdesk: cannot use desk.db\n":
         return f"status {ran.status}, {ran.lines[:3]}, {ran.errors!r:.100}"
     if bytes_of(f"{folder}/desk.db") != before:
         return "the file was changed"
+    if left_beside(folder):
+        return f"beside it stay {left_beside(folder)}"
     return "" if fresh_tables(folder) == tables else "a reader sees other tables"
 
 
@@ -380,6 +388,8 @@ def why_not_opened(ran, folder, moment, tables):
         return f"status {ran.status}, {ran.lines[:3]}, {ran.errors!r:.100}"
     if read_tables(f"{folder}/desk.db") != after:
         return "the file has other tables"
+    if left_beside(folder):
+        return f"beside it stay {left_beside(folder)}"
     return "" if fresh_tables(folder) == after else "a reader sees other tables"
 
 

@@ -55,6 +55,7 @@ class Writer:
     """Writes the lines of a day, most of which the desk will answer."""
 
     def __init__(self, dice, tables, moment, folder, day):
+        """Begins at this moment, with what these tables hold; files are put into the folder."""
         self.dice, self.moment, self.folder, self.day = dice, moment, folder, day
         self.requests = guesses_of(tables)
         self.stacks = {s.name: (s.author, s.critical, set()) for s in tables.stack}
@@ -95,7 +96,7 @@ class Writer:
         return dice.choice(["ok"] * 6 + [f"ok/{steps}"] + bad)
 
     def form(self, numbers, first):
-        """Command, reports and outcome of a request, and the guess of it; its target is of these numbers, counted from the first."""
+        """Command, reports and outcome of a request, and the guess of it; its target is one of these, counted from the first."""
         dice = self.dice
         ack = [letter if dice.random() < 0.6 else "-" for letter in "aspc"]
         named = [n for n in numbers if self.requests[n - 1].is_plain and self.requests[n - 1].asks_acceptance]
@@ -297,14 +298,17 @@ class Writer:
                                    "log 1", "release", f"approve {number} "]))
 
     def write(self):
-        """The lines of a day."""
+        """The lines of a day, which often ends with one request out and one that waits."""
         often = [(self.enter, 6), (self.approve, 7), (self.release, 8), (self.link, 8), (self.work_step, 7), (self.ask, 2),
-                 (self.schedule, 2), (self.approve_stack, 2), (self.cut, 1), (self.stack, 1), (self.procedure, 1),
-                 (self.leave, 1), (self.turn_clock, 1), (self.direct, 1), (self.start, 1)]
+                 (self.schedule, 4), (self.approve_stack, 2), (self.cut, 1), (self.stack, 1), (self.procedure, 1),
+                 (self.leave, 3), (self.turn_clock, 2), (self.direct, 1), (self.start, 1)]
         turns = [turn for turn, times in often for _ in range(times)]
         self.enter()
         for _ in range(TURNS):
             self.dice.choice(turns)()
+        for act in [self.start, self.release, self.schedule] if self.dice.random() < 0.6 else []:
+            self.say("set k 1")
+            act()
         return self.lines
 
 
