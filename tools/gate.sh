@@ -1,7 +1,8 @@
 #!/bin/bash
 # The gate, from nothing: the layout of files, every proof, all tests and the program as two compilers build it, with the few edits of
 # must-fail/ (`rt ci`); the edits of wrong/, many in a check, and the test of the tool that tries them; then the built
-# program's words, files, statuses, desks that are kept in a file, faulty streams, and each of its requests for memory refused in turn.
+# program's words, files, statuses, desks that are kept in a file, faulty streams, each of its requests for memory refused in turn, and a stop at
+# each of its calls on the files of a desk.
 # It stops at the first part that fails. At its end it prints what each part took: docs/GATE.md has that table for each
 # landing.
 #
@@ -65,5 +66,6 @@ part "streams that fail" tools/stream_cases.sh
 part "memory refused" tools/fail_alloc.sh
 part "memory refused to a load" tools/fail_load.sh
 part "memory refused to a desk that is kept" tools/fail_kept.sh
+part "stopped at each call on its files" tools/stop_kept.py
 table
 echo "gate: all parts passed"
