@@ -2,12 +2,13 @@
 """Stops the built program at each of its calls on the files that keep a desk: tools/stop_kept.py [PROGRAM].
 
 A run of a script on a desk in a file is stopped dead (tools/stop_io.c) at call 1, 2, 3 and so on of those that change or sync the file or its
-log, until it ends with no stop. Each stop is tried in four ways: before the call or when half of it is made; and with all on the disk that was
-written, as where the program is killed, or with all lost of each file that was written since its last sync, as where the power fails.
+log, up to the last that it makes where it is not stopped. Each stop is tried in four ways: before the call or when half of it is made; and with
+all on the disk that was written, as where the program is killed, or with all lost of each file that was written since its last sync, as where
+the power fails.
 
 What is left is opened by the program, which has to end with status 0, and SQLite then reads all tables from the file alone. They have to be
 those that the same opening makes of a desk that was never stopped, after the acts of which the stopped run printed an answer, or after these
-and the one act in progress: no answered act is missing, and none is there by half. So has what the program itself tells of them.
+and the one act in progress: no answered act is missing, and none is there by half. What the program itself tells of them has to be the same too.
 
 For each disagreement there is a line, and for each run one with how many stops left the state before the act in progress, how many that
 after it, and how many either, where both are the same. The status is 1 where one disagreed.
@@ -196,7 +197,10 @@ class Desks:
 
     def calls(self, folder, script, moment):
         """How many calls a run makes that is not stopped."""
-        return int(self.run(folder, script, moment, STOP_AT="0")[2])
+        told = self.run(folder, script, moment, STOP_AT="0")[2].strip()
+        if not told.isdigit() or told == b"0":
+            sys.exit(f"stop_kept: the program's calls on its files are not seen: {told.decode(errors='replace')}")
+        return int(told)
 
 
 class Trial:
