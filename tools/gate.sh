@@ -62,6 +62,7 @@ part "edits of wrong/, many in a check" tools/edits.py "${asked[@]}"
 part "the program runs" sh -c './tcdesk run - </dev/null >/dev/null'
 part "program cases" tools/program_cases.sh
 part "desks that are kept" tools/kept_cases.sh
+part "the shift report" tools/report_cases.py
 part "tables that no desk wrote" tools/broken_cases.py
 part "desks opened again and again" tools/many_days.py
 part "streams that fail" tools/stream_cases.sh

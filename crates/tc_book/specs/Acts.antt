@@ -84,6 +84,7 @@ query_tests book (query.Request n) = (is_unknown book n, UnknownRequest) ∷ []
 query_tests book query.Link = []
 query_tests book query.Schedule = []
 query_tests book (query.Log execution) = (is_none (execution_at book.log execution), UnknownProcedure) ∷ []
+query_tests book (query.Report from to) = []
 
 -- a row of a stack goes to Approved, if it is still Entered
 abbrev pub row_approved : Stamp → Book → ℕ → Book

@@ -3,3 +3,4 @@ mod KeptLemmas
 mod RunLemmas
 mod ScriptLemmas
 mod WordLemmas
+pub mod ClosedLemmas

@@ -1,19 +1,29 @@
 -- The command line of the program, and what its words ask for.
-use Rattle.std.specs.Prelude.{◌%◌, ◌≡◌, ◌≤◌, if◌then◌else◌, ℕ, List, [], ◌∷◌, Option, None, Some, codes, true, false, unwrap_or}
+use Rattle.std.specs.Prelude.{◌%◌, ◌≡◌, ◌⊎◌, if◌then◌else◌, ℕ, List, [], ◌∷◌, Option, None, Some, codes, true, false, unwrap_or}
+use Rattle.std.specs.Fmt.{decimal}
+use Rattle.std.specs.Str.{bytes_eq}
 use Rattle.std.specs.Str.Parse.{digits_value, without_leading_plus}
 use Rattle.clap.specs.ValueTests.{accepts}
 use Rattle.clap.specs.Words.{App, Row, Rule, Text, first_of, new_app, new_rule, one_of, with_rule}
 use Rattle.clap.specs.Words.{with_subcommand}
 use Rattle.clap.specs.declared.builder.value_parser.ValueParser.TheVariants as parser
+use Rattle.tc_types.specs.Numbers.{IsMoment}
+use Rattle.tc_stack.specs.StackTexts.{IsInstant}
 use Rattle.tc_desk.specs.declared.configs.Config.{Config}
 use Rattle.tc_cli.specs.declared.words.Line.{Line}
-use Rattle.tc_cli.specs.declared.words.Line.TheVariants.{Run, RunKept}
+use Rattle.tc_cli.specs.declared.words.Line.TheVariants.{Report, Run, RunKept}
+use Rattle.tc_cli.specs.declared.words.UsageFault.{UsageFault}
+use Rattle.tc_cli.specs.declared.words.UsageFault.TheVariants.{NoMoment, OddWindow}
 
 -- ---- the commands
 
+-- a positional argument that has to be given
+abbrev pub required_rule : Text → Rule
+required_rule id = record (new_rule id) { required = true }
+
 -- SCRIPT: the path of a script, or `-` for the standard input
 abbrev pub script_rule : Rule
-script_rule = record (new_rule (codes "SCRIPT")) { required = true }
+script_rule = required_rule (codes "SCRIPT")
 
 -- --w N: the window W of the FARM, 2 to 254, and 20 where it is not given
 abbrev pub window_rule : Rule
@@ -56,6 +66,22 @@ script_app = with_rule (with_rule (with_rule (new_app (codes "run")) script_rule
 abbrev pub run_app : App
 run_app = with_rule (with_rule script_app database_rule) moment_rule
 
+-- DB: the database file that keeps a desk
+abbrev pub report_database_rule : Rule
+report_database_rule = required_rule (codes "DB")
+
+-- FROM: the first moment of a shift
+abbrev pub from_rule : Rule
+from_rule = required_rule (codes "FROM")
+
+-- TO: the first moment after the shift
+abbrev pub to_rule : Rule
+to_rule = required_rule (codes "TO")
+
+-- report DB FROM TO
+abbrev pub report_app : App
+report_app = with_rule (with_rule (with_rule (new_app (codes "report")) report_database_rule) from_rule) to_rule
+
 -- the program's name, without its commands; one of them has to be named
 abbrev pub bare_app : App
 bare_app = let new = new_app (codes "tcdesk") in
@@ -63,15 +89,16 @@ bare_app = let new = new_app (codes "tcdesk") in
 
 -- the program, with its commands
 abbrev pub desk_app : App
-desk_app = with_subcommand bare_app run_app.top
+desk_app = with_subcommand (with_subcommand bare_app run_app.top) report_app.top
 
 -- ---- what the words ask for
 
--- a command with what it was given: the script, the window and the channel; and, on a desk that is kept, the database file and the moment of
--- its opening
+-- A command with what it was given. A run: the script, the window and the channel; and, on a desk that is kept, the database file and the
+-- moment of its opening. A report: the database file, and what stands for FROM and TO.
 pub data Asked : Type 0 where
   run : Text → ℕ → ℕ → Asked
   run_kept : Text → ℕ → ℕ → Text → ℕ → Asked
+  report : Text → Text → Text → Asked
 
 -- the text that was given for an argument, or `-` where there was none
 abbrev pub given : Text → List Row → Text
@@ -101,29 +128,62 @@ abbrev pub asked_with : Option Text → List Row → Asked
 asked_with None rows = run (given (codes "SCRIPT") rows) (given_window rows) (given_channel rows)
 asked_with (Some database) rows = run_kept (given (codes "SCRIPT") rows) (given_window rows) (given_channel rows) database (given_moment rows)
 
-abbrev pub asked_of : List Row → Asked
-asked_of rows = asked_with (first_of (codes "db") rows) rows
+-- what a run was given
+abbrev pub asked_run : List Row → Asked
+asked_run rows = asked_with (first_of (codes "db") rows) rows
+
+-- what a report was given
+abbrev pub asked_report : List Row → Asked
+asked_report rows = report (given (codes "DB") rows) (given (codes "FROM") rows) (given (codes "TO") rows)
+
+-- what the command of this name was given
+abbrev pub asked_of : Text → List Row → Asked
+asked_of name rows = if bytes_eq name (codes "report") then asked_report rows else asked_run rows
 
 -- what the matches of a command ask for, where none is `run -`
 abbrev pub asked : Option (Text × List Row) → Asked
 asked None = run (codes "-") 20 3
-asked (Some command) = asked_of command.1
+asked (Some command) = asked_of command.0 command.1
+
+-- ---- the moments of a report
+
+-- a text spells a moment: as Unix seconds, or as an instant
+abbrev pub SpellsMoment : ℕ → Text → Type 0
+SpellsMoment moment text = IsMoment moment × ((text ≡ decimal moment) ⊎ IsInstant moment text)
+
+abbrev pub SpellsNoMoment : Text → Type 0
+SpellsNoMoment text = (moment : ℕ) → ¬ SpellsMoment moment text
+
+-- ---- what a line is of what is asked for
+
+-- A line asks for this. A report's FROM and TO are texts that spell its moments.
+abbrev pub AsksFor : Line → Asked → Type 0
+AsksFor (Run script config) asked = asked ≡ run script.now config.window config.channel
+AsksFor (RunKept script config database moment) asked = asked ≡ run_kept script.now config.window config.channel database.now moment
+AsksFor (Report database from to) asked =
+    (begins ends : Text) × SpellsMoment from begins × SpellsMoment to ends × (asked ≡ report database.now begins ends)
+
+-- what a run's desk is made with
+abbrev pub config_of : Line → Option Config
+config_of (Run script config) = Some config
+config_of (RunKept script config database moment) = Some config
+config_of (Report database from to) = None
+
+-- ---- what is wrong with what is asked for
 
 -- the window that is asked for is odd
 abbrev pub AsksOddWindow : Asked → Type 0
 AsksOddWindow (run script window channel) = window % 2 ≡ 1
 AsksOddWindow (run_kept script window channel database moment) = window % 2 ≡ 1
+AsksOddWindow (report database begins ends) = ⊥
 
--- what a line asks for
-abbrev pub asked_by : Line → Asked
-asked_by (Run script config) = run script.now config.window config.channel
-asked_by (RunKept script config database moment) = run_kept script.now config.window config.channel database.now moment
+-- a report is asked for, of which FROM or TO spells no moment
+abbrev pub AsksNoMoment : Asked → Type 0
+AsksNoMoment (report database begins ends) = SpellsNoMoment begins ⊎ SpellsNoMoment ends
+AsksNoMoment run_of_some_kind = ⊥
 
--- what a line's desk is made with
-abbrev pub config_of : Line → Config
-config_of (Run script config) = config
-config_of (RunKept script config database moment) = config
-
--- the window is 2 to 254, and the channel has 6 bits
-abbrev pub IsInRange : Config → Type 0
-IsInRange config = (2 ≤ config.window) × (config.window ≤ 254) × (config.channel ≤ 63)
+-- why what is asked for is not done
+abbrev pub IsFaultOf : Asked → UsageFault → Type 0
+IsFaultOf asked OddWindow = AsksOddWindow asked
+IsFaultOf asked NoMoment = AsksNoMoment asked
+IsFaultOf asked other = ⊥

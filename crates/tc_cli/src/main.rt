@@ -3,11 +3,15 @@
 //! `tcdesk run SCRIPT` takes the lines of the file SCRIPT, or of the standard input where SCRIPT is `-`, and prints
 //! what the desk answers. Given no words at all it is `tcdesk run -`. The options `--w N` and `--vc N` choose the FARM's
 //! window and the virtual channel. With `--db FILE` the desk is kept in a database file, and is opened there at the moment `--at MOMENT`.
+//!
+//! `tcdesk report DB FROM TO` prints the shift report of the desk that the file DB keeps, which it only reads.
 #![tactic(auto)]
 
+mod closed;
 mod kept;
 mod laws;
 mod paths;
+mod reporting;
 mod run;
 mod script;
 mod words;
@@ -20,6 +24,7 @@ ghost use Rattle.sqlite.specs.Files.{file_state, IsOpened};
 
 use kept::run_kept;
 use paths::HostPaths;
+use reporting::print_report;
 use run::run_script;
 use script::{ScriptFault, read_script};
 use sqlite::{Connection, Error, ErrorCode};
@@ -75,7 +80,7 @@ fn run_words(rt: &HostRuntime, words: &[&str]) -> u8 {
     match read_words(rt.alloc(), words) {
         Ok(line) => run_line(rt, line),
         Err(UsageFault::Memory) => cannot_use(rt, "memory"),
-        Err(fault @ UsageFault::OddWindow) => {
+        Err(fault @ (UsageFault::OddWindow | UsageFault::NoMoment)) => {
             let _ = eprintln!(rt; "tcdesk: {fault}");
             UNUSABLE
         }
@@ -95,6 +100,7 @@ fn run_line(rt: &HostRuntime, line: Line<'_>) -> u8 {
             database,
             moment,
         } => run_kept_in(rt, script, config, database, moment),
+        Line::Report { database, from, to } => report_in(rt, database, from, to),
     }
 }
 
@@ -108,6 +114,15 @@ fn run_kept_in(rt: &HostRuntime, script: &str, config: Config, file: &str, momen
     let mut paths = HostPaths::new(rt.alloc(), rt);
     let ended = run_on_file(rt, script, config, file, moment, &mut paths);
     status_of(rt, ended, script, file, &paths)
+}
+
+fn report_in(rt: &HostRuntime, file: &str, from: Moment, to: Moment) -> u8 {
+    match print_report(rt, file, from, to) {
+        Ok(()) => 0,
+        Err(ScriptFault::Output) => cannot_use(rt, "output"),
+        Err(ScriptFault::Memory) => cannot_use(rt, "memory"),
+        Err(_) => cannot_use(rt, file),
+    }
 }
 
 /// The exit status of a run of a script on tables of this name. Says on the standard error what could not be used.

@@ -30,7 +30,7 @@ pub enum ScriptFault {
     /// There was no memory to go on. What was written are the replies to the lines before.
     #[error("memory")]
     Memory,
-    /// The tables of the desk could not be made. No line was run.
+    /// The tables of the desk could not be made, and no line was run; or those of a report could not be read.
     #[error("tables")]
     Tables,
     /// A line loads the stack or the procedure at a path that gives no text. The lines before it stand, and were answered.

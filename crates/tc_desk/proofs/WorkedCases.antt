@@ -59,7 +59,7 @@ idle = record { content = []; covered = 0 }
 abbrev desk_of : Book → State (InFlight Frame) (InFlight Report)
 desk_of book = record (new_desk (record { window = 20; channel = 3 }) idle idle) { book = book }
 
--- the reply to a question, where it is not of the schedule
+-- the reply to a question, where it is neither of the schedule nor a report
 abbrev told : Book → Query → Reply
 told book query.Places = places_line (length (entered book.history)) (counts_of book.history) ∷ []
 told book (query.History n after) = history_lines n (rows_past n after book.history)
@@ -67,14 +67,16 @@ told book (query.Request n) = request_lines (request_at book n) (place_in book n
 told book query.Link = status_lines (status_of listed listed (desk_of book))
 told book query.Schedule = []
 told book (query.Log execution) = log_lines book.log (execution_at book.log execution)
+told book (query.Report from to) = []
 
-told-replies : (book : Book) (asked : Query) → (asked ≡ query.Schedule → ⊥) → Replies listed listed (desk_of book) asked (told book asked)
-told-replies book query.Places other = refl
-told-replies book (query.History n after) other = refl
-told-replies book (query.Request n) other = refl
-told-replies book query.Link other = refl
-told-replies book query.Schedule other = absurd (other refl)
-told-replies book (query.Log execution) other = refl
+told-replies : (book : Book) (asked : Query) → (asked ≡ query.Schedule → ⊥) → ((from to : ℕ) → asked ≡ query.Report from to → ⊥) → Replies listed listed (desk_of book) asked (told book asked)
+told-replies book query.Places other no_report = refl
+told-replies book (query.History n after) other no_report = refl
+told-replies book (query.Request n) other no_report = refl
+told-replies book query.Link other no_report = refl
+told-replies book query.Schedule other no_report = absurd (other refl)
+told-replies book (query.Log execution) other no_report = refl
+told-replies book (query.Report from to) other no_report = absurd (no_report from to refl)
 
 -- the reply where no test holds
 abbrev served : Book → Stamp → Act → Reply

@@ -17,6 +17,7 @@ use Rattle.tc_types.specs.RequestLine.{request_line}
 use Rattle.tc_types.specs.ProcedureLines.{procedure_line, begun_line, execution_line, record_line}
 use Rattle.tc_types.specs.declared.rows.BegunExecution.{BegunExecution}
 use Rattle.tc_proc.specs.Logs.{LogState, execution_at, next_of, records_of}
+use Rattle.tc_report.specs.ShiftReport.{IsReport}
 use Rattle.tc_world.specs.declared.events.Indication.{Indication}
 use Rattle.tc_world.specs.Links.{Kind}
 use Rattle.tc_board.specs.Schedule.{is_before}
@@ -27,7 +28,7 @@ use Rattle.tc_book.specs.Book.{place_in, request_at}
 use Rattle.tc_desk.specs.declared.firsts.First.{First}
 use Rattle.tc_desk.specs.declared.firsts.First.TheVariants as first
 use Rattle.tc_desk.specs.State.{State}
-use Rattle.tc_desk.specs.StatusLines.{status_lines, status_of, told_line}
+use Rattle.tc_desk.specs.StatusLines.{premise_word, status_lines, status_of, told_line}
 
 abbrev pub Reply : Type 0
 Reply = List (List ℕ)
@@ -102,3 +103,4 @@ Replies up down at (query.Request n) reply = reply ≡ request_lines (request_at
 Replies up down at query.Link reply = reply ≡ status_lines (status_of up down at)
 Replies up down at query.Schedule reply = ShowsSchedule at.mirror reply
 Replies up down at (query.Log execution) reply = reply ≡ log_lines at.book.log (execution_at at.book.log execution)
+Replies up down at (query.Report from to) reply = IsReport (premise_word at.world.clean) (counts_of at.book.history) at.book.history from to reply

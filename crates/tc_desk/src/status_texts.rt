@@ -125,6 +125,13 @@ pub fn farm_text<A: Allocator + Copy>(alloc: A, farm: &FarmView) -> Result<Strin
     format!(in alloc; "farm {state} vr {vr} b {farm_b} flags {flags} w {window}")
 }
 
+/// What is said of the starts of the link: `kept` while every one was good.
+pub fn premise_name(clean: bool) -> &'static str
+    ensures { result.now ≡ premise_word clean }
+{
+    if clean { "kept" } else { "broken" }
+}
+
 /// What is in flight, and whether every start was good: `link up A down B premise P`. Fails where memory is refused.
 pub fn carriers_text<A: Allocator + Copy>(
     alloc: A,
@@ -138,7 +145,7 @@ pub fn carriers_text<A: Allocator + Copy>(
         clean,
         ..
     } = *status;
-    let premise = if clean { "kept" } else { "broken" };
+    let premise = premise_name(clean);
     format!(in alloc; "link up {up} down {down} premise {premise}")
 }
 

@@ -3,3 +3,4 @@ mod TableLemmas
 mod OpeningLemmas
 pub mod LoadLemmas
 mod LogLemmas
+pub mod ReportLemmas

@@ -5,3 +5,4 @@ pub mod Opening
 pub mod Replies
 pub mod Room
 pub mod Loads
+pub mod Closed

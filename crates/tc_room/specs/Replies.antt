@@ -1,19 +1,16 @@
 -- The bytes of replies: lines, each ended by LF.
-use Rattle.std.specs.Prelude.{ℕ, ◌==◌, Bool, false, List, [], ◌∷◌, ◌++◌, filter, map, nat_eq, codes}
-use Rattle.std.specs.List.{flat_map, starts_with}
+use Rattle.std.specs.Prelude.{ℕ, ◌==◌, Bool, false, List, [], ◌∷◌, filter, map, nat_eq, codes}
+use Rattle.std.specs.List.{starts_with}
 use Rattle.tc_types.specs.ProcedureLines.{execution_line, record_line}
 use Rattle.tc_types.specs.declared.rows.BegunExecution.{BegunExecution}
 use Rattle.tc_types.specs.declared.rows.StepRecord.{StepRecord}
 use Rattle.tc_desk.specs.Replies.{Reply}
+pub use Rattle.tc_report.specs.Texts.{ended}
 
 -- whether a reply is a refusal
 abbrev pub is_refused : Reply → Bool
 is_refused [] = false
 is_refused (first ∷ others) = starts_with nat_eq first (codes "refused")
-
--- lines as they are written: each ended by LF
-abbrev pub ended : List (List ℕ) → List ℕ
-ended lines = flat_map (λ (line : List ℕ). line ++ 10 ∷ []) lines
 
 -- the lines of those of these records that are of this execution, in order
 abbrev pub records_told : ℕ → List StepRecord → Reply

@@ -22,7 +22,7 @@ pub struct Counts {
 }
 
 /// How many requests stand at all places together, if that is below 2^32.
-fn total(places: &[u32; PLACES]) -> Option<u32>
+pub(crate) fn total(places: &[u32; PLACES]) -> Option<u32>
     ensures { MatchOption result (2 ^ 32 ≤ sum places.now) (λ all. all ≡ sum places.now) }
 {
     let mut all: u32 = 0;

@@ -3,6 +3,7 @@
 #![tactic(auto)]
 
 pub mod answers;
+pub mod closed;
 pub mod counts;
 pub mod desks;
 mod loadings;

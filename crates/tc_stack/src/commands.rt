@@ -11,12 +11,11 @@ ghost use Rattle.tc_stack.specs.declared.commands.Kind.TheVariants.{Insert, Dele
 ghost use Rattle.tc_stack.specs.StackTexts.{kind_words, IsKind, is_plain, IsInstant, SpellsCommand, KeepsRow};
 ghost use Rattle.tc_stack.specs.CommandTexts.{IsCommandAt, SpellsRest, KeepsPair, KeepsRest, rest_rules, command_rules};
 
+use crate::instants::instant;
 use csv::ByteRecord;
-use jiff::Timestamp;
-use std::str;
 use tc_csv::faults::Rule;
 use tc_csv::fields::field;
-use tc_types::numbers::{Moment, Service, Subtype};
+use tc_types::numbers::{Service, Subtype};
 use tc_types::readers::{number, offset, service, subtype};
 use tc_types::requests::Command;
 
@@ -61,25 +60,6 @@ pub(crate) fn earlier(line: u32, field: &[u8]) -> Option<u32>
     } else {
         None
     }
-}
-
-/// An instant of whole seconds.
-fn instant(field: &[u8]) -> Option<Moment>
-    ensures found { IfSome result (λ time. IsMoment time × IsInstant time field.now) }
-    ensures only { (time : ℕ) → IsMoment time → IsInstant time field.now → result ≡ Some time }
-{
-    let text = match str::from_utf8(field) {
-        Ok(text) => text,
-        Err(_) => return None,
-    };
-    let instant: Timestamp = match text.parse() {
-        Ok(instant) => instant,
-        Err(_) => return None,
-    };
-    if instant.subsec_nanosecond() != 0 {
-        return None;
-    }
-    Moment::new(u32::try_from(instant.as_second()).ok()?)
 }
 
 /// A command of any service but 11.

@@ -3,6 +3,7 @@
 
 pub mod approvals;
 mod commands;
+pub mod instants;
 pub mod interlocks;
 pub mod readers;
 mod rows;

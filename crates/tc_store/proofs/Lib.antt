@@ -15,6 +15,7 @@ pub mod ReadLemmas
 pub mod LoadLemmas
 pub mod TextLemmas
 pub mod PageLemmas
+pub mod ShiftLemmas
 pub mod ToldLemmas
 pub mod HistoryLemmas
 pub mod StepLemmas

@@ -1,9 +1,9 @@
 -- The texts that read all rows of a table, or a page of them, and the columns that they show.
-use Rattle.std.specs.Prelude.{ℕ, ℤ, pos, int_le, List, [], ◌∷◌, filter, codes}
+use Rattle.std.specs.Prelude.{ℕ, ℤ, pos, negsuc, ◌+◌, int_le, nat_lt, Option, None, Some, List, [], ◌∷◌, filter, codes}
 use Rattle.sqlite_value.specs.declared.value.Value.TheVariants.{Int}
 use Rattle.sqlite_value.specs.declared.keys.Collation.TheVariants.{Binary}
 use Rattle.sqlite_sql.specs.declared.ops.BinaryOp.TheVariants.{Compare}
-use Rattle.sqlite_sql.specs.declared.ops.CompareOp.TheVariants.{Ge}
+use Rattle.sqlite_sql.specs.declared.ops.CompareOp.TheVariants.{Ge, Lt}
 use Rattle.sqlite_sql.specs.Term.{Term, lit, col, op2}
 use Rattle.tc_types.specs.declared.moves.Move.{Move}
 
@@ -83,3 +83,24 @@ move_page_tests = op2 (Compare Ge Binary) (col 1 0) (col 0 0) ∷ []
 
 abbrev pub move_page_limit : Term
 move_page_limit = lit (Int (pos page_size))
+
+-- those behind a number, and all where there is none
+abbrev pub moves_behind : Option ℕ → List Move → List Move
+moves_behind None moves = moves
+moves_behind (Some n) moves = filter (λ (m : Move). nat_lt n m.seq) moves
+
+-- what a page that ends at a number leaves, and nothing where it is the last
+abbrev pub moves_left : Option ℕ → List Move → List Move
+moves_left None moves = []
+moves_left (Some n) moves = moves_behind (Some n) moves
+
+-- the first number behind this one, and the least that a table may have where there is none
+abbrev pub first_behind : Option ℕ → ℤ
+first_behind None = negsuc 9223372036854775807
+first_behind (Some n) = pos (n + 1)
+
+abbrev pub shift_page_text : List ℕ
+shift_page_text = codes "SELECT seq, request, from_place, to_place, cause, person, moment FROM move WHERE moment >= ?1 AND moment < ?2 AND seq >= ?3 ORDER BY seq LIMIT 1000"
+
+abbrev pub shift_page_tests : List Term
+shift_page_tests = op2 (Compare Ge Binary) (col 1 7) (col 0 0) ∷ op2 (Compare Lt Binary) (col 1 7) (col 0 1) ∷ op2 (Compare Ge Binary) (col 1 0) (col 0 2) ∷ []

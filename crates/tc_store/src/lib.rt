@@ -17,6 +17,7 @@ mod procedure_steps;
 mod procedures;
 mod records;
 mod requests;
+pub mod shifts;
 mod stacks;
 mod steps;
 pub mod tables;

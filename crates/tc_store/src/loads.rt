@@ -17,7 +17,7 @@ mod moves;
 mod procedures;
 mod records;
 mod requests;
-mod rows;
+pub(crate) mod rows;
 mod stack_approvals;
 mod stacks;
 mod steps;

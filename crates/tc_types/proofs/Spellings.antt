@@ -181,6 +181,7 @@ act_parted (act.Ask (query.Request request)) h = (rw (number_lacks request h) re
 act_parted (act.Ask query.Link) h = (refl, omega arith)
 act_parted (act.Ask query.Schedule) h = (refl, omega arith)
 act_parted (act.Ask (query.Log execution)) h = (rw (number_lacks execution h) refl, omega arith)
+act_parted (act.Ask (query.Report from to)) h = (rw (number_lacks from (omega (arith, h.0)), number_lacks to (omega (arith, h.1))) refl, omega arith)
 
 -- nor have those of a line
 pub line_parted : (line : Line) → IsLine line → (list_all (lacks 32) (line_words line) ≡ true) × (0 < length (line_words line))

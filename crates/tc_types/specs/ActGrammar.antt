@@ -24,6 +24,7 @@ query_words (query.Request request) = codes "request" ∷ decimal request ∷ []
 query_words query.Link = codes "link" ∷ []
 query_words query.Schedule = codes "schedule" ∷ []
 query_words (query.Log execution) = codes "log" ∷ decimal execution ∷ []
+query_words (query.Report from to) = codes "report" ∷ decimal from ∷ decimal to ∷ []
 
 abbrev pub IsQuery : Query → Type 0
 IsQuery query.Places = Unit {0}
@@ -32,6 +33,7 @@ IsQuery (query.Request request) = IsNumber request
 IsQuery query.Link = Unit {0}
 IsQuery query.Schedule = Unit {0}
 IsQuery (query.Log execution) = IsNumber execution
+IsQuery (query.Report from to) = IsMoment from × IsMoment to
 
 -- the words of an act on the book: its verb, and what it takes
 abbrev pub book_act_words : BookAct → List (List ℕ)
@@ -57,7 +59,7 @@ IsBookVerb word = (word ≡ codes "enter") ⊎ (word ≡ codes "withdraw") ⊎ (
 
 -- a question begins with this word
 abbrev pub IsQueryVerb : List ℕ → Type 0
-IsQueryVerb word = (word ≡ codes "places") ⊎ (word ≡ codes "history") ⊎ (word ≡ codes "request") ⊎ (word ≡ codes "link") ⊎ (word ≡ codes "schedule") ⊎ (word ≡ codes "log")
+IsQueryVerb word = (word ≡ codes "places") ⊎ (word ≡ codes "history") ⊎ (word ≡ codes "request") ⊎ (word ≡ codes "link") ⊎ (word ≡ codes "schedule") ⊎ (word ≡ codes "log") ⊎ (word ≡ codes "report")
 
 abbrev pub act_words : Act → List (List ℕ)
 act_words (act.Book given) = book_act_words given

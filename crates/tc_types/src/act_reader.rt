@@ -9,7 +9,7 @@ use crate::acts::{Act, BookAct, Query};
 use crate::entry_reader::entry;
 use crate::link_reader::link_act_of;
 use crate::names::Name;
-use crate::readers::{is, number};
+use crate::readers::{is, moment, number};
 use crate::refusals::Refusal;
 use crate::step_reader::step;
 use crate::words::Words;
@@ -67,6 +67,16 @@ fn log(words: &mut Words<'_>) -> Option<Query>
     let execution = number(words.next()?)?;
     words.end()?;
     Some(Query::Log { execution })
+}
+
+/// What stands behind `report`.
+fn report(words: &mut Words<'_>) -> Option<Query>
+    ensures { Reads query_words IsQuery (codes "report" ∷ words.old) result }
+{
+    let from = moment(words.next()?)?;
+    let to = moment(words.next()?)?;
+    words.end()?;
+    Some(Query::Report { from, to })
 }
 
 /// What stands behind `withdraw`.
@@ -157,6 +167,7 @@ fn is_query_verb(verb: &[u8]) -> bool
         || is(verb, b"link")
         || is(verb, b"schedule")
         || is(verb, b"log")
+        || is(verb, b"report")
 }
 
 /// A question: its verb, and the words behind it.
@@ -175,6 +186,8 @@ fn query_of(verb: &[u8], words: &mut Words<'_>) -> Option<Query>
         schedule(words)
     } else if is(verb, b"log") {
         log(words)
+    } else if is(verb, b"report") {
+        report(words)
     } else {
         None
     }

@@ -20,6 +20,8 @@ pub enum Query {
     Schedule,
     /// What is recorded of the execution `execution`.
     Log { execution: u32 },
+    /// The history rows of a shift: those of `from` and later, and before `to`.
+    Report { from: Moment, to: Moment },
 }
 
 /// An act on the book alone: it asks nothing of the link.

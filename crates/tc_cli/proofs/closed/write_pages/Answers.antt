@@ -1,0 +1,50 @@
+-- A page more was written, and the last one is the end of the rows.
+use Rattle.std.proofs.Common.{◌≡◌, ◌∙◌, ◌++◌, ℕ, List, [], refl, sym, ap, subst, append-nil}
+use Rattle.std.specs.Io.KnownBytes.{Appends}
+use Rattle.std.specs.String.{string_bytes}
+use Rattle.std.proofs.KnownBytes.{Appends-nil, Appends-trans}
+use Rattle.tc_types.specs.Counts.{inner_of}
+use Rattle.tc_types.specs.declared.moves.Move.{Move}
+use Rattle.tc_types.specs.History.{shift_rows}
+use Rattle.tc_report.specs.ShiftReport.{AreAdded}
+use Rattle.tc_report.proofs.RowLemmas.{none_added}
+use Rattle.tc_room.proofs.ReportLemmas.{left_behind, left_none, reads_same, reads_then}
+use Rattle.tc_cli.proofs.ClosedLemmas.{page_added}
+use Rattle.tc_cli.proofs.closed.write_pages.Goals as goal
+
+pub pages-init : goal.pages-init
+pages-init g c = (reads_same g.S.Store c.args.tables.now, (λ clean image held. ([], [], refl, none_added [], Appends-nil (g.W.Write.contents (inner_of c.args.writer.now)))), c.requires)
+
+pub pages-preserved : goal.pages-preserved
+pages-preserved g c =
+    let reads = c.in_ok-page.ensures.reads in (
+      reads_then g.S.Store c.args.tables.now c.pages.tables c.closed_page.new.tables c.pages.invariant.0 reads,
+      (λ clean image held.
+          let all : List Move = shift_rows c.args.from c.args.to image.moves in
+          let was = c.pages.invariant.1 (reads.clean clean) image held in
+          let page = c.in_ok-page.ensures.page clean image (c.pages.invariant.0.holds (reads.clean clean) image held) in
+          let text : List ℕ = string_bytes c.in_ok-page.page.text in
+          let put = subst (λ bytes. Appends (g.W.Write.contents (inner_of c.pages.writer)) (g.W.Write.contents (inner_of c.put.new.writer)) bytes) c.as_bytes.ensures.value c.in_ok-put.ensures.written in (
+            was.0 ++ page.rows,
+            was.1 ++ text,
+            ap (λ l. (was.0 ++ page.rows) ++ l) (sym (left_behind c.in_ok-page.page.next all c.is_none.result c.is_none.ensures c.if-is_none.false)) ∙ page.goes_on was.0 was.2,
+            page_added was.0 page.rows was.1 text was.3 page.added,
+            Appends-trans _ _ _ was.1 text was.4 put,
+          )),
+      c.in_ok-put.ensures.counted,
+    )
+
+pub returns-then-is_none-clause-told : goal.returns-then-is_none-clause-told
+returns-then-is_none-clause-told g c clean image held =
+    let all : List Move = shift_rows c.args.from c.args.to image.moves in
+    let reads = c.in_ok-page.ensures.reads in
+    let was = c.pages.invariant.1 (reads.clean clean) image held in
+    let page = c.in_ok-page.ensures.page clean image (c.pages.invariant.0.holds (reads.clean clean) image held) in
+    let text : List ℕ = string_bytes c.in_ok-page.page.text in
+    let put = subst (λ bytes. Appends (g.W.Write.contents (inner_of c.pages.writer)) (g.W.Write.contents (inner_of c.put.new.writer)) bytes) c.as_bytes.ensures.value c.in_ok-put.ensures.written in
+    let whole : was.0 ++ page.rows ≡ all =
+    sym (append-nil (was.0 ++ page.rows)) ∙ ap (λ l. (was.0 ++ page.rows) ++ l) (sym (left_none c.in_ok-page.page.next all c.is_none.result c.is_none.ensures c.if-is_none.true)) ∙ page.goes_on was.0 was.2 in (
+      was.1 ++ text,
+      subst (λ (rows : List Move). AreAdded rows [] (was.1 ++ text)) whole (page_added was.0 page.rows was.1 text was.3 page.added),
+      Appends-trans _ _ _ was.1 text was.4 put,
+    )

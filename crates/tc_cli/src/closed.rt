@@ -1,0 +1,74 @@
+//! The shift report of a desk that nobody has open, written from its tables.
+ghost use Rattle.std.specs.Prelude.{◌≡◌, ◌⊎◌, ℕ, List, [], IfErr, OnOk};
+ghost use Rattle.std.specs.Io.KnownBytes.{Appends};
+ghost use Rattle.sqlite.specs.Held.{state};
+ghost use Rattle.sqlite.specs.State.{HasCleanDisk};
+ghost use Rattle.tc_types.specs.Counts.{counts_of, inner_of, no_counts};
+ghost use Rattle.tc_types.specs.History.{shift_rows};
+ghost use Rattle.tc_types.specs.Tables.{Image};
+ghost use Rattle.tc_report.specs.ShiftReport.{AreAdded};
+ghost use Rattle.tc_store.specs.Schema.{Holds};
+ghost use Rattle.tc_room.specs.Closed.{IsClosedReport, OnlyReads};
+ghost use Rattle.tc_cli.specs.Script.{written_counts};
+
+use crate::run::put;
+use crate::script::ScriptFault;
+use sqlite::Alter;
+use std::alloc::Global;
+use std::io::Write;
+use tc_report::reports::END;
+use tc_room::closed::{closed_head, closed_page};
+use tc_store::tables::Tables;
+use tc_types::counted::Counted;
+use tc_types::numbers::Moment;
+
+/// Writes the lines of the moves of a shift, a page of them after the other.
+fn write_pages<S: Alter + Drop, W: Write>(
+    alloc: Global,
+    tables: &mut Tables<S>,
+    from: Moment,
+    to: Moment,
+    writer: &mut Counted<W>,
+) -> Result<(), ScriptFault>
+    requires { counts_of writer.old ≡ no_counts }
+    ensures told { HasCleanDisk (state S.Store tables.new) → OnOk result ((image : Image) → Holds (state S.Store tables.old).now image
+        → (text : List ℕ) × AreAdded (shift_rows from to image.moves) [] text × Appends (W.contents (inner_of writer.old)) (W.contents (inner_of writer.new)) text) }
+    ensures reads { OnOk result (OnlyReads S.Store tables.old tables.new) }
+    ensures fault { IfErr result (λ fault. (fault ≡ ScriptFault.Output) ⊎ (fault ≡ ScriptFault.Memory) ⊎ (fault ≡ ScriptFault.Tables)) }
+    ensures counted { counts_of writer.new ≡ written_counts result }
+{
+    let mut after = None;
+    // each page ends on a greater number than the one before, so there are fewer pages than numbers
+    'pages: for _ in 0..u32::MAX {
+        let page = closed_page(alloc, tables, from, to, after)?;
+        put(writer, page.text.as_bytes())?;
+        if page.next.is_none() {
+            return Ok(());
+        }
+        after = page.next;
+    }
+    Err(ScriptFault::Tables)
+}
+
+/// Writes the shift report of these tables: the moves of `from` and later, and before `to`, in order of number, and where the requests stand.
+/// No more than a page of the moves is held at a time, and the tables are only read. Fails with `Tables` where they cannot be read, `Memory`
+/// where that is refused, and `Output` where a write fails.
+pub fn closed_report<S: Alter + Drop, W: Write>(
+    alloc: Global,
+    tables: &mut Tables<S>,
+    from: Moment,
+    to: Moment,
+    writer: &mut Counted<W>,
+) -> Result<(), ScriptFault>
+    requires { counts_of writer.old ≡ no_counts }
+    ensures told { HasCleanDisk (state S.Store tables.new) → OnOk result ((image : Image) → Holds (state S.Store tables.old).now image
+        → (text : List ℕ) × IsClosedReport image from to text × Appends (W.contents (inner_of writer.old)) (W.contents (inner_of writer.new)) text) }
+    ensures reads { OnOk result (OnlyReads S.Store tables.old tables.new) }
+    ensures fault { IfErr result (λ fault. (fault ≡ ScriptFault.Output) ⊎ (fault ≡ ScriptFault.Memory) ⊎ (fault ≡ ScriptFault.Tables)) }
+    ensures counted { counts_of writer.new ≡ written_counts result }
+{
+    let head = closed_head(alloc, tables, from, to)?;
+    put(writer, head.as_bytes())?;
+    write_pages(alloc, tables, from, to, writer)?;
+    put(writer, END.as_bytes())
+}

@@ -1,0 +1,117 @@
+//! The shift report of a desk that is kept in a file: what is done with its two files.
+
+use crate::closed::closed_report;
+use crate::script::ScriptFault;
+use sqlite::{Connection, Error, ErrorCode};
+use sqlite_disk::Wary;
+use sqlite_std_file::FileFrom;
+use sqlite_store::FileStore;
+use std::alloc::Global;
+use std::rt::Files;
+use std::{fs, io};
+use tc_store::faults::StoreFault;
+use tc_store::tables::Tables;
+use tc_types::counted::Counted;
+use tc_types::numbers::Moment;
+
+/// The desk's file, and its log beside it, which is a file that a reader has to make where there is none.
+#[derive(Drop)]
+struct Kept {
+    database: String,
+    log: String,
+    had_log: bool,
+}
+
+/// The path of the log of the database at this path, which has no link in it.
+fn log_path(alloc: Global, database: &str) -> Result<String, ScriptFault> {
+    match format!(in alloc; "{database}-wal") {
+        Ok(path) => Ok(path),
+        Err(_) => Err(ScriptFault::Memory),
+    }
+}
+
+/// The two files at a path, where a database may be. Nothing is made.
+fn find(rt: &HostRuntime, file: &str) -> Result<Kept, ScriptFault> {
+    let Ok(found) = fs::metadata(rt, file) else {
+        return Err(ScriptFault::Tables);
+    };
+    if !found.is_file() || found.len() == 0 {
+        return Err(ScriptFault::Tables);
+    }
+    let Ok(real) = fs::canonicalize(rt, file) else {
+        return Err(ScriptFault::Tables);
+    };
+    let log = log_path(rt.alloc(), real.as_str())?;
+    let had_log = fs::symlink_metadata(rt, log.as_str()).is_ok();
+    Ok(Kept {
+        database: String::from_str(rt.alloc(), real.as_str())?,
+        log,
+        had_log,
+    })
+}
+
+/// Takes away the log that this program made, while the database is still held so that no other writes to it.
+fn forget_log(rt: &HostRuntime, kept: &Kept) {
+    if !kept.had_log {
+        let _ = fs::remove_file(rt, kept.log.as_str());
+    }
+}
+
+/// Opens the database, with what the log holds, which writes to neither file but to a log that holds nothing.
+fn open_kept(
+    rt: &HostRuntime,
+    kept: &Kept,
+) -> Result<Connection<FileStore<FileFrom<Wary>>>, ScriptFault> {
+    match Connection::open_from(rt, kept.database.as_str(), false, Wary) {
+        Ok(store) => Ok(store),
+        Err((error, left)) => {
+            // a database that another program holds has its log
+            if left.is_some() {
+                forget_log(rt, kept);
+            }
+            drop(left);
+            match error {
+                Error::SqliteFailure(ErrorCode::OutOfMemory) => Err(ScriptFault::Memory),
+                _ => Err(ScriptFault::Tables),
+            }
+        }
+    }
+}
+
+/// The tables of a desk in this database.
+fn tables_in(
+    rt: &HostRuntime,
+    kept: &Kept,
+    store: Connection<FileStore<FileFrom<Wary>>>,
+) -> Result<Tables<FileStore<FileFrom<Wary>>>, ScriptFault> {
+    match Tables::open(rt.alloc(), store) {
+        Ok(tables) => Ok(tables),
+        Err((fault, store)) => {
+            forget_log(rt, kept);
+            drop(store);
+            match fault {
+                StoreFault::Read(Error::SqliteFailure(ErrorCode::OutOfMemory)) => {
+                    Err(ScriptFault::Memory)
+                }
+                _ => Err(ScriptFault::Tables),
+            }
+        }
+    }
+}
+
+/// Prints the shift report of the desk that a file keeps. The file stays as it is, byte for byte, and so does its log where that holds a batch; one
+/// that holds none may have other bytes afterwards.
+pub fn print_report(
+    rt: &HostRuntime,
+    file: &str,
+    from: Moment,
+    to: Moment,
+) -> Result<(), ScriptFault> {
+    let kept = find(rt, file)?;
+    let store = open_kept(rt, &kept)?;
+    let mut tables = tables_in(rt, &kept, store)?;
+    let mut writer = Counted::new(io::writer(rt));
+    let printed = closed_report(rt.alloc(), &mut tables, from, to, &mut writer);
+    forget_log(rt, &kept);
+    printed
+}

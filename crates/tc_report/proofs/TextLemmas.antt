@@ -1,0 +1,11 @@
+-- Lines as they are written.
+use Rattle.std.proofs.Common.{◌≡◌, ℕ, List, [], ◌∷◌, ◌++◌, refl, sym, ap, ap₂, ◌∙◌, append_assoc}
+use Rattle.tc_report.specs.Texts.{ended}
+
+pub ended-append : (xs ys : List (List ℕ)) → ended (xs ++ ys) ≡ ended xs ++ ended ys
+ended-append [] ys = refl
+ended-append (x ∷ xs) ys = ap (λ l. (x ++ 10 ∷ []) ++ l) (ended-append xs ys) ∙ sym (append_assoc (x ++ 10 ∷ []) (ended xs) (ended ys))
+
+-- one line more
+pub added : {mid new : List ℕ} (lines : List (List ℕ)) (line said : List ℕ) → mid ≡ ended lines → new ≡ mid ++ ended (said ∷ []) → said ≡ line → new ≡ ended (lines ++ line ∷ [])
+added lines line said before now is = now ∙ ap₂ (λ m s. m ++ ended (s ∷ [])) before is ∙ sym (ended-append lines (line ∷ []))
