@@ -1,14 +1,19 @@
 -- The report of tables alone, as it is written in pieces.
-use Rattle.std.proofs.Common.{◌∙◌, ◌++◌, ◌∷◌, [], ℕ, List, refl, sym, ap}
-use Rattle.std.specs.Prelude.{codes}
+use Rattle.std.proofs.Common.{◌≡◌, ◌∙◌, ◌++◌, ◌∷◌, ◌⊎◌, [], inl, inr, ℕ, List, refl, sym, ap}
+use Rattle.std.specs.Prelude.{codes, IfErr, IsErrAnd, Result, Ok, Err}
 use Rattle.tc_types.specs.declared.moves.Move.{Move}
 use Rattle.tc_types.specs.History.{shift_rows}
 use Rattle.tc_types.specs.Tables.{Image}
+use Rattle.tc_types.specs.declared.refusals.Refusal.{Refusal}
+use Rattle.tc_types.specs.declared.refusals.Refusal.TheVariants as refusal
 use Rattle.tc_report.specs.ShiftReport.{AreAdded}
 use Rattle.tc_report.specs.Texts.{ended}
 use Rattle.tc_report.proofs.RowLemmas.{more_added}
 use Rattle.tc_report.proofs.TextLemmas.{ended-append}
 use Rattle.tc_room.specs.Closed.{IsClosedHead, IsClosedReport}
+use Rattle.tc_cli.specs.declared.script.ScriptFault.{ScriptFault}
+use Rattle.tc_cli.specs.declared.script.ScriptFault.TheVariants.{Output, Memory, Tables}
+use Rattle.tc_cli.specs.Script.{fault_of}
 
 -- lines that were made by themselves, behind a text
 behind : (rows : List Move) (front text : List ℕ) → AreAdded rows [] text → AreAdded rows front (front ++ text)
@@ -29,3 +34,10 @@ whole image from to head rows begins added =
           ∙ ap (λ t. t ++ ended last) (sym (ended-append begins.0 added.0))
           ∙ sym (ended-append (begins.0 ++ added.0) last),
     )
+
+-- a read that fails ends the report as want of memory, or of tables
+pub ends_unread : {X : Type 0} (result : Result X ScriptFault) (why : Refusal) → (why ≡ refusal.Memory) ⊎ (why ≡ refusal.Store) → IsErrAnd result (λ fault. fault ≡ fault_of why)
+    → IfErr result (λ fault. (fault ≡ Output) ⊎ (fault ≡ Memory) ⊎ (fault ≡ Tables))
+ends_unread (Ok x) why kind gives = absurd gives
+ends_unread (Err fault) why (inl is) gives = inr (inl (gives ∙ ap fault_of is))
+ends_unread (Err fault) why (inr is) gives = inr (inr (gives ∙ ap fault_of is))

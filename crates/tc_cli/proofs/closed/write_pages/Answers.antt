@@ -9,7 +9,7 @@ use Rattle.tc_types.specs.History.{shift_rows}
 use Rattle.tc_report.specs.ShiftReport.{AreAdded}
 use Rattle.tc_report.proofs.RowLemmas.{none_added}
 use Rattle.tc_room.proofs.ReportLemmas.{left_behind, left_none, reads_same, reads_then}
-use Rattle.tc_cli.proofs.ClosedLemmas.{page_added}
+use Rattle.tc_cli.proofs.ClosedLemmas.{ends_unread, page_added}
 use Rattle.tc_cli.proofs.closed.write_pages.Goals as goal
 
 pub pages-init : goal.pages-init
@@ -48,3 +48,6 @@ returns-then-is_none-clause-told g c clean image held =
       subst (λ (rows : List Move). AreAdded rows [] (was.1 ++ text)) whole (page_added was.0 page.rows was.1 text was.3 page.added),
       Appends-trans _ _ _ was.1 text was.4 put,
     )
+
+pub returns-in_err-page-clause-fault : goal.returns-in_err-page-clause-fault
+returns-in_err-page-clause-fault g c = ends_unread _ _ c.in_err-page.ensures.kind c.from_residual.ensures.1
