@@ -8,13 +8,13 @@ use tc_types::requests::{Ack, Body, Command, Form, Identity, Outcome, Request};
 use tc_types::rows::{PlacedRequest, Row, Tally};
 
 /// How many application processes there are, in turn.
-pub const PROCESSES: u32 = 10;
+const PROCESSES: u32 = 10;
 
 /// Who enters.
-pub const AUTHOR: &[u8] = b"a";
+const AUTHOR: &[u8] = b"a";
 
 /// Who withdraws and approves.
-pub const OTHER: &[u8] = b"b";
+const OTHER: &[u8] = b"b";
 
 /// The rows of an entry: the request, its move, a tally.
 pub type EntryRows = [Row; 3];
@@ -23,7 +23,7 @@ pub type EntryRows = [Row; 3];
 pub type WithdrawalRows = [Row; 4];
 
 /// What is written down of the request at this place of the list, from 0.
-pub fn form_of(place: u32) -> Option<Form> {
+fn form_of(place: u32) -> Option<Form> {
     Some(Form {
         apid: Apid::new((place % PROCESSES) as u16)?,
         ack: Ack {
@@ -42,7 +42,7 @@ pub fn form_of(place: u32) -> Option<Form> {
 }
 
 /// That request.
-pub fn request_of(place: u32) -> Option<Request> {
+fn request_of(place: u32) -> Option<Request> {
     let form = form_of(place)?;
     let count = SequenceCount::new((place / PROCESSES % 16_384) as u16)?;
     Some(Request {
@@ -63,7 +63,7 @@ pub fn request_of(place: u32) -> Option<Request> {
 }
 
 /// The row of a tally.
-pub fn tally(place: Place, amount: u32) -> Row {
+fn tally(place: Place, amount: u32) -> Row {
     Row::Tallied(Tally { place, amount })
 }
 

@@ -1,7 +1,7 @@
 //! Questions, and what each costs.
 use crate::clocks::nanoseconds_each;
 use crate::entries::{EntryRows, entry_rows, later_row};
-use crate::subjects::Subject;
+use crate::stores::{MOST_TOLD, in_memory};
 use sqlite::MemStore;
 use std::alloc::Global;
 use std::rt::Clock;
@@ -73,7 +73,7 @@ fn write_all_moves(alloc: Global, tables: &mut Tables<MemStore>, rows: u32) -> O
 
 /// The bare store with so many moves, of up to 60,000 requests.
 pub fn filled(alloc: Global, rows: u32) -> Option<Tables<MemStore>> {
-    let mut tables = Tables::opened(alloc)?;
+    let mut tables = in_memory(alloc)?;
     for place in 0..requests_in(rows) {
         write_request(&mut tables, place)?;
     }
@@ -82,32 +82,32 @@ pub fn filled(alloc: Global, rows: u32) -> Option<Tables<MemStore>> {
 }
 
 /// How long it took to ask so often how many requests stand at each place.
-fn places_took<R: Clock, S: Subject>(rt: &R, subject: &mut S) -> Option<Duration> {
+fn places_took<R: Clock>(rt: &R, tables: &mut Tables<MemStore>) -> Option<Duration> {
     let start = Instant::now(rt).ok()?;
     for _ in 0..CALLS {
-        subject.counted()?;
+        tables.counts().ok()?;
     }
     start.elapsed(rt).ok()
 }
 
 /// How long it took to ask so often for the first moves of a request.
-fn history_took<R: Clock, S: Subject>(rt: &R, subject: &mut S, request: u32) -> Option<Duration> {
+fn history_took<R: Clock>(rt: &R, tables: &mut Tables<MemStore>, request: u32) -> Option<Duration> {
     let start = Instant::now(rt).ok()?;
     for _ in 0..CALLS {
-        subject.told(request)?;
+        tables.history_of(request, 0, MOST_TOLD).ok()?;
     }
     start.elapsed(rt).ok()
 }
 
 /// Asks both questions. Tells how many nanoseconds each took, and how many moves of the request are told.
-pub fn reads_text<R: Clock, S: Subject>(
+pub fn reads_text<R: Clock>(
     rt: &R,
     alloc: Global,
-    subject: &mut S,
+    tables: &mut Tables<MemStore>,
     request: u32,
 ) -> Option<String> {
-    let places = nanoseconds_each(CALLS, places_took(rt, subject)?);
-    let history = nanoseconds_each(CALLS, history_took(rt, subject, request)?);
-    let told = subject.told(request)?;
+    let places = nanoseconds_each(CALLS, places_took(rt, tables)?);
+    let history = nanoseconds_each(CALLS, history_took(rt, tables, request)?);
+    let told = tables.history_of(request, 0, MOST_TOLD).ok()?.len();
     format!(in alloc; "reads {places} {history}\n{told}\n").ok()
 }

@@ -1,76 +1,61 @@
-//! The bare store.
+//! The bare store: tables in memory or in a file, and what is written to them.
 use crate::entries::{EntryRows, WithdrawalRows, entry_rows, withdrawal_rows};
-use crate::flights;
-use crate::flights::{ApprovalRows, ConfirmationRows, ReleaseRows};
-use crate::subjects::{MOST_TOLD, Subject};
-use sqlite::{Connection, MemStore};
+use sqlite::{Alter, Connection, MemStore};
+use sqlite_disk::Wary;
+use sqlite_std_file::FileFrom;
+use sqlite_store::FileStore;
 use std::alloc::Global;
 use tc_store::tables::Tables;
-use tc_types::places::PLACES;
 
-impl Subject for Tables<MemStore> {
-    fn opened(alloc: Global) -> Option<Tables<MemStore>> {
-        let conn = Connection::open_in_memory(alloc).ok()?;
-        match Tables::create(alloc, conn) {
-            Ok(tables) => Some(tables),
-            Err(_) => None,
-        }
-    }
+/// How many moves of a request are told at most: as many as the room asks its tables for.
+pub const MOST_TOLD: u32 = 51;
 
-    fn enters(&mut self, place: u32) -> Option<()> {
-        let rows: EntryRows = entry_rows(place)?;
-        self.write(&rows).ok()
-    }
+/// The store of a file.
+pub type InFile = FileStore<FileFrom<Wary>>;
 
-    fn withdraws(&mut self, place: u32, count: u32) -> Option<()> {
-        let rows: WithdrawalRows = withdrawal_rows(place, count)?;
-        self.write(&rows).ok()
+/// New tables in a database.
+fn made<S: Alter + Drop>(alloc: Global, conn: Connection<S>) -> Option<Tables<S>> {
+    match Tables::create(alloc, conn) {
+        Ok(tables) => Some(tables),
+        Err(_) => None,
     }
+}
 
-    fn starts(&mut self) -> Option<()> {
-        self.write(&[]).ok()
-    }
+/// New tables in memory.
+pub fn in_memory(alloc: Global) -> Option<Tables<MemStore>> {
+    made(alloc, Connection::open_in_memory(alloc).ok()?)
+}
 
-    fn flies(&mut self, place: u32) -> Option<()> {
-        let entered: EntryRows = flights::entry_rows(place)?;
-        self.write(&entered).ok()?;
-        let approved: ApprovalRows = flights::approval_rows(place)?;
-        self.write(&approved).ok()?;
-        let released: ReleaseRows = flights::release_rows(place)?;
-        self.write(&released).ok()?;
-        self.write(&[]).ok()?;
-        self.write(&[]).ok()?;
-        let confirmed: ConfirmationRows = flights::confirmation_rows(place)?;
-        self.write(&confirmed).ok()?;
-        self.write(&[]).ok()
+/// New tables in a file, which is made.
+pub fn in_file(rt: &HostRuntime, file: &str) -> Option<Tables<InFile>> {
+    match Connection::open_from(rt, file, false, Wary) {
+        Ok(conn) => made(rt.alloc(), conn),
+        Err(_) => None,
     }
+}
 
-    fn enables(&mut self) -> Option<()> {
-        None
-    }
+/// Closes the database of a file.
+pub fn closed(tables: Tables<InFile>) -> Option<()> {
+    tables.into_connection().close().ok()
+}
 
-    fn spends(&mut self, _night: u32) -> Option<()> {
-        None
-    }
+/// Writes the batch of the entry at this place of the list, from 0.
+pub fn enter<S: Alter + Drop>(tables: &mut Tables<S>, place: u32) -> Option<()> {
+    let rows: EntryRows = entry_rows(place)?;
+    tables.write(&rows).ok()
+}
 
-    fn loads(&mut self, _alloc: Global, _number: u32, _text: &[u8]) -> Option<()> {
-        None
-    }
-
-    fn counted(&mut self) -> Option<[u32; PLACES]> {
-        self.counts().ok()
-    }
-
-    fn told(&mut self, request: u32) -> Option<usize> {
-        Some(self.history_of(request, 0, MOST_TOLD).ok()?.len())
-    }
+/// Writes the batch of its withdrawal, where so many were entered in all, and those before it were withdrawn.
+pub fn withdraw<S: Alter + Drop>(tables: &mut Tables<S>, place: u32, count: u32) -> Option<()> {
+    let rows: WithdrawalRows = withdrawal_rows(place, count)?;
+    tables.write(&rows).ok()
 }
 
 /// Enters so many requests, and tells the moves of each in turn.
 pub fn history_text(alloc: Global, count: u32) -> Option<String> {
-    let mut tables = Tables::opened(alloc)?;
+    let mut tables = in_memory(alloc)?;
     for place in 0..count {
-        tables.enters(place)?;
+        enter(&mut tables, place)?;
     }
     let mut text = String::new(alloc);
     for request in 1..=count {
