@@ -3,24 +3,20 @@
 # wall time, the user and kernel time of the run with the least of both together, its acts a second in the first tenth and in
 # the last, and the most memory. Of the questions there is one run, in which each is asked 2,000 times.
 #
-# The room takes acts call by call (tc_bench). Beside it stand the bare store, which writes the same rows in the same
-# batches (tc_bench), scripts of short lines through the built program, and SQLite's own C library, which writes the rows
+# Scripts of short lines go through the built program. Beside it stand the bare store, which writes the same rows in the same
+# batches in memory and in a file (tc_bench), and SQLite's own C library, which writes the rows
 # of entries by the same texts in memory and in a file (tools/bench_sqlite.c), where its headers are installed (Debian's
 # libsqlite3-dev). Each has to tell as many requests where they stand as were entered, or withdrawn. Times are given as
 # multiples of the user time of the bare store and of that of the C library in memory.
 #
 # Less is measured where these words are set: COUNTS, how many requests are entered; HALF, how many are entered and then
-# withdrawn; FLIGHTS, how many fly, each in seven acts; NIGHTS, how many nights of 60 activities pass; STORE_ROWS, of how many
-# moves questions are asked on the bare store; ROOM_COUNTS, of how many requests that were entered and withdrawn in the room.
+# withdrawn; STORE_ROWS, of how many moves questions are asked on the bare store.
 set -eu -o pipefail
 top=$(cd "$(dirname "$(readlink -f "$0")")/.." && pwd)
 runs=${1:-5}
 counts=${COUNTS:-1000 10000 30000 60000}
 half=${HALF:-20000}
-flights=${FLIGHTS:-20000}
-nights=${NIGHTS:-100}
 store_rows=${STORE_ROWS:-1000 900000}
-room_counts=${ROOM_COUNTS:-500 65535}
 began="$(date -u +%F), $(nproc) cores, a load of $(cut -d ' ' -f 1 /proc/loadavg) before it began"
 work=$(mktemp -d)
 trap 'rm -rf "$work"' EXIT
@@ -117,8 +113,8 @@ echo "| What | Wall s | User s | Kernel s | Acts a user second | Times the store
 echo "|---|---|---|---|---|---|---|---|---|---|---|---|"
 zeros="0 0 0 0 0 0 0 0 0 0 0 0 0 0"
 for count in $counts; do
-    timed "entries, the room" "$count" "$count" "$bare" "$count" room
     timed "entries, the bare store" "$count" "$count" "$bare" "$count" store
+    timed "entries, the bare store in a file" "$count" "$count" "$bare" "$count" store "$work/file"
     enters "$count" >"$work/script"
     if (($(stat -c %s "$work/script") <= 1048576)); then
         timed '`enter`, a script' "$count" "places $count: $count $zeros" "$program" run "$work/script"
@@ -129,18 +125,12 @@ for count in $counts; do
     fi
     rows "entries, the bare store"
 done
-timed "acts, half entries, then half withdrawals, the room" $((half * 2)) "$half" "$bare" "$half" room-moves
-timed "the same, the bare store" $((half * 2)) "$half" "$bare" "$half" store-moves
+timed "acts, half entries, then half withdrawals, the bare store" $((half * 2)) "$half" "$bare" "$half" store-moves
 { enters "$half"; withdraws "$half"; } >"$work/script"
 if (($(stat -c %s "$work/script") <= 1048576)); then
     timed "the same, a script" $((half * 2)) "places $half: 0 0 0 0 0 0 0 0 0 0 0 0 $half 0 0" "$program" run "$work/script"
 fi
-rows "the same, the bare store"
-timed "acts, flights of seven, the room" $((flights * 7)) "$flights" "$bare" "$flights" room-flights
-timed "the same rows, the bare store" $((flights * 7)) "$flights" "$bare" "$flights" store-flights
-rows "the same rows, the bare store"
-timed "acts, nights of 721, the room" $((nights * 721)) $((nights * 120 + 1)) "$bare" "$nights" room-nights
-rows "none"
+rows "acts, half entries, then half withdrawals, the bare store"
 
 echo
 echo '| Asked of | `places`, microseconds | `history`, microseconds | MB |'
@@ -149,9 +139,5 @@ echo "|---|---|---|---|"
 runs=1
 for count in $store_rows; do
     timed "the bare store, 51 told" "$count" 51 "$bare" "$count" store-reads
-    read_row
-done
-for count in $room_counts; do
-    timed "the room, 2 told" $((count * 2)) 2 "$bare" "$count" room-reads
     read_row
 done

@@ -1,8 +1,8 @@
 #!/bin/bash
 # The gate, from nothing: the layout of files, every proof, all tests and the program as two compilers build it, with the few edits of
 # must-fail/ (`rt ci`); the edits of wrong/, many in a check, and the test of the tool that tries them; then the built
-# program's words, files, statuses, desks that are kept in a file, faulty streams, each of its requests for memory refused in turn, and a stop at
-# each of its calls on the files of a desk.
+# program's words, files, statuses, every line of long random scripts beside a plain desk in Python, what lies in its tables, desks that are kept in a file,
+# faulty streams, each of its requests for memory refused in turn, a stop at each of its calls on the files of a desk, and the desk over HTTP, by real sockets.
 # It stops at the first part that fails. At its end it prints what each part took: docs/GATE.md has that table for each
 # landing.
 #
@@ -63,6 +63,10 @@ part "the program runs" sh -c './tcdesk run - </dev/null >/dev/null'
 part "program cases" tools/program_cases.sh
 part "desks that are kept" tools/kept_cases.sh
 part "the shift report" tools/report_cases.py
+part "a plain desk: acts on the book" tools/plain_book.py
+part "a plain desk: the link" tools/plain_link.py
+part "what lies in the tables" tools/written_cases.py
+part "what was left, and changed" tools/changed_cases.py
 part "tables that no desk wrote" tools/broken_cases.py
 part "desks opened again and again" tools/many_days.py
 part "streams that fail" tools/stream_cases.sh
@@ -70,5 +74,9 @@ part "memory refused" tools/fail_alloc.sh
 part "memory refused to a load" tools/fail_load.sh
 part "memory refused to a desk that is kept" tools/fail_kept.sh
 part "stopped at each call on its files" tools/stop_kept.py
+part "HTTP over sockets" tools/http_cases.py
+part "HTTP that fails" tools/fail_http.py
+part "loop beside run" tools/loop_cases.sh
+part "the curl lines of the manual" tools/curl_cases.sh
 table
 echo "gate: all parts passed"
