@@ -1,5 +1,6 @@
--- What a line is answered in a room.
-use Rattle.std.specs.Prelude.{◌≡◌, ◌≢◌, ◌≤◌, ◌↔◌, ◌⊎◌, ℕ, List, length}
+-- What is answered in a room.
+use Rattle.std.specs.Prelude.{◌≡◌, ◌≢◌, ◌≤◌, ◌↔◌, ◌⊎◌, ℕ, false, List, length, Option, Some, None, Result, Ok, Err}
+use Rattle.std.specs.String.{string_bytes}
 use Rattle.sqlite_trees.specs.declared.store.Store.{Ghosts}
 use Rattle.tc_types.specs.declared.refusals.Refusal.{Refusal}
 use Rattle.tc_types.specs.declared.refusals.Refusal.TheVariants.{BadText, TooLong}
@@ -10,7 +11,10 @@ use Rattle.tc_types.specs.ActGrammar.{HasLongAct, SpellsLine, act_text}
 use Rattle.tc_book.specs.declared.stamps.Stamp.{Stamp}
 use Rattle.tc_desk.specs.Machine.{stamp_of}
 use Rattle.tc_desk.specs.Replies.{Reply, refusal_reply}
+use Rattle.tc_room.specs.declared.answers.Answer.{Answer}
+use Rattle.tc_room.specs.declared.answers.Untold.{Untold}
 use Rattle.tc_room.specs.Joined.{Standing}
+use Rattle.tc_room.specs.Replies.{ended, is_refused}
 use Rattle.tc_room.specs.Room.{RoomStep}
 
 -- A line that is refused as it is read: with TooLong exactly where its act is too long, and else with BadText, where no
@@ -29,3 +33,13 @@ AnswersLine g old line reply new =
 -- the question `places`, whoever asks
 abbrev pub AsksPlaces : {S : Type 0} → Ghosts S → Standing S → Reply → Standing S → Type 0
 AsksPlaces g old reply new = (stamp : Stamp) → RoomStep g old stamp (act.Ask query.Places) reply new
+
+-- what a reply refuses with, if it is a refusal
+abbrev pub RefusesWith : Reply → Option Refusal → Type 0
+RefusesWith reply None = is_refused reply ≡ false
+RefusesWith reply (Some refusal) = reply ≡ refusal_reply refusal
+
+-- the text of a reply, or that there was no memory for it, and in either case what it refuses with
+abbrev pub Says : Reply → Result Answer Untold → Type 0
+Says reply (Ok answer) = (string_bytes answer.text ≡ ended reply) × RefusesWith reply answer.refusal
+Says reply (Err untold) = RefusesWith reply untold.refusal

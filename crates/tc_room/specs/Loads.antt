@@ -6,7 +6,7 @@ use Rattle.sqlite.specs.State.{HasCleanDisk}
 use Rattle.tc_types.specs.declared.loads.LoadKind.{LoadKind}
 use Rattle.tc_types.specs.declared.loads.LoadKind.TheVariants as kind
 use Rattle.tc_types.specs.declared.refusals.Refusal.{Refusal}
-use Rattle.tc_types.specs.declared.refusals.Refusal.TheVariants.{Memory, Store, Stopped}
+use Rattle.tc_types.specs.declared.refusals.Refusal.TheVariants.{Memory, Store, Stopped, TooLong}
 use Rattle.tc_types.specs.Loads.{LoadLine}
 use Rattle.tc_csv.specs.declared.faults.Fault.{Fault}
 use Rattle.tc_csv.specs.Faults.{rule_refusal}
@@ -41,6 +41,10 @@ SpellsLoading kind.Procedure name text given = (steps : List Step) × SpellsProc
 abbrev pub IsTextFault : LoadKind → List ℕ → Fault → Type 0
 IsTextFault kind.Stack text fault = IsStackFault text fault
 IsTextFault kind.Procedure text fault = IsProcedureFault text fault
+
+-- a text of this kind is refused as too long: that is the first rule that it breaks
+abbrev pub IsTooLong : LoadKind → List ℕ → Type 0
+IsTooLong kind text = (fault : Fault) × IsTextFault kind text fault × (rule_refusal fault.rule ≡ TooLong)
 
 -- why a text is not read: it breaks a rule, the first that it breaks, or memory was refused
 abbrev pub IsNotRead : LoadKind → List ℕ → Refusal → Type 0

@@ -6,7 +6,7 @@ pub mod answers;
 pub mod closed;
 pub mod counts;
 pub mod desks;
-mod loadings;
+pub mod loadings;
 pub mod opening;
 pub mod replies;
 pub mod rooms;

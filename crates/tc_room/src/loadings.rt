@@ -1,20 +1,23 @@
-//! What is loaded: a stack or a procedure, read from a text and taken by a desk.
-ghost use Rattle.std.specs.Prelude.{◌≡◌, ℕ, List, IfErr, IfOk};
+//! What is loaded: a stack or a procedure, read from a text and taken by a desk; and whether a text is too long for either.
+ghost use Rattle.std.specs.Prelude.{◌≡◌, ◌↔◌, ℕ, List, Some, IfErr, IfOk, IfSome, IsTrue};
 ghost use Rattle.tc_types.specs.Tables.{applied};
 ghost use Rattle.tc_types.specs.declared.loads.LoadKind.TheVariants as load_kind;
+ghost use Rattle.tc_types.specs.declared.refusals.Refusal.TheVariants.{Memory};
+ghost use Rattle.tc_csv.specs.declared.faults.Fault.{Fault as SomeFault};
 ghost use Rattle.tc_book.specs.Good.{IsGoodBook};
 ghost use Rattle.tc_book.specs.Tables.{image_of};
 ghost use Rattle.tc_desk.specs.Headline.{TellsTrue};
 ghost use Rattle.tc_desk.specs.Loads.{LoadAnswers};
 ghost use Rattle.tc_desk.specs.Machine.{rows_new};
-ghost use Rattle.tc_room.specs.Loads.{IsNotRead, SpellsLoading, loading_of};
+ghost use Rattle.tc_room.specs.Loads.{IsNotRead, IsTextFault, IsTooLong, SpellsLoading, loading_of};
 
 use crate::desks::ListDesk;
 use std::alloc::Global;
+use tc_csv::faults::Fault;
 use tc_desk::dones::Done;
 use tc_proc::procedures::Procedure;
-use tc_proc::readers::read_procedure;
-use tc_stack::readers::read_stack;
+use tc_proc::readers::{read_procedure, why_no_procedure};
+use tc_stack::readers::{read_stack, why_no_stack};
 use tc_stack::stacks::Stack;
 use tc_types::loads::LoadKind;
 use tc_types::names::Name;
@@ -61,6 +64,32 @@ pub(crate) fn read(alloc: Global, kind: LoadKind, text: &[u8]) -> Result<Spelled
     match kind {
         LoadKind::Stack => stack_of(alloc, text),
         LoadKind::Procedure => procedure_of(alloc, text),
+    }
+}
+
+/// Why a text of this kind spells nothing: the first rule that it breaks, and where; `None` where it spells something. It is refused for want of
+/// memory alone.
+fn why_unread(alloc: Global, kind: LoadKind, text: &[u8]) -> Result<Option<Fault>, Refusal>
+    ensures told { IfOk result (λ told. IfSome told (IsTextFault kind text.now)) }
+    ensures only { (fault : SomeFault) → IsTextFault kind text.now fault → IfOk result (λ told. told ≡ Some fault) }
+    ensures refused { IfErr result (λ why. why ≡ Memory) }
+{
+    match kind {
+        LoadKind::Stack => why_no_stack(alloc, text),
+        LoadKind::Procedure => why_no_procedure(alloc, text),
+    }
+}
+
+/// Whether a text of this kind is refused with `TooLong`: it has more than 65,536 bytes, or more rows than its kind may have, 200 of a stack and
+/// 100 of a procedure, and that is the first rule that it breaks. It is refused itself for want of memory alone.
+pub fn is_too_long(alloc: Global, kind: LoadKind, text: &[u8]) -> Result<bool, Refusal>
+    ensures told { IfOk result (λ told. IsTrue told ↔ IsTooLong kind text.now) }
+    ensures refused { IfErr result (λ why. why ≡ Memory) }
+{
+    let why = why_unread(alloc, kind, text)?;
+    match why {
+        Some(fault) => Ok(fault.rule.refusal() == Refusal::TooLong),
+        None => Ok(false),
     }
 }
 

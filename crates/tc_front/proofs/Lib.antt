@@ -1,0 +1,8 @@
+pub mod EndLemmas
+pub mod WordLemmas
+pub mod FieldLemmas
+pub mod JudgeLemmas
+pub mod FrontLemmas
+pub mod WantedLemmas
+pub mod ReadLemmas
+pub mod WriteLemmas

@@ -1,0 +1,18 @@
+-- The reading of a request.
+use Rattle.std.specs.Prelude.{◌≡◌, ℕ, ◌<◌, ◌⊎◌, List, ◌++◌}
+use Rattle.tc_types.specs.declared.counted.Counts.{Counts}
+use Rattle.tc_front.specs.Front.{Asked, IsDecided}
+
+-- no front of this text decides
+abbrev pub NoFront : List ℕ → Type 0
+NoFront text = (front rest : List ℕ) (asked : Asked) → text ≡ front ++ rest → ¬ (IsDecided front asked)
+
+-- the reader failed once, or ended once, or was read 100,000 times
+abbrev pub HasStopped : Counts → Type 0
+HasStopped counts = (counts.faults ≡ 1) ⊎ ((counts.ends ≡ 1) ⊎ (counts.reads ≡ 100000))
+
+-- it did neither, and was read fewer times
+pub record CanGoOn (counts : Counts) : Type 0 where
+  pub faults : counts.faults ≡ 0
+  pub ends : counts.ends ≡ 0
+  pub reads : counts.reads < 100000

@@ -1,0 +1,18 @@
+//! The front of an HTTP input: what it decides, the reading of it, and the writing of an answer.
+//!
+//! An HTTP/1.x request (RFC 9112) is taken from bytes that come in pieces. A front of them *decides* once it holds a
+//! whole request, or enough to refuse it. `decide` says what a front decides, `read_front` reads until one does, and
+//! `write_whole` writes all bytes of an answer. What is asked then, of a body in JSON or of a question, is not this
+//! crate's.
+#![tactic(auto)]
+
+mod ends;
+mod fields;
+pub mod front;
+mod heads;
+pub mod judge;
+pub mod laws;
+mod questions;
+pub mod read;
+mod watch;
+pub mod write;

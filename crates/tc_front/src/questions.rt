@@ -1,0 +1,51 @@
+//! The question that a path asks, by the numbers in it.
+ghost use Rattle.tc_front.specs.Judge.{AsksFor, AsksHistory, AsksReport, AsksRequest};
+ghost use Rattle.tc_routes.specs.Paths.{texts_of};
+
+use tc_routes::paths::Question;
+use tc_types::acts::Query;
+use tc_types::readers::{moment, number};
+
+/// What a path asks: nothing where a number in it is not in form, or past its range.
+pub(crate) fn query_of(question: Question<'_>) -> Option<Query>
+    ensures { AsksFor (texts_of question.entry) result }
+{
+    match question {
+        Question::Places => Some(Query::Places),
+        Question::Request { number } => request_query(number),
+        Question::History { request, after } => history_query(request, after),
+        Question::Report { from, to } => report_query(from, to),
+    }
+}
+
+/// Request `word`.
+fn request_query(word: &[u8]) -> Option<Query>
+    ensures { AsksRequest word.now result }
+{
+    let request = number(word)?;
+    Some(Query::Request { request })
+}
+
+/// The history of request `first` behind row `second`.
+fn history_query(first: &[u8], second: &[u8]) -> Option<Query>
+    ensures { AsksHistory first.now second.now result }
+{
+    let request = number(first);
+    let after = number(second);
+    Some(Query::History {
+        request: request?,
+        after: after?,
+    })
+}
+
+/// The shift from `first` to before `second`.
+fn report_query(first: &[u8], second: &[u8]) -> Option<Query>
+    ensures { AsksReport first.now second.now result }
+{
+    let from = moment(first);
+    let to = moment(second);
+    Some(Query::Report {
+        from: from?,
+        to: to?,
+    })
+}

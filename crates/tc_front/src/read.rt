@@ -1,0 +1,78 @@
+//! The reading of a request.
+ghost use Rattle.std.specs.Prelude.{◌≡◌, ◌≢◌, ◌≤◌, [], Err, IfSome, OnErr, OnOk};
+ghost use Rattle.std.specs.Io.KnownBytes.{Consumes};
+ghost use Rattle.tc_types.specs.Counts.{counts_of, inner_of, no_counts};
+ghost use Rattle.tc_front.specs.Front.{Asked, IsDecided, Waits};
+ghost use Rattle.tc_front.specs.Read.{CanGoOn, HasStopped, NoFront};
+
+use crate::watch::Watch;
+use std::alloc::AllocError;
+use std::io::Read;
+use tc_routes::routes::Routes;
+use tc_types::counted::Counted;
+
+/// How many times a reader is read at most. It is this desk's own limit.
+pub const MOST_READS: u64 = 100_000;
+
+/// Why no request was read.
+#[derive(Clone, Copy, Debug, PartialEq, Eq)]
+pub enum FrontFault {
+    /// The reader failed, ended or was read 100,000 times before a front of the input decided.
+    Unread,
+    /// There was no memory to read on.
+    Memory,
+}
+
+impl From<AllocError> for FrontFault {
+    ghost use Rattle.std.specs.Prelude.{◌≡◌};
+    ghost use Rattle.tc_front.specs.declared.read.FrontFault.TheVariants.{Memory};
+
+    ghost from_gives = { λ _ fault. fault ≡ Memory };
+
+    fn from(_error: AllocError) -> FrontFault {
+        FrontFault::Memory
+    }
+}
+
+/// Reads until a front of the input decides: `decide` then says what `text` decides, which is what the shortest front does
+/// that decides, and all that the reader had. What was read stands in `text`, however it ends: it may be more than the
+/// front that decides.
+///
+/// # Errors
+///
+/// `Unread` where the reader failed, ended or was read 100,000 times, and `Memory` where there was no memory for what would
+/// be read next. No front of what was read decides then.
+pub fn read_front<R: Read>(
+    routes: &Routes,
+    reader: &mut Counted<R>,
+    text: &mut Vec<u8>,
+) -> Result<(), FrontFault>
+    requires fresh { counts_of reader.old ≡ no_counts }
+    requires empty { text.old.items ≡ [] }
+    ensures taken { Consumes (R.remaining (inner_of reader.old)) (R.remaining (inner_of reader.new)) text.new.items }
+    ensures decided { OnOk result ((asked : Asked) × IsDecided text.new.items asked) }
+    ensures whole { OnOk result ((asked : Asked) → IsDecided text.new.items asked → IfSome (R.remaining (inner_of reader.old)) (λ input. IsDecided input asked)) }
+    ensures unread { result ≡ Err FrontFault.Unread → HasStopped (counts_of reader.new) }
+    ensures memory { result ≡ Err FrontFault.Memory → CanGoOn (counts_of reader.new) }
+    ensures waits { OnErr result (Waits text.new.items) }
+    ensures fronts { OnErr result (NoFront text.new.items) }
+    ensures failed { (counts_of reader.new).faults ≢ 0 → result ≡ Err FrontFault.Unread }
+    ensures reads { (counts_of reader.new).reads ≤ MOST_READS }
+{
+    let mut buffer = [0; 4096];
+    let mut watch = Watch::new();
+    for _ in 0..MOST_READS {
+        text.reserve(buffer.len())?;
+        let Ok(count) = reader.read(&mut buffer) else {
+            return Err(FrontFault::Unread);
+        };
+        if count == 0 {
+            return Err(FrontFault::Unread);
+        }
+        text.extend_from_slice(&buffer[..count])?;
+        if watch.decides(routes, text) {
+            return Ok(());
+        }
+    }
+    Err(FrontFault::Unread)
+}

@@ -1,0 +1,6 @@
+mod SeekLaws
+mod WalkLaws
+mod PathLaws
+mod RouteLaws
+mod TextLaws
+mod DeskLaws

@@ -1,0 +1,2 @@
+mod MatchLemmas
+mod NumberLemmas

@@ -1,0 +1,97 @@
+-- What the matches of a command line's words ask for.
+use Rattle.std.specs.Prelude.{◌≡◌, ◌⊎◌, if◌then◌else◌, ℕ, List, Option, None, Some, codes, false, unwrap_or}
+use Rattle.std.specs.Fmt.{decimal}
+use Rattle.std.specs.Str.{bytes_eq}
+use Rattle.std.specs.Str.Parse.{digits_value, without_leading_plus}
+use Rattle.clap.specs.ValueTests.{accepts}
+use Rattle.clap.specs.Words.{Row, Text, first_of, one_of}
+use Rattle.clap.specs.declared.builder.value_parser.ValueParser.TheVariants as parser
+use Rattle.tc_types.specs.Numbers.{IsMoment}
+use Rattle.tc_stack.specs.StackTexts.{IsInstant}
+
+-- A command with what it was given. Where a desk is made or opened, its window and channel; where it is kept in a file, that file, and where it
+-- is opened there the moment of the opening. A run has a script; a report what stands for FROM and TO; a server its port and how many
+-- connections it serves; a loop a script.
+pub data Asked : Type 0 where
+  run : (script : Text) (window channel : ℕ) → Asked
+  run_kept : (script : Text) (window channel : ℕ) (database : Text) (moment : ℕ) → Asked
+  report : (database begins ends : Text) → Asked
+  serve : (database : Text) (port count window channel moment : ℕ) → Asked
+  loop : (database script : Text) (window channel moment : ℕ) → Asked
+
+-- ---- what the arguments were given
+
+-- the text that was given for an argument, or `-` where there was none
+abbrev pub given : Text → List Row → Text
+given id rows = unwrap_or (first_of id rows) (codes "-")
+
+-- The number that a text writes where that is one from least to most, and else another. The command's parser lets no
+-- other text through.
+abbrev pub number_in : ℕ → ℕ → ℕ → Option Text → ℕ
+number_in least most other None = other
+number_in least most other (Some text) =
+    if accepts false (parser.Unsigned least most) text then digits_value 10 (without_leading_plus text) else other
+
+-- the window that was given, or stands in the rows by default
+abbrev pub given_window : List Row → ℕ
+given_window rows = number_in 2 254 20 (one_of (codes "w") rows)
+
+-- the channel that was given, or stands in the rows by default
+abbrev pub given_channel : List Row → ℕ
+given_channel rows = number_in 0 63 3 (one_of (codes "vc") rows)
+
+-- the moment that was given, or stands in the rows by default
+abbrev pub given_moment : List Row → ℕ
+given_moment rows = number_in 0 4102444799 0 (one_of (codes "at") rows)
+
+-- the port that was given
+abbrev pub given_port : List Row → ℕ
+given_port rows = number_in 1 65535 1 (one_of (codes "PORT") rows)
+
+-- how many connections were given
+abbrev pub given_count : List Row → ℕ
+given_count rows = number_in 1 1000000 1 (one_of (codes "COUNT") rows)
+
+-- ---- what the commands were given
+
+-- what a run was given, where a database file was, or none
+abbrev pub asked_with : Option Text → List Row → Asked
+asked_with None rows = run (given (codes "SCRIPT") rows) (given_window rows) (given_channel rows)
+asked_with (Some database) rows = run_kept (given (codes "SCRIPT") rows) (given_window rows) (given_channel rows) database (given_moment rows)
+
+-- what a run was given
+abbrev pub asked_run : List Row → Asked
+asked_run rows = asked_with (first_of (codes "db") rows) rows
+
+-- what a report was given
+abbrev pub asked_report : List Row → Asked
+asked_report rows = report (given (codes "DB") rows) (given (codes "FROM") rows) (given (codes "TO") rows)
+
+-- what a server was given
+abbrev pub asked_serve : List Row → Asked
+asked_serve rows = serve (given (codes "DB") rows) (given_port rows) (given_count rows) (given_window rows) (given_channel rows) (given_moment rows)
+
+-- what a loop was given
+abbrev pub asked_loop : List Row → Asked
+asked_loop rows = loop (given (codes "DB") rows) (given (codes "SCRIPT") rows) (given_window rows) (given_channel rows) (given_moment rows)
+
+-- what the command of this name was given
+abbrev pub asked_of : Text → List Row → Asked
+asked_of name rows =
+    if bytes_eq name (codes "report") then asked_report rows else
+    if bytes_eq name (codes "serve") then asked_serve rows else
+    if bytes_eq name (codes "loop") then asked_loop rows else asked_run rows
+
+-- what the matches of a command ask for, where none is `run -`
+abbrev pub asked : Option (Text × List Row) → Asked
+asked None = run (codes "-") 20 3
+asked (Some command) = asked_of command.0 command.1
+
+-- ---- the moments of a report
+
+-- a text spells a moment: as Unix seconds, or as an instant
+abbrev pub SpellsMoment : ℕ → Text → Type 0
+SpellsMoment moment text = IsMoment moment × ((text ≡ decimal moment) ⊎ IsInstant moment text)
+
+abbrev pub SpellsNoMoment : Text → Type 0
+SpellsNoMoment text = (moment : ℕ) → ¬ SpellsMoment moment text

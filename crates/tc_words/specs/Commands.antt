@@ -1,0 +1,114 @@
+-- The commands of the program, as `clap` takes them.
+use Rattle.std.specs.Prelude.{[], ◌∷◌, Some, codes, true}
+use Rattle.clap.specs.Words.{App, Rule, Text, new_app, new_rule, with_rule, with_subcommand}
+use Rattle.clap.specs.declared.builder.value_parser.ValueParser.TheVariants as parser
+
+-- ---- the arguments
+
+-- a positional argument that has to be given
+abbrev pub required_rule : Text → Rule
+required_rule id = record (new_rule id) { required = true }
+
+-- SCRIPT: the path of a script, or `-` for the standard input
+abbrev pub script_rule : Rule
+script_rule = required_rule (codes "SCRIPT")
+
+-- DB: the database file that keeps a desk
+abbrev pub file_rule : Rule
+file_rule = required_rule (codes "DB")
+
+-- FROM: the first moment of a shift
+abbrev pub from_rule : Rule
+from_rule = required_rule (codes "FROM")
+
+-- TO: the first moment after the shift
+abbrev pub to_rule : Rule
+to_rule = required_rule (codes "TO")
+
+-- PORT: the port at which a desk is served, 1 to 65,535
+abbrev pub port_rule : Rule
+port_rule = record (required_rule (codes "PORT")) { parser = Some (parser.Unsigned 1 65535) }
+
+-- COUNT: how many connections are served, 1 to 1,000,000
+abbrev pub count_rule : Rule
+count_rule = record (required_rule (codes "COUNT")) { parser = Some (parser.Unsigned 1 1000000) }
+
+-- --w N: the window W of the FARM, 2 to 254, and 20 where it is not given
+abbrev pub window_rule : Rule
+window_rule = record (new_rule (codes "w")) {
+  long = Some (codes "w");
+  value_names = 1;
+  defaults = codes "20" ∷ [];
+  parser = Some (parser.Unsigned 2 254);
+}
+
+-- --vc N: the virtual channel, 0 to 63, and 3 where it is not given
+abbrev pub channel_rule : Rule
+channel_rule = record (new_rule (codes "vc")) {
+  long = Some (codes "vc");
+  value_names = 1;
+  defaults = codes "3" ∷ [];
+  parser = Some (parser.Unsigned 0 63);
+}
+
+-- --db FILE: the database file that keeps the desk; a new desk where it is not given
+abbrev pub database_rule : Rule
+database_rule = record (new_rule (codes "db")) {
+  long = Some (codes "db");
+  value_names = 1;
+}
+
+-- --at MOMENT: when the desk in the file is opened, 0 to 4,102,444,799, and 0 where it is not given
+abbrev pub moment_rule : Rule
+moment_rule = record (new_rule (codes "at")) {
+  long = Some (codes "at");
+  value_names = 1;
+  defaults = codes "0" ∷ [];
+  parser = Some (parser.Unsigned 0 4102444799);
+}
+
+-- ---- the commands, each of whose options stands at most once
+
+-- run SCRIPT [--w N] [--vc N]
+abbrev pub script_app : App
+script_app = with_rule (with_rule (with_rule (new_app (codes "run")) script_rule) window_rule) channel_rule
+
+-- .. [--db FILE] [--at MOMENT]
+abbrev pub with_database : App → App
+with_database app = with_rule (with_rule app database_rule) moment_rule
+
+abbrev pub run_app : App
+run_app = with_database script_app
+
+-- report DB FROM TO
+abbrev pub report_app : App
+report_app = with_rule (with_rule (with_rule (new_app (codes "report")) file_rule) from_rule) to_rule
+
+-- .. [--w N] [--vc N] [--at MOMENT]
+abbrev pub with_desk : App → App
+with_desk app = with_rule (with_rule (with_rule app window_rule) channel_rule) moment_rule
+
+-- serve DB PORT COUNT [--w N] [--vc N] [--at MOMENT]
+abbrev pub serve_app : App
+serve_app = with_desk (with_rule (with_rule (with_rule (new_app (codes "serve")) file_rule) port_rule) count_rule)
+
+-- loop DB SCRIPT [--w N] [--vc N] [--at MOMENT]
+abbrev pub loop_app : App
+loop_app = with_desk (with_rule (with_rule (new_app (codes "loop")) file_rule) script_rule)
+
+-- the program's name, without its commands; one of them has to be named
+abbrev pub bare_app : App
+bare_app = let new = new_app (codes "tcdesk") in
+    record new { top = record new.top { subcommand_required = true } }
+
+-- the program, with the commands that run a script, or print what one came to
+abbrev pub script_apps : App
+script_apps = with_subcommand (with_subcommand bare_app run_app.top) report_app.top
+
+-- .. and with those that serve a desk over HTTP
+abbrev pub with_http : App → App
+with_http app = with_subcommand (with_subcommand app serve_app.top) loop_app.top
+
+-- the program, with its commands
+abbrev pub desk_app : App
+desk_app = with_http script_apps

@@ -1,0 +1,122 @@
+//! The arguments of the commands: which have to be given, which values pass, and what stands where none is given.
+ghost use Rattle.std.specs.Prelude.{◌≡◌, false};
+ghost use Rattle.clap.specs.Words.{rule_of};
+ghost use Rattle.tc_words.specs.Commands.{channel_rule, count_rule, database_rule, file_rule, from_rule, moment_rule, port_rule, required_rule, script_rule, to_rule};
+ghost use Rattle.tc_words.specs.Commands.{window_rule};
+
+use clap::Arg;
+use clap::builder::ValueParser;
+use std::alloc::Global;
+
+/// A positional argument that has to be given.
+fn required_arg<'a>(alloc: Global, id: &'a str, help: &'a str) -> Arg<'a>
+    ensures rule { rule_of result ≡ required_rule id.entry.now }
+    ensures local { result.global ≡ false }
+{
+    Arg::new(alloc, id).required(true).help(help)
+}
+
+pub(crate) fn script_arg<'a>(alloc: Global) -> Arg<'a>
+    ensures rule { rule_of result ≡ script_rule }
+    ensures local { result.global ≡ false }
+{
+    required_arg(
+        alloc,
+        "SCRIPT",
+        "The script's path, or - for the standard input",
+    )
+}
+
+pub(crate) fn file_arg<'a>(alloc: Global) -> Arg<'a>
+    ensures rule { rule_of result ≡ file_rule }
+    ensures local { result.global ≡ false }
+{
+    required_arg(alloc, "DB", "The database file that keeps the desk")
+}
+
+pub(crate) fn from_arg<'a>(alloc: Global) -> Arg<'a>
+    ensures rule { rule_of result ≡ from_rule }
+    ensures local { result.global ≡ false }
+{
+    required_arg(
+        alloc,
+        "FROM",
+        "The first moment of the shift: Unix seconds, or an instant such as 2031-05-04T10:00:00Z",
+    )
+}
+
+pub(crate) fn to_arg<'a>(alloc: Global) -> Arg<'a>
+    ensures rule { rule_of result ≡ to_rule }
+    ensures local { result.global ≡ false }
+{
+    required_arg(alloc, "TO", "The first moment after it, in the same forms")
+}
+
+pub(crate) fn port_arg<'a>(alloc: Global) -> Arg<'a>
+    ensures rule { rule_of result ≡ port_rule }
+    ensures local { result.global ≡ false }
+{
+    required_arg(
+        alloc,
+        "PORT",
+        "The port of 127.0.0.1 at which the desk is served: 1 to 65535",
+    )
+    .value_parser(ValueParser::Unsigned(1, 65_535))
+}
+
+pub(crate) fn count_arg<'a>(alloc: Global) -> Arg<'a>
+    ensures rule { rule_of result ≡ count_rule }
+    ensures local { result.global ≡ false }
+{
+    required_arg(
+        alloc,
+        "COUNT",
+        "How many connections are served, one after the other: 1 to 1000000",
+    )
+    .value_parser(ValueParser::Unsigned(1, 1_000_000))
+}
+
+pub(crate) fn window_arg<'a>(alloc: Global) -> Arg<'a>
+    ensures rule { rule_of result ≡ window_rule }
+    ensures local { result.global ≡ false }
+{
+    Arg::new(alloc, "w")
+        .long("w")
+        .value_name("N")
+        .value_parser(ValueParser::Unsigned(2, 254))
+        .default_value("20")
+        .help("The window of the FARM: even, 2 to 254")
+}
+
+pub(crate) fn channel_arg<'a>(alloc: Global) -> Arg<'a>
+    ensures rule { rule_of result ≡ channel_rule }
+    ensures local { result.global ≡ false }
+{
+    Arg::new(alloc, "vc")
+        .long("vc")
+        .value_name("N")
+        .value_parser(ValueParser::Unsigned(0, 63))
+        .default_value("3")
+        .help("The virtual channel: 0 to 63")
+}
+
+pub(crate) fn database_arg<'a>(alloc: Global) -> Arg<'a>
+    ensures rule { rule_of result ≡ database_rule }
+    ensures local { result.global ≡ false }
+{
+    Arg::new(alloc, "db").long("db").value_name("FILE").help(
+        "The database file that keeps the desk; it is made where there is none",
+    )
+}
+
+pub(crate) fn moment_arg<'a>(alloc: Global) -> Arg<'a>
+    ensures rule { rule_of result ≡ moment_rule }
+    ensures local { result.global ≡ false }
+{
+    Arg::new(alloc, "at")
+        .long("at")
+        .value_name("MOMENT")
+        .value_parser(ValueParser::Unsigned(0, 4_102_444_799))
+        .default_value("0")
+        .help("The moment at which the desk in the file is opened: Unix seconds, 0 to 4102444799")
+}

@@ -1,0 +1,138 @@
+//! The program's commands, and the matches of words that name one.
+ghost use Rattle.std.specs.Prelude.{◌≡◌, [], IfErr, IfOk, OnOk, false, map, true};
+ghost use Rattle.clap.specs.Words.{app_of, fault_of, kind_of, subcommand_of, subcommand_rows_of, takes};
+ghost use Rattle.clap.specs.declared.builder.command.Command.TheViews.{out-Command};
+ghost use Rattle.tc_words.specs.Commands.{bare_app, desk_app, loop_app, report_app, run_app, script_app, script_apps, serve_app};
+ghost use Rattle.tc_words.specs.Commands.{with_database, with_desk, with_http};
+
+use crate::arguments::{
+    channel_arg, count_arg, database_arg, file_arg, from_arg, moment_arg, port_arg, script_arg,
+    to_arg, window_arg,
+};
+use clap::error::ErrorKind;
+use clap::{ArgMatches, Command};
+use std::alloc::{AllocError, Global};
+
+/// The matches of a command line's words, of which the first is the program's name.
+pub(crate) fn matches<'a>(
+    alloc: Global,
+    words: &'a [&'a str],
+) -> Result<ArgMatches<'a>, clap::Error>
+    ensures rows { IfOk result (λ found. subcommand_rows_of found
+        ≡ subcommand_of desk_app (map (λ word. word.now) words.entry.now)) }
+    ensures taken { OnOk result (fault_of desk_app (map (λ word. word.now) words.entry.now) ≡ []) }
+    ensures fault { IfErr result (λ error.
+        takes desk_app (map (λ word. word.now) words.entry.now) ≡ true
+        → kind_of error ≡ ErrorKind.OutOfMemory) }
+{
+    desk_command(alloc)?.try_get_matches_from(words)
+}
+
+fn desk_command<'a>(alloc: Global) -> Result<Command<'a>, AllocError>
+    ensures app { IfOk result (λ command. app_of command ≡ desk_app) }
+    ensures local { IfOk result (λ command. (out-Command command).has_globals ≡ false) }
+{
+    with_http(alloc, script_commands(alloc)?)
+}
+
+/// The program with the commands that run a script, or print what one came to.
+fn script_commands<'a>(alloc: Global) -> Result<Command<'a>, AllocError>
+    ensures app { IfOk result (λ command. app_of command ≡ script_apps) }
+    ensures local { IfOk result (λ command. (out-Command command).has_globals ≡ false) }
+{
+    bare_command(alloc)
+        .subcommand(run_command(alloc)?)?
+        .subcommand(report_command(alloc)?)
+}
+
+/// With the commands that serve a desk over HTTP.
+fn with_http<'a>(alloc: Global, command: Command<'a>) -> Result<Command<'a>, AllocError>
+    requires local { (out-Command command).has_globals ≡ false }
+    ensures app { IfOk result (λ more. app_of more ≡ with_http (app_of command.entry)) }
+    ensures local { IfOk result (λ more. (out-Command more).has_globals ≡ false) }
+{
+    command
+        .subcommand(serve_command(alloc)?)?
+        .subcommand(loop_command(alloc)?)
+}
+
+fn bare_command<'a>(alloc: Global) -> Command<'a>
+    ensures app { app_of result ≡ bare_app }
+    ensures local { (out-Command result).has_globals ≡ false }
+{
+    Command::new(alloc, "tcdesk")
+        .about("A spacecraft telecommand desk")
+        .subcommand_required(true)
+}
+
+fn run_command<'a>(alloc: Global) -> Result<Command<'a>, AllocError>
+    ensures app { IfOk result (λ command. app_of command ≡ run_app) }
+    ensures local { IfOk result (λ command. (out-Command command).has_globals ≡ false) }
+{
+    with_database(alloc, script_command(alloc)?)
+}
+
+fn script_command<'a>(alloc: Global) -> Result<Command<'a>, AllocError>
+    ensures app { IfOk result (λ command. app_of command ≡ script_app) }
+    ensures local { IfOk result (λ command. (out-Command command).has_globals ≡ false) }
+{
+    Command::new(alloc, "run")
+        .about("Run the lines of a script on a desk: a new one, or one that is kept in a file")
+        .arg(script_arg(alloc))?
+        .arg(window_arg(alloc))?
+        .arg(channel_arg(alloc))
+}
+
+fn with_database<'a>(alloc: Global, command: Command<'a>) -> Result<Command<'a>, AllocError>
+    requires local { (out-Command command).has_globals ≡ false }
+    ensures app { IfOk result (λ more. app_of more ≡ with_database (app_of command.entry)) }
+    ensures local { IfOk result (λ more. (out-Command more).has_globals ≡ false) }
+{
+    command.arg(database_arg(alloc))?.arg(moment_arg(alloc))
+}
+
+fn report_command<'a>(alloc: Global) -> Result<Command<'a>, AllocError>
+    ensures app { IfOk result (λ command. app_of command ≡ report_app) }
+    ensures local { IfOk result (λ command. (out-Command command).has_globals ≡ false) }
+{
+    Command::new(alloc, "report")
+        .about("Print the shift report of a desk that is kept in a file")
+        .arg(file_arg(alloc))?
+        .arg(from_arg(alloc))?
+        .arg(to_arg(alloc))
+}
+
+fn serve_command<'a>(alloc: Global) -> Result<Command<'a>, AllocError>
+    ensures app { IfOk result (λ command. app_of command ≡ serve_app) }
+    ensures local { IfOk result (λ command. (out-Command command).has_globals ≡ false) }
+{
+    let command = Command::new(alloc, "serve")
+        .about("Serve a desk that is kept in a file over HTTP, on 127.0.0.1 alone")
+        .arg(file_arg(alloc))?
+        .arg(port_arg(alloc))?
+        .arg(count_arg(alloc))?;
+    with_desk(alloc, command)
+}
+
+fn loop_command<'a>(alloc: Global) -> Result<Command<'a>, AllocError>
+    ensures app { IfOk result (λ command. app_of command ≡ loop_app) }
+    ensures local { IfOk result (λ command. (out-Command command).has_globals ≡ false) }
+{
+    let command = Command::new(alloc, "loop")
+        .about("Send the lines of a script over HTTP to a desk that is kept in a file")
+        .arg(file_arg(alloc))?
+        .arg(script_arg(alloc))?;
+    with_desk(alloc, command)
+}
+
+/// With the options of a desk that is kept in a file.
+fn with_desk<'a>(alloc: Global, command: Command<'a>) -> Result<Command<'a>, AllocError>
+    requires local { (out-Command command).has_globals ≡ false }
+    ensures app { IfOk result (λ more. app_of more ≡ with_desk (app_of command.entry)) }
+    ensures local { IfOk result (λ more. (out-Command more).has_globals ≡ false) }
+{
+    command
+        .arg(window_arg(alloc))?
+        .arg(channel_arg(alloc))?
+        .arg(moment_arg(alloc))
+}

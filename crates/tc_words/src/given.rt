@@ -1,0 +1,110 @@
+//! What the arguments of a command were given.
+ghost use Rattle.std.specs.Prelude.{◌%◌, ◌≡◌, ◌↔◌, ◌≤◌, IfErr, IfOk, IsTrue, option_map};
+ghost use Rattle.clap.specs.Words.{first_of, found_of, one_of, rows_of};
+ghost use Rattle.tc_types.specs.Numbers.{IsMoment};
+ghost use Rattle.tc_desk.specs.State.{IsConfig};
+ghost use Rattle.tc_words.specs.Asked.{SpellsMoment, SpellsNoMoment, given, given_channel, given_count, given_moment, given_port, given_window, number_in};
+
+use crate::lines::UsageFault;
+use clap::ArgMatches;
+use tc_desk::configs::Config;
+use tc_stack::instants::instant;
+use tc_types::numbers::Moment;
+use tc_types::readers;
+
+/// The text of an argument, or `-` where none was given.
+pub(crate) fn text_of<'a>(matches: &ArgMatches<'a>, id: &str) -> &'a str
+    ensures { result.now ≡ given id.now (rows_of (found_of matches.now)) }
+{
+    match matches.get_str(id) {
+        Some(text) => text,
+        None => "-",
+    }
+}
+
+/// The path that was given for an option, if one was.
+pub(crate) fn path_of<'a>(matches: &ArgMatches<'a>, id: &str) -> Option<&'a str>
+    ensures { option_map (λ path. path.now) result ≡ first_of id.now (rows_of (found_of matches.now)) }
+{
+    matches.get_str(id)
+}
+
+/// The number of an argument where it is one from least to most, and else another.
+fn number_of(matches: &ArgMatches<'_>, id: &str, least: u32, most: u32, other: u32) -> u32
+    requires { (least ≤ other) × (other ≤ most) }
+    ensures value { result ≡ number_in least most other (one_of id.now (rows_of (found_of matches.now))) }
+    ensures range { (least ≤ result) × (result ≤ most) }
+{
+    match matches.get_one::<u32>(id) {
+        Some(number) if least <= number && number <= most => number,
+        _ => other,
+    }
+}
+
+/// The window and the channel, where the window is even.
+pub(crate) fn config_of(matches: &ArgMatches<'_>) -> Result<Config, UsageFault>
+    ensures window { IfOk result (λ config. config.window ≡ given_window (rows_of (found_of matches.now))) }
+    ensures channel { IfOk result (λ config. config.channel ≡ given_channel (rows_of (found_of matches.now))) }
+    ensures config { IfOk result IsConfig }
+    ensures odd { IfErr result (λ fault.
+        (fault ≡ UsageFault.OddWindow) × (given_window (rows_of (found_of matches.now)) % 2 ≡ 1)) }
+{
+    let window = number_of(matches, "w", 2, 254, 20) as u16;
+    if !is_even(window) {
+        return Err(UsageFault::OddWindow);
+    }
+    Ok(Config {
+        window,
+        channel: number_of(matches, "vc", 0, 63, 3) as u8,
+    })
+}
+
+/// Whether a window is even.
+fn is_even(window: u16) -> bool
+    ensures { IsTrue result ↔ (window % 2 ≡ 0) }
+{
+    window % 2 == 0
+}
+
+/// The moment of the opening.
+pub(crate) fn moment_of(matches: &ArgMatches<'_>) -> Moment
+    ensures { result ≡ given_moment (rows_of (found_of matches.now)) }
+{
+    moment_from(number_of(matches, "at", 0, 4_102_444_799, 0))
+}
+
+/// The moment of these seconds, which are in range.
+fn moment_from(seconds: u32) -> Moment
+    requires { IsMoment seconds }
+    ensures { result ≡ seconds }
+{
+    match Moment::new(seconds) {
+        Some(moment) => moment,
+        None => unreachable!(),
+    }
+}
+
+/// The port at which the desk is served.
+pub(crate) fn port_of(matches: &ArgMatches<'_>) -> u16
+    ensures { result ≡ given_port (rows_of (found_of matches.now)) }
+{
+    number_of(matches, "PORT", 1, 65_535, 1) as u16
+}
+
+/// How many connections are served.
+pub(crate) fn count_of(matches: &ArgMatches<'_>) -> u32
+    ensures { result ≡ given_count (rows_of (found_of matches.now)) }
+{
+    number_of(matches, "COUNT", 1, 1_000_000, 1)
+}
+
+/// The moment that a text spells: Unix seconds, or an instant.
+pub(crate) fn spelled_moment(text: &str) -> Result<Moment, UsageFault>
+    ensures moment { IfOk result (λ moment. SpellsMoment moment text.now) }
+    ensures fault { IfErr result (λ fault. (fault ≡ UsageFault.NoMoment) × SpellsNoMoment text.now) }
+{
+    match readers::moment(text.as_bytes()) {
+        Some(moment) => Ok(moment),
+        None => instant(text.as_bytes()).ok_or(UsageFault::NoMoment),
+    }
+}

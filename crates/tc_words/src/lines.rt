@@ -1,0 +1,62 @@
+//! What a command line asks for, and why one asks for nothing.
+
+use tc_desk::configs::Config;
+use tc_types::numbers::Moment;
+use thiserror::Error;
+
+/// What the words of a command line ask the program to do.
+#[derive(Clone, Copy, Debug, PartialEq, Eq)]
+pub enum Line<'a> {
+    /// Run the script at this path, or the standard input where it is `-`, on a new desk with this window and channel.
+    Run {
+        script: &'a str,
+        config: Config,
+    },
+    /// The same on the desk that a database file keeps, opened at a moment.
+    RunKept {
+        script: &'a str,
+        config: Config,
+        database: &'a str,
+        moment: Moment,
+    },
+    /// The shift report of the desk that a database file keeps, of the moves of `from` and later, and before `to`.
+    Report {
+        database: &'a str,
+        from: Moment,
+        to: Moment,
+    },
+    /// Serve the desk that a database file keeps, opened at a moment, over HTTP on a port of this machine alone, 1 to 65,535, and end after
+    /// so many connections, 1 to 1,000,000.
+    Serve {
+        database: &'a str,
+        port: u16,
+        count: u32,
+        config: Config,
+        moment: Moment,
+    },
+    /// Send the lines of the script at this path, or of the standard input where it is `-`, over HTTP to the desk that a database file keeps,
+    /// opened at a moment.
+    Loop {
+        database: &'a str,
+        script: &'a str,
+        config: Config,
+        moment: Moment,
+    },
+}
+
+/// Why the words of a command line ask for nothing.
+#[derive(Debug, Drop, Error)]
+pub enum UsageFault {
+    /// The words are not a command line of the program, or ask for help: the text for the user.
+    #[error(transparent)]
+    Words(clap::Error),
+    /// The window is odd.
+    #[error("--w must be even")]
+    OddWindow,
+    /// What stands for FROM or TO spells no moment.
+    #[error("FROM and TO are Unix seconds, 0 to 4102444799, or instants such as 2031-05-04T10:00:00Z")]
+    NoMoment,
+    /// There was no memory to read the words.
+    #[error("cannot use memory")]
+    Memory,
+}

@@ -1,0 +1,146 @@
+//! The reading of a command line's words.
+ghost use Rattle.std.specs.Prelude.{◌≡◌, ◌⊎◌, ◌≢◌, [], Err, IfErr, IfOk, IfSome, None, OnOk, map, true};
+ghost use Rattle.clap.specs.Words.{fault_of, found_of, kind_of, rows_of, subcommand_of, subcommand_rows_of, takes};
+ghost use Rattle.tc_desk.specs.State.{IsConfig};
+ghost use Rattle.tc_words.specs.Asked.{asked, asked_loop, asked_of, asked_report, asked_run, asked_serve};
+ghost use Rattle.tc_words.specs.Commands.{desk_app};
+ghost use Rattle.tc_words.specs.Lines.{AsksFor, AsksNoMoment, AsksOddWindow, IsFaultOf, config_of};
+
+use crate::commands::matches;
+use crate::given::{config_of, count_of, moment_of, path_of, port_of, spelled_moment, text_of};
+use crate::lines::{Line, UsageFault};
+use clap::ArgMatches;
+use clap::error::ErrorKind;
+use std::alloc::Global;
+use tc_desk::configs::Config;
+
+/// The window and the channel where none are given.
+const CONFIG: Config = Config {
+    window: 20,
+    channel: 3,
+};
+
+/// Reads the words of a command line, of which the first is the program's name.
+pub fn read_words<'a>(alloc: Global, words: &'a [&'a str]) -> Result<Line<'a>, UsageFault>
+    ensures line { IfOk result (λ line.
+        AsksFor line (asked (subcommand_of desk_app (map (λ word. word.now) words.entry.now)))) }
+    ensures config { IfOk result (λ line. IfSome (config_of line) IsConfig) }
+    ensures taken { OnOk result (fault_of desk_app (map (λ word. word.now) words.entry.now) ≡ []) }
+    ensures fault { IfErr result (λ fault.
+        takes desk_app (map (λ word. word.now) words.entry.now) ≡ true
+        → (fault ≡ UsageFault.Memory) ⊎ (fault ≡ UsageFault.OddWindow) ⊎ (fault ≡ UsageFault.NoMoment)) }
+    ensures odd { result ≡ Err UsageFault.OddWindow
+        → (fault_of desk_app (map (λ word. word.now) words.entry.now) ≡ [])
+        × AsksOddWindow (asked (subcommand_of desk_app (map (λ word. word.now) words.entry.now))) }
+    ensures no_moment { result ≡ Err UsageFault.NoMoment
+        → (fault_of desk_app (map (λ word. word.now) words.entry.now) ≡ [])
+        × AsksNoMoment (asked (subcommand_of desk_app (map (λ word. word.now) words.entry.now))) }
+{
+    match matches(alloc, words) {
+        Ok(matches) => line_of(&matches),
+        Err(error) => Err(usage_fault(error)),
+    }
+}
+
+fn usage_fault(error: clap::Error) -> UsageFault
+    ensures memory { kind_of error ≡ ErrorKind.OutOfMemory → result ≡ UsageFault.Memory }
+    ensures other { (result ≢ UsageFault.OddWindow) × (result ≢ UsageFault.NoMoment) }
+{
+    if error.kind() == ErrorKind::OutOfMemory {
+        UsageFault::Memory
+    } else {
+        UsageFault::Words(error)
+    }
+}
+
+fn line_of<'a>(matches: &ArgMatches<'a>) -> Result<Line<'a>, UsageFault>
+    ensures line { IfOk result (λ line. AsksFor line (asked (subcommand_rows_of matches.now))) }
+    ensures config { IfOk result (λ line. IfSome (config_of line) IsConfig) }
+    ensures fault { IfErr result (IsFaultOf (asked (subcommand_rows_of matches.now))) }
+{
+    match matches.subcommand() {
+        Some((name, inner)) => command_line_of(name, inner),
+        None => Ok(Line::Run {
+            script: "-",
+            config: CONFIG,
+        }),
+    }
+}
+
+/// What the command of this name was given.
+fn command_line_of<'a>(name: &str, matches: &ArgMatches<'a>) -> Result<Line<'a>, UsageFault>
+    ensures line { IfOk result (λ line. AsksFor line (asked_of name.now (rows_of (found_of matches.now)))) }
+    ensures config { IfOk result (λ line. IfSome (config_of line) IsConfig) }
+    ensures fault { IfErr result (IsFaultOf (asked_of name.now (rows_of (found_of matches.now)))) }
+{
+    if name == "report" {
+        report_line_of(matches)
+    } else if name == "serve" {
+        serve_line_of(matches)
+    } else if name == "loop" {
+        loop_line_of(matches)
+    } else {
+        run_line_of(matches)
+    }
+}
+
+fn run_line_of<'a>(matches: &ArgMatches<'a>) -> Result<Line<'a>, UsageFault>
+    ensures line { IfOk result (λ line. AsksFor line (asked_run (rows_of (found_of matches.now)))) }
+    ensures config { IfOk result (λ line. IfSome (config_of line) IsConfig) }
+    ensures fault { IfErr result (IsFaultOf (asked_run (rows_of (found_of matches.now)))) }
+{
+    let script = text_of(matches, "SCRIPT");
+    let config = config_of(matches)?;
+    match path_of(matches, "db") {
+        Some(database) => Ok(Line::RunKept {
+            script,
+            config,
+            database,
+            moment: moment_of(matches),
+        }),
+        None => Ok(Line::Run { script, config }),
+    }
+}
+
+fn report_line_of<'a>(matches: &ArgMatches<'a>) -> Result<Line<'a>, UsageFault>
+    ensures line { IfOk result (λ line. AsksFor line (asked_report (rows_of (found_of matches.now)))) }
+    ensures config { IfOk result (λ line. config_of line ≡ None) }
+    ensures fault { IfErr result (IsFaultOf (asked_report (rows_of (found_of matches.now)))) }
+{
+    let from = spelled_moment(text_of(matches, "FROM"))?;
+    let to = spelled_moment(text_of(matches, "TO"))?;
+    Ok(Line::Report {
+        database: text_of(matches, "DB"),
+        from,
+        to,
+    })
+}
+
+fn serve_line_of<'a>(matches: &ArgMatches<'a>) -> Result<Line<'a>, UsageFault>
+    ensures line { IfOk result (λ line. AsksFor line (asked_serve (rows_of (found_of matches.now)))) }
+    ensures config { IfOk result (λ line. IfSome (config_of line) IsConfig) }
+    ensures fault { IfErr result (IsFaultOf (asked_serve (rows_of (found_of matches.now)))) }
+{
+    let config = config_of(matches)?;
+    Ok(Line::Serve {
+        database: text_of(matches, "DB"),
+        port: port_of(matches),
+        count: count_of(matches),
+        config,
+        moment: moment_of(matches),
+    })
+}
+
+fn loop_line_of<'a>(matches: &ArgMatches<'a>) -> Result<Line<'a>, UsageFault>
+    ensures line { IfOk result (λ line. AsksFor line (asked_loop (rows_of (found_of matches.now)))) }
+    ensures config { IfOk result (λ line. IfSome (config_of line) IsConfig) }
+    ensures fault { IfErr result (IsFaultOf (asked_loop (rows_of (found_of matches.now)))) }
+{
+    let config = config_of(matches)?;
+    Ok(Line::Loop {
+        database: text_of(matches, "DB"),
+        script: text_of(matches, "SCRIPT"),
+        config,
+        moment: moment_of(matches),
+    })
+}
