@@ -1,0 +1,4 @@
+mod ActLemmas
+mod ExchangeLemmas
+mod ResponseLemmas
+mod ServingLemmas

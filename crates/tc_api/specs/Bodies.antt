@@ -1,0 +1,29 @@
+-- The body of a post, and the tests that what it says takes.
+use Rattle.std.specs.Prelude.{◌≡◌, ◌⊎◌, ℕ, nat_le, if◌then◌else◌, Option, Some, None, Result, Err, List, option_and_then}
+use Rattle.std.specs.Str.{IsUtf8}
+use Rattle.serde_json.specs.Data.{Data, Num}
+use Rattle.serde_json.specs.Find.{as_number, as_str, get}
+use Rattle.serde_json.specs.Read.{read}
+use Rattle.tc_types.specs.declared.refusals.Refusal.{Refusal}
+
+-- The JSON value that a body is (RFC 8259); none where it is no UTF-8, or no JSON as the crate serde_json reads it.
+abbrev pub IsJson : List ℕ → Option Data → Type 0
+IsJson body None = IsUtf8 body → read body ≡ None
+IsJson body (Some value) = IsUtf8 body × (read body ≡ Some value)
+
+-- the text at a key of an object
+abbrev pub text_at : List ℕ → Data → Option (List ℕ)
+text_at key value = option_and_then as_str (get key value)
+
+-- the number at a key of an object
+abbrev pub number_at : List ℕ → Data → Option Num
+number_at key value = option_and_then as_number (get key value)
+
+-- A test that refuses where it fails, and what comes behind it.
+abbrev pub Needs : {X : Type 0} → Type 0 → Refusal → (Result X Refusal → Type 0) → Result X Refusal → Type 0
+Needs holds refusal behind outcome = ((¬ holds) × (outcome ≡ Err refusal)) ⊎ (holds × behind outcome)
+
+-- A number that is a moment: whole, and in range.
+abbrev pub moment_in : Option ℕ → Option ℕ
+moment_in None = None
+moment_in (Some n) = if nat_le n 4102444799 then Some n else None

@@ -1,0 +1,94 @@
+-- One exchange: what is read, what it makes of the room, and what is written.
+use Rattle.std.specs.Prelude.{◌≡◌, ◌≢◌, ◌⊎◌, ℕ, true, false, Option, IfSome, List}
+use Rattle.std.specs.Io.KnownBytes.{Appends, Consumes, Keeps}
+use Rattle.sqlite_trees.specs.declared.store.Store.{Ghosts}
+use Rattle.tc_types.specs.declared.counted.Counts.{Counts}
+use Rattle.tc_types.specs.Counts.{no_counts}
+use Rattle.tc_types.specs.declared.refusals.Refusal.{Refusal}
+use Rattle.tc_types.specs.declared.refusals.Refusal.TheVariants.{Memory, ReadFault, Store, WriteFault}
+use Rattle.tc_front.specs.declared.read.FrontFault.{FrontFault}
+use Rattle.tc_front.specs.declared.read.FrontFault.TheVariants as fault
+use Rattle.tc_front.specs.Front.{Asked, IsDecided}
+use Rattle.tc_front.specs.Read.{HasStopped, NoFront}
+use Rattle.tc_front.specs.Write.{IsCutShort, one_fault}
+use Rattle.tc_room.specs.Joined.{Standing}
+use Rattle.tc_room.specs.Replies.{ended}
+use Rattle.tc_api.specs.declared.endings.Ending.TheVariants as ending
+use Rattle.tc_api.specs.Responses.{response_bytes}
+use Rattle.tc_api.specs.Serving.{Outcome, Serves}
+
+-- A request was read: what was taken of the reader decides what is asked, and so does all that the reader had.
+pub record IsRead (had left : Option (List ℕ)) (asked : Asked) : Type 0 where
+  pub text : List ℕ
+  pub taken : Consumes had left text
+  pub decided : IsDecided text asked
+  pub whole : IfSome had (λ input. IsDecided input asked)
+
+-- None was read: no front of what was taken of the reader decides.
+pub record IsUnread (had left : Option (List ℕ)) : Type 0 where
+  pub text : List ℕ
+  pub taken : Consumes had left text
+  pub fronts : NoFront text
+
+-- what is told where none was read
+abbrev pub refusal_of : FrontFault → Refusal
+refusal_of fault.Unread = ReadFault
+refusal_of fault.Memory = Memory
+
+-- A front of the input decided what is asked, and it was served.
+pub record IsServed {S : Type 0} (g : Ghosts S) (text : List ℕ) (old : Standing S) (outcome : Outcome) (new : Standing S) : Type 0 where
+  pub asked : Asked
+  pub decided : IsDecided text asked
+  pub serves : Serves g old asked outcome new
+
+-- the response to an outcome
+abbrev pub response_to : Outcome → List ℕ
+response_to outcome = response_bytes outcome.ending (ended outcome.reply)
+
+-- nothing was written, and no write failed
+pub record IsUntouched (counts : Counts) (before after : Option (List ℕ)) : Type 0 where
+  pub unfailed : counts ≡ no_counts
+  pub kept : Keeps before after
+
+-- one write failed, and a front of these bytes went out, and not all
+pub record IsCutOff (bytes : List ℕ) (counts : Counts) (before after : Option (List ℕ)) : Type 0 where
+  pub failed : counts ≡ one_fault
+  pub part : List ℕ
+  pub short : IsCutShort bytes part
+  pub appended : Appends before after part
+
+-- What is told where a response found no memory: that the database failed, that an act stands of which nothing could be written, or that there
+-- was no memory and no act stands.
+abbrev pub IsUntold : Outcome → Refusal → Type 0
+IsUntold outcome refusal =
+    ((outcome.ending ≡ ending.Refused Store) × (refusal ≡ Store))
+    ⊎ ((outcome.ending ≢ ending.Refused Store) × (((outcome.stands ≡ true) × (refusal ≡ WriteFault)) ⊎ ((outcome.stands ≡ false) × (refusal ≡ Memory))))
+
+-- Why what was served is not answered: one write failed, or the response found no memory and nothing was written.
+abbrev pub IsUnanswered : Outcome → Refusal → Counts → Option (List ℕ) → Option (List ℕ) → Type 0
+IsUnanswered outcome refusal counts before after =
+    ((refusal ≡ WriteFault) × IsCutOff (response_to outcome) counts before after)
+    ⊎ (IsUntold outcome refusal × IsUntouched counts before after)
+
+-- An exchange: a request was read, it was served, and its response was written, all of it and nothing else.
+pub record Answers {S : Type 0} (g : Ghosts S) (had left : Option (List ℕ)) (old new : Standing S) (before after : Option (List ℕ)) : Type 0 where
+  pub asked : Asked
+  pub outcome : Outcome
+  pub read : IsRead had left asked
+  pub serves : Serves g old asked outcome new
+  pub written : Appends before after (response_to outcome)
+
+-- An exchange that ends before a request was read: the room is as it was, and nothing was written. The reader stopped, or there was no memory.
+pub record EndsUnread {S : Type 0} (refusal : Refusal) (read : Counts) (had left : Option (List ℕ)) (old new : Standing S) (counts : Counts) (before after : Option (List ℕ)) : Type 0 where
+  pub why : ((refusal ≡ ReadFault) × HasStopped read) ⊎ (refusal ≡ Memory)
+  pub unread : IsUnread had left
+  pub room : new ≡ old
+  pub untouched : IsUntouched counts before after
+
+-- An exchange that ends without the whole response: a request was read, it was served, and the refusal says what stands.
+pub record EndsUnanswered {S : Type 0} (g : Ghosts S) (refusal : Refusal) (had left : Option (List ℕ)) (old new : Standing S) (counts : Counts) (before after : Option (List ℕ)) : Type 0 where
+  pub asked : Asked
+  pub outcome : Outcome
+  pub read : IsRead had left asked
+  pub serves : Serves g old asked outcome new
+  pub unanswered : IsUnanswered outcome refusal counts before after

@@ -1,0 +1,125 @@
+-- What a request makes of the room, and how it ends.
+use Rattle.std.specs.Prelude.{◌≡◌, ◌⊎◌, ◌&&◌, ℕ, Bool, true, false, not, Option, Result, Ok, Err, List, IfSome}
+use Rattle.std.specs.String.{string_bytes}
+use Rattle.sqlite_trees.specs.declared.store.Store.{Ghosts}
+use Rattle.tc_types.specs.declared.acts.Line.{Line}
+use Rattle.tc_types.specs.declared.acts.Query.{Query}
+use Rattle.tc_types.specs.declared.acts.Act.TheVariants as act
+use Rattle.tc_types.specs.declared.loads.LoadKind.{LoadKind}
+use Rattle.tc_types.specs.declared.loads.LoadKind.TheVariants as load_kind
+use Rattle.tc_types.specs.declared.refusals.Refusal.{Refusal}
+use Rattle.tc_types.specs.declared.refusals.Refusal.TheVariants.{BadText, Memory, TooLong}
+use Rattle.tc_front.specs.declared.judge.Refused.{Refused}
+use Rattle.tc_front.specs.declared.judge.Refused.TheVariants as front
+use Rattle.tc_routes.specs.declared.paths.Post.{Post}
+use Rattle.tc_routes.specs.declared.paths.Post.TheVariants as paths
+use Rattle.tc_front.specs.Front.{Asked, asks, posts, refuses}
+use Rattle.tc_book.specs.declared.stamps.Stamp.{Stamp}
+use Rattle.tc_desk.specs.Acts.{is_question}
+use Rattle.tc_desk.specs.Machine.{stamp_of}
+use Rattle.tc_desk.specs.Replies.{Reply, refusal_reply}
+use Rattle.tc_room.specs.Joined.{Standing}
+use Rattle.tc_room.specs.Loads.{RoomLoad}
+use Rattle.tc_room.specs.Replies.{ended, is_refused}
+use Rattle.tc_room.specs.Room.{RoomStep}
+use Rattle.tc_api.specs.declared.endings.Ending.{Ending}
+use Rattle.tc_api.specs.declared.endings.Ending.TheVariants as ending
+use Rattle.tc_api.specs.declared.serving.Served.{Served}
+use Rattle.tc_api.specs.Acts.{JudgesActPost}
+use Rattle.tc_api.specs.Endings.{is_done}
+use Rattle.tc_api.specs.Loads.{JudgesLoadKeys, JudgesLoadPost, Load, LoadKeys}
+
+-- what a request ends with: the reply, how the exchange ends, and whether an act was done, which stands
+pub record Outcome : Type 0 where
+  pub reply : Reply
+  pub ending : Ending
+  pub stands : Bool
+
+-- A reply of the room ends an exchange so: it is done where the reply refuses nothing, and else refused with what the reply refuses with.
+abbrev pub EndsWith : Reply → Ending → Type 0
+EndsWith reply ending.Done = is_refused reply ≡ false
+EndsWith reply (ending.Refused refusal) = reply ≡ refusal_reply refusal
+EndsWith reply ending.NoPath = ⊥
+EndsWith reply ending.OtherMethod = ⊥
+
+-- The outcome is its reply's. An act stands where one was asked and is done.
+pub record IsOutcome (acts : Bool) (outcome : Outcome) : Type 0 where
+  pub ends : EndsWith outcome.reply outcome.ending
+  pub stands : outcome.stands ≡ (acts && is_done outcome.ending)
+
+-- a refusal that never came to the room
+abbrev pub refused_so : Ending → Refusal → Outcome
+refused_so ending refusal = record { reply = refusal_reply refusal; ending = ending; stands = false }
+
+abbrev pub refused_with : Refusal → Outcome
+refused_with refusal = refused_so (ending.Refused refusal) refusal
+
+-- A question makes its step, whoever asks.
+abbrev pub ServesQuery : {S : Type 0} → Ghosts S → Standing S → Query → Outcome → Standing S → Type 0
+ServesQuery g old query outcome new = ((stamp : Stamp) → RoomStep g old stamp (act.Ask query) outcome.reply new) × IsOutcome false outcome
+
+-- An act or a question that was posted makes its step; a post that is refused makes none.
+abbrev pub ServesLine : {S : Type 0} → Ghosts S → Standing S → Result Line Refusal → Outcome → Standing S → Type 0
+ServesLine g old (Ok line) outcome new = RoomStep g old (stamp_of line) line.act outcome.reply new × IsOutcome (not (is_question line.act)) outcome
+ServesLine g old (Err refusal) outcome new = (outcome ≡ refused_with refusal) × (new ≡ old)
+
+-- So does a load.
+abbrev pub ServesLoad : {S : Type 0} → Ghosts S → Standing S → LoadKind → Result Load Refusal → Outcome → Standing S → Type 0
+ServesLoad g old kind (Ok load) outcome new =
+    RoomLoad g old (record { by = load.by; moment = load.moment }) kind load.name load.csv outcome.reply new × IsOutcome true outcome
+ServesLoad g old kind (Err refusal) outcome new = (outcome ≡ refused_with refusal) × (new ≡ old)
+
+-- Memory was refused as a body was read.
+abbrev pub FindsNoMemory : {S : Type 0} → Standing S → Outcome → Standing S → Type 0
+FindsNoMemory old outcome new = (outcome ≡ refused_with Memory) × (new ≡ old)
+
+-- a body posted to /acts
+pub record ServesAct {S : Type 0} (g : Ghosts S) (old : Standing S) (body : List ℕ) (outcome : Outcome) (new : Standing S) : Type 0 where
+  pub served : FindsNoMemory old outcome new ⊎ ((given : Result Line Refusal) × JudgesActPost body given × ServesLine g old given outcome new)
+
+-- a body posted to be loaded
+pub record ServesText {S : Type 0} (g : Ghosts S) (old : Standing S) (kind : LoadKind) (body : List ℕ) (outcome : Outcome) (new : Standing S) : Type 0 where
+  pub served : FindsNoMemory old outcome new ⊎ ((given : Result Load Refusal) × JudgesLoadPost kind body given × ServesLoad g old kind given outcome new)
+
+-- a body posted to each route
+abbrev pub ServesPost : {S : Type 0} → Ghosts S → Standing S → Post → List ℕ → Outcome → Standing S → Type 0
+ServesPost g old paths.Acts body outcome new = ServesAct g old body outcome new
+ServesPost g old paths.Stacks body outcome new = ServesText g old load_kind.Stack body outcome new
+ServesPost g old paths.Procedures body outcome new = ServesText g old load_kind.Procedure body outcome new
+
+-- how an exchange ends whose head is refused
+abbrev pub front_ending : Refused → Ending
+front_ending front.NoPath = ending.NoPath
+front_ending front.OtherMethod = ending.OtherMethod
+front_ending front.Bad = ending.Refused BadText
+front_ending front.Large = ending.Refused TooLong
+
+-- what it is refused with
+abbrev pub front_refusal : Refused → Refusal
+front_refusal front.NoPath = BadText
+front_refusal front.OtherMethod = BadText
+front_refusal front.Bad = BadText
+front_refusal front.Large = TooLong
+
+abbrev pub refused_front : Refused → Outcome
+refused_front why = refused_so (front_ending why) (front_refusal why)
+
+-- What is asked is served: a refused head asks nothing of the room, a question and a post make their step.
+abbrev pub Serves : {S : Type 0} → Ghosts S → Standing S → Asked → Outcome → Standing S → Type 0
+Serves g old (refuses why) outcome new = (outcome ≡ refused_front why) × (new ≡ old)
+Serves g old (asks query) outcome new = ServesQuery g old query outcome new
+Serves g old (posts post body) outcome new = ServesPost g old post body outcome new
+
+-- ---- as the code holds it
+
+-- the outcome of what was served, with this reply
+abbrev pub outcome_of : Reply → Served → Outcome
+outcome_of reply served = record { reply = reply; ending = served.ending; stands = served.stands }
+
+-- the text is the reply's, unless memory was refused to it
+abbrev pub HasText : Reply → Served → Type 0
+HasText reply served = IfSome served.text (λ text. string_bytes text ≡ ended reply)
+
+-- what stands at the keys of a load
+pub record ServesKeys {S : Type 0} (g : Ghosts S) (old : Standing S) (kind : LoadKind) (keys : Option LoadKeys) (outcome : Outcome) (new : Standing S) : Type 0 where
+  pub served : FindsNoMemory old outcome new ⊎ ((given : Result Load Refusal) × JudgesLoadKeys kind keys given × ServesLoad g old kind given outcome new)

@@ -1,0 +1,82 @@
+//! What a body posts to `/acts`.
+ghost use Rattle.std.specs.Prelude.{◌≡◌, ◌≤◌, ◌⊎◌, Some, Err, length, option_map};
+ghost use Rattle.serde_json.specs.View.{view};
+ghost use Rattle.tc_types.specs.declared.refusals.Refusal.TheVariants.{Memory};
+ghost use Rattle.tc_api.specs.Acts.{JudgesAct, JudgesActKeys, JudgesActPost, act_keys, act_keys_seen};
+
+use crate::bodies::{moment_in, number_at, text_at, value_of};
+use serde_json::Value;
+use std::alloc::Global;
+use tc_types::act_reader::{LONGEST_ACT, read_act};
+use tc_types::acts::Line;
+use tc_types::names::Name;
+use tc_types::numbers::Moment;
+use tc_types::refusals::Refusal;
+
+/// What stands at the keys of an act.
+#[derive(Clone, Copy)]
+struct ActKeys<'a> {
+    act: &'a str,
+    by: &'a str,
+    moment: Option<u64>,
+}
+
+/// The keys of an act, where each is there and of its kind.
+fn act_keys(value: &Value) -> Option<ActKeys<'_>>
+    ensures { option_map act_keys_seen result ≡ act_keys (view value.now) }
+{
+    Some(ActKeys {
+        act: text_at(value, "act")?,
+        by: text_at(value, "by")?,
+        moment: number_at(value, "moment")?.as_u64(),
+    })
+}
+
+/// The act of a text, by a person, at a moment.
+fn act_at(text: &str, by: Name, moment: Moment) -> Result<Line, Refusal>
+    requires { length text.now ≤ 200 }
+    ensures { JudgesAct text.now by moment result }
+{
+    match read_act(text.as_bytes()) {
+        Ok(act) => Ok(Line { moment, by, act }),
+        Err(_) => Err(Refusal::BadText),
+    }
+}
+
+/// What the keys of an act post.
+fn judge_act(keys: &ActKeys<'_>) -> Result<Line, Refusal>
+    ensures { JudgesActKeys (Some (act_keys_seen keys.now)) result }
+{
+    let Some(by) = Name::read_person(keys.by.as_bytes()) else {
+        return Err(Refusal::BadText);
+    };
+    if keys.act.len() > LONGEST_ACT {
+        return Err(Refusal::TooLong);
+    }
+    match moment_in(keys.moment) {
+        Some(moment) => act_at(keys.act, by, moment),
+        None => Err(Refusal::BadText),
+    }
+}
+
+/// What a JSON value posts to /acts.
+fn judge_act_value(value: &Value) -> Result<Line, Refusal>
+    ensures { JudgesActKeys (act_keys (view value.now)) result }
+{
+    match act_keys(value) {
+        Some(keys) => judge_act(&keys),
+        None => Err(Refusal::BadText),
+    }
+}
+
+/// The act that a body posts, by whom, and when: a JSON object with the keys `act` and `by` (texts) and `moment` (a number). It is refused with
+/// `BadText` where it is no such object or the person may not act; then with `TooLong` where the act's text has more than 200 bytes; then
+/// with `BadText` where the moment is not whole or out of range, or the text spells no act; and with `Memory` where that was refused.
+pub fn read_act_post(alloc: Global, body: &[u8]) -> Result<Line, Refusal>
+    ensures { (result ≡ Err Memory) ⊎ JudgesActPost body.now result }
+{
+    match value_of(alloc, body) {
+        Ok(value) => judge_act_value(&value),
+        Err(refusal) => Err(refusal),
+    }
+}

@@ -1,0 +1,210 @@
+//! What a request makes of the room, and how it ends.
+ghost use Rattle.std.specs.Prelude.{◌≡◌, ◌&&◌, Ok};
+ghost use Rattle.serde_json.specs.View.{view};
+ghost use Rattle.tc_desk.specs.Acts.{is_question};
+ghost use Rattle.tc_desk.specs.Replies.{Reply, refusal_reply};
+ghost use Rattle.tc_front.specs.Front.{asked_of};
+ghost use Rattle.tc_room.specs.Answers.{RefusesWith, Says};
+ghost use Rattle.tc_api.specs.Endings.{is_done};
+ghost use Rattle.tc_api.specs.Loads.{load_keys};
+ghost use Rattle.tc_api.specs.Serving.{EndsWith, HasText, IsOutcome, Serves, ServesAct, ServesKeys, ServesLine, ServesPost, ServesQuery, ServesText, front_ending, front_refusal, outcome_of, refused_front, refused_so};
+
+use crate::acts::read_act_post;
+use crate::bodies::value_of;
+use crate::endings::Ending;
+use crate::loads::judge_load_value;
+use serde_json::Value;
+use sqlite::Alter;
+use std::alloc::Global;
+use tc_front::front::Decision;
+use tc_front::judge::Refused;
+use tc_room::answers::{Answer, Untold, answer_loading, answer_query, answer_read, refusal_answer};
+use tc_room::rooms::Room;
+use tc_routes::paths::Post;
+use tc_types::acts::{Act, Line, Query};
+use tc_types::loads::LoadKind;
+use tc_types::refusals::Refusal;
+
+/// What was served.
+#[derive(Drop)]
+pub struct Served {
+    /// How the exchange ends.
+    pub ending: Ending,
+    /// Whether an act was done, which stands.
+    pub stands: bool,
+    /// The reply, each of its lines ended by LF; `None` where memory was refused to it.
+    pub text: Option<String>,
+}
+
+/// How an exchange ends whose reply refuses with this, if it is a refusal.
+fn ending_of(refusal: Option<Refusal>) -> Ending
+    ensures { (reply : Reply) → RefusesWith reply refusal → EndsWith reply result }
+{
+    match refusal {
+        Some(refusal) => Ending::Refused(refusal),
+        None => Ending::Done,
+    }
+}
+
+/// What was served: an act stands where one was asked and is done.
+fn make_served(ending: Ending, acts: bool, text: Option<String>) -> Served
+    ensures { result ≡ record { ending = ending; stands = acts && is_done ending; text = text } }
+{
+    Served {
+        ending,
+        stands: acts && ending.is_done(),
+        text,
+    }
+}
+
+/// What was served, where the room answered so, and an act was asked of it or a question.
+fn answer_served(answered: Result<Answer, Untold>, acts: bool) -> Served
+    ensures { (reply : Reply) → Says reply answered → IsOutcome acts (outcome_of reply result) × HasText reply result }
+{
+    match answered {
+        Ok(answer) => make_served(ending_of(answer.refusal), acts, Some(answer.text)),
+        Err(untold) => make_served(ending_of(untold.refusal), acts, None),
+    }
+}
+
+/// What is served where the room is not asked.
+fn refused(alloc: Global, ending: Ending, refusal: Refusal) -> Served
+    ensures { (outcome_of (refusal_reply refusal) result ≡ refused_so ending refusal) × HasText (refusal_reply refusal) result }
+{
+    let text = match refusal_answer(alloc, refusal) {
+        Ok(answer) => Some(answer.text),
+        Err(_) => None,
+    };
+    Served {
+        ending,
+        stands: false,
+        text,
+    }
+}
+
+/// Asks a question of the room.
+fn serve_query<S: Alter + Drop>(alloc: Global, room: &mut Room<S>, query: Query) -> Served
+    ensures { (reply : Reply) × ServesQuery S.Store room.old query (outcome_of reply result) room.new × HasText reply result }
+{
+    answer_served(answer_query(alloc, room, query), false)
+}
+
+/// Whether this is a question.
+fn is_question(act: Act) -> bool
+    ensures { result ≡ is_question act }
+{
+    match act {
+        Act::Ask(_) => true,
+        Act::Book(_) | Act::Link(_) | Act::Step(_) => false,
+    }
+}
+
+/// Asks an act or a question of the room, as it was posted.
+fn serve_line<S: Alter + Drop>(alloc: Global, room: &mut Room<S>, line: Line) -> Served
+    ensures { (reply : Reply) × ServesLine S.Store room.old (Ok line) (outcome_of reply result) room.new × HasText reply result }
+{
+    let acts = !is_question(line.act);
+    answer_served(answer_read(alloc, room, line), acts)
+}
+
+/// Serves a body that is posted to `/acts`.
+fn serve_act<S: Alter + Drop>(alloc: Global, room: &mut Room<S>, body: &[u8]) -> Served
+    ensures { (reply : Reply) × ServesAct S.Store room.old body.now (outcome_of reply result) room.new × HasText reply result }
+{
+    match read_act_post(alloc, body) {
+        Ok(line) => serve_line(alloc, room, line),
+        Err(refusal) => refused(alloc, Ending::Refused(refusal), refusal),
+    }
+}
+
+/// Loads what a body posts, once it is JSON.
+fn serve_value<S: Alter + Drop>(
+    alloc: Global,
+    room: &mut Room<S>,
+    kind: LoadKind,
+    value: &Value,
+) -> Served
+    ensures { (reply : Reply) × ServesKeys S.Store room.old kind (load_keys (view value.now)) (outcome_of reply result) room.new × HasText reply result }
+{
+    match judge_load_value(alloc, kind, value) {
+        Ok(post) => {
+            let text = post.csv.as_bytes();
+            answer_served(
+                answer_loading(alloc, room, post.by, post.moment, kind, post.name, text),
+                true,
+            )
+        }
+        Err(refusal) => refused(alloc, Ending::Refused(refusal), refusal),
+    }
+}
+
+/// Serves a body that is posted to be loaded as this kind.
+fn serve_load<S: Alter + Drop>(
+    alloc: Global,
+    room: &mut Room<S>,
+    kind: LoadKind,
+    body: &[u8],
+) -> Served
+    ensures { (reply : Reply) × ServesText S.Store room.old kind body.now (outcome_of reply result) room.new × HasText reply result }
+{
+    match value_of(alloc, body) {
+        Ok(value) => serve_value(alloc, room, kind, &value),
+        Err(refusal) => refused(alloc, Ending::Refused(refusal), refusal),
+    }
+}
+
+/// Serves a body that is posted.
+fn serve_post<S: Alter + Drop>(alloc: Global, room: &mut Room<S>, post: Post, body: &[u8]) -> Served
+    ensures { (reply : Reply) × ServesPost S.Store room.old post body.now (outcome_of reply result) room.new × HasText reply result }
+{
+    match post {
+        Post::Acts => serve_act(alloc, room, body),
+        Post::Stacks => serve_load(alloc, room, LoadKind::Stack, body),
+        Post::Procedures => serve_load(alloc, room, LoadKind::Procedure, body),
+    }
+}
+
+/// How an exchange ends whose head is refused.
+fn front_ending(why: Refused) -> Ending
+    ensures { result ≡ front_ending why }
+{
+    match why {
+        Refused::NoPath => Ending::NoPath,
+        Refused::OtherMethod => Ending::OtherMethod,
+        Refused::Bad => Ending::Refused(Refusal::BadText),
+        Refused::Large => Ending::Refused(Refusal::TooLong),
+    }
+}
+
+/// What a head is refused with.
+fn front_refusal(why: Refused) -> Refusal
+    ensures { result ≡ front_refusal why }
+{
+    match why {
+        Refused::NoPath | Refused::OtherMethod | Refused::Bad => Refusal::BadText,
+        Refused::Large => Refusal::TooLong,
+    }
+}
+
+/// Refuses a head; the room is not asked.
+fn serve_refused(alloc: Global, why: Refused) -> Served
+    ensures { (outcome_of (refusal_reply (front_refusal why)) result ≡ refused_front why) × HasText (refusal_reply (front_refusal why)) result }
+{
+    refused(alloc, front_ending(why), front_refusal(why))
+}
+
+/// Serves what a front of the input decides: a head that is refused asks nothing of the room; a question makes its step, whoever asks; a post
+/// makes the step of its act, question or load, or is refused as it is read.
+pub fn serve_decision<S: Alter + Drop>(
+    alloc: Global,
+    room: &mut Room<S>,
+    decision: &Decision<'_>,
+) -> Served
+    ensures { (reply : Reply) × Serves S.Store room.old (asked_of decision.now) (outcome_of reply result) room.new × HasText reply result }
+{
+    match *decision {
+        Decision::Refused(why) => serve_refused(alloc, why),
+        Decision::Asks(query) => serve_query(alloc, room, query),
+        Decision::Posts { post, body } => serve_post(alloc, room, post, body),
+    }
+}
