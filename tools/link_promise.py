@@ -1,0 +1,110 @@
+"""What a desk promises, by what it prints alone: each request that was entered stands at one place, and the counts are those of the
+moves; while the premise is kept each request that was confirmed was accepted exactly once, in the order of transmission.
+Nothing is known here of how a desk comes to its answers.
+"""
+from collections import Counter
+
+PLACES = ("Entered Approved Queued Sent Confirmed Riding Scheduled Accepted Started Completed Failed Doubtful Withdrawn"
+          " Deleted Closed").split()
+
+
+class Broken(Exception):
+    """What of the promise does not hold."""
+
+
+class Judge:
+    """Reads printed lines; `seen` counts what was looked at."""
+
+    def __init__(self):
+        """Nothing was printed yet."""
+        self.places, self.counts, self.rows, self.skip, self.seen = [], Counter(), 0, 0, Counter()
+        self.transmitted, self.accepted, self.confirmed = {}, Counter(), Counter()
+        self.last_accepted = self.last_confirmed = 0
+        self.is_kept, self.broken = True, None
+
+    def reads(self, lines):
+        """All lines of a run. Answers what does not hold; none where all does."""
+        for number, line in enumerate(lines, 1):
+            try:
+                self.read(line)
+            except Broken as why:
+                return f"printed line {number}, {line!r}: {why}"
+        return None
+
+    def read(self, line):
+        """One line: those of a history tell nothing new."""
+        word, _, rest = line.partition(" ")
+        if self.skip:
+            self.skip -= 1
+        elif word == "history":
+            self.skip = int(rest.split(": ")[1].split(" ")[0])
+        elif word == "move":
+            self.moves(*rest.split(" "))
+        elif word == "places":
+            self.compares(rest)
+        elif word == "link":
+            self.hears(rest.split(" ")[-1] == "kept")
+        elif line.startswith("ok accepted "):
+            self.accepts(int(line.rsplit(" ", 1)[1]))
+
+    def need(self, holds, why):
+        """What has to hold."""
+        if not holds:
+            raise Broken(why)
+
+    def promised(self, holds, why):
+        """What has to hold while the premise is kept, and may not afterwards."""
+        self.need(holds or not self.is_kept, why)
+        if not holds:
+            self.seen["not so where the premise is broken"] += 1
+
+    def moves(self, seq, _moment, _by, request, place, to, cause):
+        """A move: the next row, from where its request stands."""
+        self.rows, n = self.rows + 1, int(request)
+        self.need(int(seq) == self.rows, "not the next row")
+        if place == "-":
+            self.need(n == len(self.places) + 1 and cause == "enter", "not the next request")
+            self.places.append(to)
+        else:
+            self.need(n <= len(self.places) and self.places[n - 1] == place, "it does not stand there")
+            self.counts[place] -= 1
+            self.places[n - 1] = to
+        self.counts[to] += 1
+        if cause == "transmit":
+            self.promised(n not in self.transmitted, "transmitted twice")
+            self.transmitted[n] = len(self.transmitted) + 1
+        elif cause == "confirm":
+            self.confirms(n)
+
+    def accepts(self, n):
+        """A request is accepted on board: once, and in the order of transmission."""
+        self.accepted[n] += 1
+        self.promised(self.accepted[n] == 1, "accepted twice")
+        place = self.transmitted.get(n, 0)
+        self.promised(place > self.last_accepted, "accepted out of order")
+        self.last_accepted = max(self.last_accepted, place)
+        self.seen["accepted"] += 1
+
+    def confirms(self, n):
+        """A request is confirmed: it was accepted exactly once, and in the order of transmission."""
+        self.confirmed[n] += 1
+        self.promised(self.confirmed[n] == 1, "confirmed twice")
+        self.promised(self.accepted[n] == 1, f"confirmed, and accepted {self.accepted[n]} times")
+        place = self.transmitted.get(n, 0)
+        self.promised(place > self.last_confirmed, "confirmed out of order")
+        self.last_confirmed = max(self.last_confirmed, place)
+        self.seen["confirmed while kept"] += self.is_kept
+
+    def compares(self, rest):
+        """The counts are those of the moves, and sum to the requests that were entered."""
+        total, _, numbers = rest.partition(": ")
+        counts = [int(it) for it in numbers.split(" ")]
+        self.need(counts == [self.counts[place] for place in PLACES], "not the counts of the moves")
+        self.need(int(total) == len(self.places) == sum(counts), "not as many as were entered")
+        self.seen["places"] += 1
+
+    def hears(self, is_kept):
+        """What `link` says of the premise: once it is broken it stays so."""
+        self.need(self.is_kept or not is_kept, "the premise is kept again")
+        self.is_kept = is_kept
+        self.seen["kept" if is_kept else "broken"] += 1
