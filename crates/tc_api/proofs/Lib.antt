@@ -1,4 +1,6 @@
 mod ActLemmas
 mod ExchangeLemmas
+mod LineLemmas
+mod OneLemmas
 mod ResponseLemmas
 mod ServingLemmas

@@ -1,5 +1,5 @@
 -- What a body posts to /acts: the keys of its JSON object, and the tests in their order.
-use Rattle.std.specs.Prelude.{◌≡◌, ℕ, ◌≤◌, Option, Some, None, Result, Ok, Err, List, codes, length, option_and_then}
+use Rattle.std.specs.Prelude.{◌≡◌, ℕ, ◌≤◌, Option, Some, None, Result, Ok, Err, IfOk, List, codes, length, option_and_then}
 use Rattle.serde_json.specs.Data.{Data, Num}
 use Rattle.serde_json.specs.Find.{as_u64}
 use Rattle.tc_types.specs.declared.acts.Act.{Act}
@@ -54,3 +54,8 @@ JudgesActPost body outcome = (value : Option Data) × IsJson body value × Judge
 -- the keys as the code holds them
 abbrev pub act_keys_seen : code.ActKeys → ActKeys
 act_keys_seen keys = record { act = keys.act.now; by = keys.by.now; moment = keys.moment }
+
+-- What was read of an act's text: it spells that, and what it spells is read.
+pub record IsReadAs (text : List ℕ) (read : Result Act Refusal) : Type 0 where
+  pub found : IfOk read (λ act. SpellsAct text act)
+  pub only : (act : Act) → SpellsAct text act → length text ≤ 200 → read ≡ Ok act

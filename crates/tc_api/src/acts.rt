@@ -1,14 +1,16 @@
 //! What a body posts to `/acts`.
-ghost use Rattle.std.specs.Prelude.{◌≡◌, ◌≤◌, ◌⊎◌, Some, Err, length, option_map};
+ghost use Rattle.std.specs.Prelude.{◌≡◌, ◌≤◌, ◌⊎◌, ℕ, Some, Err, List, Result, length, option_map};
 ghost use Rattle.serde_json.specs.View.{view};
+ghost use Rattle.tc_types.specs.declared.acts.Line.{Line as SomeLine};
+ghost use Rattle.tc_types.specs.declared.refusals.Refusal.{Refusal as SomeRefusal};
 ghost use Rattle.tc_types.specs.declared.refusals.Refusal.TheVariants.{Memory};
-ghost use Rattle.tc_api.specs.Acts.{JudgesAct, JudgesActKeys, JudgesActPost, act_keys, act_keys_seen};
+ghost use Rattle.tc_api.specs.Acts.{IsReadAs, JudgesAct, JudgesActKeys, JudgesActPost, act_keys, act_keys_seen};
 
 use crate::bodies::{moment_in, number_at, text_at, value_of};
 use serde_json::Value;
 use std::alloc::Global;
 use tc_types::act_reader::{LONGEST_ACT, read_act};
-use tc_types::acts::Line;
+use tc_types::acts::{Act, Line};
 use tc_types::names::Name;
 use tc_types::numbers::Moment;
 use tc_types::refusals::Refusal;
@@ -32,19 +34,19 @@ fn act_keys(value: &Value) -> Option<ActKeys<'_>>
     })
 }
 
-/// The act of a text, by a person, at a moment.
-fn act_at(text: &str, by: Name, moment: Moment) -> Result<Line, Refusal>
-    requires { length text.now ≤ 200 }
-    ensures { JudgesAct text.now by moment result }
+/// The act that was read, by a person, at a moment.
+fn act_at(act: Result<Act, Refusal>, by: Name, moment: Moment) -> Result<Line, Refusal>
+    ensures { (text : List ℕ) → IsReadAs text act → length text ≤ 200 → JudgesAct text by moment result }
 {
-    match read_act(text.as_bytes()) {
+    match act {
         Ok(act) => Ok(Line { moment, by, act }),
         Err(_) => Err(Refusal::BadText),
     }
 }
 
-/// What the keys of an act post.
-fn judge_act(keys: &ActKeys<'_>) -> Result<Line, Refusal>
+/// What the keys of an act post, of whose text this was read.
+fn judge_read(keys: &ActKeys<'_>, act: Result<Act, Refusal>) -> Result<Line, Refusal>
+    requires { IsReadAs keys.now.act.now act }
     ensures { JudgesActKeys (Some (act_keys_seen keys.now)) result }
 {
     let Some(by) = Name::read_person(keys.by.as_bytes()) else {
@@ -54,14 +56,23 @@ fn judge_act(keys: &ActKeys<'_>) -> Result<Line, Refusal>
         return Err(Refusal::TooLong);
     }
     match moment_in(keys.moment) {
-        Some(moment) => act_at(keys.act, by, moment),
+        Some(moment) => act_at(act, by, moment),
         None => Err(Refusal::BadText),
     }
 }
 
+/// What the keys of an act post.
+fn judge_act(keys: &ActKeys<'_>) -> Result<Line, Refusal>
+    ensures judged { JudgesActKeys (Some (act_keys_seen keys.now)) result }
+    ensures only { (outcome : Result SomeLine SomeRefusal) → JudgesActKeys (Some (act_keys_seen keys.now)) outcome → result ≡ outcome }
+{
+    judge_read(keys, read_act(keys.act.as_bytes()))
+}
+
 /// What a JSON value posts to /acts.
 fn judge_act_value(value: &Value) -> Result<Line, Refusal>
-    ensures { JudgesActKeys (act_keys (view value.now)) result }
+    ensures judged { JudgesActKeys (act_keys (view value.now)) result }
+    ensures only { (outcome : Result SomeLine SomeRefusal) → JudgesActKeys (act_keys (view value.now)) outcome → result ≡ outcome }
 {
     match act_keys(value) {
         Some(keys) => judge_act(&keys),
@@ -73,7 +84,9 @@ fn judge_act_value(value: &Value) -> Result<Line, Refusal>
 /// `BadText` where it is no such object or the person may not act; then with `TooLong` where the act's text has more than 200 bytes; then
 /// with `BadText` where the moment is not whole or out of range, or the text spells no act; and with `Memory` where that was refused.
 pub fn read_act_post(alloc: Global, body: &[u8]) -> Result<Line, Refusal>
-    ensures { (result ≡ Err Memory) ⊎ JudgesActPost body.now result }
+    ensures judged { (result ≡ Err Memory) ⊎ JudgesActPost body.now result }
+    // a body posts one thing
+    ensures only { (outcome : Result SomeLine SomeRefusal) → JudgesActPost body.now outcome → (result ≡ Err Memory) ⊎ (result ≡ outcome) }
 {
     match value_of(alloc, body) {
         Ok(value) => judge_act_value(&value),

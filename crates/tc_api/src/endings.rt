@@ -1,5 +1,5 @@
 //! How an exchange ends, and the status that says so.
-ghost use Rattle.std.specs.Prelude.{◌≡◌, ◌≤◌};
+ghost use Rattle.std.specs.Prelude.{◌≡◌};
 ghost use Rattle.http.specs.StatusCode.{IsStatusCode};
 ghost use Rattle.tc_api.specs.Endings.{is_done, refusal_number, status_number, status_of, status_of_refusal};
 

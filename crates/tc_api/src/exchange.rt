@@ -1,7 +1,6 @@
 //! One exchange: a request is read, served, and answered.
 ghost use Rattle.std.specs.Prelude.{◌≡◌, ◌≢◌, ◌⊎◌, Err, IfErr, OnOk};
 ghost use Rattle.std.specs.Io.KnownBytes.{Appends};
-ghost use Rattle.std.specs.String.{string_bytes};
 ghost use Rattle.tc_types.specs.Counts.{counts_of, inner_of, no_counts};
 ghost use Rattle.tc_types.specs.declared.refusals.Refusal.TheVariants as refusal;
 ghost use Rattle.tc_desk.specs.Replies.{Reply};
@@ -43,6 +42,7 @@ fn send<W: Write>(writer: &mut Counted<W>, bytes: &[u8]) -> Result<(), Refusal>
     requires { counts_of writer.old ≡ no_counts }
     ensures sent { OnOk result (Appends (W.contents (inner_of writer.old)) (W.contents (inner_of writer.new)) bytes.now) }
     ensures cut { IfErr result (λ why. (why ≡ refusal.WriteFault) × IsCutOff bytes.now (counts_of writer.new) (W.contents (inner_of writer.old)) (W.contents (inner_of writer.new))) }
+    ensures unfailed { OnOk result (counts_of writer.new ≡ no_counts) }
 {
     match write_whole(writer, bytes) {
         Ok(()) => Ok(()),
@@ -62,6 +62,7 @@ fn respond_with<W: Write>(
         → Appends (W.contents (inner_of writer.old)) (W.contents (inner_of writer.new)) (response_to (outcome_of reply served.now))) }
     ensures failed { IfErr result (λ why. (reply : Reply) → text.now ≡ ended reply
         → IsUnanswered (outcome_of reply served.now) why (counts_of writer.new) (W.contents (inner_of writer.old)) (W.contents (inner_of writer.new))) }
+    ensures unfailed { OnOk result (counts_of writer.new ≡ no_counts) }
 {
     match response(alloc, served.ending, text) {
         Ok(bytes) => send(writer, bytes.as_bytes()),
@@ -76,6 +77,7 @@ fn respond<W: Write>(alloc: Global, served: &Served, writer: &mut Counted<W>) ->
         → Appends (W.contents (inner_of writer.old)) (W.contents (inner_of writer.new)) (response_to (outcome_of reply served.now))) }
     ensures failed { IfErr result (λ why. (reply : Reply) → HasText reply served.now
         → IsUnanswered (outcome_of reply served.now) why (counts_of writer.new) (W.contents (inner_of writer.old)) (W.contents (inner_of writer.new))) }
+    ensures unfailed { OnOk result (counts_of writer.new ≡ no_counts) }
 {
     match &served.text {
         Some(text) => respond_with(alloc, served, text.as_str(), writer),
@@ -97,6 +99,7 @@ fn answer<W: Write, S: Alter + Drop>(
         × Appends (W.contents (inner_of writer.old)) (W.contents (inner_of writer.new)) (response_to outcome)) }
     ensures failed { IfErr result (λ why. (outcome : Outcome) × IsServed S.Store text.now room.old outcome room.new
         × IsUnanswered outcome why (counts_of writer.new) (W.contents (inner_of writer.old)) (W.contents (inner_of writer.new))) }
+    ensures unfailed { OnOk result (counts_of writer.new ≡ no_counts) }
 {
     match decide(routes, text) {
         Some(decision) => {
@@ -135,6 +138,7 @@ fn serve_with<R: Read, W: Write, S: Alter + Drop>(
         ⊎ EndsUnanswered S.Store why (R.remaining (inner_of reader.old)) (R.remaining (inner_of reader.new)) room.old room.new
         (counts_of writer.new) (W.contents (inner_of writer.old)) (W.contents (inner_of writer.new))) }
     ensures fault { (counts_of reader.new).faults ≢ 0 → result ≡ Err refusal.ReadFault }
+    ensures unfailed { OnOk result (counts_of writer.new ≡ no_counts) }
 {
     let mut text = Vec::new(alloc);
     match read_front(routes, reader, &mut text) {
@@ -170,6 +174,7 @@ pub fn serve_one<R: Read, W: Write, S: Alter + Drop>(
         ⊎ EndsUnanswered S.Store why (R.remaining (inner_of reader.old)) (R.remaining (inner_of reader.new)) room.old room.new
         (counts_of writer.new) (W.contents (inner_of writer.old)) (W.contents (inner_of writer.new))) }
     ensures fault { (counts_of reader.new).faults ≢ 0 → result ≡ Err refusal.ReadFault }
+    ensures unfailed { OnOk result (counts_of writer.new ≡ no_counts) }
 {
     match Routes::new(alloc) {
         Ok(routes) => serve_with(alloc, &routes, reader, writer, room),

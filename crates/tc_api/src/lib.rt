@@ -5,6 +5,7 @@ pub mod acts;
 mod bodies;
 pub mod endings;
 pub mod exchange;
+pub mod laws;
 mod loads;
 pub mod responses;
 pub mod serving;

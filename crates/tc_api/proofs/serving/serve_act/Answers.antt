@@ -5,7 +5,7 @@ use Rattle.tc_api.proofs.serving.serve_act.Goals as goal
 pub returns-in-Ok : goal.returns-in-Ok
 returns-in-Ok g c =
     let made = c.serve_line.ensures in
-    (made.0, act_served g.S.Store _ _ _ _ _ _ c.in-Ok.is c.read_act_post.ensures made.1, made.2)
+    (made.0, act_served g.S.Store _ _ _ _ _ _ c.in-Ok.is c.read_act_post.ensures.judged made.1, made.2)
 
 pub returns-in-Err : goal.returns-in-Err
-returns-in-Err g c = (refusal_reply c.in-Err.refusal, act_refused g.S.Store _ _ _ _ _ c.in-Err.is c.read_act_post.ensures c.refused.ensures.0, c.refused.ensures.1)
+returns-in-Err g c = (refusal_reply c.in-Err.refusal, act_refused g.S.Store _ _ _ _ _ c.in-Err.is c.read_act_post.ensures.judged c.refused.ensures.0, c.refused.ensures.1)
