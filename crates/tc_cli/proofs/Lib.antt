@@ -2,5 +2,4 @@ mod CrashLemmas
 mod KeptLemmas
 mod RunLemmas
 mod ScriptLemmas
-mod WordLemmas
 pub mod ClosedLemmas

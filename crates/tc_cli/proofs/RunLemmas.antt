@@ -31,7 +31,7 @@ use Rattle.tc_types.specs.declared.refusals.Refusal.TheVariants.{Stopped, TooLon
 use Rattle.tc_types.specs.declared.refusals.Refusal.TheVariants as refusal
 use Rattle.tc_desk.specs.Replies.{Reply, refusal_reply}
 use Rattle.tc_desk.specs.Machine.{stamp_of}
-use Rattle.tc_room.specs.Answers.{AsksPlaces}
+use Rattle.tc_room.specs.Answers.{AsksPlaces, RefusesWith}
 use Rattle.tc_room.specs.Joined.{HasImage, HoldsBook, IsKept, Standing}
 use Rattle.tc_room.specs.Loads.{LoadsText, RoomLoad, loader_of}
 use Rattle.tc_room.specs.Replies.{ended, is_refused}
@@ -137,21 +137,21 @@ module _ {S : Type 0} (g : Ghosts S) where
   came_skipped at line p w skipped = ([], [], rw skipped (refl, refl, refl), gives_none p, Appends-nil w, refl)
 
   -- what a line is answered
-  abbrev pub Answered : Standing S → List ℕ → Standing S → Option (List FileText) → Option (List FileText) → List ℕ → Bool → Type 0
-  Answered at line next gave gives text refused =
-      (reply : Reply) × (files : List FileText) × AnswersScriptLine g at line files reply next × Gives gave gives files × (text ≡ ended reply) × (refused ≡ is_refused reply)
+  abbrev pub Answered : Standing S → List ℕ → Standing S → Option (List FileText) → Option (List FileText) → List ℕ → Option Refusal → Type 0
+  Answered at line next gave gives text why =
+      (reply : Reply) × (files : List FileText) × AnswersScriptLine g at line files reply next × Gives gave gives files × (text ≡ ended reply) × RefusesWith reply why
 
   -- a line that is not skipped came to its answer
-  pub came_answered : (at : Standing S) (line : List ℕ) (next : Standing S) (gave gives : Option (List FileText)) (mid new : Option (List ℕ)) (refused : Bool) (text : List ℕ)
-      → is_skipped line ≡ false → Answered at line next gave gives text refused
+  pub came_answered : (at : Standing S) (line : List ℕ) (next : Standing S) (gave gives : Option (List FileText)) (mid new : Option (List ℕ)) (why : Option Refusal) (refused : Bool) (text : List ℕ)
+      → is_skipped line ≡ false → Answered at line next gave gives text why → ((reply : Reply) → RefusesWith reply why → refused ≡ is_refused reply)
       → Appends mid new text → Came at line next gave gives mid new refused
-  came_answered at line next gave gives mid new refused text goes_on (reply, files, answers, given, is_text, is_reply) appends = (
+  came_answered at line next gave gives mid new why refused text goes_on (reply, files, answers, given, is_text, refuses) told appends = (
     reply ∷ [],
     files,
     rw goes_on (reply, refl, answers),
     given,
     rw append-nil (subst (Appends mid new) is_text appends),
-    is_reply ∙ sym (or_false (is_refused reply)),
+    told reply refuses ∙ sym (or_false (is_refused reply)),
   )
 
   pub has_run-step : (start : Standing S) (lines : List (List ℕ)) (gave : Option (List FileText)) (old : Option (List ℕ)) (at : Standing S) (left : List (List ℕ)) (line : List ℕ) (others : List (List ℕ))
@@ -183,11 +183,11 @@ module _ {S : Type 0} (g : Ghosts S) where
       (h.replies, h.files, takes_front-end start lines h.files h.replies at left h.taken none, h.given, h.written, h.refusals)
 
   -- the reply to the question at the end was cut short
-  pub stopped_in_question : (end after : Standing S) (bytes text : List ℕ) (last : Bool) (mid new : Option (List ℕ)) (fault : ScriptFault)
-      → (reply : Reply) × AsksPlaces g end reply after × (text ≡ ended reply) × (last ≡ is_refused reply)
+  pub stopped_in_question : (end after : Standing S) (bytes text : List ℕ) (why : Option Refusal) (mid new : Option (List ℕ)) (fault : ScriptFault)
+      → (reply : Reply) × AsksPlaces g end reply after × ((text ≡ ended reply) × RefusesWith reply why)
       → bytes ≡ text → fault ≡ Output → (part : List ℕ) × IsCutShort bytes part × Appends mid new part
       → (part : List ℕ) × LeavesPart g fault end [] part × Appends mid new part
-  stopped_in_question end after bytes text last mid new fault (reply, asks, is_text, is_reply) are is_output (part, cut, written) =
+  stopped_in_question end after bytes text why mid new fault (reply, asks, (is_text, refuses)) are is_output (part, cut, written) =
       (part, rw is_output (reply, (after, asks), subst (λ (given : List ℕ). IsCutShort given part) (are ∙ is_text) cut), written)
 
   -- what a fault at a line leaves
@@ -195,11 +195,11 @@ module _ {S : Type 0} (g : Ghosts S) where
   Left fault at left gave gives mid new = (part : List ℕ) × (more : List FileText) × LeavesPart g fault at left part × Gives gave gives more × Appends mid new part
 
   -- the reply to a line was cut short
-  pub stopped_at_line : (at after : Standing S) (line : List ℕ) (gave gives : Option (List FileText)) (bytes text : List ℕ) (said : Bool) (mid new : Option (List ℕ)) (fault : ScriptFault)
-      → is_skipped line ≡ false → Answered at line after gave gives text said
+  pub stopped_at_line : (at after : Standing S) (line : List ℕ) (gave gives : Option (List FileText)) (bytes text : List ℕ) (why : Option Refusal) (mid new : Option (List ℕ)) (fault : ScriptFault)
+      → is_skipped line ≡ false → Answered at line after gave gives text why
       → bytes ≡ text → fault ≡ Output → (part : List ℕ) × IsCutShort bytes part × Appends mid new part
       → Left fault at (line ∷ []) gave gives mid new
-  stopped_at_line at after line gave gives bytes text said mid new fault goes_on (reply, files, answers, given, is_text, is_reply) are is_output (part, cut, written) =
+  stopped_at_line at after line gave gives bytes text why mid new fault goes_on (reply, files, answers, given, is_text, refuses) are is_output (part, cut, written) =
       (part, files, rw is_output (reply, (after, files, goes_on, answers), subst (λ (shown : List ℕ). IsCutShort shown part) (are ∙ is_text) cut), given, written)
 
   -- a line was not answered: for want of memory, or of its file
@@ -366,42 +366,3 @@ pub stops_unread : (config : configs.Config) (read : Option (List ℕ)) (p : Opt
     → IfSome read (λ input. Stops config fault (script_lines input) p p w w)
 stops_unread config None p w fault is_other is_no_path = tt
 stops_unread config (Some input) p w fault is_other is_no_path = stops_first config (script_lines input) p w fault is_other is_no_path
-
-take_none : (xs : List ℕ) (n : ℕ) → n ≡ 0 → take n xs ≡ []
-take_none [] n is = rw is refl
-take_none (x ∷ xs) n is = rw is refl
-
--- all of what is left
-take_rest : (bytes : List ℕ) (done : ℕ) → take (length bytes - done) (drop done bytes) ≡ drop done bytes
-take_rest bytes done = ap (λ n. take n (drop done bytes)) (sym (length-drop done bytes)) ∙ take-length (drop done bytes)
-
--- a reply that went out in part
-pub put_cut : (a b c : Option (List ℕ)) (bytes : List ℕ) (done : ℕ) → done < length bytes → Appends a b (take done bytes) → Appends b c []
-    → (part : List ℕ) × IsCutShort bytes part × Appends a c part
-put_cut a b c bytes done more written none = (
-  take done bytes,
-  (drop done bytes, sym (take-append-drop done bytes), λ empty. let e : length (drop done bytes) ≡ 0 = ap length empty in let l : length (drop done bytes) ≡ length bytes - done = length-drop done bytes in omega arith),
-  subst (Appends a c) (append-nil (take done bytes)) (Appends-trans a b c (take done bytes) [] written none),
-)
-
--- what is kept is appended to by nothing
-pub kept_appends : (b c : Option (List ℕ)) → Keeps b c → Appends b c []
-kept_appends b c keeps = Appends-kept b b c [] (Appends-nil b) keeps
-
--- a write that took nothing
-pub none_appends : (b c : Option (List ℕ)) (bytes : List ℕ) (count : ℕ) → count ≡ 0 → Appends b c (take count bytes) → Appends b c []
-none_appends b c bytes count none appends = subst (Appends b c) (take_none bytes count none) appends
-
--- some bytes more went out
-pub put_on : (a b c : Option (List ℕ)) (bytes : List ℕ) (done count : ℕ) → Appends a b (take done bytes)
-    → Appends b c (take count (take (length bytes - done) (drop done bytes))) → Appends a c (take (done + count) bytes)
-put_on a b c bytes done count written more =
-    let rest : Appends b c (take count (drop done bytes)) = subst (λ (bs : List ℕ). Appends b c (take count bs)) (take_rest bytes done) more in
-    subst (Appends a c) (sym (take-add done count bytes)) (Appends-trans a b c (take done bytes) (take count (drop done bytes)) written rest)
-
--- the counts after a write that took something
-pub put_counts : (old new : Counts) (room count : ℕ) → old ≡ no_counts → count ≢ 0
-    → (CanCount old → new ≡ record { reads = old.reads; faults = plus_if old.faults (is_nothing count room); ends = old.ends }) → new ≡ no_counts
-put_counts old new room count fresh some counted =
-    let can : CanCount old = rw fresh (record { reads = omega arith; faults = omega arith; ends = omega arith }) in
-    counted can ∙ rw (fresh, ne_eqb count 0 some) refl

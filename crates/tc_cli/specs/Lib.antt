@@ -1,4 +1,3 @@
-pub mod CommandLine
 pub mod Crash
 pub mod Files
 pub mod Kept

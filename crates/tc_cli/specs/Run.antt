@@ -14,6 +14,7 @@ use Rattle.tc_types.specs.Loads.{LoadLine, SpellsLoad}
 use Rattle.tc_types.specs.Lines.{places_line}
 use Rattle.tc_book.specs.Book.{Book}
 use Rattle.tc_desk.specs.Replies.{Reply}
+pub use Rattle.tc_front.specs.Write.{IsCutShort}
 use Rattle.tc_desk.specs.declared.configs.Config as configs
 use Rattle.tc_room.specs.Answers.{AnswersLine, AsksPlaces}
 use Rattle.tc_room.specs.Joined.{HoldsBook, IsKept, Standing}
@@ -114,10 +115,6 @@ module _ {S : Type 0} (g : Ghosts S) where
 abbrev pub LoadsNext : List (List ℕ) → Type 0
 LoadsNext [] = ⊥
 LoadsNext (line ∷ lines) = (load : LoadLine) × (is_skipped line ≡ false) × IsLoadLine line load
-
--- a front of these bytes, and not all
-abbrev pub IsCutShort : List ℕ → List ℕ → Type 0
-IsCutShort bytes part = (rest : List ℕ) × (bytes ≡ part ++ rest) × (rest ≢ [])
 
 module _ {S : Type 0} (g : Ghosts S) where
   -- What a fault leaves of the next reply: where a write failed a front of it, and else nothing. A path that gives no text is that

@@ -3,6 +3,7 @@ use Rattle.std.specs.Prelude.{◌≡◌, ◌≤◌, ◌<◌, ◌*◌, ◌⊎◌,
 use Rattle.std.specs.Io.KnownBytes.{Consumes}
 use Rattle.tc_types.specs.declared.counted.Counts.{Counts}
 use Rattle.tc_types.specs.Counts.{no_counts}
+use Rattle.tc_front.specs.Write.{one_fault}
 use Rattle.tc_cli.specs.declared.script.ScriptFault.{ScriptFault}
 use Rattle.tc_cli.specs.declared.script.ScriptFault.TheVariants.{Script, Output, Memory, Tables, Config, Path}
 use Rattle.tc_types.specs.declared.refusals.Refusal.{Refusal}
@@ -18,10 +19,6 @@ pub record IsTooLong (counts : Counts) (old new : Option (List ℕ)) : Type 0 wh
 -- Why a script could not be read: its reader failed, or was read 100,000 times, or gave too much.
 abbrev pub IsUnreadable : Counts → Option (List ℕ) → Option (List ℕ) → Type 0
 IsUnreadable counts old new = (counts.faults ≡ 1) ⊎ ((counts.reads ≡ 100000) ⊎ IsTooLong counts old new)
-
--- one read or write failed
-abbrev pub one_fault : Counts
-one_fault = record { reads = 0; faults = 1; ends = 0 }
 
 -- The counts of the writer: one write failed where the answer is Output, and none where it is another.
 abbrev pub written_counts : {X : Type 0} → Result X ScriptFault → Counts

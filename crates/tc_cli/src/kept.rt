@@ -1,5 +1,5 @@
 //! The run of a script on a desk that is kept in a database.
-ghost use Rattle.std.specs.Prelude.{◌≡◌, ◌≢◌, ℕ, List, Option, IfErr, IfOk, map};
+ghost use Rattle.std.specs.Prelude.{◌≡◌, ◌≢◌, IfErr, IfOk};
 ghost use Rattle.std.specs.Io.KnownBytes.{Appends};
 ghost use Rattle.tc_types.specs.Counts.{counts_of, inner_of, no_counts};
 ghost use Rattle.tc_types.specs.Lines.{move_line};
@@ -8,15 +8,15 @@ ghost use Rattle.tc_cli.specs.Kept.{RunsKept, RunsOpened, StopsKept, StopsOpened
 ghost use Rattle.tc_cli.specs.Run.{script_lines};
 ghost use Rattle.tc_cli.specs.Script.{written_counts};
 
+use crate::opened::tell_moves;
 use crate::paths::Paths;
-use crate::run::{put, run_room};
+use crate::run::run_room;
 use crate::script::ScriptFault;
 use sqlite::{Alter, Connection};
 use std::alloc::Global;
 use std::io::Write;
 use tc_desk::configs::Config;
 use tc_room::opening::Opened;
-use tc_room::replies::opening_reply;
 use tc_room::rooms::Room;
 use tc_types::counted::Counted;
 use tc_types::moves::Move;
@@ -37,8 +37,7 @@ fn run_opened<S: Alter + Drop, P: Paths, W: Write>(
     ensures fault { IfErr result (λ fault. fault ≢ ScriptFault.Script) }
     ensures counted { counts_of writer.new ≡ written_counts result }
 {
-    let told = opening_reply(alloc, moves)?;
-    put(writer, told.as_bytes())?;
+    tell_moves(alloc, moves, writer)?;
     run_room(alloc, room, text, paths, writer)
 }
 

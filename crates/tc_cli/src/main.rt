@@ -5,40 +5,41 @@
 //! window and the virtual channel. With `--db FILE` the desk is kept in a database file, and is opened there at the moment `--at MOMENT`.
 //!
 //! `tcdesk report DB FROM TO` prints the shift report of the desk that the file DB keeps, which it only reads.
+//!
+//! `tcdesk serve DB PORT COUNT` serves that desk over HTTP at a port of 127.0.0.1, and ends after so many connections.
+//! `tcdesk loop DB SCRIPT` sends the lines of a script over HTTP to a desk that it serves itself, and prints what is answered.
 #![tactic(auto)]
 
 mod closed;
+mod files;
 mod kept;
 mod laws;
+mod looping;
+mod opened;
 mod paths;
 mod reporting;
 mod run;
 mod script;
-mod words;
+mod serving;
 
-ghost use Rattle.std.specs.Prelude.{IfOk};
-ghost use Rattle.sqlite_wal.specs.Files.{image_at};
-ghost use Rattle.sqlite.specs.State.{HasCleanDisk};
-ghost use Rattle.sqlite.specs.Start.{FindsIn};
-ghost use Rattle.sqlite.specs.Files.{file_state, IsOpened};
-
+use files::{open_database, open_script, text_at};
 use kept::run_kept;
+use looping::send_to_file;
 use paths::HostPaths;
 use reporting::print_report;
 use run::run_script;
-use script::{ScriptFault, read_script};
-use sqlite::{Connection, Error, ErrorCode};
-use sqlite_disk::{Start, Wary};
-use sqlite_std_file::FileFrom;
-use sqlite_store::FileStore;
+use script::ScriptFault;
+use serving::{ServiceFault, serve};
+use sqlite_disk::Wary;
 use std::alloc::{AllocError, Global};
 use std::process::ExitCode;
 use std::rt::Files;
-use std::{env, fs, io};
+use std::{env, io};
 use tc_desk::configs::Config;
 use tc_types::counted::Counted;
 use tc_types::numbers::Moment;
-use words::{Line, UsageFault, read_words};
+use tc_words::lines::{Line, UsageFault};
+use tc_words::reading::read_words;
 
 /// The exit status of a fault: of usage, of a file or of memory.
 const UNUSABLE: u8 = 2;
@@ -101,6 +102,25 @@ fn run_line(rt: &HostRuntime, line: Line<'_>) -> u8 {
             moment,
         } => run_kept_in(rt, script, config, database, moment),
         Line::Report { database, from, to } => report_in(rt, database, from, to),
+        Line::Serve {
+            database,
+            port,
+            count,
+            config,
+            moment,
+        } => {
+            let served = serve(rt, database, config, moment, port, count);
+            service_status(rt, served.map(|()| 0), database, database)
+        }
+        Line::Loop {
+            database,
+            script,
+            config,
+            moment,
+        } => {
+            let ended = send_to_file(rt, script, config, database, moment);
+            service_status(rt, ended, script, database)
+        }
     }
 }
 
@@ -144,6 +164,26 @@ fn status_of<R: Files + Eprint>(
     }
 }
 
+/// The exit status of a desk that was served, with a script and a database file of these names.
+fn service_status(
+    rt: &HostRuntime,
+    ended: Result<u8, ServiceFault>,
+    script: &str,
+    file: &str,
+) -> u8 {
+    match ended {
+        Ok(status) => status,
+        Err(ServiceFault::Port(port)) => {
+            let _ = eprintln!(rt; "tcdesk: cannot use port {port}");
+            UNUSABLE
+        }
+        Err(ServiceFault::Desk(fault)) => {
+            let paths = HostPaths::new(rt.alloc(), rt);
+            status_of(rt, Err(fault), script, file, &paths)
+        }
+    }
+}
+
 fn run_at<R: Files + Input + Print + AllocGlobal>(
     rt: &R,
     path: &str,
@@ -157,22 +197,6 @@ fn run_at<R: Files + Input + Print + AllocGlobal>(
     }
     let mut reader = Counted::new(open_script(rt, path)?);
     run_script(rt.alloc(), config, &mut reader, paths, &mut writer)
-}
-
-fn open_script<R: Files>(rt: &R, path: &str) -> Result<R::File, ScriptFault> {
-    match fs::open(rt, path) {
-        Ok(file) => Ok(file),
-        Err(error) if error.kind() == io::ErrorKind::OutOfMemory => Err(ScriptFault::Memory),
-        Err(_) => Err(ScriptFault::Script),
-    }
-}
-
-/// The text of a script, read whole.
-fn text_at<R: Files + Input + AllocGlobal>(rt: &R, path: &str) -> Result<Vec<u8>, ScriptFault> {
-    if path == "-" {
-        return read_script(rt.alloc(), &mut Counted::new(rt.reader()));
-    }
-    read_script(rt.alloc(), &mut Counted::new(open_script(rt, path)?))
 }
 
 /// Runs a script on the desk that a file keeps, opened at a moment. The script is read whole before the file is opened; the file is closed at
@@ -191,23 +215,6 @@ fn run_on_file(
     let (ended, store) = run_kept(rt.alloc(), store, config, moment, &text, paths, &mut writer);
     match store.close() {
         Ok(()) => ended,
-        Err(_) => Err(ScriptFault::Tables),
-    }
-}
-
-/// The database in a file, which is made where there is none. It is what the two files held as they were opened, whatever that is: `start` stands for
-/// it.
-fn open_database<S: Start>(
-    rt: &HostRuntime,
-    file: &str,
-    start: S,
-) -> Result<Connection<FileStore<FileFrom<S>>>, ScriptFault>
-    ensures opened { IfOk result (λ c. HasCleanDisk (file_state c) → IsOpened c) }
-    ensures found { IfOk result (λ c. HasCleanDisk (file_state c) → FindsIn (image_at S.Start) (file_state c)) }
-{
-    match Connection::open_from(rt, file, false, start) {
-        Ok(store) => Ok(store),
-        Err((Error::SqliteFailure(ErrorCode::OutOfMemory), _)) => Err(ScriptFault::Memory),
         Err(_) => Err(ScriptFault::Tables),
     }
 }

@@ -3,7 +3,7 @@ ghost use Rattle.std.specs.Prelude.{◌≡◌, ◌≢◌, ◌⊎◌, ℕ, if◌t
 ghost use Rattle.std.specs.List.{flat_map, list_any};
 ghost use Rattle.std.specs.Io.KnownBytes.{Appends};
 ghost use Rattle.tc_types.specs.Counts.{counts_of, inner_of, no_counts};
-ghost use Rattle.tc_room.specs.Answers.{AsksPlaces};
+ghost use Rattle.tc_room.specs.Answers.{AsksPlaces, RefusesWith};
 ghost use Rattle.tc_room.specs.Joined.{IsKept};
 ghost use Rattle.tc_desk.specs.Replies.{Reply};
 ghost use Rattle.tc_room.specs.Replies.{ended, is_refused};
@@ -22,6 +22,7 @@ use sqlite::Alter;
 use std::alloc::Global;
 use std::io::{Read, Write};
 use tc_desk::configs::Config;
+use tc_front::write::{Unwritten, write_whole};
 use tc_room::answers::{Answer, answer_line, answer_load, answer_places};
 use tc_room::rooms::Room;
 use tc_types::counted::Counted;
@@ -102,7 +103,7 @@ pub(crate) fn run_room<S: Alter + Drop, P: Paths, W: Write>(
 }
 
 /// The exit status, where some line was refused or none was.
-fn status_of(refused: bool) -> u8
+pub(crate) fn status_of(refused: bool) -> u8
     ensures { result ≡ (if refused then 1 else 0) }
 {
     if refused { 1 } else { 0 }
@@ -117,23 +118,14 @@ pub(crate) fn put<W: Write>(writer: &mut Counted<W>, bytes: &[u8]) -> Result<(),
     ensures fault { IfErr result (λ fault. fault ≡ ScriptFault.Output) }
     ensures counted { counts_of writer.new ≡ written_counts result }
 {
-    let mut done = 0;
-    while done < bytes.len() {
-        match writer.write(&bytes[done..]) {
-            Ok(count) => {
-                if count == 0 {
-                    return Err(ScriptFault::Output);
-                }
-                done += count;
-            }
-            Err(_) => return Err(ScriptFault::Output),
-        }
+    match write_whole(writer, bytes) {
+        Ok(()) => Ok(()),
+        Err(Unwritten) => Err(ScriptFault::Output),
     }
-    Ok(())
 }
 
 /// Whether a line is empty or begins with `#`.
-fn is_skipped(line: &[u8]) -> bool
+pub(crate) fn is_skipped(line: &[u8]) -> bool
     ensures { result ≡ is_skipped line.now }
 {
     match line {
@@ -151,7 +143,7 @@ fn answer_file<S: Alter + Drop, P: Paths>(
 ) -> Result<Answer, ScriptFault>
     ensures answered { IfOk result (λ answer. (reply : Reply) × (text : List ℕ) × RoomLoad S.Store room.old (loader_of (line_of load.now)) load.now.kind load.now.name text reply room.new
         × Gives (P.given paths.old) (P.given paths.new) (file_at load.now.path.now text ∷ [])
-        × (string_bytes answer.text ≡ ended reply) × (answer.refused ≡ is_refused reply)) }
+        × (string_bytes answer.text ≡ ended reply) × RefusesWith reply answer.refusal) }
     ensures fault { IfErr result (λ fault. (fault ≡ ScriptFault.Memory) ⊎ (fault ≡ ScriptFault.Path)) }
     ensures gave { OnErr result ((more : List FileText) × Gives (P.given paths.old) (P.given paths.new) more) }
 {
@@ -174,7 +166,7 @@ fn answer<S: Alter + Drop, P: Paths>(
 ) -> Result<Answer, ScriptFault>
     ensures answered { IfOk result (λ answer. (reply : Reply) × (files : List FileText) × AnswersScriptLine S.Store room.old line.now files reply room.new
         × Gives (P.given paths.old) (P.given paths.new) files
-        × (string_bytes answer.text ≡ ended reply) × (answer.refused ≡ is_refused reply)) }
+        × (string_bytes answer.text ≡ ended reply) × RefusesWith reply answer.refusal) }
     ensures fault { IfErr result (λ fault. (fault ≡ ScriptFault.Memory) ⊎ ((fault ≡ ScriptFault.Path) × ((load : LoadLine) × IsLoadLine line.now load))) }
     ensures gave { OnErr result ((more : List FileText) × Gives (P.given paths.old) (P.given paths.new) more) }
 {
@@ -211,7 +203,7 @@ fn run_line<S: Alter + Drop, P: Paths, W: Write>(
     }
     let answer = answer(alloc, room, line, paths)?;
     put(writer, answer.text.as_bytes())?;
-    Ok(answer.refused)
+    Ok(answer.refused())
 }
 
 /// Takes each line in turn, and says whether any was refused.
@@ -257,5 +249,5 @@ fn run_places<S: Alter + Drop, W: Write>(
 {
     let last = answer_places(alloc, room)?;
     put(writer, last.text.as_bytes())?;
-    Ok(last.refused)
+    Ok(last.refused())
 }

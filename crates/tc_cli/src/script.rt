@@ -5,8 +5,9 @@ ghost use Rattle.tc_types.specs.Counts.{counts_of, inner_of, no_counts};
 ghost use Rattle.tc_cli.specs.Script.{IsUnreadable, fault_of};
 ghost use Rattle.tc_cli.specs.declared.script.ScriptFault.TheVariants.{Memory};
 
-use std::alloc::{AllocError, AllocFailed, Global};
+use std::alloc::{AllocError, Global};
 use std::io::Read;
+use tc_room::answers::Untold;
 use tc_types::counted::Counted;
 use tc_types::refusals::Refusal;
 use thiserror::Error;
@@ -49,10 +50,10 @@ impl From<AllocError> for ScriptFault {
     }
 }
 
-impl<T: Drop> From<AllocFailed<T>> for ScriptFault {
+impl From<Untold> for ScriptFault {
     ghost from_gives = { λ _ fault. fault ≡ Memory };
 
-    fn from(_error: AllocFailed<T>) -> ScriptFault {
+    fn from(_untold: Untold) -> ScriptFault {
         ScriptFault::Memory
     }
 }

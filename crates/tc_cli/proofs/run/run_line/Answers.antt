@@ -11,12 +11,12 @@ pub returns-clause-taken : goal.returns-clause-taken
 returns-clause-taken g c =
     let appends = subst (λ (bytes : List ℕ). Appends (g.W.Write.contents (inner_of c.args.writer.now)) (g.W.Write.contents (inner_of c.put.new.writer)) bytes)
     c.as_bytes.ensures.value c.in_ok-put.ensures.written in
-    came_answered g.S.Store _ _ _ _ _ _ _ _ _ (search rules) c.in_ok-answer.ensures.answered appends
+    came_answered g.S.Store _ _ _ _ _ _ _ c.in_ok-answer.answer.refusal _ _ (search rules) c.in_ok-answer.ensures.answered c.refused.ensures appends
 
 pub returns-in_err-put-clause-stopped : goal.returns-in_err-put-clause-stopped
 returns-in_err-put-clause-stopped g c =
     let gone : c.from_residual-in_err-put.result ≡ Err c.in_err-put.field-0.0 = grind arith in
-    rw gone (stopped_at_line g.S.Store _ _ _ _ _ _ _ _ _ _ _ (search rules) c.in_ok-answer.ensures.answered c.as_bytes.ensures.value c.in_err-put.ensures.fault c.in_err-put.ensures.cut)
+    rw gone (stopped_at_line g.S.Store _ _ _ _ _ _ _ c.in_ok-answer.answer.refusal _ _ _ (search rules) c.in_ok-answer.ensures.answered c.as_bytes.ensures.value c.in_err-put.ensures.fault c.in_err-put.ensures.cut)
 
 pub returns-in_err-answer-clause-stopped : goal.returns-in_err-answer-clause-stopped
 returns-in_err-answer-clause-stopped g c =

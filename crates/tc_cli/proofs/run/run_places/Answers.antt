@@ -24,7 +24,7 @@ returns-in_err-last-clause-counted g c =
 pub returns-in_err-put-clause-stopped : goal.returns-in_err-put-clause-stopped
 returns-in_err-put-clause-stopped g c =
     let gone : c.from_residual-in_err-put.result ≡ Err c.in_err-put.field-0.0 = grind arith in
-    rw gone (stopped_in_question g.S.Store _ _ _ _ _ _ _ _ c.in_ok-last.ensures.answered c.as_bytes.ensures.value c.in_err-put.ensures.fault c.in_err-put.ensures.cut)
+    rw gone (stopped_in_question g.S.Store _ _ _ _ c.in_ok-last.last.refusal _ _ _ c.in_ok-last.ensures.answered c.as_bytes.ensures.value c.in_err-put.ensures.fault c.in_err-put.ensures.cut)
 
 pub returns-in_err-put-clause-fault : goal.returns-in_err-put-clause-fault
 returns-in_err-put-clause-fault g c =
@@ -39,4 +39,4 @@ returns-in_err-put-clause-counted g c =
 pub returns-clause-taken : goal.returns-clause-taken
 returns-clause-taken g c =
     let h = c.in_ok-last.ensures.answered in
-    (h.0, h.1, subst (λ (bytes : List ℕ). Appends (g.W.Write.contents (inner_of c.args.writer.now)) (g.W.Write.contents (inner_of c.put.new.writer)) bytes) (c.as_bytes.ensures.value ∙ h.2) c.in_ok-put.ensures.written, h.3)
+    (h.0, h.1, subst (λ (bytes : List ℕ). Appends (g.W.Write.contents (inner_of c.args.writer.now)) (g.W.Write.contents (inner_of c.put.new.writer)) bytes) (c.as_bytes.ensures.value ∙ h.2.0) c.in_ok-put.ensures.written, c.refused.ensures h.0 h.2.1)

@@ -1,0 +1,49 @@
+//! The files of the machine that a run is given: a script, and the database that keeps a desk.
+ghost use Rattle.std.specs.Prelude.{IfOk};
+ghost use Rattle.sqlite_wal.specs.Files.{image_at};
+ghost use Rattle.sqlite.specs.State.{HasCleanDisk};
+ghost use Rattle.sqlite.specs.Start.{FindsIn};
+ghost use Rattle.sqlite.specs.Files.{file_state, IsOpened};
+
+use crate::script::{ScriptFault, read_script};
+use sqlite::{Connection, Error, ErrorCode};
+use sqlite_disk::Start;
+use sqlite_std_file::FileFrom;
+use sqlite_store::FileStore;
+use std::rt::Files;
+use std::{fs, io};
+use tc_types::counted::Counted;
+
+/// The script at this path.
+pub fn open_script<R: Files>(rt: &R, path: &str) -> Result<R::File, ScriptFault> {
+    match fs::open(rt, path) {
+        Ok(file) => Ok(file),
+        Err(error) if error.kind() == io::ErrorKind::OutOfMemory => Err(ScriptFault::Memory),
+        Err(_) => Err(ScriptFault::Script),
+    }
+}
+
+/// The text of the script at this path, or of the standard input where it is `-`, read whole.
+pub fn text_at<R: Files + Input + AllocGlobal>(rt: &R, path: &str) -> Result<Vec<u8>, ScriptFault> {
+    if path == "-" {
+        return read_script(rt.alloc(), &mut Counted::new(rt.reader()));
+    }
+    read_script(rt.alloc(), &mut Counted::new(open_script(rt, path)?))
+}
+
+/// The database in a file, which is made where there is none. It is what the two files held as they were opened, whatever that is: `start` stands for
+/// it.
+pub fn open_database<S: Start>(
+    rt: &HostRuntime,
+    file: &str,
+    start: S,
+) -> Result<Connection<FileStore<FileFrom<S>>>, ScriptFault>
+    ensures opened { IfOk result (λ c. HasCleanDisk (file_state c) → IsOpened c) }
+    ensures found { IfOk result (λ c. HasCleanDisk (file_state c) → FindsIn (image_at S.Start) (file_state c)) }
+{
+    match Connection::open_from(rt, file, false, start) {
+        Ok(store) => Ok(store),
+        Err((Error::SqliteFailure(ErrorCode::OutOfMemory), _)) => Err(ScriptFault::Memory),
+        Err(_) => Err(ScriptFault::Tables),
+    }
+}

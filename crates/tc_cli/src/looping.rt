@@ -1,0 +1,212 @@
+//! The lines of a script, sent over HTTP (RFC 9112) to a desk that this program serves itself: each is posted by a connection of its own, taken, served,
+//! and its response read. All that is by one thread, so a request has to fit what the system holds for a connection that is not read yet: it has
+//! at most 201 bytes of an act.
+ghost use Rattle.std.specs.Prelude.{◌≡◌, OnOk};
+ghost use Rattle.tc_types.specs.Counts.{counts_of, no_counts};
+
+use crate::files::{open_database, text_at};
+use crate::opened::open_told;
+use crate::run::{is_skipped, put, status_of};
+use crate::script::ScriptFault;
+use crate::serving::{ServiceFault, closed};
+use bstr::ByteSlice;
+use sqlite::Alter;
+use sqlite_disk::Wary;
+use std::alloc::{AllocError, Global};
+use std::io::{self, Read, Write};
+use std::net::{Ipv4Addr, TcpListener, TcpStream};
+use tc_api::exchange::serve_one;
+use tc_desk::configs::Config;
+use tc_posts::posting::{places_request, post_request};
+use tc_posts::told::{Told, Untellable, read_told};
+use tc_room::rooms::Room;
+use tc_types::counted::Counted;
+use tc_types::numbers::Moment;
+use tc_types::refusals::Refusal;
+
+/// How many connections of other programs are let go at most before a program's own comes.
+const MOST_STRANGERS: u32 = 1_000;
+
+impl From<AllocError> for ServiceFault {
+    fn from(_error: AllocError) -> ServiceFault {
+        ServiceFault::Desk(ScriptFault::Memory)
+    }
+}
+
+/// A server of the program's own.
+#[derive(Drop)]
+struct Server {
+    listener: TcpListener,
+    port: u16,
+}
+
+/// What a call on a port tells by failing so.
+fn fault_of(port: u16, error: &io::Error) -> ServiceFault {
+    if error.kind() == io::ErrorKind::OutOfMemory {
+        ServiceFault::Desk(ScriptFault::Memory)
+    } else {
+        ServiceFault::Port(port)
+    }
+}
+
+/// Listens on 127.0.0.1 on a port that the system picks.
+fn listen(rt: &HostRuntime) -> Result<Server, ServiceFault> {
+    let Ok(listener) = TcpListener::bind(rt, (Ipv4Addr::LOCALHOST, 0)) else {
+        return Err(ServiceFault::Port(0));
+    };
+    match listener.local_addr() {
+        Ok(address) => Ok(Server {
+            listener,
+            port: address.port(),
+        }),
+        Err(_) => Err(ServiceFault::Port(0)),
+    }
+}
+
+/// Connects to the server, and sends it a request.
+fn sent(rt: &HostRuntime, server: &Server, request: &[u8]) -> io::Result<TcpStream> {
+    let stream = TcpStream::connect(rt, (Ipv4Addr::LOCALHOST, server.port))?;
+    (&stream).write_all(request)?;
+    Ok(stream)
+}
+
+/// Takes the connection of this client. One that another program opened is let go.
+fn taken(server: &Server, client: &TcpStream) -> io::Result<TcpStream> {
+    let own = client.local_addr()?;
+    for _ in 0..MOST_STRANGERS {
+        let (stream, peer) = server.listener.accept()?;
+        if peer == own {
+            return Ok(stream);
+        }
+    }
+    Err(io::Error::from(io::ErrorKind::ConnectionAborted))
+}
+
+/// Serves the connection of this client of the program's own.
+fn serve_client<S: Alter + Drop>(
+    alloc: Global,
+    server: &Server,
+    client: &TcpStream,
+    room: &mut Room<S>,
+) -> Result<(), ServiceFault> {
+    let stream = match taken(server, client) {
+        Ok(stream) => stream,
+        Err(error) => return Err(fault_of(server.port, &error)),
+    };
+    match serve_one(
+        alloc,
+        &mut Counted::new(&stream),
+        &mut Counted::new(&stream),
+        room,
+    ) {
+        Ok(()) => Ok(()),
+        Err(Refusal::ReadFault | Refusal::WriteFault) => Err(ServiceFault::Port(server.port)),
+        Err(_) => Err(ServiceFault::Desk(ScriptFault::Memory)),
+    }
+}
+
+/// All that a client is sent.
+fn received(alloc: Global, client: &TcpStream) -> io::Result<Vec<u8>> {
+    let mut response = Vec::new(alloc);
+    let mut reader = client;
+    reader.read_to_end(&mut response)?;
+    Ok(response)
+}
+
+/// What the desk answers a request.
+fn answered<S: Alter + Drop>(
+    rt: &HostRuntime,
+    server: &Server,
+    room: &mut Room<S>,
+    request: &[u8],
+) -> Result<Told, ServiceFault> {
+    let client = match sent(rt, server, request) {
+        Ok(client) => client,
+        Err(error) => return Err(fault_of(server.port, &error)),
+    };
+    serve_client(rt.alloc(), server, &client, room)?;
+    let response = match received(rt.alloc(), &client) {
+        Ok(response) => response,
+        Err(error) => return Err(fault_of(server.port, &error)),
+    };
+    match read_told(rt.alloc(), &response) {
+        Ok(told) => Ok(told),
+        Err(Untellable::Memory) => Err(ServiceFault::Desk(ScriptFault::Memory)),
+        Err(Untellable::NoResponse) => Err(ServiceFault::Port(server.port)),
+    }
+}
+
+/// Sends a request and writes the lines that it is answered. Says whether it was refused.
+fn send<S: Alter + Drop, W: Write>(
+    rt: &HostRuntime,
+    server: &Server,
+    room: &mut Room<S>,
+    request: &[u8],
+    writer: &mut Counted<W>,
+) -> Result<bool, ServiceFault>
+    requires { counts_of writer.old ≡ no_counts }
+    ensures { OnOk result (counts_of writer.new ≡ no_counts) }
+{
+    let told = answered(rt, server, room, request)?;
+    put(writer, told.text.as_bytes())?;
+    Ok(told.refusal != 0)
+}
+
+/// Sends each line that is not skipped, and says whether any was refused.
+fn send_lines<S: Alter + Drop, W: Write>(
+    rt: &HostRuntime,
+    server: &Server,
+    room: &mut Room<S>,
+    text: &[u8],
+    writer: &mut Counted<W>,
+) -> Result<bool, ServiceFault>
+    requires { counts_of writer.old ≡ no_counts }
+    ensures { OnOk result (counts_of writer.new ≡ no_counts) }
+{
+    let mut refused = false;
+    for line in text.lines() {
+        if !is_skipped(line) {
+            let request = post_request(rt.alloc(), server.port, line)?;
+            refused |= send(rt, server, room, request.as_bytes(), writer)?;
+        }
+    }
+    Ok(refused)
+}
+
+/// Sends the lines, and at the end the question how many requests stand where.
+fn send_script<S: Alter + Drop, W: Write>(
+    rt: &HostRuntime,
+    room: &mut Room<S>,
+    text: &[u8],
+    writer: &mut Counted<W>,
+) -> Result<u8, ServiceFault>
+    requires { counts_of writer.old ≡ no_counts }
+{
+    let server = listen(rt)?;
+    let refused = send_lines(rt, &server, room, text, writer)?;
+    let request = places_request(rt.alloc(), server.port)?;
+    let last = send(rt, &server, room, request.as_bytes(), writer)?;
+    Ok(status_of(refused | last))
+}
+
+/// Sends the lines of a script to the desk that a file keeps, opened at a moment, over HTTP: writes the moves that the opening made, the lines
+/// of each response, and at the end those of the places. Gives the exit status: 1 where anything was refused, else 0. The script is read whole before the
+/// file is opened; the file is closed at the end, so that it alone holds everything.
+pub fn send_to_file(
+    rt: &HostRuntime,
+    script: &str,
+    config: Config,
+    file: &str,
+    moment: Moment,
+) -> Result<u8, ServiceFault> {
+    let text = text_at(rt, script)?;
+    let store = open_database(rt, file, Wary)?;
+    let mut writer = Counted::new(io::writer(rt));
+    match open_told(rt.alloc(), store, config, moment, &mut writer) {
+        Ok(mut room) => {
+            let ended = send_script(rt, &mut room, &text, &mut writer);
+            closed(room.into_connection(), ended)
+        }
+        Err(left) => closed(left.store, Err(ServiceFault::Desk(left.fault))),
+    }
+}
