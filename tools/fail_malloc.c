@@ -1,9 +1,13 @@
 // Preloaded before a program, this makes one request for memory fail: the one whose number the
 // variable FAIL_AT gives, from 1. The failure writes one byte to descriptor 9, so that the caller
-// sees whether the program asked so often.
+// sees whether the program asked so often. Where the variable FAIL_BEHIND_ACCEPT is set, requests
+// count only from the first connection on that the program accepts.
+#define _GNU_SOURCE
 #include <errno.h>
 #include <stddef.h>
 #include <stdlib.h>
+#include <sys/socket.h>
+#include <sys/syscall.h>
 #include <unistd.h>
 
 void *__libc_malloc(size_t size);
@@ -12,15 +16,25 @@ void *__libc_realloc(void *block, size_t size);
 
 static unsigned long asked;
 static unsigned long fail_at;
+static int waits;
 
 __attribute__((constructor)) static void read_settings(void) {
     const char *at = getenv("FAIL_AT");
     fail_at = at == NULL ? 0 : strtoul(at, NULL, 10);
+    waits = getenv("FAIL_BEHIND_ACCEPT") != NULL;
+}
+
+int accept4(int listener, struct sockaddr *peer, socklen_t *size, int flags) {
+    int accepted = (int)syscall(SYS_accept4, listener, peer, size, flags);
+    if (accepted >= 0) {
+        waits = 0;
+    }
+    return accepted;
 }
 
 static int fails(void) {
-    asked += 1;
-    if (asked != fail_at) {
+    asked += !waits;
+    if (waits || asked != fail_at) {
         return 0;
     }
     (void)!write(9, "x", 1);
