@@ -60,12 +60,16 @@ static void bind_text(sqlite3_stmt *statement, int at, const char *text) {
 // The row of the request at this place of the list, from 0.
 static void put_request(sqlite3_stmt *statement, int place) {
     const int apid = place % PROCESSES, count = place / PROCESSES % SEQUENCE_COUNTS;
-    // num, apid, cnt, ack, critical, service, subtype, target, at_time; then outcome, author and place
+    // num, apid, cnt, ack, critical, service, subtype, target, at_time; then outcome, author, stack, line, prior and place
     const int numbers[] = {place + 1, apid, count, 0, 0, 8, 1, 0, 0};
     bind_numbers(statement, numbers, 9);
     bind_text(statement, 10, "ok");
     bind_text(statement, 11, "a");
-    check(sqlite3_bind_int(statement, 12, ENTERED), SQLITE_OK);
+    // no stack: its name is empty, its line and the line that has to be completed before are 0
+    bind_text(statement, 12, "");
+    check(sqlite3_bind_int(statement, 13, 0), SQLITE_OK);
+    check(sqlite3_bind_int(statement, 14, 0), SQLITE_OK);
+    check(sqlite3_bind_int(statement, 15, ENTERED), SQLITE_OK);
     run(statement);
 }
 
@@ -100,7 +104,7 @@ static void write_entries(char **texts, int count) {
     sqlite3_stmt *request = compiled(text_of(texts, "INSERT INTO request "));
     sqlite3_stmt *move = compiled(text_of(texts, "INSERT INTO move "));
     sqlite3_stmt *tally = compiled(text_of(texts, TALLY));
-    if (sqlite3_bind_parameter_count(request) != 12 || sqlite3_bind_parameter_count(move) != 7) {
+    if (sqlite3_bind_parameter_count(request) != 15 || sqlite3_bind_parameter_count(move) != 7) {
         fprintf(stderr, "bench_sqlite: tc_store's rows are not those that stand here\n");
         exit(1);
     }
