@@ -365,8 +365,9 @@ def files_and_ports(cases):
 
 
 def full():
-    """Lines after which 16,400 requests of one application process and 1,000 stacks stand, and what a desk then refuses."""
-    return [f"{at} ann stack x{at} {'many' if at < 82 else 'one'}.csv" for at in range(1000)]
+    """Lines after which all 16,384 identities of one application process and 1,000 stacks stand."""
+    files = ["many"] * 81 + ["rest"] + ["one"] * 918
+    return [f"{at} ann stack x{at} {name}.csv" for at, name in enumerate(files)]
 
 
 def filled(cases):
@@ -376,7 +377,7 @@ def filled(cases):
             Case("an identity in use, in a stack", requests.load("stack", "more", posts.rows(1, apid=5)), 8),
             Case("another process", act("enter 9 a--c no 8 1 - - ok"), 0),
             Case("withdraw 1", act("withdraw 1"), 0), Case("an identity that is free again", act(ENTRY), 0), Case("the next one", act(ENTRY), 8)]
-    cases.play(name, told, full(), {"many.csv": posts.rows(200, apid=5), "one.csv": posts.rows(1, apid=6)})
+    cases.play(name, told, full(), {"many.csv": posts.rows(200, apid=5), "rest.csv": posts.rows(184, apid=5), "one.csv": posts.rows(1, apid=6)})
 
 
 LISTS = {"sizes": requests.sizes, "heads": requests.heads, "lengths": requests.lengths, "behind": requests.behind, "shapes": posts.shapes,
