@@ -4,9 +4,9 @@ is given.
 
 So many requests are entered on a new desk in a file of the folder, which has to lie on a disk (the system's temporary folder where none is
 given): by POST /acts, each on a connection of its own, one after the other; by `loop` and by `run --db` as a script; and beside these the same
-rows in the same batches by Python's sqlite3 over SQLite's own C library, through a log with a sync at each commit. What the disk needs for a
-page and a sync is told too. GET /places is asked as often. Each is measured three times, turn by turn, and the best time of each is taken.
-Every answer has to be a good one. The status is 1 where acts over HTTP are fewer a second than half of the bare store's commits.
+rows in the same batches on the bare store, without a desk (tc_bench, which has to be built), and by Python's sqlite3 over SQLite's own C library, through a log
+with a sync at each commit. What the disk needs for a page and a sync is told too. GET /places is asked as often. Each is measured three times, turn by turn,
+and the best time of each is taken. Every answer has to be a good one. The status is 1 where acts over HTTP are fewer a second than half of the bare store's commits.
 """
 import os
 import re
@@ -85,7 +85,18 @@ def texts():
     return found
 
 
-def bare_store(_, folder, count):
+def bare_store(program, folder, count):
+    """The rows of the same acts on the bare store."""
+    bare = os.path.join(os.path.dirname(os.path.realpath(program)), "../../tc_bench/out/tc_bench")
+    began = time.monotonic()
+    ran = subprocess.run([bare, str(count), "store", "bare.db"], cwd=folder, stdin=subprocess.DEVNULL, capture_output=True, timeout=3600, check=False)
+    took = time.monotonic() - began
+    if ran.returncode or ran.stdout.split()[-1:] != [b"%d" % count]:
+        raise Fault(f"tc_bench: {ran.stdout[-200:]!r} {ran.stderr!r}")
+    return took
+
+
+def own_library(_, folder, count):
     """The rows of the same acts by SQLite's own library."""
     made = texts()
     begins = ("INSERT INTO request ", "INSERT INTO move ", "INSERT OR REPLACE INTO tally ")
@@ -118,7 +129,8 @@ def pages(_, folder, count):
 
 MEASURED = {
     "the disk: a page and a sync": pages,
-    "the bare store: the same batches by SQLite's library": bare_store,
+    "SQLite's own library: the same batches": own_library,
+    "the bare store: the same batches": bare_store,
     "`run --db`, a script": lambda program, folder, count: script(program, folder, count, "run", "--db", "desk.db", "script.tc"),
     "`loop`, a script": lambda program, folder, count: script(program, folder, count, "loop", "desk.db", "script.tc"),
     "POST /acts, a connection each": acts_served,
@@ -151,7 +163,7 @@ def main():
     kind = subprocess.run(["stat", "-f", "-c", "%T", within], capture_output=True, text=True, check=False).stdout.strip()
     load = f"{os.getloadavg()[0]:.1f}"
     best = measure(program, count, within)
-    bare = best["the bare store: the same batches by SQLite's library"][0]
+    bare = best["the bare store: the same batches"][0]
     print(f"{time.strftime('%Y-%m-%d', time.gmtime())}, {os.cpu_count()} cores, a load of {load} before it began; {count:,} of each, "
           f"the best of {TURNS}; files on {kind}; SQLite {sqlite3.sqlite_version}")
     print()

@@ -216,7 +216,8 @@ def disk(runs):
             Case("a question in the end", PLACES, 32)]
     right = Expected(runs.program, runs.folder, told)
     wanted = [{31: STORE, 32: STOPPED}.get(case.want, response) for case, response in zip(told, right.responses)]
-    for size in (40, 1000, 4151, 4152, 5000):
+    # with fewer bytes than some hundred the file cannot be opened
+    for size in (1000, 4151, 4152, 5000):
         with runs.server(len(told), first=small_files(size)) as server:
             got = [server.exchange(it.raw) for it in told]
             ended = server.end()
