@@ -62,6 +62,7 @@ part "edits of wrong/, many in a check" tools/edits.py "${asked[@]}"
 part "the program runs" sh -c './tcdesk run - </dev/null >/dev/null'
 part "program cases" tools/program_cases.sh
 part "the manual and the rehearsals" tools/manual.sh
+part "the page of the manual" tools/man_cases.sh
 part "desks that are kept" tools/kept_cases.sh
 part "the shift report" tools/report_cases.py
 part "a plain desk: acts on the book" tools/plain_book.py
