@@ -280,9 +280,24 @@ check "the smallest window, behind the script" 0 "$fop"$'\nfarm Open vr 0 b 0 fl
 check "a channel" 0 "$word"$'fc0000\n'"$none" "" run --vc 63 word
 check "the first channel" 0 "$word"$'000000\n'"$none" "" run --vc 0 word
 check "the channel that nobody chose" 0 "$word"$'0c0000\n'"$none" "" run word
+# A word that is wrong is named.
 check "an odd window" 2 "" "tcdesk: --w must be even" run --w 21 link
-check "a window past its limit" 2 "" "2..=254" run --w 256 link
-check "a channel past its limit" 2 "" "0..=63" run --vc 64 link
+check "a window past its limit" 2 "" "invalid value '256' for '--w <N>': 256 is not in 2..=254" run --w 256 link
+check "a channel past its limit" 2 "" "invalid value '64' for '--vc <N>': 64 is not in 0..=63" run --vc 64 link
+check "a moment past its limit" 2 "" "invalid value '4102444800' for '--at <MOMENT>'" run --db none.db --at 4102444800 link
+check "a port past its limit" 2 "" "invalid value '65536' for '<PORT>'" serve none.db 65536 1
+check "no connections" 2 "" "invalid value '0' for '<COUNT>'" serve none.db 8080 0
+check "a FROM that spells no moment" 2 "" "such as 2031-05-04T10:00:00Z: noon" report none.db noon 86400
+check "a TO that spells no moment" 2 "" "such as 2031-05-04T10:00:00Z: 2031-02-30T10:00:00Z" report none.db 0 2031-02-30T10:00:00Z
+check "a KIND that is none" 2 "" "tcdesk: KIND is stack or procedure: shift" check shift empty
+check "no KIND" 2 "" "KIND" check
+check "no FILE" 2 "" "FILE" check stack
+check "a word too many" 2 "" "unexpected argument 'more'" run link more
+check "an option twice" 2 "" "'--w <N>' cannot be used multiple times" run --w 20 --w 20 link
+check "an option without its value" 2 "" "a value is required for '--w <N>' but none was supplied" run link --w
+[[ ! -e none.db ]] || { failed=$((failed + 1)); echo "program_cases: words that are refused made a file" >&2; }
+check "the version" 0 $'tcdesk 0.1.0\n' "" --version
+check "the version in short" 0 $'tcdesk 0.1.0\n' "" -V
 cp "$top/examples/first-run.tc" input
 check "no words" 0 "$first" ""
 check "standard input by its name" 0 "$first" "" run -
@@ -310,8 +325,8 @@ check "an act of 201 bytes" 1 $'refused 17 TooLong\n'"$none" "" run longer
 check "a missing file" 2 "" "tcdesk: cannot use missing" run missing
 mkdir folder
 check "a directory" 2 "" "tcdesk: cannot use folder" run folder
-check "an unknown option" 2 "" "--colour" run --colour empty
-check "an unknown command" 2 "" "fly" fly
+check "an unknown option" 2 "" "unexpected argument '--colour'" run --colour empty
+check "an unknown command" 2 "" "unrecognized subcommand 'fly'" fly
 check "no script" 2 "" "SCRIPT" run
 head -c 1048577 /dev/zero | tr '\0' '\n' >large
 check "1,048,577 bytes" 2 "" "tcdesk: cannot use large" run large

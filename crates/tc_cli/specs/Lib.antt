@@ -1,3 +1,4 @@
+pub mod Checking
 pub mod Crash
 pub mod Files
 pub mod Kept

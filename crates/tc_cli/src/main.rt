@@ -6,10 +6,13 @@
 //!
 //! `tcdesk report DB FROM TO` prints the shift report of the desk that the file DB keeps, which it only reads.
 //!
+//! `tcdesk check KIND FILE` says whether the file of a stack or of a procedure can be loaded, or what is wrong with it.
+//!
 //! `tcdesk serve DB PORT COUNT` serves that desk over HTTP at a port of 127.0.0.1, and ends after so many connections.
 //! `tcdesk loop DB SCRIPT` sends the lines of a script over HTTP to a desk that it serves itself, and prints what is answered.
 #![tactic(auto)]
 
+mod checking;
 mod closed;
 mod files;
 mod kept;
@@ -22,10 +25,11 @@ mod run;
 mod script;
 mod serving;
 
+use checking::{text_of, write_check};
 use files::{open_database, open_script, text_at};
 use kept::run_kept;
 use looping::send_to_file;
-use paths::HostPaths;
+use paths::{HostPaths, PathFault};
 use reporting::print_report;
 use run::run_script;
 use script::ScriptFault;
@@ -37,6 +41,7 @@ use std::rt::Files;
 use std::{env, io};
 use tc_desk::configs::Config;
 use tc_types::counted::Counted;
+use tc_types::loads::LoadKind;
 use tc_types::numbers::Moment;
 use tc_words::lines::{Line, UsageFault};
 use tc_words::reading::read_words;
@@ -80,15 +85,14 @@ fn borrowed<'a>(alloc: Global, args: &'a [String]) -> Result<Vec<&'a str>, Alloc
 fn run_words(rt: &HostRuntime, words: &[&str]) -> u8 {
     match read_words(rt.alloc(), words) {
         Ok(line) => run_line(rt, line),
-        Err(UsageFault::Memory) => cannot_use(rt, "memory"),
-        Err(fault @ (UsageFault::OddWindow | UsageFault::NoMoment)) => {
-            let _ = eprintln!(rt; "tcdesk: {fault}");
-            UNUSABLE
-        }
         Err(UsageFault::Words(error)) => match error.print(rt) {
             Ok(()) => error.exit_code() as u8,
             Err(_) => cannot_use(rt, "output"),
         },
+        Err(fault) => {
+            let _ = eprintln!(rt; "tcdesk: {fault}");
+            UNUSABLE
+        }
     }
 }
 
@@ -102,6 +106,7 @@ fn run_line(rt: &HostRuntime, line: Line<'_>) -> u8 {
             moment,
         } => run_kept_in(rt, script, config, database, moment),
         Line::Report { database, from, to } => report_in(rt, database, from, to),
+        Line::Check { kind, file } => check_in(rt, kind, file),
         Line::Serve {
             database,
             port,
@@ -142,6 +147,20 @@ fn report_in(rt: &HostRuntime, file: &str, from: Moment, to: Moment) -> u8 {
         Err(ScriptFault::Output) => cannot_use(rt, "output"),
         Err(ScriptFault::Memory) => cannot_use(rt, "memory"),
         Err(_) => cannot_use(rt, file),
+    }
+}
+
+fn check_in(rt: &HostRuntime, kind: LoadKind, file: &str) -> u8 {
+    let text = match text_of(rt, file) {
+        Ok(text) => text,
+        Err(PathFault::Memory) => return cannot_use(rt, "memory"),
+        Err(PathFault::Unreadable) => return cannot_use(rt, file),
+    };
+    let mut writer = Counted::new(io::writer(rt));
+    match write_check(rt.alloc(), kind, &text, &mut writer) {
+        Ok(status) => status,
+        Err(ScriptFault::Output) => cannot_use(rt, "output"),
+        Err(_) => cannot_use(rt, "memory"),
     }
 }
 

@@ -49,6 +49,28 @@ impl<'a, R: Files> HostPaths<'a, R> {
     }
 }
 
+/// Reads no more than so many bytes of a reader.
+pub fn read_most<R: Read + Drop>(
+    alloc: Global,
+    reader: R,
+    limit: usize,
+) -> Result<Vec<u8>, PathFault> {
+    let mut text = Vec::new(alloc);
+    match reader.take(limit as u64).read_to_end(&mut text) {
+        Ok(_) => Ok(text),
+        Err(error) => Err(unread(&error)),
+    }
+}
+
+/// Why there is no text where a file was not opened, or not read.
+fn unread(error: &io::Error) -> PathFault {
+    if error.kind() == io::ErrorKind::OutOfMemory {
+        PathFault::Memory
+    } else {
+        PathFault::Unreadable
+    }
+}
+
 /// Reads no more than so many bytes of the file at a path.
 fn read_file<R: Files>(
     alloc: Global,
@@ -56,15 +78,9 @@ fn read_file<R: Files>(
     path: &str,
     limit: usize,
 ) -> Result<Vec<u8>, PathFault> {
-    let mut text = Vec::new(alloc);
-    let read = match fs::open(rt, path) {
-        Ok(file) => file.take(limit as u64).read_to_end(&mut text),
-        Err(error) => Err(error),
-    };
-    match read {
-        Ok(_) => Ok(text),
-        Err(error) if error.kind() == io::ErrorKind::OutOfMemory => Err(PathFault::Memory),
-        Err(_) => Err(PathFault::Unreadable),
+    match fs::open(rt, path) {
+        Ok(file) => read_most(alloc, file, limit),
+        Err(error) => Err(unread(&error)),
     }
 }
 

@@ -30,7 +30,7 @@ use tc_types::load_reader::read_load;
 use tc_types::loads::Load;
 
 /// How many bytes of a file are read: one more than a stack or a procedure may have, so that a longer one is refused as too long.
-const MOST_FILE_BYTES: usize = 65_537;
+pub(crate) const MOST_FILE_BYTES: usize = 65_537;
 
 /// Runs the lines of a script on a desk where nothing happened yet, and writes what they are answered, and at the end
 /// what `places` is answered. Gives the exit status: 1 where any line or that question was refused, else 0. A line that loads

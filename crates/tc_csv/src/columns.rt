@@ -37,24 +37,24 @@ pub enum Column {
 
 impl Column {
     /// Its name, as it stands in a header.
-    pub fn name(self) -> &'static [u8]
+    pub fn name(self) -> &'static str
         ensures { result.now ≡ column_name self }
     {
         match self {
-            Column::Line => b"line",
-            Column::Apid => b"apid",
-            Column::Service => b"service",
-            Column::Subtype => b"subtype",
-            Column::Target => b"target",
-            Column::Time => b"time",
-            Column::Ack => b"ack",
-            Column::Critical => b"critical",
-            Column::After => b"after",
-            Column::Outcome => b"outcome",
-            Column::Step => b"step",
-            Column::Text => b"text",
-            Column::Second => b"second",
-            Column::Request => b"request",
+            Column::Line => "line",
+            Column::Apid => "apid",
+            Column::Service => "service",
+            Column::Subtype => "subtype",
+            Column::Target => "target",
+            Column::Time => "time",
+            Column::Ack => "ack",
+            Column::Critical => "critical",
+            Column::After => "after",
+            Column::Outcome => "outcome",
+            Column::Step => "step",
+            Column::Text => "text",
+            Column::Second => "second",
+            Column::Request => "request",
         }
     }
 }

@@ -13,8 +13,8 @@ use std::alloc::Global;
 /// The most bytes that a text may have.
 pub const MOST_BYTES: usize = 65_536;
 
-/// Every record of a text. Refused for want of memory alone.
-fn read_records(alloc: Global, text: &[u8]) -> Option<Vec<ByteRecord>>
+/// Every record of a text, with any number of fields. `None` where memory was refused.
+pub fn read_records(alloc: Global, text: &[u8]) -> Option<Vec<ByteRecord>>
     ensures { IfSome result (λ v. map fields_of v.items ≡ records_of text.now) }
 {
     let reader = ReaderBuilder::new()
@@ -36,7 +36,7 @@ fn is_named(fields: &ByteRecord, place: usize, column: Column) -> bool
     ensures { IsTrue result ↔ (field_at (fields_of fields.now) place ≡ Some (column_name column)) }
 {
     match fields.get(place) {
-        Some(field) => field == column.name(),
+        Some(field) => field == column.name().as_bytes(),
         None => false,
     }
 }

@@ -11,11 +11,12 @@ use Rattle.tc_stack.specs.StackTexts.{IsInstant}
 
 -- A command with what it was given. Where a desk is made or opened, its window and channel; where it is kept in a file, that file, and where it
 -- is opened there the moment of the opening. A run has a script; a report what stands for FROM and TO; a server its port and how many
--- connections it serves; a loop a script.
+-- connections it serves; a loop a script; a check what stands for KIND, and a file.
 pub data Asked : Type 0 where
   run : (script : Text) (window channel : ℕ) → Asked
   run_kept : (script : Text) (window channel : ℕ) (database : Text) (moment : ℕ) → Asked
   report : (database begins ends : Text) → Asked
+  check : (kind file : Text) → Asked
   serve : (database : Text) (port count window channel moment : ℕ) → Asked
   loop : (database script : Text) (window channel moment : ℕ) → Asked
 
@@ -67,6 +68,10 @@ asked_run rows = asked_with (first_of (codes "db") rows) rows
 abbrev pub asked_report : List Row → Asked
 asked_report rows = report (given (codes "DB") rows) (given (codes "FROM") rows) (given (codes "TO") rows)
 
+-- what a check was given
+abbrev pub asked_check : List Row → Asked
+asked_check rows = check (given (codes "KIND") rows) (given (codes "FILE") rows)
+
 -- what a server was given
 abbrev pub asked_serve : List Row → Asked
 asked_serve rows = serve (given (codes "DB") rows) (given_port rows) (given_count rows) (given_window rows) (given_channel rows) (given_moment rows)
@@ -79,6 +84,7 @@ asked_loop rows = loop (given (codes "DB") rows) (given (codes "SCRIPT") rows) (
 abbrev pub asked_of : Text → List Row → Asked
 asked_of name rows =
     if bytes_eq name (codes "report") then asked_report rows else
+    if bytes_eq name (codes "check") then asked_check rows else
     if bytes_eq name (codes "serve") then asked_serve rows else
     if bytes_eq name (codes "loop") then asked_loop rows else asked_run rows
 

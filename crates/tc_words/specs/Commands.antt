@@ -13,6 +13,14 @@ required_rule id = record (new_rule id) { required = true }
 abbrev pub script_rule : Rule
 script_rule = required_rule (codes "SCRIPT")
 
+-- KIND: what a file holds
+abbrev pub kind_rule : Rule
+kind_rule = required_rule (codes "KIND")
+
+-- FILE: the path of a file that is checked, or `-` for the standard input
+abbrev pub checked_rule : Rule
+checked_rule = required_rule (codes "FILE")
+
 -- DB: the database file that keeps a desk
 abbrev pub file_rule : Rule
 file_rule = required_rule (codes "DB")
@@ -84,6 +92,10 @@ run_app = with_database script_app
 abbrev pub report_app : App
 report_app = with_rule (with_rule (with_rule (new_app (codes "report")) file_rule) from_rule) to_rule
 
+-- check KIND FILE
+abbrev pub check_app : App
+check_app = with_rule (with_rule (new_app (codes "check")) kind_rule) checked_rule
+
 -- .. [--w N] [--vc N] [--at MOMENT]
 abbrev pub with_desk : App → App
 with_desk app = with_rule (with_rule (with_rule app window_rule) channel_rule) moment_rule
@@ -96,14 +108,18 @@ serve_app = with_desk (with_rule (with_rule (with_rule (new_app (codes "serve"))
 abbrev pub loop_app : App
 loop_app = with_desk (with_rule (with_rule (new_app (codes "loop")) file_rule) script_rule)
 
--- the program's name, without its commands; one of them has to be named
+-- the program's name, without its commands; one of them has to be named, and it has a version
 abbrev pub bare_app : App
 bare_app = let new = new_app (codes "tcdesk") in
-    record new { top = record new.top { subcommand_required = true } }
+    record new { top = record new.top { subcommand_required = true; has_version = true } }
 
 -- the program, with the commands that run a script, or print what one came to
 abbrev pub script_apps : App
 script_apps = with_subcommand (with_subcommand bare_app run_app.top) report_app.top
+
+-- .. with the one that checks a file
+abbrev pub with_check : App → App
+with_check app = with_subcommand app check_app.top
 
 -- .. and with those that serve a desk over HTTP
 abbrev pub with_http : App → App
@@ -111,4 +127,4 @@ with_http app = with_subcommand (with_subcommand app serve_app.top) loop_app.top
 
 -- the program, with its commands
 abbrev pub desk_app : App
-desk_app = with_http script_apps
+desk_app = with_http (with_check script_apps)

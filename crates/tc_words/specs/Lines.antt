@@ -1,19 +1,23 @@
 -- What a line of the program is of what its words ask for, and why they ask for nothing.
-use Rattle.std.specs.Prelude.{◌%◌, ◌≡◌, ◌⊎◌, Option, None, Some}
+use Rattle.std.specs.Prelude.{◌%◌, ◌≡◌, ◌⊎◌, ⊤, List, [], Option, None, Some}
 use Rattle.clap.specs.Words.{Text}
+use Rattle.clap.specs.declared.error.kind.ErrorKind.{ErrorKind}
+use Rattle.tc_types.specs.Loads.{kind_word}
+use Rattle.tc_types.specs.declared.loads.LoadKind.{LoadKind}
 use Rattle.tc_desk.specs.declared.configs.Config.{Config}
-use Rattle.tc_words.specs.Asked.{Asked, SpellsMoment, SpellsNoMoment, run, run_kept, report, serve, loop}
+use Rattle.tc_words.specs.Asked.{Asked, SpellsMoment, SpellsNoMoment, check, loop, report, run, run_kept, serve}
 use Rattle.tc_words.specs.declared.lines.Line.{Line}
-use Rattle.tc_words.specs.declared.lines.Line.TheVariants.{Loop, Report, Run, RunKept, Serve}
+use Rattle.tc_words.specs.declared.lines.Line.TheVariants.{Check, Loop, Report, Run, RunKept, Serve}
 use Rattle.tc_words.specs.declared.lines.UsageFault.{UsageFault}
-use Rattle.tc_words.specs.declared.lines.UsageFault.TheVariants.{NoMoment, OddWindow}
+use Rattle.tc_words.specs.declared.lines.UsageFault.TheVariants.{Memory, NoKind, NoMoment, OddWindow, Words}
 
--- A line asks for this. A report's FROM and TO are texts that spell its moments.
+-- A line asks for this. A report's FROM and TO are texts that spell its moments, and the KIND of a check is the word of its kind.
 abbrev pub AsksFor : Line → Asked → Type 0
 AsksFor (Run script config) asked = asked ≡ run script.now config.window config.channel
 AsksFor (RunKept script config database moment) asked = asked ≡ run_kept script.now config.window config.channel database.now moment
 AsksFor (Report database from to) asked =
     (begins ends : Text) × SpellsMoment from begins × SpellsMoment to ends × (asked ≡ report database.now begins ends)
+AsksFor (Check kind file) asked = asked ≡ check (kind_word kind) file.now
 AsksFor (Serve database port count config moment) asked = asked ≡ serve database.now port count config.window config.channel moment
 AsksFor (Loop database script config moment) asked = asked ≡ loop database.now script.now config.window config.channel moment
 
@@ -22,6 +26,7 @@ abbrev pub config_of : Line → Option Config
 config_of (Run script config) = Some config
 config_of (RunKept script config database moment) = Some config
 config_of (Report database from to) = None
+config_of (Check kind file) = None
 config_of (Serve database port count config moment) = Some config
 config_of (Loop database script config moment) = Some config
 
@@ -30,16 +35,33 @@ abbrev pub AsksOddWindow : Asked → Type 0
 AsksOddWindow (run script window channel) = window % 2 ≡ 1
 AsksOddWindow (run_kept script window channel database moment) = window % 2 ≡ 1
 AsksOddWindow (report database begins ends) = ⊥
+AsksOddWindow (check kind file) = ⊥
 AsksOddWindow (serve database port count window channel moment) = window % 2 ≡ 1
 AsksOddWindow (loop database script window channel moment) = window % 2 ≡ 1
 
--- a report is asked for, of which FROM or TO spells no moment
-abbrev pub AsksNoMoment : Asked → Type 0
-AsksNoMoment (report database begins ends) = SpellsNoMoment begins ⊎ SpellsNoMoment ends
-AsksNoMoment desk_of_some_kind = ⊥
+-- a report is asked for, whose FROM or TO is this word, which spells no moment
+abbrev pub AsksNoMoment : Asked → Text → Type 0
+AsksNoMoment (report database begins ends) word = ((word ≡ begins) ⊎ (word ≡ ends)) × SpellsNoMoment word
+AsksNoMoment other word = ⊥
 
--- why what is asked for is not done
+-- a check is asked for, whose KIND is this word, which is that of no kind
+abbrev pub AsksNoKind : Asked → Text → Type 0
+AsksNoKind (check kind file) word = (word ≡ kind) × ((some : LoadKind) → ¬ (word ≡ kind_word some))
+AsksNoKind other word = ⊥
+
+-- why what is asked for is not done, and the word that is wrong
 abbrev pub IsFaultOf : Asked → UsageFault → Type 0
 IsFaultOf asked OddWindow = AsksOddWindow asked
-IsFaultOf asked NoMoment = AsksNoMoment asked
+IsFaultOf asked (NoMoment word) = AsksNoMoment asked word.now
+IsFaultOf asked (NoKind word) = AsksNoKind asked word.now
 IsFaultOf asked other = ⊥
+
+-- a fault that is told of a word here, and not by `clap`, and is no want of memory
+abbrev pub IsOwn : UsageFault → Type 0
+IsOwn (Words error) = ⊥
+IsOwn Memory = ⊥
+IsOwn own = ⊤
+
+-- such a fault is told of words in which `clap` finds none, and is one
+abbrev pub IsTold : List ErrorKind → Asked → UsageFault → Type 0
+IsTold faults asked fault = IsOwn fault → (faults ≡ []) × IsFaultOf asked fault

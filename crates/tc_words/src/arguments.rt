@@ -1,8 +1,8 @@
 //! The arguments of the commands: which have to be given, which values pass, and what stands where none is given.
 ghost use Rattle.std.specs.Prelude.{◌≡◌, false};
 ghost use Rattle.clap.specs.Words.{rule_of};
-ghost use Rattle.tc_words.specs.Commands.{channel_rule, count_rule, database_rule, file_rule, from_rule, moment_rule, port_rule, required_rule, script_rule, to_rule};
-ghost use Rattle.tc_words.specs.Commands.{window_rule};
+ghost use Rattle.tc_words.specs.Commands.{channel_rule, checked_rule, count_rule, database_rule, file_rule, from_rule, kind_rule, moment_rule, port_rule, required_rule};
+ghost use Rattle.tc_words.specs.Commands.{script_rule, to_rule, window_rule};
 
 use clap::Arg;
 use clap::builder::ValueParser;
@@ -24,6 +24,24 @@ pub(crate) fn script_arg<'a>(alloc: Global) -> Arg<'a>
         alloc,
         "SCRIPT",
         "The script's path, or - for the standard input",
+    )
+}
+
+pub(crate) fn kind_arg<'a>(alloc: Global) -> Arg<'a>
+    ensures rule { rule_of result ≡ kind_rule }
+    ensures local { result.global ≡ false }
+{
+    required_arg(alloc, "KIND", "What the file holds: stack or procedure")
+}
+
+pub(crate) fn checked_arg<'a>(alloc: Global) -> Arg<'a>
+    ensures rule { rule_of result ≡ checked_rule }
+    ensures local { result.global ≡ false }
+{
+    required_arg(
+        alloc,
+        "FILE",
+        "The file's path, or - for the standard input",
     )
 }
 

@@ -2,16 +2,27 @@
 ghost use Rattle.std.specs.Prelude.{◌≡◌, [], IfErr, IfOk, OnOk, false, map, true};
 ghost use Rattle.clap.specs.Words.{app_of, fault_of, kind_of, subcommand_of, subcommand_rows_of, takes};
 ghost use Rattle.clap.specs.declared.builder.command.Command.TheViews.{out-Command};
-ghost use Rattle.tc_words.specs.Commands.{bare_app, desk_app, loop_app, report_app, run_app, script_app, script_apps, serve_app};
-ghost use Rattle.tc_words.specs.Commands.{with_database, with_desk, with_http};
+ghost use Rattle.tc_words.specs.Commands.{bare_app, check_app, desk_app, loop_app, report_app, run_app, script_app, script_apps, serve_app};
+ghost use Rattle.tc_words.specs.Commands.{with_check, with_database, with_desk, with_http};
 
 use crate::arguments::{
-    channel_arg, count_arg, database_arg, file_arg, from_arg, moment_arg, port_arg, script_arg,
-    to_arg, window_arg,
+    channel_arg, checked_arg, count_arg, database_arg, file_arg, from_arg, kind_arg, moment_arg,
+    port_arg, script_arg, to_arg, window_arg,
 };
 use clap::error::ErrorKind;
 use clap::{ArgMatches, Command};
 use std::alloc::{AllocError, Global};
+
+/// The version of the program, which `--version` prints behind its name.
+const VERSION: &str = "0.1.0";
+
+/// What stands below the help of the program.
+const EXAMPLES: &str = "\
+Examples:
+  tcdesk run examples/first-pass.tc            a pass, on a desk in memory
+  tcdesk run --db desk.db examples/monday.tc   a shift, on a desk that a file keeps
+  tcdesk report desk.db 0 86400                what happened in it
+  tcdesk check stack examples/stack.csv        whether a stack can be loaded";
 
 /// The matches of a command line's words, of which the first is the program's name.
 pub(crate) fn matches<'a>(
@@ -32,7 +43,7 @@ fn desk_command<'a>(alloc: Global) -> Result<Command<'a>, AllocError>
     ensures app { IfOk result (λ command. app_of command ≡ desk_app) }
     ensures local { IfOk result (λ command. (out-Command command).has_globals ≡ false) }
 {
-    with_http(alloc, script_commands(alloc)?)
+    with_http(alloc, with_check(alloc, script_commands(alloc)?)?)
 }
 
 /// The program with the commands that run a script, or print what one came to.
@@ -40,9 +51,18 @@ fn script_commands<'a>(alloc: Global) -> Result<Command<'a>, AllocError>
     ensures app { IfOk result (λ command. app_of command ≡ script_apps) }
     ensures local { IfOk result (λ command. (out-Command command).has_globals ≡ false) }
 {
-    bare_command(alloc)
+    bare_command(alloc)?
         .subcommand(run_command(alloc)?)?
         .subcommand(report_command(alloc)?)
+}
+
+/// With the command that checks a file.
+fn with_check<'a>(alloc: Global, command: Command<'a>) -> Result<Command<'a>, AllocError>
+    requires local { (out-Command command).has_globals ≡ false }
+    ensures app { IfOk result (λ more. app_of more ≡ with_check (app_of command.entry)) }
+    ensures local { IfOk result (λ more. (out-Command more).has_globals ≡ false) }
+{
+    command.subcommand(check_command(alloc)?)
 }
 
 /// With the commands that serve a desk over HTTP.
@@ -56,13 +76,16 @@ fn with_http<'a>(alloc: Global, command: Command<'a>) -> Result<Command<'a>, All
         .subcommand(loop_command(alloc)?)
 }
 
-fn bare_command<'a>(alloc: Global) -> Command<'a>
-    ensures app { app_of result ≡ bare_app }
-    ensures local { (out-Command result).has_globals ≡ false }
+fn bare_command<'a>(alloc: Global) -> Result<Command<'a>, AllocError>
+    ensures app { IfOk result (λ command. app_of command ≡ bare_app) }
+    ensures local { IfOk result (λ command. (out-Command command).has_globals ≡ false) }
 {
     Command::new(alloc, "tcdesk")
         .about("A spacecraft telecommand desk")
+        .version(VERSION)
+        .after_help(EXAMPLES)
         .subcommand_required(true)
+        .bin_name("tcdesk")
 }
 
 fn run_command<'a>(alloc: Global) -> Result<Command<'a>, AllocError>
@@ -100,6 +123,18 @@ fn report_command<'a>(alloc: Global) -> Result<Command<'a>, AllocError>
         .arg(file_arg(alloc))?
         .arg(from_arg(alloc))?
         .arg(to_arg(alloc))
+}
+
+fn check_command<'a>(alloc: Global) -> Result<Command<'a>, AllocError>
+    ensures app { IfOk result (λ command. app_of command ≡ check_app) }
+    ensures local { IfOk result (λ command. (out-Command command).has_globals ≡ false) }
+{
+    Command::new(alloc, "check")
+        .about(
+            "Say whether the file of a stack or of a procedure can be loaded, or what is wrong with it",
+        )
+        .arg(kind_arg(alloc))?
+        .arg(checked_arg(alloc))
 }
 
 fn serve_command<'a>(alloc: Global) -> Result<Command<'a>, AllocError>

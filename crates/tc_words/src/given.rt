@@ -1,7 +1,9 @@
 //! What the arguments of a command were given.
 ghost use Rattle.std.specs.Prelude.{◌%◌, ◌≡◌, ◌↔◌, ◌≤◌, IfErr, IfOk, IsTrue, option_map};
 ghost use Rattle.clap.specs.Words.{first_of, found_of, one_of, rows_of};
+ghost use Rattle.tc_types.specs.Loads.{kind_word};
 ghost use Rattle.tc_types.specs.Numbers.{IsMoment};
+ghost use Rattle.tc_types.specs.declared.loads.LoadKind.{LoadKind as SomeKind};
 ghost use Rattle.tc_desk.specs.State.{IsConfig};
 ghost use Rattle.tc_words.specs.Asked.{SpellsMoment, SpellsNoMoment, given, given_channel, given_count, given_moment, given_port, given_window, number_in};
 
@@ -9,6 +11,7 @@ use crate::lines::UsageFault;
 use clap::ArgMatches;
 use tc_desk::configs::Config;
 use tc_stack::instants::instant;
+use tc_types::loads::LoadKind;
 use tc_types::numbers::Moment;
 use tc_types::readers;
 
@@ -42,7 +45,7 @@ fn number_of(matches: &ArgMatches<'_>, id: &str, least: u32, most: u32, other: u
 }
 
 /// The window and the channel, where the window is even.
-pub(crate) fn config_of(matches: &ArgMatches<'_>) -> Result<Config, UsageFault>
+pub(crate) fn config_of<'a>(matches: &ArgMatches<'_>) -> Result<Config, UsageFault<'a>>
     ensures window { IfOk result (λ config. config.window ≡ given_window (rows_of (found_of matches.now))) }
     ensures channel { IfOk result (λ config. config.channel ≡ given_channel (rows_of (found_of matches.now))) }
     ensures config { IfOk result IsConfig }
@@ -99,12 +102,26 @@ pub(crate) fn count_of(matches: &ArgMatches<'_>) -> u32
 }
 
 /// The moment that a text spells: Unix seconds, or an instant.
-pub(crate) fn spelled_moment(text: &str) -> Result<Moment, UsageFault>
-    ensures moment { IfOk result (λ moment. SpellsMoment moment text.now) }
-    ensures fault { IfErr result (λ fault. (fault ≡ UsageFault.NoMoment) × SpellsNoMoment text.now) }
+pub(crate) fn spelled_moment<'a>(text: &'a str) -> Result<Moment, UsageFault<'a>>
+    ensures moment { IfOk result (λ moment. SpellsMoment moment text.entry.now) }
+    ensures fault { IfErr result (λ fault. (fault ≡ UsageFault.NoMoment text.entry) × SpellsNoMoment text.entry.now) }
 {
     match readers::moment(text.as_bytes()) {
         Some(moment) => Ok(moment),
-        None => instant(text.as_bytes()).ok_or(UsageFault::NoMoment),
+        None => instant(text.as_bytes()).ok_or(UsageFault::NoMoment(text)),
+    }
+}
+
+/// The kind of a file that a word names.
+pub(crate) fn spelled_kind<'a>(word: &'a str) -> Result<LoadKind, UsageFault<'a>>
+    ensures kind { IfOk result (λ kind. word.entry.now ≡ kind_word kind) }
+    ensures fault { IfErr result (λ fault. (fault ≡ UsageFault.NoKind word.entry) × ((some : SomeKind) → ¬ (word.entry.now ≡ kind_word some))) }
+{
+    if word == "stack" {
+        Ok(LoadKind::Stack)
+    } else if word == "procedure" {
+        Ok(LoadKind::Procedure)
+    } else {
+        Err(UsageFault::NoKind(word))
     }
 }

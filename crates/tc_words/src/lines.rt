@@ -1,6 +1,7 @@
 //! What a command line asks for, and why one asks for nothing.
 
 use tc_desk::configs::Config;
+use tc_types::loads::LoadKind;
 use tc_types::numbers::Moment;
 use thiserror::Error;
 
@@ -25,6 +26,11 @@ pub enum Line<'a> {
         from: Moment,
         to: Moment,
     },
+    /// Whether the file at this path, or the standard input where it is `-`, can be loaded as a stack or as a procedure.
+    Check {
+        kind: LoadKind,
+        file: &'a str,
+    },
     /// Serve the desk that a database file keeps, opened at a moment, over HTTP on a port of this machine alone, 1 to 65,535, and end after
     /// so many connections, 1 to 1,000,000.
     Serve {
@@ -44,18 +50,21 @@ pub enum Line<'a> {
     },
 }
 
-/// Why the words of a command line ask for nothing.
+/// Why the words of a command line ask for nothing. Where that is not what `clap` says, the word that is wrong.
 #[derive(Debug, Drop, Error)]
-pub enum UsageFault {
-    /// The words are not a command line of the program, or ask for help: the text for the user.
+pub enum UsageFault<'a> {
+    /// The words are not a command line of the program, or ask for help or for the version: the text for the user.
     #[error(transparent)]
     Words(clap::Error),
     /// The window is odd.
     #[error("--w must be even")]
     OddWindow,
     /// What stands for FROM or TO spells no moment.
-    #[error("FROM and TO are Unix seconds, 0 to 4102444799, or instants such as 2031-05-04T10:00:00Z")]
-    NoMoment,
+    #[error("FROM and TO are Unix seconds, 0 to 4102444799, or instants such as 2031-05-04T10:00:00Z: {0}")]
+    NoMoment(&'a str),
+    /// What stands for KIND is neither `stack` nor `procedure`.
+    #[error("KIND is stack or procedure: {0}")]
+    NoKind(&'a str),
     /// There was no memory to read the words.
     #[error("cannot use memory")]
     Memory,

@@ -1,13 +1,15 @@
 //! The reading of a command line's words.
-ghost use Rattle.std.specs.Prelude.{◌≡◌, ◌⊎◌, ◌≢◌, [], Err, IfErr, IfOk, IfSome, None, OnOk, map, true};
+ghost use Rattle.std.specs.Prelude.{◌≡◌, ◌⊎◌, [], IfErr, IfOk, IfSome, None, OnOk, map, true};
 ghost use Rattle.clap.specs.Words.{fault_of, found_of, kind_of, rows_of, subcommand_of, subcommand_rows_of, takes};
 ghost use Rattle.tc_desk.specs.State.{IsConfig};
-ghost use Rattle.tc_words.specs.Asked.{asked, asked_loop, asked_of, asked_report, asked_run, asked_serve};
+ghost use Rattle.tc_words.specs.Asked.{asked, asked_check, asked_loop, asked_of, asked_report, asked_run, asked_serve};
 ghost use Rattle.tc_words.specs.Commands.{desk_app};
-ghost use Rattle.tc_words.specs.Lines.{AsksFor, AsksNoMoment, AsksOddWindow, IsFaultOf, config_of};
+ghost use Rattle.tc_words.specs.Lines.{AsksFor, IsFaultOf, IsOwn, IsTold, config_of};
 
 use crate::commands::matches;
-use crate::given::{config_of, count_of, moment_of, path_of, port_of, spelled_moment, text_of};
+use crate::given::{
+    config_of, count_of, moment_of, path_of, port_of, spelled_kind, spelled_moment, text_of,
+};
 use crate::lines::{Line, UsageFault};
 use clap::ArgMatches;
 use clap::error::ErrorKind;
@@ -21,20 +23,16 @@ const CONFIG: Config = Config {
 };
 
 /// Reads the words of a command line, of which the first is the program's name.
-pub fn read_words<'a>(alloc: Global, words: &'a [&'a str]) -> Result<Line<'a>, UsageFault>
+pub fn read_words<'a>(alloc: Global, words: &'a [&'a str]) -> Result<Line<'a>, UsageFault<'a>>
     ensures line { IfOk result (λ line.
         AsksFor line (asked (subcommand_of desk_app (map (λ word. word.now) words.entry.now)))) }
     ensures config { IfOk result (λ line. IfSome (config_of line) IsConfig) }
     ensures taken { OnOk result (fault_of desk_app (map (λ word. word.now) words.entry.now) ≡ []) }
     ensures fault { IfErr result (λ fault.
         takes desk_app (map (λ word. word.now) words.entry.now) ≡ true
-        → (fault ≡ UsageFault.Memory) ⊎ (fault ≡ UsageFault.OddWindow) ⊎ (fault ≡ UsageFault.NoMoment)) }
-    ensures odd { result ≡ Err UsageFault.OddWindow
-        → (fault_of desk_app (map (λ word. word.now) words.entry.now) ≡ [])
-        × AsksOddWindow (asked (subcommand_of desk_app (map (λ word. word.now) words.entry.now))) }
-    ensures no_moment { result ≡ Err UsageFault.NoMoment
-        → (fault_of desk_app (map (λ word. word.now) words.entry.now) ≡ [])
-        × AsksNoMoment (asked (subcommand_of desk_app (map (λ word. word.now) words.entry.now))) }
+        → (fault ≡ UsageFault.Memory) ⊎ IsFaultOf (asked (subcommand_of desk_app (map (λ word. word.now) words.entry.now))) fault) }
+    ensures told { IfErr result (IsTold
+        (fault_of desk_app (map (λ word. word.now) words.entry.now)) (asked (subcommand_of desk_app (map (λ word. word.now) words.entry.now)))) }
 {
     match matches(alloc, words) {
         Ok(matches) => line_of(&matches),
@@ -42,9 +40,9 @@ pub fn read_words<'a>(alloc: Global, words: &'a [&'a str]) -> Result<Line<'a>, U
     }
 }
 
-fn usage_fault(error: clap::Error) -> UsageFault
+fn usage_fault<'a>(error: clap::Error) -> UsageFault<'a>
     ensures memory { kind_of error ≡ ErrorKind.OutOfMemory → result ≡ UsageFault.Memory }
-    ensures other { (result ≢ UsageFault.OddWindow) × (result ≢ UsageFault.NoMoment) }
+    ensures other { ¬ IsOwn result }
 {
     if error.kind() == ErrorKind::OutOfMemory {
         UsageFault::Memory
@@ -53,7 +51,7 @@ fn usage_fault(error: clap::Error) -> UsageFault
     }
 }
 
-fn line_of<'a>(matches: &ArgMatches<'a>) -> Result<Line<'a>, UsageFault>
+fn line_of<'a>(matches: &ArgMatches<'a>) -> Result<Line<'a>, UsageFault<'a>>
     ensures line { IfOk result (λ line. AsksFor line (asked (subcommand_rows_of matches.now))) }
     ensures config { IfOk result (λ line. IfSome (config_of line) IsConfig) }
     ensures fault { IfErr result (IsFaultOf (asked (subcommand_rows_of matches.now))) }
@@ -68,13 +66,15 @@ fn line_of<'a>(matches: &ArgMatches<'a>) -> Result<Line<'a>, UsageFault>
 }
 
 /// What the command of this name was given.
-fn command_line_of<'a>(name: &str, matches: &ArgMatches<'a>) -> Result<Line<'a>, UsageFault>
+fn command_line_of<'a>(name: &str, matches: &ArgMatches<'a>) -> Result<Line<'a>, UsageFault<'a>>
     ensures line { IfOk result (λ line. AsksFor line (asked_of name.now (rows_of (found_of matches.now)))) }
     ensures config { IfOk result (λ line. IfSome (config_of line) IsConfig) }
     ensures fault { IfErr result (IsFaultOf (asked_of name.now (rows_of (found_of matches.now)))) }
 {
     if name == "report" {
         report_line_of(matches)
+    } else if name == "check" {
+        check_line_of(matches)
     } else if name == "serve" {
         serve_line_of(matches)
     } else if name == "loop" {
@@ -84,7 +84,7 @@ fn command_line_of<'a>(name: &str, matches: &ArgMatches<'a>) -> Result<Line<'a>,
     }
 }
 
-fn run_line_of<'a>(matches: &ArgMatches<'a>) -> Result<Line<'a>, UsageFault>
+fn run_line_of<'a>(matches: &ArgMatches<'a>) -> Result<Line<'a>, UsageFault<'a>>
     ensures line { IfOk result (λ line. AsksFor line (asked_run (rows_of (found_of matches.now)))) }
     ensures config { IfOk result (λ line. IfSome (config_of line) IsConfig) }
     ensures fault { IfErr result (IsFaultOf (asked_run (rows_of (found_of matches.now)))) }
@@ -102,7 +102,7 @@ fn run_line_of<'a>(matches: &ArgMatches<'a>) -> Result<Line<'a>, UsageFault>
     }
 }
 
-fn report_line_of<'a>(matches: &ArgMatches<'a>) -> Result<Line<'a>, UsageFault>
+fn report_line_of<'a>(matches: &ArgMatches<'a>) -> Result<Line<'a>, UsageFault<'a>>
     ensures line { IfOk result (λ line. AsksFor line (asked_report (rows_of (found_of matches.now)))) }
     ensures config { IfOk result (λ line. config_of line ≡ None) }
     ensures fault { IfErr result (IsFaultOf (asked_report (rows_of (found_of matches.now)))) }
@@ -116,7 +116,19 @@ fn report_line_of<'a>(matches: &ArgMatches<'a>) -> Result<Line<'a>, UsageFault>
     })
 }
 
-fn serve_line_of<'a>(matches: &ArgMatches<'a>) -> Result<Line<'a>, UsageFault>
+fn check_line_of<'a>(matches: &ArgMatches<'a>) -> Result<Line<'a>, UsageFault<'a>>
+    ensures line { IfOk result (λ line. AsksFor line (asked_check (rows_of (found_of matches.now)))) }
+    ensures config { IfOk result (λ line. config_of line ≡ None) }
+    ensures fault { IfErr result (IsFaultOf (asked_check (rows_of (found_of matches.now)))) }
+{
+    let kind = spelled_kind(text_of(matches, "KIND"))?;
+    Ok(Line::Check {
+        kind,
+        file: text_of(matches, "FILE"),
+    })
+}
+
+fn serve_line_of<'a>(matches: &ArgMatches<'a>) -> Result<Line<'a>, UsageFault<'a>>
     ensures line { IfOk result (λ line. AsksFor line (asked_serve (rows_of (found_of matches.now)))) }
     ensures config { IfOk result (λ line. IfSome (config_of line) IsConfig) }
     ensures fault { IfErr result (IsFaultOf (asked_serve (rows_of (found_of matches.now)))) }
@@ -131,7 +143,7 @@ fn serve_line_of<'a>(matches: &ArgMatches<'a>) -> Result<Line<'a>, UsageFault>
     })
 }
 
-fn loop_line_of<'a>(matches: &ArgMatches<'a>) -> Result<Line<'a>, UsageFault>
+fn loop_line_of<'a>(matches: &ArgMatches<'a>) -> Result<Line<'a>, UsageFault<'a>>
     ensures line { IfOk result (λ line. AsksFor line (asked_loop (rows_of (found_of matches.now)))) }
     ensures config { IfOk result (λ line. IfSome (config_of line) IsConfig) }
     ensures fault { IfErr result (IsFaultOf (asked_loop (rows_of (found_of matches.now)))) }

@@ -1,0 +1,104 @@
+-- What is said of a text that breaks a rule: where, and what does not stand there.
+use Rattle.std.specs.Prelude.{ℕ, ◌==◌, if◌then◌else◌, Option, Some, None, List, [], ◌++◌, codes}
+use Rattle.std.specs.Fmt.{decimal}
+use Rattle.tc_types.specs.declared.loads.LoadKind.{LoadKind}
+use Rattle.tc_types.specs.declared.loads.LoadKind.TheVariants as kind
+use Rattle.tc_csv.specs.declared.columns.Column.{Column}
+use Rattle.tc_csv.specs.declared.faults.Rule.{Rule}
+use Rattle.tc_csv.specs.declared.faults.Rule.TheVariants as rule
+use Rattle.tc_csv.specs.declared.faults.Fault.{Fault}
+use Rattle.tc_csv.specs.Faults.{rule_column}
+use Rattle.tc_csv.specs.Tables.{column_name}
+use Rattle.tc_check.specs.declared.rows.Sort.{Sort}
+use Rattle.tc_check.specs.declared.rows.Sort.TheVariants.{Insert, Delete, Shift, ShiftAll, Other}
+
+-- ---- what does not stand there, or stands there and may not
+
+abbrev pub why_header : LoadKind → List ℕ
+why_header kind.Stack = codes "not line,apid,service,subtype,target,time,ack,critical,after,outcome"
+why_header kind.Procedure = codes "not step,text,second,request"
+
+abbrev pub why_rows : LoadKind → List ℕ
+why_rows kind.Stack = codes "more than 200 lines"
+why_rows kind.Procedure = codes "more than 100 steps"
+
+abbrev pub why_fields : LoadKind → List ℕ
+why_fields kind.Stack = codes "not 10 fields"
+why_fields kind.Procedure = codes "not 4 fields"
+
+abbrev pub why_subtype : Sort → List ℕ
+why_subtype Other = codes "not 1 to 255"
+why_subtype _ = codes "not 1, 2, 3, 4, 5, 7, 15 or 17, which service 11 has"
+
+abbrev pub why_target : Sort → List ℕ
+why_target Insert = codes "not an earlier line"
+why_target Delete = codes "not an earlier line"
+why_target Shift = codes "not an earlier line"
+why_target _ = codes "not empty"
+
+abbrev pub why_time : Sort → List ℕ
+why_time Insert = codes "not an instant of whole seconds"
+why_time Shift = codes "not a number of seconds"
+why_time ShiftAll = codes "not a number of seconds"
+why_time _ = codes "not empty"
+
+abbrev pub why_ack : Sort → List ℕ
+why_ack Other = codes "not aspc, with - for each report that is not wanted"
+why_ack _ = codes "not aspc, with - for each report that is not wanted but c, which service 11 wants"
+
+abbrev pub why_outcome : Sort → List ℕ
+why_outcome Other = codes "not an outcome, such as ok or halt/2/17"
+why_outcome _ = codes "not ok, which service 11 wants"
+
+abbrev pub why_target_row : Sort → List ℕ
+why_target_row Insert = codes "a line of service 11, or one whose ack has no a"
+why_target_row _ = codes "a line of service 11"
+
+-- why a text of this kind breaks a rule, at a row that commands this
+abbrev pub why : LoadKind → Sort → Rule → List ℕ
+why of sort rule.TextLength = codes "more than 65536 bytes"
+why of sort rule.RowCount = why_rows of
+why of sort rule.Header = why_header of
+why of sort rule.SomeRow = codes "missing"
+why of sort rule.FieldCount = why_fields of
+why of sort rule.Line = codes "not the number of the line"
+why of sort rule.Apid = codes "not 0 to 2047"
+why of sort rule.Service = codes "not 1 to 255"
+why of sort rule.Subtype = why_subtype sort
+why of sort rule.Target = why_target sort
+why of sort rule.Time = why_time sort
+why of sort rule.Ack = why_ack sort
+why of sort rule.Critical = codes "neither yes nor no"
+why of sort rule.After = codes "neither empty nor an earlier line"
+why of sort rule.Outcome = why_outcome sort
+why of sort rule.TargetRow = why_target_row sort
+why of sort rule.StepNumber = codes "not the number of the step"
+why of sort rule.StepText = codes "not 1 to 80 printable characters of ASCII"
+why of sort rule.Second = codes "neither yes nor no"
+why of sort rule.StepRequest = codes "neither empty nor a number"
+
+-- ---- where
+
+-- what a row is called: it has its number in its first field
+abbrev pub row_name : LoadKind → List ℕ
+row_name kind.Stack = codes "line "
+row_name kind.Procedure = codes "step "
+
+-- above the rows there are the text as a whole and the header
+abbrev pub above_rows : Rule → List ℕ
+above_rows rule.TextLength = codes "file"
+above_rows _ = codes "header"
+
+abbrev pub place : LoadKind → Fault → List ℕ
+place of fault = if fault.row == 0 then above_rows fault.rule else row_name of ++ decimal fault.row
+
+-- the field, where the rule is one of a field
+abbrev pub in_field : Option Column → List ℕ
+in_field None = []
+in_field (Some column) = codes ", field " ++ column_name column
+
+-- ---- the line
+
+-- where the text is wrong, and why
+abbrev pub fault_line : LoadKind → Sort → Fault → List ℕ
+fault_line of sort fault = place of fault ++ in_field (rule_column fault.rule) ++ codes ": " ++ why of sort fault.rule

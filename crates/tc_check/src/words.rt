@@ -1,0 +1,120 @@
+//! What does not stand at a place of a text, in words.
+ghost use Rattle.std.specs.Prelude.{◌≡◌};
+ghost use Rattle.tc_check.specs.Words.{why, why_ack, why_fields, why_header, why_outcome, why_rows, why_subtype, why_target, why_target_row, why_time};
+
+use crate::rows::Sort;
+use tc_csv::faults::Rule;
+use tc_types::loads::LoadKind;
+
+/// Why a first record is no header.
+fn why_header(kind: LoadKind) -> &'static str
+    ensures { result.now ≡ why_header kind }
+{
+    match kind {
+        LoadKind::Stack => "not line,apid,service,subtype,target,time,ack,critical,after,outcome",
+        LoadKind::Procedure => "not step,text,second,request",
+    }
+}
+
+/// Why there are too many rows.
+fn why_rows(kind: LoadKind) -> &'static str
+    ensures { result.now ≡ why_rows kind }
+{
+    match kind {
+        LoadKind::Stack => "more than 200 lines",
+        LoadKind::Procedure => "more than 100 steps",
+    }
+}
+
+/// Why a row has not the fields of the header.
+fn why_fields(kind: LoadKind) -> &'static str
+    ensures { result.now ≡ why_fields kind }
+{
+    match kind {
+        LoadKind::Stack => "not 10 fields",
+        LoadKind::Procedure => "not 4 fields",
+    }
+}
+
+fn why_subtype(sort: Sort) -> &'static str
+    ensures { result.now ≡ why_subtype sort }
+{
+    match sort {
+        Sort::Other => "not 1 to 255",
+        _ => "not 1, 2, 3, 4, 5, 7, 15 or 17, which service 11 has",
+    }
+}
+
+fn why_target(sort: Sort) -> &'static str
+    ensures { result.now ≡ why_target sort }
+{
+    match sort {
+        Sort::Insert | Sort::Delete | Sort::Shift => "not an earlier line",
+        _ => "not empty",
+    }
+}
+
+fn why_time(sort: Sort) -> &'static str
+    ensures { result.now ≡ why_time sort }
+{
+    match sort {
+        Sort::Insert => "not an instant of whole seconds",
+        Sort::Shift | Sort::ShiftAll => "not a number of seconds",
+        _ => "not empty",
+    }
+}
+
+fn why_ack(sort: Sort) -> &'static str
+    ensures { result.now ≡ why_ack sort }
+{
+    match sort {
+        Sort::Other => "not aspc, with - for each report that is not wanted",
+        _ => "not aspc, with - for each report that is not wanted but c, which service 11 wants",
+    }
+}
+
+fn why_outcome(sort: Sort) -> &'static str
+    ensures { result.now ≡ why_outcome sort }
+{
+    match sort {
+        Sort::Other => "not an outcome, such as ok or halt/2/17",
+        _ => "not ok, which service 11 wants",
+    }
+}
+
+/// Why a command may not name the row that it names.
+fn why_target_row(sort: Sort) -> &'static str
+    ensures { result.now ≡ why_target_row sort }
+{
+    match sort {
+        Sort::Insert => "a line of service 11, or one whose ack has no a",
+        _ => "a line of service 11",
+    }
+}
+
+/// Why a rule is broken by a text of a kind, at a row that commands this.
+pub(crate) fn why(kind: LoadKind, sort: Sort, rule: Rule) -> &'static str
+    ensures { result.now ≡ why kind sort rule }
+{
+    match rule {
+        Rule::TextLength => "more than 65536 bytes",
+        Rule::RowCount => why_rows(kind),
+        Rule::Header => why_header(kind),
+        Rule::SomeRow => "missing",
+        Rule::FieldCount => why_fields(kind),
+        Rule::Line => "not the number of the line",
+        Rule::Apid => "not 0 to 2047",
+        Rule::Service => "not 1 to 255",
+        Rule::Subtype => why_subtype(sort),
+        Rule::Target => why_target(sort),
+        Rule::Time => why_time(sort),
+        Rule::Ack => why_ack(sort),
+        Rule::Critical | Rule::Second => "neither yes nor no",
+        Rule::After => "neither empty nor an earlier line",
+        Rule::Outcome => why_outcome(sort),
+        Rule::TargetRow => why_target_row(sort),
+        Rule::StepNumber => "not the number of the step",
+        Rule::StepText => "not 1 to 80 printable characters of ASCII",
+        Rule::StepRequest => "neither empty nor a number",
+    }
+}
