@@ -1,3 +1,4 @@
+pub mod CheckingLemmas
 mod CrashLemmas
 mod KeptLemmas
 mod RunLemmas
