@@ -61,6 +61,7 @@ part "the test of the tool for edits" tools/edits_test.py
 part "edits of wrong/, many in a check" tools/edits.py "${asked[@]}"
 part "the program runs" sh -c './tcdesk run - </dev/null >/dev/null'
 part "program cases" tools/program_cases.sh
+part "what cannot be read or written" tools/status_cases.sh
 part "the manual and the rehearsals" tools/manual.sh
 part "the page of the manual" tools/man_cases.sh
 part "desks that are kept" tools/kept_cases.sh

@@ -10,6 +10,9 @@
 # such folder, in order of name. It has to print NAME.out and nothing on standard error, its status is 1 where a line is refused, else
 # 0, and the manual has to name it.
 #
+# Then the commands of README.md, but for the gate and the server, in a third: each ends with 0, or with 1 where a line is refused, and the
+# first three blocks have shown a request that was released and confirmed.
+#
 # The first difference ends it with status 1. The last line counts what was as it is shown.
 set -u
 top=$(cd "$(dirname "${BASH_SOURCE[0]}")/.." && pwd) || exit 1
@@ -126,4 +129,23 @@ for wanted in examples/*.out; do
     [[ -f ${wanted%.out}.tc ]] || fail "$wanted is of no script"
 done
 
-echo "manual: $commands commands and $files files as they are shown, $forms forms, $rehearsals rehearsals"
+# ---- README.md
+
+folder readme
+first=0
+shown=$work/shown
+: >"$shown"
+while IFS= read -r words; do
+    timeout 300 bash -c "$words" >"$work/printed" 2>"$work/errors" </dev/null
+    status=$?
+    grep -q '^refused ' "$work/printed"
+    refused=$((1 - $?))
+    compare "what README.md's $words says on standard error" "$empty" "$work/errors"
+    ((status == refused)) || fail "README.md's $words ends with status $status"
+    first=$((first + 1))
+    ((first > 2)) || cat "$work/printed" >>"$shown"
+done < <(sed -n '/^```sh/,/^```$/p' "$top/README.md" | grep '^\./tcdesk' | grep -v '^\./tcdesk serve')
+grep -q ' Approved Queued release$' "$shown" && grep -q ' Sent Confirmed confirm$' "$shown" ||
+    fail "README.md's first commands show no request that was released and confirmed"
+
+echo "manual: $first commands of README.md, $commands commands and $files files as they are shown, $forms forms, $rehearsals rehearsals"
