@@ -2,7 +2,8 @@
 # The gate, from nothing: the layout of files, every proof, all tests and the program as two compilers build it, with the few edits of
 # must-fail/ (`rt ci`); the edits of wrong/, many in a check, and the test of the tool that tries them; then the built
 # program's words, files, statuses, every line of long random scripts beside a plain desk in Python, what lies in its tables, desks that are kept in a file,
-# faulty streams, each of its requests for memory refused in turn, a stop at each of its calls on the files of a desk, and the desk over HTTP, by real sockets.
+# faulty streams, each of its requests for memory refused in turn, a stop at each of its calls on the files of a desk, and the desk over HTTP, by real sockets;
+# and what ./tcdesk says and does at its first run, over a toy.
 # It stops at the first part that fails. At its end it prints what each part took: docs/GATE.md has that table for each
 # landing.
 #
@@ -60,6 +61,7 @@ part "rt ci" rt ci
 part "the test of the tool for edits" tools/edits_test.py
 part "edits of wrong/, many in a check" tools/edits.py "${asked[@]}"
 part "the program runs" sh -c './tcdesk run - </dev/null >/dev/null'
+part "the first run" tools/first_run_cases.sh
 part "program cases" tools/program_cases.sh
 part "what cannot be read or written" tools/status_cases.sh
 part "the manual and the rehearsals" tools/manual.sh
