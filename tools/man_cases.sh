@@ -1,7 +1,7 @@
 #!/bin/bash
 # Whether docs/tcdesk.1 says what the program and the manual say: tools/man_cases.sh [PROGRAM], at any place.
 #
-# Where mandoc is installed, the page lints without a word. The refusals of the page (number, name, and what to do then) are those of the
+# Where mandoc or man is installed, the page is rendered without a warning. The refusals of the page (number, name, and what to do then) are those of the
 # table of docs/OPERATORS.md. The commands of its synopsis, and the options and words of each, are those that `--help` of the program and of
 # each command names, and so are the options that its description lists. Each limit stands there as in docs/OPERATORS.md.
 #
@@ -28,14 +28,20 @@ compare() {
     fi
 }
 
-linted="mandoc is not installed: the page is not linted"
+# What is wrong with the page is told, and nothing is to be.
+linted="the page lints"
 if command -v mandoc >/dev/null; then
-    linted="the page lints"
-    if ! mandoc -T lint "$page" >"$work/lint" 2>&1 || [[ -s $work/lint ]]; then
-        cat "$work/lint" >&2
-        linted="the page does not lint"
-        status=1
-    fi
+    mandoc -T lint "$page" >"$work/lint" 2>&1
+elif command -v man >/dev/null; then
+    man --warnings --local-file "$page" 2>"$work/lint" >/dev/null </dev/null
+else
+    linted="neither mandoc nor man is installed: the page is not linted"
+    : >"$work/lint"
+fi
+if [[ $? != 0 || -s $work/lint ]]; then
+    cat "$work/lint" >&2
+    linted="the page does not lint"
+    status=1
 fi
 
 # section FILE HEAD: the lines of the section with this head, up to the next of its kind.
@@ -84,7 +90,7 @@ section "$page" '.Sh SYNOPSIS' | sed 's/\\-/-/g' | awk '
     $1 == ".Ar" { print name, $2 }' >"$work/words.page"
 compare "commands and their options" "$work/words" "$work/words.page"
 
-grep -oE '^ +(-[hV], )?--[a-z]+' "$work/helps" | grep -oE -- '-+[a-z]+' | sort -u >"$work/options"
+grep -oE '^ +(-[hV], )?--[a-z]+' "$work/helps" | grep -oE -- '-+[a-zA-Z]+' | sort -u >"$work/options"
 section "$page" '.Sh DESCRIPTION' | grep '^\.It Fl' | grep -oE 'Fl [^ ]+' | sed 's/\\-/-/g; s/^Fl /-/' >"$work/options.page"
 compare options "$work/options" "$work/options.page"
 echo "$commands" >"$work/commands"
