@@ -2,7 +2,7 @@
 asks the program nothing. What is read is a named tuple; what is none raises `Refused`.
 """
 import re
-from datetime import datetime, timezone
+from datetime import date
 from typing import NamedTuple, Optional
 
 LAST_MOMENT = 4102444799
@@ -267,17 +267,33 @@ def table_of(data, header, most):
     return records[1:]
 
 
+CLOCK = r"([0-9]{2})(?:(:?)([0-9]{2})(?:\%d([0-9]{2})(?:[.,]([0-9]{1,9}))?)?)?"
+INSTANT = re.compile(rf"([0-9]{{4}}|[+-]00[0-9]{{4}})(-?)([0-9]{{2}})\2([0-9]{{2}})[Tt ]{CLOCK % 6}(?:[Zz]|([+-]){CLOCK % 12})")
+
+
+def clock(parts, last_hour, last_second):
+    """The seconds of hours, minutes and seconds, of which the last two may be wanting, and the fraction behind them in nanoseconds."""
+    hour, _, minute, at, fraction = (it or "0" for it in parts)
+    need(int(hour) <= last_hour and int(minute) <= 59 and int(at) <= last_second)
+    return int(hour) * 3600 + int(minute) * 60 + min(59, int(at)), int(fraction.ljust(9, "0"))
+
+
 def instant(word):
-    """A moment as an instant with its offset, of whole seconds."""
-    found = re.fullmatch(r"([0-9]{4}-[0-9]{2}-[0-9]{2}T[0-9]{2}:[0-9]{2}:[0-9]{2})(\.0{1,9})?(Z|[+-][0-9]{2}:[0-9]{2})", word)
+    """A moment as an instant with its offset, of whole seconds: in the extended and in the basic form, second 60 being 59. What stands in
+    brackets behind it (RFC 9557) is not known here, and refused.
+    """
+    found = INSTANT.fullmatch(word)
     need(found)
+    parts = found.groups()
     try:
-        it = datetime.strptime(found[1] + found[3].replace("Z", "+00:00"), "%Y-%m-%dT%H:%M:%S%z").astimezone(timezone.utc)
-    except (ValueError, OverflowError):
+        days = date(int(parts[0]), int(parts[2]), int(parts[3])).toordinal() - date(1970, 1, 1).toordinal()
+    except ValueError:
         raise Refused(BAD_TEXT) from None
-    seconds = round((it - datetime(1970, 1, 1, tzinfo=timezone.utc)).total_seconds())
-    need(0 <= seconds <= LAST_MOMENT)
-    return seconds
+    shown, fraction = clock(parts[4:9], 23, 60)
+    ahead, part = clock(parts[10:], 25, 59)
+    ahead += part >= 500_000_000
+    need(fraction == 0 and ahead < 26 * 3600)
+    return number(str(days * 86400 + shown - (-ahead if parts[9] == "-" else ahead)), 0, LAST_MOMENT)
 
 
 def earlier(line):

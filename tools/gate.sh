@@ -66,6 +66,7 @@ part "program cases" tools/program_cases.sh
 part "what cannot be read or written" tools/status_cases.sh
 part "the manual and the rehearsals" tools/manual.sh
 part "the page of the manual" tools/man_cases.sh
+part "check" tools/check_cases.py
 part "desks that are kept" tools/kept_cases.sh
 part "the shift report" tools/report_cases.py
 part "a plain desk: acts on the book" tools/plain_book.py
@@ -77,6 +78,7 @@ part "desks opened again and again" tools/many_days.py
 part "streams that fail" tools/stream_cases.sh
 part "memory refused" tools/fail_alloc.sh
 part "memory refused to a load" tools/fail_load.sh
+part "memory refused to a check" tools/fail_check.sh
 part "memory refused to a desk that is kept" tools/fail_kept.sh
 part "stopped at each call on its files" tools/stop_kept.py
 part "HTTP over sockets" tools/http_cases.py
