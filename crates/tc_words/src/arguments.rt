@@ -59,7 +59,7 @@ pub(crate) fn from_arg<'a>(alloc: Global) -> Arg<'a>
     required_arg(
         alloc,
         "FROM",
-        "The first moment of the shift: Unix seconds, or an instant such as 2031-05-04T10:00:00Z",
+        "The first moment of the shift: Unix seconds, 0 to 4102444799, or an instant such as 2031-05-04T10:00:00Z",
     )
 }
 
@@ -67,7 +67,11 @@ pub(crate) fn to_arg<'a>(alloc: Global) -> Arg<'a>
     ensures rule { rule_of result ≡ to_rule }
     ensures local { result.global ≡ false }
 {
-    required_arg(alloc, "TO", "The first moment after it, in the same forms")
+    required_arg(
+        alloc,
+        "TO",
+        "The first moment after the shift, in the same forms",
+    )
 }
 
 pub(crate) fn port_arg<'a>(alloc: Global) -> Arg<'a>
@@ -123,7 +127,7 @@ pub(crate) fn database_arg<'a>(alloc: Global) -> Arg<'a>
     ensures local { result.global ≡ false }
 {
     Arg::new(alloc, "db").long("db").value_name("FILE").help(
-        "The database file that keeps the desk; it is made where there is none",
+        "The database file that keeps the desk, made where there is none [default: the desk is in memory]",
     )
 }
 
