@@ -4,7 +4,7 @@
 # Each command is run with an output that takes nothing: a full disk (/dev/full), one that is closed, and a pipe whose reader is gone.
 # Each has to end with status 2 and one line on standard error. Where that takes nothing either the status is the same. A standard
 # input that is closed, or is a folder, is one that cannot be used, and is nothing to a command that does not read it. Then the disk under
-# the file that keeps the desk: a file system of 96 KiB, where one may be mounted, and else a limit on the size of a file.
+# the file that keeps the desk: a limit on the size of files, and a small file system, where one may be mounted.
 #
 # Each case that fails is printed, and makes the status 1. The last line counts them.
 set -u
@@ -43,9 +43,7 @@ commands=(
 
 # A pipe whose reader is gone, as descriptor 8.
 mkfifo pipe
-sleep 60 <pipe &
-exec 8>pipe
-kill $! && wait $! 2>/dev/null
+exec 7<>pipe 8>pipe 7>&-
 
 unusable=$'tcdesk: cannot use output\n2'
 for command in "${commands[@]}"; do
@@ -80,14 +78,52 @@ for ((n = 0; n < 400; n++)); do
     echo "100 ann enter $((n % 7)) a--c no 8 1 - - ok"
 done >many.tc
 
-# full WHAT: runs the script on disk/desk.db, of which not all can be kept. What was answered has to stand.
-full() {
-    "$program" run --db disk/desk.db many.tc >out 2>err
-    local status=$? moves
+# filled NAME STATUS: of a run of many.tc on disk/desk.db that ended so, where not all could be kept: some lines were answered, the next 31, and
+# all others 32. What was answered stands once there is room.
+filled() {
+    local name=$1 status=$2 moves wanted=
     moves=$(grep -c '^move ' out)
-    same "$1: some lines are kept, then 31, and then 32" "refused 31 Store refused 32 Stopped" "$(grep '^refused' out | uniq | tr '\n' ' ' | sed 's/ $//')"
-    same "$1: its end" $'1\n' "$status"$'\n'"$(cat err)"
-    [[ $moves -gt 0 ]]
-    same "$1: moves were kept before" 0 $?
-    echo "$moves"
+    [[ $status == 1 ]] || wanted="tcdesk: cannot use disk/desk.db"
+    same "$name: its end" "${status/[!12]/1 or 2} $wanted" "$status $(<err)"
+    same "$name: what is refused" "refused 31 Store refused 32 Stopped" "$(grep '^refused ' out | uniq | paste -sd ' ')"
+    same "$name: the lines that are answered, where some are as ever" 400 "$((moves > 0 ? $(head -n -1 out | grep -c '^ok request\|^refused') : 0))"
+    [[ ! -e disk/room ]] || mount -o remount,size=4m disk
+    same "$name: what stands" "places $moves: $moves 0 0 0 0 0 0 0 0 0 0 0 0 0 0" "$("$program" run --db disk/desk.db /dev/null 2>&1)"
 }
+
+# unopened NAME STATUS: of a run on a disk that takes not even the tables of a desk.
+unopened() {
+    same "$1: its end" "2 tcdesk: cannot use disk/desk.db" "$2 $(<err)$(<out)"
+    [[ ! -e disk/room ]] || mount -o remount,size=4m disk
+    same "$1: what stands" "places 0: 0 0 0 0 0 0 0 0 0 0 0 0 0 0 0" "$("$program" run --db disk/desk.db /dev/null 2>&1)"
+}
+
+# small KIB: runs many.tc where no file may be larger.
+small() {
+    rm -f disk/desk.db*
+    (trap '' XFSZ && ulimit -f "$1" && exec "$program" run --db disk/desk.db many.tc >out 2>err)
+}
+
+# on_disk KIB: the same on a file system of that size.
+on_disk() {
+    mount -t tmpfs -o "size=${1}k" none disk && : >disk/room && "$program" run --db disk/desk.db many.tc >out 2>err
+}
+
+small 100
+unopened "files of 100 KiB" $?
+small 300
+filled "files of 300 KiB" $?
+mounted="file systems of 96 and 384 KiB were filled"
+if mount -t tmpfs -o size=8k none disk 2>/dev/null && umount disk; then
+    on_disk 96
+    unopened "a file system of 96 KiB" $?
+    umount disk
+    on_disk 384
+    filled "a file system of 384 KiB" $?
+    umount disk
+else
+    mounted="no file system may be mounted here, so none was filled"
+fi
+
+echo "status cases: $passed passed, $failed failed; $mounted"
+[[ $failed == 0 ]]
