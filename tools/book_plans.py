@@ -50,7 +50,7 @@ def identities():
     """All identities of one application process are given out, and are free again once a request is at its end; then the desk is filled."""
     script = Written("identities run out")
     for name, text in (("seven", stack_text(7)), ("two", stack_text(9, 7)), ("one", stack_text(9)), ("pair", stack_text(9, 9)),
-                       ("many", stack_text(*[100 + it % 10 for it in range(200)]))):
+                       ("sevens", stack_text(7, 7)), ("many", stack_text(*[100 + it % 10 for it in range(200)]))):
         script.file(text, name)
     script.file(f"{STACK_HEADER}\n1,7,8,1,,,----,no,,ok\n2,7,11,4,1,1970-01-01T00:00:00Z,---c,no,,ok\n".encode(), "barred")
     stand_everywhere(script)
@@ -62,6 +62,9 @@ def identities():
     # Every other test comes before it or behind it, in its place.
     say_all(script, [again, "enter 7 ---c no 11 4 99999 0 ok", "enter 7 ---c no 11 4 2 0 ok", "enter 7 ---c no 11 5 2 - ok", "stack s seven",
                      "stack s two", "stack s barred", "stack s one", "stack s seven", "stack s barred", "places"])
+    # Identities 15 to 18, which come next, are those of requests 20 to 23; a row takes one that the row before it leaves.
+    say_all(script, ["stack t sevens", "withdraw 20", "stack t sevens", "stack t two", "stack t two", "stack u seven", "withdraw 22", "stack u seven",
+                     "withdraw 21", "stack u sevens", "stack v seven", "withdraw 23", "stack v seven", "places"])
     fill_desk(script)
     return script
 
@@ -88,6 +91,19 @@ def loads():
     say_all(script, [f"procedure p{it} steps" for it in range(1000)])
     say_all(script, ["procedure more steps", "procedure more none", "procedure p7 none", "procedure p7 bad", "procedure more long",
                      "begin more", "begin p999", "log 1", "step 1 1 skipped -", PLAIN.format(5), "release 1000", "places"])
+    script.say("1 bob approve 1001")
+    return script
+
+
+def full_stacks():
+    """Stacks are loaded until the last one fits to the row."""
+    script = Written("a desk that stacks fill")
+    for size in (1, 135, 136, 200):
+        script.file(stack_text(*[it % 10 for it in range(size)]), f"rows{size}")
+    say_all(script, [f"stack s{it} rows200" for it in range(327)])
+    say_all(script, ["stack last rows200", "stack last rows136", "stack last rows135", "stack more rows1", PLAIN.format(5), "approve 65535"])
+    script.say("1 bob approvestack last")
+    say_all(script, ["request 65400", "request 65401", "request 65535", "request 65536", "places"])
     return script
 
 
@@ -192,4 +208,4 @@ def lengths():
     return script
 
 
-PLANS = (identities, loads, executions, history, long_stacks, borders, lengths)
+PLANS = (identities, loads, full_stacks, executions, history, long_stacks, borders, lengths)

@@ -15,7 +15,7 @@ from itertools import zip_longest
 
 from broken_cases import Change, bytes_of, change_file, left_beside, why_not_opened
 from desk_tables import program_in, read_tables, run, write_lines
-from left_desks import FILES, FIVE, FULL, GOING, MOST_ROWS, OF_FIVE, OF_WHOLE, OTHERS, RIDERS, WHOLE, Day, fill
+from left_desks import EVERYWHERE, FILES, FIVE, FULL, GOING, MOST_ROWS, OF_FIVE, OF_WHOLE, OTHERS, RIDERS, WHOLE, Day, fill
 
 
 class Told:
@@ -127,7 +127,7 @@ def main():
     """Opens all desks."""
     program, told = program_in(sys.argv[1:]), Told()
     with tempfile.TemporaryDirectory(prefix="changed-") as work:
-        for left in (FIVE, RIDERS, OTHERS, GOING, WHOLE):
+        for left in (FIVE, RIDERS, OTHERS, EVERYWHERE, GOING, WHOLE):
             open_left(program, work, left, told)
         for left, changes in ((FIVE, OF_FIVE), (WHOLE, OF_WHOLE)):
             change_left(program, work, left, changes, told)

@@ -1,19 +1,18 @@
 #!/bin/bash
-# tools/fail_alloc.sh [PROGRAM [SCRIPT [LINE..]]] refuses the built program its requests for memory, one after the other, on a script,
-# the first run's where none is given, and checks how each run ends. A run may end in these ways, and in no other:
+# tools/fail_alloc.sh [PROGRAM [SCRIPT]] refuses the built program its requests for memory, one after the other, on a script, and checks how each
+# run ends; where none is given, on one that has acts of each kind. A run may end in these ways, and in no other:
 #   - all lines are right (the request was not needed);
 #   - the right lines, then `refused 30 Memory` for one line, and the others as if that line were not there;
 #   - the right lines, then `refused 31 Store` for one line, and `refused 32 Stopped` for each one after it;
 #   - the right lines, `tcdesk: cannot use memory` or, where the tables could not be made, `.. tables` on standard error, and
 #     status 2.
 # The number of the refused request goes up until a run asks for less memory than that. Status 1 where a run ended in
-# another way, or where no run was refused 30 at one of the LINEs, counted from 1 among those that are answered.
+# another way, or where some act that the script carries out was refused 30 in none.
 set -u
 
 top=$(cd "$(dirname "${BASH_SOURCE[0]}")/.." && pwd) || exit 1
 program=${1:-$top/crates/tc_cli/out/tc_cli}
-script=${2:-$top/examples/first-run.tc}
-wanted=("${@:3}")
+script=${2:-$top/tools/cases/each-act.tc}
 [[ -x $program ]] || { echo "fail_alloc: $program is not built" >&2; exit 1; }
 
 work=$(mktemp -d) || exit 1
@@ -39,11 +38,21 @@ for ((k = 0; k <= count; k++)); do
 done
 whole=$(answer "${lines[@]}"; echo .)
 whole=${whole%.}
-last=${whole#"${fronts[count]}"}
+
+# The acts that are carried out, by their numbers from 1; and the status of a run that gets all memory.
+acts=()
+status=0
+for ((k = 0; k < count; k++)); do
+    if [[ ${fronts[k + 1]#"${fronts[k]}"} == refused* ]]; then
+        status=1
+    elif [[ ! ${lines[k]} =~ ^[^\ ]+\ [^\ ]+\ (places|history|request|link|schedule|log|report)(\ |$) ]]; then
+        acts+=("$((k + 1))")
+    fi
+done
 
 # Each allowed output, with the status that belongs to it, and of those that are refused 30 the line.
 declare -A allowed line_of
-allowed["0$whole"]=right
+allowed["$status$whole"]=right
 allowed["1${fronts[count]}refused 30 Memory"$'\n']=memory
 allowed["1${fronts[count]}refused 31 Store"$'\n']=store
 for ((k = 0; k <= count; k++)); do
@@ -101,7 +110,7 @@ while try "$at"; do
 done
 
 echo "fail_alloc: $runs runs: ${seen[ended]} ended for memory, ${seen[memory]} refused 30, ${seen[store]} refused 31, ${seen[right]} unharmed, $bad bad"
-for line in "${wanted[@]}"; do
-    [[ -n ${refused[$line]:-} ]] || { bad=$((bad + 1)); echo "fail_alloc: line $line was never refused 30" >&2; }
+for act in "${acts[@]}"; do
+    [[ -n ${refused[$act]:-} ]] || { bad=$((bad + 1)); echo "fail_alloc: ${lines[act - 1]} was never refused 30" >&2; }
 done
 ((bad == 0))

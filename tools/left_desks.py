@@ -172,6 +172,64 @@ places 6: 0 0 0 0 0 0 0 0 0 0 0 5 0 0 1
     Day(77, "places 6: 0 0 0 0 0 0 0 0 0 0 0 5 0 0 1\n"),
 ])
 
+# Requests stand at each place that an opening takes them from, and at some others: 1 at Completed, 2 at Started, 3 at Accepted, 4 at Scheduled by
+# 5, which is at Completed, 6 at Confirmed. 7 rides in 8, which is at Sent, as 9 to 17 are; 18 rides in 19, which waits at Queued. 20 is at
+# Entered, 21 at Approved.
+PLAIN, INSERT = "{} no 8 1 - -", "---c no 11 4 {} {}"
+ENTERED = (*2 * [PLAIN.format("as-c")], PLAIN.format("a---"), PLAIN.format("a--c"), INSERT.format(4, 1100), PLAIN.format("----"),
+           PLAIN.format("a--c"), INSERT.format(7, 1100), *9 * [PLAIN.format("----")], PLAIN.format("a--c"), INSERT.format(18, 1200),
+           *2 * [PLAIN.format("----")])
+FLOWN = ("initiate none;release 1;up;work;down;down;down;release 2;up;work;down;down;losedown 0;release 3;up;down;work;"
+         "release 5;up;work;down;release 6;up;clcw;down;work").split(";")
+EVERYWHERE = Left("everywhere", "".join([
+    *[f"0 ann enter 5 {it} ok\n" for it in ENTERED], *[f"0 bob approve {it}\n" for it in (*range(1, 20), 21)],
+    *[f"0 ann {it}\n" for it in FLOWN], *[f"0 ann release {it}\n" for it in (*range(8, 18), 19)]]), [
+    Day(100, """\
+move 85 100 desk 2 Started Doubtful open
+move 86 100 desk 3 Accepted Doubtful open
+move 87 100 desk 4 Scheduled Doubtful open
+move 88 100 desk 6 Confirmed Doubtful open
+move 89 100 desk 7 Riding Doubtful open
+move 90 100 desk 8 Sent Doubtful open
+move 91 100 desk 9 Sent Doubtful open
+move 92 100 desk 10 Sent Doubtful open
+move 93 100 desk 11 Sent Doubtful open
+move 94 100 desk 12 Sent Doubtful open
+move 95 100 desk 13 Sent Doubtful open
+move 96 100 desk 14 Sent Doubtful open
+move 97 100 desk 15 Sent Doubtful open
+move 98 100 desk 16 Sent Doubtful open
+move 99 100 desk 17 Sent Doubtful open
+move 100 100 desk 18 Riding Approved open
+move 101 100 desk 19 Queued Approved open
+places 21: 1 3 0 0 0 0 0 0 0 2 0 15 0 0 0
+"""),
+    Day(100, """\
+> 200 ann link
+fop S6 vs 0 nn 0 sent 0 wait 0 count 1 timer 0 k 10 t1 10 limit 3
+farm Open vr 0 b 0 flags --- w 20
+link up 0 down 0 premise kept
+> 200 ann schedule
+mirror disabled 0
+> 200 ann initiate none
+ok
+started
+> 200 ann release 17
+refused 3 WrongPlace
+> 200 ann release 19
+ok
+move 102 200 ann 19 Approved Queued release
+move 103 200 ann 18 Approved Riding release
+move 104 200 ann 19 Queued Sent transmit
+> 200 bob close 17
+ok
+move 105 200 bob 17 Doubtful Closed close
+> 200 ann up
+ok accepted 19
+places 21: 1 1 0 1 0 1 0 0 0 2 0 14 0 0 1
+"""),
+])
+
 # Approvals that are not complete, a stack, and an execution go on; the link, the spacecraft and the mirror are new.
 GOING = Left("going", """\
 1 ann enter 6 ---- yes 8 1 - - ok

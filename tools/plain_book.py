@@ -1,12 +1,14 @@
 #!/usr/bin/env python3
 """Runs long scripts beside a plain desk: tools/plain_book.py [PROGRAM [SEEDS [LINES]]], at any place.
 
-The plain desk (tools/book_desk.py, with book_lines.py and book_flights.py) answers each line by itself, from the requirements. The scripts are
+The plain desk (tools/book_desk.py, with book_lines.py and book_flights.py) answers each line by itself, from the requirements. First it has to
+answer the scripts of tools/cases that load something as they are written there (tools/plain_link.py has the others). The scripts that are run are
 those of tools/book_scripts.py, random ones by their seeds, and of tools/book_plans.py. Every line that the program prints has to be the plain
 desk's, and so has the status; some scripts are run on a desk that is kept, whose tables have to be the plain desk's too. The first line that
-differs is printed for each script. The last line is 'plain book: S scripts, L lines answered, R refused, P lines printed, M moves of K kinds, D
-differ'; the status is 1 where one differed, or where some refusal or some lawful move was hardly met.
+differs is printed for each script. The last line is 'plain book: W written scripts, S others, L lines answered, R refused, P lines printed, M
+moves of K kinds, D differ'; the status is 1 where one differed, or where some refusal or some lawful move was hardly met.
 """
+import os
 import random
 import shutil
 import subprocess
@@ -20,7 +22,7 @@ from itertools import zip_longest
 
 import desk_tables
 from desk_tables import CAUSES, LAWFUL, OPEN, place_word, program_in, read_tables
-from book_desk import PLACES
+from book_desk import PLACES, answers
 from book_plans import PLANS
 from book_scripts import Writer
 
@@ -152,6 +154,27 @@ def try_script(program, work, lines, job):
 
 # ---- all scripts
 
+def text_of(path, default=None):
+    """The text of a file; the default where there is none."""
+    if default is not None and not os.path.exists(path):
+        return default
+    with open(path, encoding="latin-1", newline="") as file:
+        return file.read()
+
+
+def written_faults():
+    """Which of the written scripts that load something the plain desk answers otherwise than they say, and how many there are."""
+    folder, faults, count = f"{os.path.dirname(os.path.realpath(__file__))}/cases", [], 0
+    files = {name: text_of(f"{folder}/data/{name}").encode("latin-1") for name in os.listdir(f"{folder}/data")}
+    for case in sorted(f"{folder}/{it[:-3]}" for it in os.listdir(folder) if it.endswith(".tc")):
+        script = text_of(f"{case}.tc")
+        if " stack " in script or " procedure " in script:
+            lines, status = answers(script, files)
+            is_right = "".join(f"{it}\n" for it in lines) == text_of(f"{case}.stdout") and status == int(text_of(f"{case}.status", "0"))
+            faults, count = faults + ([] if is_right else [f"{os.path.basename(case)}: the plain desk answers otherwise"]), count + 1
+    return faults, count
+
+
 def lawful_moves():
     """All lawful moves, as they are printed, that come without an opening and where nothing is lost."""
     moves = {(place_word(before), place_word(to), CAUSES[cause - 1]) for cause, rules in LAWFUL.items() if cause != OPEN
@@ -170,15 +193,17 @@ def main():
     words = sys.argv[1:]
     program, seeds, lines = program_in(words), *([int(it) for it in words[1:3]] + [SEEDS, LINES][len(words[1:3]):])
     jobs = [*PLANS, *range(1, seeds + 1)]
+    faults, written = written_faults()
     with tempfile.TemporaryDirectory(prefix="book-") as work, ProcessPoolExecutor(4) as pool:
         found = list(pool.map(partial(try_script, program, work, lines), jobs))
-    faults = [it.fault for it in found if it.fault]
+    faults += [it.fault for it in found if it.fault]
     refused, moves = sum((it.refused for it in found), Counter()), sum((it.moves for it in found), Counter())
     lacking = lacks(refused, moves) if len(words) < 2 else []
     for it in faults + [f"hardly met: {it}" for it in lacking]:
         print(f"plain_book: {it}")
-    print(f"plain book: {len(jobs)} scripts, {sum(it.lines for it in found)} lines answered, {sum(refused.values())} refused,"
-          f" {sum(it.printed for it in found)} lines printed, {sum(moves.values())} moves of {len(moves)} kinds, {len(faults)} differ")
+    print(f"plain book: {written} written scripts, {len(jobs)} others, {sum(it.lines for it in found)} lines answered,"
+          f" {sum(refused.values())} refused, {sum(it.printed for it in found)} lines printed, {sum(moves.values())} moves of"
+          f" {len(moves)} kinds, {len(faults)} differ")
     return int(bool(faults or lacking))
 
 
