@@ -44,20 +44,20 @@ stack header: not line,apid,service,subtype,target,time,ack,critical,after,outco
 stack line 1: missing
 stack line N: not 10 fields
 stack line N, field line: not the number of the line
-stack line N, field apid: not 0 to 2047
-stack line N, field service: not 1 to 255
-stack line N, field subtype: not 1 to 255
+stack line N, field apid: not 0 to 2047 in plain digits
+stack line N, field service: not 1 to 255 in plain digits
+stack line N, field subtype: not 1 to 255 in plain digits
 stack line N, field subtype: not 1, 2, 3, 4, 5, 7, 15 or 17, which service 11 has
 stack line N, field target: not an earlier line
 stack line N, field target: not empty
 stack line N, field time: not an instant of whole seconds
-stack line N, field time: not a number of seconds
+stack line N, field time: not seconds, -4102444799 to 4102444799
 stack line N, field time: not empty
 stack line N, field ack: not aspc, with - for each report that is not wanted
-stack line N, field ack: not aspc, with - for each report that is not wanted but c, which service 11 wants
+stack line N, field ack: not aspc, with - for each report that is not wanted; service 11 wants c
 stack line N, field critical: neither yes nor no
 stack line N, field after: neither empty nor an earlier line
-stack line N, field outcome: not an outcome, such as ok or halt/2/17
+stack line N, field outcome: not an outcome, such as ok or halt/2/17, where a code is 16 to 255
 stack line N, field outcome: not ok, which service 11 wants
 stack line N, field target: a line of service 11, or one whose ack has no a
 stack line N, field target: a line of service 11
@@ -200,12 +200,12 @@ CASES = [
     ('cp good.csv ./-; "$0" check stack ./- <bad.csv', 0, b"ok\n", b""),
     ('ln -s good.csv link.csv; "$0" check stack link.csv', 0, b"ok\n", b""),
     ('"$0" check stack - <good.csv', 0, b"ok\n", b""),
-    ('"$0" check stack bad.csv', 1, b"line 2, field apid: not 0 to 2047\n", b""),
-    ('"$0" check stack - <bad.csv', 1, b"line 2, field apid: not 0 to 2047\n", b""),
+    ('"$0" check stack bad.csv', 1, b"line 2, field apid: not 0 to 2047 in plain digits\n", b""),
+    ('"$0" check stack - <bad.csv', 1, b"line 2, field apid: not 0 to 2047 in plain digits\n", b""),
     ('"$0" check procedure good.csv', 1, b"header: not step,text,second,request\n", b""),
     ('"$0" check stack /dev/null', 1, NO_STACK.encode() + b"\n", b""),
     ('"$0" check stack - </dev/null', 1, NO_STACK.encode() + b"\n", b""),
-    ('{ head -c 70 bad.csv; sleep 0.3; tail -c +71 bad.csv; } | "$0" check stack -', 1, b"line 2, field apid: not 0 to 2047\n", b""),
+    ('{ head -c 70 bad.csv; sleep 0.3; tail -c +71 bad.csv; } | "$0" check stack -', 1, b"line 2, field apid: not 0 to 2047 in plain digits\n", b""),
     ('ulimit -v 2000000; "$0" check stack /dev/zero', 1, b"file: more than 65536 bytes\n", b""),
     ('ulimit -v 2000000; yes | "$0" check stack -', 1, b"file: more than 65536 bytes\n", b""),
     ('"$0" check stack missing.csv', 2, b"", b"tcdesk: cannot use missing.csv\n"),

@@ -68,7 +68,7 @@ def subtype(row):
     """The subtypes that the service has."""
     if is_scheduling(row):
         return one_of("1", "2", "3", "4", "5", "7", "15", "17"), "not 1, 2, 3, 4, 5, 7, 15 or 17, which service 11 has"
-    return between(1, 255), "not 1 to 255"
+    return between(1, 255), "not 1 to 255 in plain digits"
 
 
 def target(row):
@@ -80,14 +80,14 @@ def time(row):
     """An instant, an offset, or nothing."""
     if kind_of(row) == INSERT:
         return book_lines.instant, "not an instant of whole seconds"
-    return (offset, "not a number of seconds") if kind_of(row) in (SHIFT, SHIFT_ALL) else (empty, "not empty")
+    return (offset, "not seconds, -4102444799 to 4102444799") if kind_of(row) in (SHIFT, SHIFT_ALL) else (empty, "not empty")
 
 
 def ack(row):
     """The reports that are asked for: a command of the schedule asks for its completion."""
     why = "not aspc, with - for each report that is not wanted"
     if is_scheduling(row):
-        return (lambda word: book_lines.need(book_lines.ack(word)[3] == "c")), why + " but c, which service 11 wants"
+        return (lambda word: book_lines.need(book_lines.ack(word)[3] == "c")), why + "; service 11 wants c"
     return book_lines.ack, why
 
 
@@ -95,7 +95,7 @@ def outcome(row):
     """How the spacecraft will behave: a command of the schedule completes."""
     if is_scheduling(row):
         return one_of("ok"), "not ok, which service 11 wants"
-    return book_lines.outcome, "not an outcome, such as ok or halt/2/17"
+    return book_lines.outcome, "not an outcome, such as ok or halt/2/17, where a code is 16 to 255"
 
 
 def yes_or_no(_row):
@@ -109,8 +109,8 @@ def step_text(word):
 
 
 STACK = Kind(STACK_HEADER, MOST_ROWS, "line", "lines", (
-    own_number("line"), lambda row: (between(0, 2047), "not 0 to 2047"), lambda row: (between(1, 255), "not 1 to 255"), subtype, target, time, ack,
-    yes_or_no, lambda row: (maybe(earlier(row)), "neither empty nor an earlier line"), outcome))
+    own_number("line"), lambda row: (between(0, 2047), "not 0 to 2047 in plain digits"),
+    lambda row: (between(1, 255), "not 1 to 255 in plain digits"), subtype, target, time, ack, yes_or_no, lambda row: (maybe(earlier(row)), "neither empty nor an earlier line"), outcome))
 PROCEDURE = Kind(STEP_HEADER, MOST_STEPS, "step", "steps", (
     own_number("step"), lambda row: (step_text, "not 1 to 80 printable characters of ASCII"), yes_or_no,
     lambda row: (maybe(number), "neither empty nor a number")))

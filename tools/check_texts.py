@@ -69,9 +69,9 @@ WHOLE_STACKS = [
     ("line 1: not 10 fields", STACK + ROW[:-1] + b",,\n2,5,8,1,,,---c,no,,ok,,\n"),
     ("line 1, field line: not the number of the line", STACK + MARK + ROW),
     ("line 1, field line: not the number of the line", STACK + STACK + ROW),
-    ("line 1, field outcome: not an outcome, such as ok or halt/2/17", STACK + ROW[:-1] + b"\0\n"),
-    ("line 1, field outcome: not an outcome, such as ok or halt/2/17", STACK + b'1,5,8,1,,,---c,no,,"ok\n2,5,8,2,,,---c,no,,ok\n'),
-    ("line 2, field apid: not 0 to 2047", STACK + ROW + b"\n\n2,x,8,1,,,---c,no,,ok\n"),
+    ("line 1, field outcome: not an outcome, such as ok or halt/2/17, where a code is 16 to 255", STACK + ROW[:-1] + b"\0\n"),
+    ("line 1, field outcome: not an outcome, such as ok or halt/2/17, where a code is 16 to 255", STACK + b'1,5,8,1,,,---c,no,,"ok\n2,5,8,2,,,---c,no,,ok\n'),
+    ("line 2, field apid: not 0 to 2047 in plain digits", STACK + ROW + b"\n\n2,x,8,1,,,---c,no,,ok\n"),
     ("line 2, field line: not the number of the line", STACK + ROW + b"\x1a,,,,,,,,,\n"),
 ]
 WHOLE_PROCEDURES = [
@@ -150,7 +150,7 @@ LIMIT_STACKS = [
     (LONG_STACK, b"x\n" * 32768),
     (LONG_FILE, b"x\n" * 32769),
     ("line 1: not 10 fields", STACK + b"," * (65536 - len(STACK))),
-    ("line 1, field apid: not 0 to 2047", STACK + b"1," + b"5" * 65400 + b",8,1,,,---c,no,,ok\n"),
+    ("line 1, field apid: not 0 to 2047 in plain digits", STACK + b"1," + b"5" * 65400 + b",8,1,,,---c,no,,ok\n"),
     ("line 200, field after: neither empty nor an earlier line", STACK + counted(ANY_ROW, 199) + b"200,5,8,1,,,---c,no,200,ok\n"),
     ("ok", STACK + counted(ANY_ROW, 199) + b"200,5,8,1,,,---c,no,199,ok\n"),
     ("line 200, field target: a line of service 11, or one whose ack has no a",

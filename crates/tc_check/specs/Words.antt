@@ -27,7 +27,7 @@ why_fields kind.Stack = codes "not 10 fields"
 why_fields kind.Procedure = codes "not 4 fields"
 
 abbrev pub why_subtype : Sort → List ℕ
-why_subtype Other = codes "not 1 to 255"
+why_subtype Other = codes "not 1 to 255 in plain digits"
 why_subtype _ = codes "not 1, 2, 3, 4, 5, 7, 15 or 17, which service 11 has"
 
 abbrev pub why_target : Sort → List ℕ
@@ -38,16 +38,16 @@ why_target _ = codes "not empty"
 
 abbrev pub why_time : Sort → List ℕ
 why_time Insert = codes "not an instant of whole seconds"
-why_time Shift = codes "not a number of seconds"
-why_time ShiftAll = codes "not a number of seconds"
+why_time Shift = codes "not seconds, -4102444799 to 4102444799"
+why_time ShiftAll = codes "not seconds, -4102444799 to 4102444799"
 why_time _ = codes "not empty"
 
 abbrev pub why_ack : Sort → List ℕ
 why_ack Other = codes "not aspc, with - for each report that is not wanted"
-why_ack _ = codes "not aspc, with - for each report that is not wanted but c, which service 11 wants"
+why_ack _ = codes "not aspc, with - for each report that is not wanted; service 11 wants c"
 
 abbrev pub why_outcome : Sort → List ℕ
-why_outcome Other = codes "not an outcome, such as ok or halt/2/17"
+why_outcome Other = codes "not an outcome, such as ok or halt/2/17, where a code is 16 to 255"
 why_outcome _ = codes "not ok, which service 11 wants"
 
 abbrev pub why_target_row : Sort → List ℕ
@@ -62,8 +62,8 @@ why of sort rule.Header = why_header of
 why of sort rule.SomeRow = codes "missing"
 why of sort rule.FieldCount = why_fields of
 why of sort rule.Line = codes "not the number of the line"
-why of sort rule.Apid = codes "not 0 to 2047"
-why of sort rule.Service = codes "not 1 to 255"
+why of sort rule.Apid = codes "not 0 to 2047 in plain digits"
+why of sort rule.Service = codes "not 1 to 255 in plain digits"
 why of sort rule.Subtype = why_subtype sort
 why of sort rule.Target = why_target sort
 why of sort rule.Time = why_time sort

@@ -40,7 +40,7 @@ fn why_subtype(sort: Sort) -> &'static str
     ensures { result.now ≡ why_subtype sort }
 {
     match sort {
-        Sort::Other => "not 1 to 255",
+        Sort::Other => "not 1 to 255 in plain digits",
         _ => "not 1, 2, 3, 4, 5, 7, 15 or 17, which service 11 has",
     }
 }
@@ -59,7 +59,7 @@ fn why_time(sort: Sort) -> &'static str
 {
     match sort {
         Sort::Insert => "not an instant of whole seconds",
-        Sort::Shift | Sort::ShiftAll => "not a number of seconds",
+        Sort::Shift | Sort::ShiftAll => "not seconds, -4102444799 to 4102444799",
         _ => "not empty",
     }
 }
@@ -69,7 +69,7 @@ fn why_ack(sort: Sort) -> &'static str
 {
     match sort {
         Sort::Other => "not aspc, with - for each report that is not wanted",
-        _ => "not aspc, with - for each report that is not wanted but c, which service 11 wants",
+        _ => "not aspc, with - for each report that is not wanted; service 11 wants c",
     }
 }
 
@@ -77,7 +77,7 @@ fn why_outcome(sort: Sort) -> &'static str
     ensures { result.now ≡ why_outcome sort }
 {
     match sort {
-        Sort::Other => "not an outcome, such as ok or halt/2/17",
+        Sort::Other => "not an outcome, such as ok or halt/2/17, where a code is 16 to 255",
         _ => "not ok, which service 11 wants",
     }
 }
@@ -103,8 +103,8 @@ pub(crate) fn why(kind: LoadKind, sort: Sort, rule: Rule) -> &'static str
         Rule::SomeRow => "missing",
         Rule::FieldCount => why_fields(kind),
         Rule::Line => "not the number of the line",
-        Rule::Apid => "not 0 to 2047",
-        Rule::Service => "not 1 to 255",
+        Rule::Apid => "not 0 to 2047 in plain digits",
+        Rule::Service => "not 1 to 255 in plain digits",
         Rule::Subtype => why_subtype(sort),
         Rule::Target => why_target(sort),
         Rule::Time => why_time(sort),
