@@ -110,7 +110,8 @@ def step_text(word):
 
 STACK = Kind(STACK_HEADER, MOST_ROWS, "line", "lines", (
     own_number("line"), lambda row: (between(0, 2047), "not 0 to 2047 in plain digits"),
-    lambda row: (between(1, 255), "not 1 to 255 in plain digits"), subtype, target, time, ack, yes_or_no, lambda row: (maybe(earlier(row)), "neither empty nor an earlier line"), outcome))
+    lambda row: (between(1, 255), "not 1 to 255 in plain digits"), subtype, target, time, ack, yes_or_no,
+    lambda row: (maybe(earlier(row)), "neither empty nor an earlier line"), outcome))
 PROCEDURE = Kind(STEP_HEADER, MOST_STEPS, "step", "steps", (
     own_number("step"), lambda row: (step_text, "not 1 to 80 printable characters of ASCII"), yes_or_no,
     lambda row: (maybe(number), "neither empty nor a number")))
