@@ -4,8 +4,7 @@
 # program's words, files, statuses, every line of long random scripts beside a plain desk in Python, what lies in its tables, desks that are kept in a file,
 # faulty streams, each of its requests for memory refused in turn, a stop at each of its calls on the files of a desk, and the desk over HTTP, by real sockets;
 # and what ./tcdesk says and does at its first run, over a toy.
-# It stops at the first part that fails. At its end it prints what each part took: docs/GATE.md has that table for each
-# landing.
+# It stops at the first part that fails. At its end it prints what each part took: docs/GATE.md has that table as it was seen last.
 #
 # tools/gate.sh [--all] [--record]: --all tries the edits of every crate, also of those that tools/edits.tried has as they
 # stand; --record writes that file anew, for the landing's commit.

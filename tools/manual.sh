@@ -10,8 +10,9 @@
 # such folder, in order of name. It has to print NAME.out and nothing on standard error, its status is 1 where a line is refused, else
 # 0, and the manual has to name it.
 #
-# Then the commands of README.md, but for the gate and the server, in a third: each ends with 0, or with 1 where a line is refused, and the
-# first three blocks have shown a request that was released and confirmed.
+# Then the commands of README.md, but for the gate, in a third, in their order. Each ends with 0, or with 1 where a line is refused, says nothing
+# on standard error, and prints the block that stands behind it, where one does: behind the first one does. The server is started at a port that
+# nobody uses, for one connection, which is the line of curl behind it. README.md has at most 150 lines.
 #
 # The first difference ends it with status 1. The last line counts what was as it is shown.
 set -u
@@ -20,8 +21,9 @@ program=$(readlink -m "${1:-$top/crates/tc_cli/out/tc_cli}")
 manual=$top/docs/OPERATORS.md
 [[ -x $program ]] || { echo "manual: $program is not built" >&2; exit 1; }
 work=$(mktemp -d) || exit 1
-trap 'rm -rf "$work"' EXIT
-mkdir "$work/blocks" || exit 1
+server=
+trap '[[ -z $server ]] || kill "$server" 2>/dev/null; rm -rf "$work"' EXIT
+mkdir "$work/blocks" "$work/page" || exit 1
 
 # fail WORDS..: says what is wrong, and ends.
 fail() {
@@ -43,22 +45,26 @@ folder() {
     cd "$work/$1" || exit 1
 }
 
-# Each block in a file of its own, and a list of their lines, kinds and paths ('-' where a fence has no such word).
-awk -v folder="$work/blocks" '
-    !inside && /^## / { skipped = $0 == "## The desk over HTTP" }
-    /^```/ {
-        if (inside) { close(file); inside = 0; next }
-        inside = 1
-        if (skipped) { file = "/dev/null"; next }
-        file = sprintf("%s/%d", folder, NR)
-        printf "" >file
-        sub(/^```/, "")
-        print NR, $1 == "" ? "-" : $1, $2 == "" ? "-" : $2
-        next
-    }
-    inside { print >file }
-    END { if (inside) print NR, "open", "-" }
-' "$manual" >"$work/list" || exit 1
+# blocks PAGE FOLDER SECTION: puts each block of a page into a file of FOLDER that has the number of its line, and prints a list of their lines,
+# kinds and paths ('-' where a fence has no such word). Those of SECTION are left out.
+blocks() {
+    awk -v folder="$2" -v section="$3" '
+        !inside && /^## / { skipped = $0 == section }
+        /^```/ {
+            if (inside) { close(file); inside = 0; next }
+            inside = 1
+            if (skipped) { file = "/dev/null"; next }
+            file = sprintf("%s/%d", folder, NR)
+            printf "" >file
+            sub(/^```/, "")
+            print NR, $1 == "" ? "-" : $1, $2 == "" ? "-" : $2
+            next
+        }
+        inside { print >file }
+        END { if (inside) print NR, "open", "-" }
+    ' "$1"
+}
+blocks "$manual" "$work/blocks" "## The desk over HTTP" >"$work/list" || exit 1
 
 commands=0
 files=0
@@ -131,21 +137,83 @@ done
 
 # ---- README.md
 
-folder readme
-first=0
-shown=$work/shown
-: >"$shown"
-while IFS= read -r words; do
-    timeout 300 bash -c "$words" >"$work/printed" 2>"$work/errors" </dev/null
+# run_command WORDS: runs a command of README.md. What it prints is in $work/printed.
+run_command() {
+    timeout 300 bash -c "$1" >"$work/printed" 2>"$work/errors" </dev/null
     status=$?
     grep -q '^refused ' "$work/printed"
     refused=$((1 - $?))
-    compare "what README.md's $words says on standard error" "$empty" "$work/errors"
-    ((status == refused)) || fail "README.md's $words ends with status $status"
-    first=$((first + 1))
-    ((first > 2)) || cat "$work/printed" >>"$shown"
-done < <(sed -n '/^```sh/,/^```$/p' "$top/README.md" | grep '^\./tcdesk' | grep -v '^\./tcdesk serve')
-grep -q ' Approved Queued release$' "$shown" && grep -q ' Sent Confirmed confirm$' "$shown" ||
-    fail "README.md's first commands show no request that was released and confirmed"
+    compare "what README.md's $1 says on standard error" "$empty" "$work/errors"
+    ((status == refused)) || fail "README.md's $1 ends with status $status"
+}
+
+# start_server WORDS: starts the server of README.md, for one connection, and waits until it listens.
+start_server() {
+    port=$(python3 -c 'import socket; s = socket.socket(); s.bind(("127.0.0.1", 0)); print(s.getsockname()[1])') || exit 1
+    bash -c "exec ${1/8080/$port} 1" >"$work/served" 2>"$work/errors" </dev/null &
+    server=$!
+    for ((i = 0; i < 200; i++)); do
+        ! grep -q "$(printf '0100007F:%04X 00000000:0000 0A' "$port")" /proc/net/tcp || return 0
+        kill -0 "$server" 2>/dev/null || break
+        sleep 0.05
+    done
+    fail "README.md's $1 does not listen: $(<"$work/errors")"
+}
+
+# ask_server WORDS: sends a line of curl to the server, which ends then. What it prints is in $work/printed.
+ask_server() {
+    [[ -n $server ]] || fail "README.md's $1 stands before the server"
+    bash -c "${1/8080/$port}" >"$work/answer" 2>/dev/null </dev/null
+    printf '%s\n' "$(<"$work/answer")" >"$work/printed"
+    wait "$server"
+    status=$?
+    server=
+    ((status == 0)) || fail "the server of README.md ends with status $status"
+}
+
+page=$top/README.md
+lines=$(wc -l <"$page")
+((lines <= 150)) || fail "README.md has $lines lines: more than 150"
+blocks "$page" "$work/page" - >"$work/list" || exit 1
+folder readme
+first=0
+shown=0
+# the command whose block may come next; - where that was left out
+words=
+while read -r line kind path; do
+    block=$work/page/$line
+    if [[ $kind == - ]]; then
+        [[ -n $words ]] || fail "README.md, line $line: a block behind no command"
+        [[ $words == - ]] || compare "what README.md's $words prints" "$block" "$work/printed"
+        words=
+        shown=$((shown + 1))
+        continue
+    fi
+    ((first == 0 || shown > 0)) || fail "README.md does not show what its first command prints"
+    words=
+    [[ $kind == sh ]] || continue
+    while IFS= read -r words; do
+        case $words in
+        tools/gate.sh)
+            last=-
+            continue
+            ;;
+        ./tcdesk\ serve\ * | curl\ *)
+            if ! command -v curl >/dev/null; then
+                echo "manual: there is no curl: README.md's $words is not run"
+                last=-
+                continue
+            fi
+            if [[ $words == curl* ]]; then ask_server "$words"; else start_server "$words"; fi
+            ;;
+        *) run_command "$words" ;;
+        esac
+        first=$((first + 1))
+        last=$words
+    done <"$block"
+    words=$last
+done <"$work/list"
+[[ -z $server ]] || fail "README.md has a server that nobody asks"
+((first > 1)) || fail "README.md has no commands"
 
 echo "manual: $first commands of README.md, $commands commands and $files files as they are shown, $forms forms, $rehearsals rehearsals"
