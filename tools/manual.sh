@@ -163,7 +163,8 @@ start_server() {
 # ask_server WORDS: sends a line of curl to the server, which ends then. What it prints is in $work/printed.
 ask_server() {
     [[ -n $server ]] || fail "README.md's $1 stands before the server"
-    bash -c "${1/8080/$port}" >"$work/answer" 2>/dev/null </dev/null
+    timeout 60 bash -c "${1/8080/$port}" >"$work/answer" 2>/dev/null </dev/null
+    [[ -s $work/answer ]] || fail "README.md's $1 is not answered"
     printf '%s\n' "$(<"$work/answer")" >"$work/printed"
     wait "$server"
     status=$?
