@@ -1,19 +1,18 @@
 #!/bin/bash
-# Runs a copy of ./tcdesk in a folder of its own, over four crates of a line each, with a stand-in for rt that prints what rt prints, and
-# with a shell in the place of the program. Looked for is what is said while it proves, on a terminal (which `script` gives) and off it;
-# what becomes of a proof that fails or is interrupted, and of two first runs at a time; and that words, input and status are the program's.
-# tools/first_run_cases.sh [TCDESK]: ends with how many passed; status 1 where one failed.
+# Runs a copy of ./tcdesk and of tools/build.sh in a folder of its own, over four crates of a line each, with a stand-in for rt that prints what
+# rt prints, and with a shell in the place of the program. Looked for is which program is run: the kept one only where it is that of the sources
+# that stand there, byte for byte; what is said while it is proved, on a terminal (which `script` gives) and off it; what becomes of a proof
+# that fails or is interrupted, and of two first runs at a time; and that words, input and status are the program's.
+# tools/first_run_cases.sh: ends with how many passed; status 1 where one failed.
 set -u
 export LC_ALL=C SHELL=/bin/bash
 top=$(cd "$(dirname "${BASH_SOURCE[0]}")/.." && pwd) || exit 1
-tcdesk=$(readlink -f "${1:-$top/tcdesk}")
-[[ -x $tcdesk ]] || { echo "first_run_cases: there is no $tcdesk" >&2; exit 1; }
 command -v script >/dev/null || { echo "first_run_cases: there is no script, which is of bsdutils" >&2; exit 1; }
 work=$(mktemp -d) || exit 1
 work=$(readlink -f "$work")
 # what still runs at the end, of what was started here
 trap 'touch "$work/go"; kill $(jobs -p) 2>/dev/null; rm -rf "$work"' EXIT
-mkdir "$work/bin" "$work/none" "$work/tmp" "$work/else where" "$work/desk" || exit 1
+mkdir "$work/bin" "$work/none" "$work/tmp" "$work/else where" "$work/desk" "$work/desk/tools" || exit 1
 desk=$work/desk
 export TMPDIR=$work/tmp FIRST_RUN=$work
 export PATH=$work/bin:$PATH
@@ -27,6 +26,7 @@ cat >"$work/bin/rt" <<'RT'
 #!/bin/bash
 # What rt run prints, where it is asked in the folder of tc_cli: a crate is proved again where its text changed or a crate below was proved.
 # At a crate that the file stop names it waits for the file go, at most 20 seconds, and at one that the file fail names it fails.
+[[ $* != version ]] || { echo "toy kit 1"; exit; }
 IFS= read -r -d '' -t 1 input
 echo "$$ $PWD $*, input <$input>" >>"$FIRST_RUN/asked"
 crates=$(dirname "$PWD")
@@ -63,10 +63,12 @@ echo "rt: running out/tc_cli; to give it other input, run that file yourself" >&
 echo "what the program prints as rt runs it"
 RT
 chmod +x "$work/bin/rt"
-cp "$tcdesk" "$desk/tcdesk"
+cp "$top/tcdesk" "$desk/"
+cp "$top/tools/program.sh" "$top/tools/build.sh" "$desk/tools/"
 ln -s ../desk/tcdesk "$work/bin/linked"
 # a path on which there is no rt
-for name in awk dirname find head readlink stty touch; do ln -s "$(command -v "$name")" "$work/none/"; done
+for name in dirname readlink sha256sum strip stty; do ln -s "$(command -v "$name")" "$work/none/"; done
+echo "Handles allowed: none." >"$desk/HANDLES"
 cat >"$desk/crates.txt" <<'TEXT'
 # NAME: what it stands on
 side: low bstr
@@ -81,12 +83,15 @@ for name in low side mid tc_cli tests; do
     echo "// $name" >"$desk/crates/$name/src/lib.rt"
 done
 
-# A desk that nobody built or proved yet, or, with the word built, one that is.
+# A desk that nobody built or proved yet; with the word built one that is; with the word kept one whose program is kept in dist/ alone.
 anew() {
-    rm -rf "$desk"/crates/*/out "$work/at" "$work/stop" "$work/go" "$work/fail"
-    : >"$work/asked"
+    rm -rf "$desk"/crates/*/out "$desk/out" "$desk/dist" "$work/at" "$work/stop" "$work/go" "$work/fail"
     : >"$work/seen"
-    [[ ${1:-} != built ]] || { "$desk/tcdesk" -c : 2>/dev/null; : >"$work/asked"; }
+    case ${1:-} in
+    built) "$desk/tools/build.sh" 2>/dev/null ;;
+    kept) "$desk/tools/build.sh" --keep 2>/dev/null && rm -rf "$desk"/crates/*/out "$desk/out" ;;
+    esac
+    : >"$work/asked"
 }
 
 # tell NAME: counts a case by the status of the command before.
@@ -156,9 +161,95 @@ is_gone() {
 # a terminal's keys: nothing, until a case presses one
 mkfifo "$work/keys" && exec 9<>"$work/keys"
 
-first='tcdesk: proving the desk before its first run (an hour or so; later runs start at once)'
-again='tcdesk: proving again what changed in the desk (an hour or so at most; later runs start at once)'
+none='tcdesk: there is no program in dist/x86_64-linux-gnu'
+first='tcdesk: proving the desk and building it from its sources (an hour or so; later runs start at once)'
+edited='tcdesk: the sources here are not those that the program in dist/x86_64-linux-gnu was made of'
+changed='tcdesk: the program in dist/x86_64-linux-gnu is not the one that was made: its SHA-256 is another'
 built() { echo "tcdesk: the desk is proved and built, in N s ($1 of its 4 crates proved in this run)"; }
+
+# ---- which program is run
+
+# runs NAME WANTED: runs the desk off a terminal, and counts a case by its status and all that it printed.
+runs() {
+    : >"$work/asked"
+    off -c 'echo worked'
+    same "$1" "$2" "$status $(cat "$work/err" "$work/out")"
+}
+
+# edit FILE: adds a line to a text of the desk.
+edit() {
+    mkdir -p "$(dirname "$desk/$1")"
+    echo "# edited" >>"$desk/$1"
+}
+
+# The sources as they were.
+restore() {
+    cp -rT "$work/before" "$desk"
+    rm -rf "$desk/crates/mid/src/deep" "$desk/crates/mid/src/new.rt"
+}
+
+# What changes the program's bytes makes the kept one another's: it is not run, and what is edited is proved.
+edited_cases() {
+    local file
+    anew kept
+    runs "a kept program says nothing" "0 worked"
+    same "and rt is not asked" "" "$(<"$work/asked")"
+    cp -r "$desk" "$work/before"
+    for file in crates.txt HANDLES crates/low/src/lib.rt crates/tc_cli/src/lib.rt crates/mid/src/new.rt crates/mid/src/deep/er/new.rt; do
+        edit "$file"
+        runs "$file was edited" "0 $edited"$'\nworked'
+        [[ -s $work/asked ]]
+        tell "$file was edited: rt is asked"
+        runs "$file was edited, the run after" "0 worked"
+        path=$work/none
+        rm -rf "$desk/out"
+        runs "$file was edited, and there is no rt" "2 $edited"$'\n'"tcdesk: the toolchain's command rt is not on the path"
+        path=$PATH
+        restore
+        runs "$file is as it was" "0 worked"
+        rm -rf "$desk/out"
+    done
+    rm "$desk/crates/side/src/lib.rt"
+    path=$work/none
+    runs "a source is gone" "2 $edited"$'\n'"tcdesk: the toolchain's command rt is not on the path"
+    restore
+    for file in crates/mid/specs/new.antt crates/mid/proofs/new.antt crates/tests/src/lib.rt docs/page.md crates/mid/src/.new.swp; do
+        edit "$file"
+        runs "$file, which decides no byte" "0 worked"
+    done
+    touch "$desk/crates/low/src/lib.rt" "$desk/crates.txt"
+    runs "sources that were only touched" "0 worked"
+    path=$PATH
+}
+
+# A program whose bytes are not those that were made, or that this machine cannot run, is never run.
+changed_cases() {
+    local kept=$desk/dist/x86_64-linux-gnu
+    path=$work/none
+    anew kept
+    printf x >>"$kept/tcdesk"
+    runs "a kept program with a byte more" "2 $changed"$'\n'"tcdesk: the toolchain's command rt is not on the path"
+    anew kept
+    printf 'echo planted\n' >"$kept/tcdesk"
+    runs "another program in its place" "2 $changed"$'\n'"tcdesk: the toolchain's command rt is not on the path"
+    sed -i "s/^sha256 .*/sha256 $(sha256sum <"$kept/tcdesk" | cut -d ' ' -f 1)/" "$kept/tcdesk.built"
+    runs "a program that does not run here" "2 tcdesk: the program in dist/x86_64-linux-gnu does not run on this machine"$'\n'"tcdesk: the toolchain's command rt is not on the path"
+    anew kept
+    sed -i 's/^toolchain .*/toolchain toy kit 2/' "$kept/tcdesk.built"
+    runs "a program of another toolchain" "2 $edited"$'\n'"tcdesk: the toolchain's command rt is not on the path"
+    anew kept
+    rm "$kept/tcdesk.built"
+    runs "nothing says what it was made of" "2 $none"$'\n'"tcdesk: the toolchain's command rt is not on the path"
+    path=$PATH
+    anew kept
+    printf x >>"$kept/tcdesk"
+    runs "a kept program with a byte more is proved anew" "0 $changed"$'\nworked'
+    printf x >>"$desk/out/tcdesk"
+    runs "and so is the one that was built here" "0 $changed"$'\nworked'
+    [[ -s $work/asked ]]
+    tell "rt is asked for it"
+    same "other words for tools/build.sh" "tcdesk: tools/build.sh takes --keep, or --run and words for the program"$'\n'2 "$("$desk/tools/build.sh" keep 2>&1; echo $?)"
+}
 
 # ---- on a terminal
 
@@ -170,7 +261,8 @@ terminal_cases() {
     tell "the crate is told while rt proves it"
     touch "$work/go"
     wait $!
-    same "what is told in turn" "$first
+    same "what is told in turn" "$none
+$first
 tcdesk: reading its 4 crates
 tcdesk: proving low, 1 of 4
 tcdesk: proving side, 2 of 4
@@ -178,22 +270,15 @@ tcdesk: proving mid, 3 of 4
 tcdesk: proving tc_cli, 4 of 4
 $(built 4)
 worked" "$(steps)"
-    same "what stands on the terminal after a first run" "$first"$'\n'"$(built 4)"$'\nworked' "$(screen)"
+    same "what stands on the terminal after a first run" "$none"$'\n'"$first"$'\n'"$(built 4)"$'\nworked' "$(screen)"
     same "what rt is asked" "$desk/crates/tc_cli run -- run -, input <>" "$(cut -d ' ' -f 2- "$work/asked")"
     : >"$work/asked"
     on 80 "$desk/tcdesk -c 'echo worked'"
     same "a second run says nothing, and asks rt nothing" "0 worked" "$status $(screen; cat "$work/asked")"
-    sleep 0.02
-    touch "$desk/crates/low/src/lib.rt"
-    on 80 "$desk/tcdesk -c 'echo worked'"
-    same "a file that was only touched" "$again"$'\n'"$(built 0)"$'\nworked' "$(screen)"
-    : >"$work/asked"
-    on 80 "$desk/tcdesk -c 'echo worked'"
-    same "a run after that" "0 worked" "$status $(screen; cat "$work/asked")"
-    sleep 0.02
     echo "// changed" >>"$desk/crates/mid/src/lib.rt"
     on 80 "$desk/tcdesk -c 'echo worked'"
-    same "a file that changed: the crates that are not proved again are passed over" "$again
+    same "a file that changed: the crates that are not proved again are passed over" "$none
+$first
 tcdesk: reading its 4 crates
 tcdesk: proving mid, 3 of 4
 tcdesk: proving tc_cli, 4 of 4
@@ -205,45 +290,32 @@ worked" "$(steps)"
 tcdesk: proving low
 tcdesk: proving sid
 tcdesk: proving mid
-tcdesk: proving tc_" "$(steps | sed -n 2,6p)"
+tcdesk: proving tc_" "$(steps | sed -n 3,7p)"
     anew
     on 80 "$desk/tcdesk -c 'echo worked; echo says >&2; exit 3' 2>'$work/err'"
-    same "standard error off the terminal, and standard output on it" "3 worked says" "$status $(screen) $(<"$work/err")"
+    same "standard error off the terminal, and standard output on it" "3 worked $none"$'\nsays' "$status $(screen) $(<"$work/err")"
     anew
     on 80 "$desk/tcdesk -c 'echo worked' >'$work/out'"
-    same "standard output off the terminal, and standard error on it" "$first"$'\n'"$(built 4)"$'\nworked' "$(screen; cat "$work/out")"
+    same "standard output off the terminal, and standard error on it" "$none"$'\n'"$first"$'\n'"$(built 4)"$'\nworked' "$(screen; cat "$work/out")"
 }
 
 # ---- off a terminal
 
 plain_cases() {
     anew
-    off -c 'echo worked'
-    same "a first run off a terminal says nothing" "0 worked" "$status $(cat "$work/out" "$work/err")"
-    : >"$work/asked"
-    off -c 'echo worked'
-    same "nor does a second, which asks rt nothing" "0 worked" "$status $(cat "$work/out" "$work/err" "$work/asked")"
-    sleep 0.02
-    touch "$desk/crates/low/src/lib.rt"
-    off -c 'echo worked'
-    same "nor does one over a file that was touched" "0 worked" "$status $(cat "$work/out" "$work/err")"
-    grep -q "run -- run -" "$work/asked"
-    tell "rt is asked where a file was touched"
-    : >"$work/asked"
-    off -c 'echo worked'
-    same "and is not asked again" "0 worked" "$status $(cat "$work/out" "$work/err" "$work/asked")"
+    runs "a first run off a terminal says why it builds, and no more" "0 $none"$'\nworked'
+    runs "a second says nothing" "0 worked"
+    same "and asks rt nothing" "" "$(<"$work/asked")"
     anew
     echo mid >"$work/stop"
     off -c 'echo worked' &
     until_seen at mid
-    sleep 0.02
     echo "// edited" >>"$desk/crates/low/src/lib.rt"
     touch "$work/go"
     wait $!
-    : >"$work/asked"
-    off -c 'echo worked'
-    grep -q "run -- run -" "$work/asked"
-    tell "a file that was edited while the first run went on is proved by the next"
+    same "a file that is edited while it is proved: nothing is run" "$none
+tcdesk: the sources were edited while they were proved: run it again" "$(cat "$work/err" "$work/out")"
+    runs "and the next run proves it" "0 $none"$'\nworked'
 }
 
 # ---- a proof that fails
@@ -260,21 +332,21 @@ tcdesk: the desk could not be built"
     anew
     echo side >"$work/fail"
     off -c 'echo worked'
-    same "a proof that fails, off a terminal" $'2\nonly=0 proved=0\n'"$log" "$status"$'\n'"$(cat "$work/out" "$work/err")"
+    same "a proof that fails, off a terminal" $'2\n'"$none"$'\nonly=0 proved=0\n'"$log" "$status"$'\n'"$(cat "$work/out" "$work/err")"
     anew
     echo side >"$work/fail"
     on 80 "$desk/tcdesk -c 'echo worked'"
     same "a proof that fails, on a terminal" "2
+$none
 $first
 tcdesk: proving side, 2 of 4
 only=0 proved=0
 $log" "$status"$'\n'"$(screen)"
     anew built
-    sleep 0.02
     echo "// changed" >>"$desk/crates/low/src/lib.rt"
     echo side >"$work/fail"
     off -c 'echo worked'
-    same "a proof that fails beside a program of before" $'2\n'"$log" "$status"$'\n'"$(cat "$work/out" "$work/err")"
+    same "a proof that fails beside a program of before" $'2\n'"$none"$'\n'"$log" "$status"$'\n'"$(cat "$work/out" "$work/err")"
     is_gone
     tell "nothing is left of a proof that failed"
 }
@@ -295,7 +367,7 @@ interrupt_cases() {
     echo mid >"$work/stop"
     { until_seen seen "$at" && printf '\003' >&9; } &
     on 80 "exec $desk/tcdesk -c 'echo worked'"
-    interrupted "Ctrl-C" 130 "$first"$'\n'"$(printf '%-60s^C' "$at")"
+    interrupted "Ctrl-C" 130 "$none"$'\n'"$first"$'\n'"$(printf '%-60s^C' "$at")"
     for signal in TERM:143 INT:130 HUP:129; do
         number=${signal#*:}
         signal=${signal%:*}
@@ -303,18 +375,18 @@ interrupt_cases() {
         echo mid >"$work/stop"
         { until_seen seen "$at" && kill -s "$signal" "$(<"$work/id")"; } &
         on 80 "echo \$\$ >'$work/id'; exec $desk/tcdesk -c 'echo worked'"
-        interrupted "$signal on a terminal" "$number" "$first"$'\n'"$at"
+        interrupted "$signal on a terminal" "$number" "$none"$'\n'"$first"$'\n'"$at"
     done
     anew
     echo mid >"$work/stop"
     { until_seen at mid && kill -s TERM "$(<"$work/id")"; } &
     { bash -c 'echo $$ >"$0/id"; exec "$1/tcdesk" -c "echo worked"' "$work" "$desk" </dev/null >"$work/seen" 2>&1; status=$?; } 2>/dev/null
-    same "TERM off a terminal: the status, and nothing said" "143 " "$status $(<"$work/seen")"
+    same "TERM off a terminal: the status, and what is said" "143 $none" "$status $(<"$work/seen")"
     is_gone && [[ ! -e $desk/crates/tc_cli/out/tc_cli ]]
     tell "TERM off a terminal: rt is gone, no file is left and the program did not run"
     touch "$work/go"
     off -c 'echo worked'
-    same "a run after an interrupt" "0 worked" "$status $(cat "$work/out" "$work/err")"
+    same "a run after an interrupt" "0 worked"$'\n'"$none" "$status $(cat "$work/out" "$work/err")"
 }
 
 # ---- two first runs at a time
@@ -331,15 +403,15 @@ two_cases() {
     tell "a second first run tells that it waits"
     touch "$work/go"
     wait "$one" $!
-    same "the first of two" "worked" "$(cat "$work/out" "$work/err")"
-    same "the second of two" "$first"$'\n'"$(built 0)"$'\nworked too' "$(screen)"
+    same "the first of two" "worked$none" "$(cat "$work/out" "$work/err" | tr -d '\n')"
+    same "the second of two" "$none"$'\n'"$first"$'\n'"$(built 0)"$'\nworked too' "$(screen)"
 }
 
 # ---- the program's own words, input and status
 
 program_cases() {
     local state
-    for state in anew built; do
+    for state in built kept; do
         anew "$state"
         off -c 'printf "<%s>" "$@"; echo says >&2; exit 7' a 'b c' '' '*' -- $'d\ne'
         same "words and status, $state" $'7 <b c><><*><--><d\ne>says' "$status $(cat "$work/out" "$work/err")"
@@ -362,13 +434,16 @@ program_cases() {
     path=$work/none
     anew
     off -c 'echo worked'
-    same "no rt on the path" "2 tcdesk: the toolchain's command rt is not on the path" "$status $(cat "$work/out" "$work/err")"
+    same "no rt on the path" "2 $none
+tcdesk: the toolchain's command rt is not on the path" "$status $(cat "$work/out" "$work/err")"
     anew built
     off -c 'echo worked'
     path=$PATH
     same "no rt on the path, and none needed" "0 worked" "$status $(cat "$work/out" "$work/err")"
 }
 
+edited_cases
+changed_cases
 terminal_cases
 plain_cases
 failing_cases

@@ -8,7 +8,7 @@
 //!
 //! `tcdesk check KIND FILE` says whether the file of a stack or of a procedure can be loaded, or what is wrong with it.
 //!
-//! `tcdesk serve DB PORT COUNT` serves that desk over HTTP at a port of 127.0.0.1, and ends after so many connections.
+//! `tcdesk serve DB PORT [COUNT]` serves that desk over HTTP at a port of 127.0.0.1, and ends after so many connections.
 //! `tcdesk loop DB SCRIPT` sends the lines of a script over HTTP to a desk that it serves itself, and prints what is answered.
 #![tactic(auto)]
 
@@ -20,10 +20,12 @@ mod laws;
 mod looping;
 mod opened;
 mod paths;
+mod patience;
 mod reporting;
 mod run;
 mod script;
 mod serving;
+mod unserved;
 
 use checking::{text_of, write_check};
 use files::{open_database, open_script, text_at};
@@ -33,7 +35,7 @@ use paths::{HostPaths, PathFault};
 use reporting::print_report;
 use run::run_script;
 use script::ScriptFault;
-use serving::{ServiceFault, serve};
+use serving::{Service, ServiceFault, serve};
 use sqlite_disk::Wary;
 use std::alloc::{AllocError, Global};
 use std::process::ExitCode;
@@ -113,8 +115,14 @@ fn run_line(rt: &HostRuntime, line: Line<'_>) -> u8 {
             count,
             config,
             moment,
+            verbose,
         } => {
-            let served = serve(rt, database, config, moment, port, count);
+            let service = Service {
+                port,
+                count,
+                verbose,
+            };
+            let served = serve(rt, database, config, moment, service);
             service_status(rt, served.map(|()| 0), database, database)
         }
         Line::Loop {

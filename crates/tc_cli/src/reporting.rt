@@ -16,7 +16,7 @@ use tc_types::numbers::Moment;
 
 /// The desk's file, and its log beside it, which is a file that a reader has to make where there is none.
 #[derive(Drop)]
-struct Kept {
+pub(crate) struct Kept {
     database: String,
     log: String,
     had_log: bool,
@@ -31,7 +31,7 @@ fn log_path(alloc: Global, database: &str) -> Result<String, ScriptFault> {
 }
 
 /// The two files at a path, where a database may be. Nothing is made.
-fn find(rt: &HostRuntime, file: &str) -> Result<Kept, ScriptFault> {
+pub(crate) fn find(rt: &HostRuntime, file: &str) -> Result<Kept, ScriptFault> {
     let Ok(found) = fs::metadata(rt, file) else {
         return Err(ScriptFault::Tables);
     };
@@ -51,14 +51,14 @@ fn find(rt: &HostRuntime, file: &str) -> Result<Kept, ScriptFault> {
 }
 
 /// Takes away the log that this program made, while the database is still held so that no other writes to it.
-fn forget_log(rt: &HostRuntime, kept: &Kept) {
+pub(crate) fn forget_log(rt: &HostRuntime, kept: &Kept) {
     if !kept.had_log {
         let _ = fs::remove_file(rt, kept.log.as_str());
     }
 }
 
 /// Opens the database, with what the log holds, which writes to neither file but to a log that holds nothing.
-fn open_kept(
+pub(crate) fn open_kept(
     rt: &HostRuntime,
     kept: &Kept,
 ) -> Result<Connection<FileStore<FileFrom<Wary>>>, ScriptFault> {

@@ -1,23 +1,23 @@
 -- What the matches of a command line's words ask for.
-use Rattle.std.specs.Prelude.{◌≡◌, ◌⊎◌, if◌then◌else◌, ℕ, List, Option, None, Some, codes, false, unwrap_or}
+use Rattle.std.specs.Prelude.{◌≡◌, ◌⊎◌, if◌then◌else◌, ℕ, Bool, List, Option, None, Some, codes, false, nat_lt, unwrap_or}
 use Rattle.std.specs.Fmt.{decimal}
 use Rattle.std.specs.Str.{bytes_eq}
 use Rattle.std.specs.Str.Parse.{digits_value, without_leading_plus}
 use Rattle.clap.specs.ValueTests.{accepts}
-use Rattle.clap.specs.Words.{Row, Text, first_of, one_of}
+use Rattle.clap.specs.Words.{Row, Text, count_of, first_of, one_of}
 use Rattle.clap.specs.declared.builder.value_parser.ValueParser.TheVariants as parser
 use Rattle.tc_types.specs.Numbers.{IsMoment}
 use Rattle.tc_stack.specs.StackTexts.{IsInstant}
 
 -- A command with what it was given. Where a desk is made or opened, its window and channel; where it is kept in a file, that file, and where it
--- is opened there the moment of the opening. A run has a script; a report what stands for FROM and TO; a server its port and how many
--- connections it serves; a loop a script; a check what stands for KIND, and a file.
+-- is opened there the moment of the opening. A run has a script; a report what stands for FROM and TO; a server its port, how many
+-- connections it serves and whether it says how each ended; a loop a script; a check what stands for KIND, and a file.
 pub data Asked : Type 0 where
   run : (script : Text) (window channel : ℕ) → Asked
   run_kept : (script : Text) (window channel : ℕ) (database : Text) (moment : ℕ) → Asked
   report : (database begins ends : Text) → Asked
   check : (kind file : Text) → Asked
-  serve : (database : Text) (port count window channel moment : ℕ) → Asked
+  serve : (database : Text) (port count window channel moment : ℕ) (verbose : Bool) → Asked
   loop : (database script : Text) (window channel moment : ℕ) → Asked
 
 -- ---- what the arguments were given
@@ -49,9 +49,13 @@ given_moment rows = number_in 0 4102444799 0 (one_of (codes "at") rows)
 abbrev pub given_port : List Row → ℕ
 given_port rows = number_in 1 65535 1 (one_of (codes "PORT") rows)
 
--- how many connections were given
+-- how many connections were given, or stand in the rows by default
 abbrev pub given_count : List Row → ℕ
-given_count rows = number_in 1 1000000 1 (one_of (codes "COUNT") rows)
+given_count rows = number_in 1 1000000 1000000 (one_of (codes "COUNT") rows)
+
+-- whether it is to be said how each connection ended
+abbrev pub given_verbose : List Row → Bool
+given_verbose rows = nat_lt 0 (count_of (codes "verbose") rows)
 
 -- ---- what the commands were given
 
@@ -75,6 +79,7 @@ asked_check rows = check (given (codes "KIND") rows) (given (codes "FILE") rows)
 -- what a server was given
 abbrev pub asked_serve : List Row → Asked
 asked_serve rows = serve (given (codes "DB") rows) (given_port rows) (given_count rows) (given_window rows) (given_channel rows) (given_moment rows)
+    (given_verbose rows)
 
 -- what a loop was given
 abbrev pub asked_loop : List Row → Asked

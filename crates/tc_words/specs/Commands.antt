@@ -1,6 +1,7 @@
 -- The commands of the program, as `clap` takes them.
 use Rattle.std.specs.Prelude.{[], ◌∷◌, Some, codes, true}
 use Rattle.clap.specs.Words.{App, Rule, Text, new_app, new_rule, with_rule, with_subcommand}
+use Rattle.clap.specs.declared.builder.action.ArgAction.TheVariants.{Count}
 use Rattle.clap.specs.declared.builder.value_parser.ValueParser.TheVariants as parser
 
 -- ---- the arguments
@@ -37,9 +38,19 @@ to_rule = required_rule (codes "TO")
 abbrev pub port_rule : Rule
 port_rule = record (required_rule (codes "PORT")) { parser = Some (parser.Unsigned 1 65535) }
 
--- COUNT: how many connections are served, 1 to 1,000,000
+-- COUNT: how many connections are served, 1 to 1,000,000, and that many where it is not given
 abbrev pub count_rule : Rule
-count_rule = record (required_rule (codes "COUNT")) { parser = Some (parser.Unsigned 1 1000000) }
+count_rule = record (new_rule (codes "COUNT")) {
+  defaults = codes "1000000" ∷ [];
+  parser = Some (parser.Unsigned 1 1000000);
+}
+
+-- --verbose: whether it is said how each connection ended
+abbrev pub verbose_rule : Rule
+verbose_rule = record (new_rule (codes "verbose")) {
+  long = Some (codes "verbose");
+  action = Some Count;
+}
 
 -- --w N: the window W of the FARM, 2 to 254, and 20 where it is not given
 abbrev pub window_rule : Rule
@@ -100,9 +111,13 @@ check_app = with_rule (with_rule (new_app (codes "check")) kind_rule) checked_ru
 abbrev pub with_desk : App → App
 with_desk app = with_rule (with_rule (with_rule app window_rule) channel_rule) moment_rule
 
--- serve DB PORT COUNT [--w N] [--vc N] [--at MOMENT]
+-- serve DB PORT [COUNT]
+abbrev pub bare_serve_app : App
+bare_serve_app = with_rule (with_rule (with_rule (new_app (codes "serve")) file_rule) port_rule) count_rule
+
+-- .. [--w N] [--vc N] [--at MOMENT] [--verbose]
 abbrev pub serve_app : App
-serve_app = with_desk (with_rule (with_rule (with_rule (new_app (codes "serve")) file_rule) port_rule) count_rule)
+serve_app = with_rule (with_desk bare_serve_app) verbose_rule
 
 -- loop DB SCRIPT [--w N] [--vc N] [--at MOMENT]
 abbrev pub loop_app : App

@@ -18,7 +18,8 @@ AsksFor (RunKept script config database moment) asked = asked ≡ run_kept scrip
 AsksFor (Report database from to) asked =
     (begins ends : Text) × SpellsMoment from begins × SpellsMoment to ends × (asked ≡ report database.now begins ends)
 AsksFor (Check kind file) asked = asked ≡ check (kind_word kind) file.now
-AsksFor (Serve database port count config moment) asked = asked ≡ serve database.now port count config.window config.channel moment
+AsksFor (Serve database port count config moment verbose) asked =
+    asked ≡ serve database.now port count config.window config.channel moment verbose
 AsksFor (Loop database script config moment) asked = asked ≡ loop database.now script.now config.window config.channel moment
 
 -- what the desk of a line is made or opened with
@@ -27,7 +28,7 @@ config_of (Run script config) = Some config
 config_of (RunKept script config database moment) = Some config
 config_of (Report database from to) = None
 config_of (Check kind file) = None
-config_of (Serve database port count config moment) = Some config
+config_of (Serve database port count config moment verbose) = Some config
 config_of (Loop database script config moment) = Some config
 
 -- the window that is asked for is odd
@@ -36,7 +37,7 @@ AsksOddWindow (run script window channel) = window % 2 ≡ 1
 AsksOddWindow (run_kept script window channel database moment) = window % 2 ≡ 1
 AsksOddWindow (report database begins ends) = ⊥
 AsksOddWindow (check kind file) = ⊥
-AsksOddWindow (serve database port count window channel moment) = window % 2 ≡ 1
+AsksOddWindow (serve database port count window channel moment verbose) = window % 2 ≡ 1
 AsksOddWindow (loop database script window channel moment) = window % 2 ≡ 1
 
 -- a report is asked for, whose FROM or TO is this word, which spells no moment

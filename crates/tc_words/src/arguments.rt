@@ -2,10 +2,10 @@
 ghost use Rattle.std.specs.Prelude.{◌≡◌, false};
 ghost use Rattle.clap.specs.Words.{rule_of};
 ghost use Rattle.tc_words.specs.Commands.{channel_rule, checked_rule, count_rule, database_rule, file_rule, from_rule, kind_rule, moment_rule, port_rule, required_rule};
-ghost use Rattle.tc_words.specs.Commands.{script_rule, to_rule, window_rule};
+ghost use Rattle.tc_words.specs.Commands.{script_rule, to_rule, verbose_rule, window_rule};
 
-use clap::Arg;
 use clap::builder::ValueParser;
+use clap::{Arg, ArgAction};
 use std::alloc::Global;
 
 /// A positional argument that has to be given.
@@ -90,12 +90,20 @@ pub(crate) fn count_arg<'a>(alloc: Global) -> Arg<'a>
     ensures rule { rule_of result ≡ count_rule }
     ensures local { result.global ≡ false }
 {
-    required_arg(
-        alloc,
-        "COUNT",
-        "How many connections are served, one after the other: 1 to 1000000",
-    )
-    .value_parser(ValueParser::Unsigned(1, 1_000_000))
+    Arg::new(alloc, "COUNT")
+        .value_parser(ValueParser::Unsigned(1, 1_000_000))
+        .default_value("1000000")
+        .help("How many connections are served, one after the other: 1 to 1000000")
+}
+
+pub(crate) fn verbose_arg<'a>(alloc: Global) -> Arg<'a>
+    ensures rule { rule_of result ≡ verbose_rule }
+    ensures local { result.global ≡ false }
+{
+    Arg::new(alloc, "verbose")
+        .long("verbose")
+        .action(ArgAction::Count)
+        .help("Say on the standard error how each connection ended")
 }
 
 pub(crate) fn window_arg<'a>(alloc: Global) -> Arg<'a>

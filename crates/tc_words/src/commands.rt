@@ -2,12 +2,12 @@
 ghost use Rattle.std.specs.Prelude.{◌≡◌, [], IfErr, IfOk, OnOk, false, map, true};
 ghost use Rattle.clap.specs.Words.{app_of, fault_of, kind_of, subcommand_of, subcommand_rows_of, takes};
 ghost use Rattle.clap.specs.declared.builder.command.Command.TheViews.{out-Command};
-ghost use Rattle.tc_words.specs.Commands.{bare_app, check_app, desk_app, loop_app, report_app, run_app, script_app, script_apps, serve_app};
+ghost use Rattle.tc_words.specs.Commands.{bare_app, bare_serve_app, check_app, desk_app, loop_app, report_app, run_app, script_app, script_apps, serve_app};
 ghost use Rattle.tc_words.specs.Commands.{with_check, with_database, with_desk, with_http};
 
 use crate::arguments::{
     channel_arg, checked_arg, count_arg, database_arg, file_arg, from_arg, kind_arg, moment_arg,
-    port_arg, script_arg, to_arg, window_arg,
+    port_arg, script_arg, to_arg, verbose_arg, window_arg,
 };
 use clap::error::ErrorKind;
 use clap::{ArgMatches, Command};
@@ -141,12 +141,18 @@ fn serve_command<'a>(alloc: Global) -> Result<Command<'a>, AllocError>
     ensures app { IfOk result (λ command. app_of command ≡ serve_app) }
     ensures local { IfOk result (λ command. (out-Command command).has_globals ≡ false) }
 {
-    let command = Command::new(alloc, "serve")
+    with_desk(alloc, bare_serve_command(alloc)?)?.arg(verbose_arg(alloc))
+}
+
+fn bare_serve_command<'a>(alloc: Global) -> Result<Command<'a>, AllocError>
+    ensures app { IfOk result (λ command. app_of command ≡ bare_serve_app) }
+    ensures local { IfOk result (λ command. (out-Command command).has_globals ≡ false) }
+{
+    Command::new(alloc, "serve")
         .about("Serve a desk that is kept in a file over HTTP, on 127.0.0.1 alone")
         .arg(file_arg(alloc))?
         .arg(port_arg(alloc))?
-        .arg(count_arg(alloc))?;
-    with_desk(alloc, command)
+        .arg(count_arg(alloc))
 }
 
 fn loop_command<'a>(alloc: Global) -> Result<Command<'a>, AllocError>

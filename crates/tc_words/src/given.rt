@@ -5,7 +5,7 @@ ghost use Rattle.tc_types.specs.Loads.{kind_word};
 ghost use Rattle.tc_types.specs.Numbers.{IsMoment};
 ghost use Rattle.tc_types.specs.declared.loads.LoadKind.{LoadKind as SomeKind};
 ghost use Rattle.tc_desk.specs.State.{IsConfig};
-ghost use Rattle.tc_words.specs.Asked.{SpellsMoment, SpellsNoMoment, given, given_channel, given_count, given_moment, given_port, given_window, number_in};
+ghost use Rattle.tc_words.specs.Asked.{SpellsMoment, SpellsNoMoment, given, given_channel, given_count, given_moment, given_port, given_verbose, given_window, number_in};
 
 use crate::lines::UsageFault;
 use clap::ArgMatches;
@@ -98,7 +98,14 @@ pub(crate) fn port_of(matches: &ArgMatches<'_>) -> u16
 pub(crate) fn count_of(matches: &ArgMatches<'_>) -> u32
     ensures { result ≡ given_count (rows_of (found_of matches.now)) }
 {
-    number_of(matches, "COUNT", 1, 1_000_000, 1)
+    number_of(matches, "COUNT", 1, 1_000_000, 1_000_000)
+}
+
+/// Whether it is to be said how each connection ended.
+pub(crate) fn is_verbose(matches: &ArgMatches<'_>) -> bool
+    ensures { result ≡ given_verbose (rows_of (found_of matches.now)) }
+{
+    0 < matches.get_count("verbose")
 }
 
 /// The moment that a text spells: Unix seconds, or an instant.

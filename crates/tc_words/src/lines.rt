@@ -32,13 +32,14 @@ pub enum Line<'a> {
         file: &'a str,
     },
     /// Serve the desk that a database file keeps, opened at a moment, over HTTP on a port of this machine alone, 1 to 65,535, and end after
-    /// so many connections, 1 to 1,000,000.
+    /// so many connections, 1 to 1,000,000. Verbose, it says on the standard error how each connection ended.
     Serve {
         database: &'a str,
         port: u16,
         count: u32,
         config: Config,
         moment: Moment,
+        verbose: bool,
     },
     /// Send the lines of the script at this path, or of the standard input where it is `-`, over HTTP to the desk that a database file keeps,
     /// opened at a moment.

@@ -8,7 +8,8 @@ ghost use Rattle.tc_words.specs.Lines.{AsksFor, IsFaultOf, IsOwn, IsTold, config
 
 use crate::commands::matches;
 use crate::given::{
-    config_of, count_of, moment_of, path_of, port_of, spelled_kind, spelled_moment, text_of,
+    config_of, count_of, is_verbose, moment_of, path_of, port_of, spelled_kind, spelled_moment,
+    text_of,
 };
 use crate::lines::{Line, UsageFault};
 use clap::ArgMatches;
@@ -140,6 +141,7 @@ fn serve_line_of<'a>(matches: &ArgMatches<'a>) -> Result<Line<'a>, UsageFault<'a
         count: count_of(matches),
         config,
         moment: moment_of(matches),
+        verbose: is_verbose(matches),
     })
 }
 
