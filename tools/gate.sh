@@ -6,14 +6,19 @@
 # and what ./tcdesk says and does at its first run, over a toy.
 # It stops at the first part that fails. At its end it prints what each part took: docs/GATE.md has that table as it was seen last.
 #
-# tools/gate.sh [--all] [--record]: --all tries the edits of every crate, also of those that tools/edits.tried has as they
-# stand; --record writes that file anew, for the landing's commit.
+# tools/gate.sh [--all] [--record] [--keep]: --all tries the edits of every crate, also of those that tools/edits.tried has as they
+# stand; --record writes that file anew, and --keep puts the program that rt ci built into dist/, for the landing's commit.
 set -u
 cd "$(dirname "$(readlink -f "$0")")/.." || exit 1
 
-asked=("$@")
+asked=()
+keep=()
 for word in "$@"; do
-    [[ $word == --all || $word == --record ]] || { echo "gate: no word $word: --all, --record" >&2; exit 2; }
+    case $word in
+    --all | --record) asked+=("$word") ;;
+    --keep) keep=("$word") ;;
+    *) echo "gate: no word $word: --all, --record, --keep" >&2; exit 2 ;;
+    esac
 done
 parts=()
 began=$(date +%s)
@@ -57,10 +62,11 @@ rm -rf crates/*/out
 
 part "the layout of files" layout
 part "rt ci" rt ci
+part "the program that is kept" tools/kept_program.sh "${keep[@]}"
 part "the test of the tool for edits" tools/edits_test.py
 part "edits of wrong/, many in a check" tools/edits.py "${asked[@]}"
-part "the program runs" sh -c './tcdesk run - </dev/null >/dev/null'
-part "the first run" tools/first_run_cases.sh
+part "where nothing is" tools/bare_cases.sh
+part "which program is run" tools/first_run_cases.sh
 part "program cases" tools/program_cases.sh
 part "what cannot be read or written" tools/status_cases.sh
 part "the manual and the rehearsals" tools/manual.sh
