@@ -54,9 +54,9 @@ put() {
 make_root() {
     local name
     mkdir -p "$root/usr/bin" "$root/tmp" "$desk" && ln -s usr/bin "$root/bin" && chmod 1777 "$root/tmp" || exit 1
-    put "$(command -v bash)"
+    put "$(type -P bash)"
     while read -r name; do
-        name=$(command -v "$name") && put "$name"
+        name=$(type -P "$name") && put "$name"
     done <<<$'basename\ncat\nchmod\ncp\ndirname\necho\nenv\nhead\nls\nmkdir\nmv\npwd\nreadlink\nrm\nsha256sum\nsort\ntail\ntrue\nuname'
     (cd "$top" && git ls-files -z --cached -- . | tar --null -T - -cf -) | tar -xf - -C "$desk" || exit 1
     chmod -R a+rX,a-w "$root/opt" && chmod a+x "$desk"

@@ -60,9 +60,9 @@ sum_of() {
 
 # version_of FILE: the first line of what the program there says of its version.
 version_of() {
-    local line=''
-    read -r line < <("$1" --version 2>&1)
-    echo "$line"
+    local text
+    text=$("$1" --version 2>&1)
+    echo "${text%%$'\n'*}"
 }
 
 # is_program FOLDER: whether the program in a folder is that of the sources that stand here, is the very one that was made of them, and runs on
