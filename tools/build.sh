@@ -2,7 +2,8 @@
 # Proves every crate of the desk that is not proved yet, as its text stands, and builds the program, for ./tcdesk to run.
 # tools/build.sh [--keep | --run WORD..]: --keep also puts it into dist/, for the commit of a change of the sources; --run runs it then, with
 # these words.
-# How far the proof is, is told to a terminal alone; what rt says is told where the desk cannot be built. The status is 0, or 2.
+# How far the proof is, is told to a terminal alone; what rt says is told where the desk cannot be built. The status is 0; 1 where what was built
+# is another program than dist/ keeps of the same sources; 2 where there is none.
 set -u
 
 top=$(cd "$(dirname "$(readlink -f "$0")")/.." && pwd) || exit 2
@@ -107,8 +108,15 @@ put_program "$crate/out/tc_cli" "$own" "$toolchain" "$sources" || refuse "the pr
 if [ "${1:-}" = --keep ]; then
     put_program "$crate/out/tc_cli" "$kept" "$toolchain" "$sources" || refuse "the program cannot be put into $kept"
 fi
+status=0
+if is_other "$own" "$kept"; then
+    end_line
+    echo "tcdesk: what was built is not, byte for byte, the program that dist/ keeps of these sources" >&2
+    status=1
+fi
 say "tcdesk: the desk is proved and built, in $(took) ($proved of its ${#place[@]} crates proved in this run)"
 if [ "${1:-}" = --run ]; then
     shift
     exec -a tcdesk "$own/tcdesk" "$@"
 fi
+exit $status

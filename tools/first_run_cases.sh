@@ -248,6 +248,10 @@ changed_cases() {
     runs "and so is the one that was built here" "0 $changed"$'\nworked'
     [[ -s $work/asked ]]
     tell "rt is asked for it"
+    anew kept
+    sed -i 's/^sha256 ./sha256 -/' "$kept/tcdesk.built"
+    runs "another program was kept of these sources" "0 $changed
+tcdesk: what was built is not, byte for byte, the program that dist/ keeps of these sources"$'\nworked'
     same "other words for tools/build.sh" "tcdesk: tools/build.sh takes --keep, or --run and words for the program"$'\n'2 "$("$desk/tools/build.sh" keep 2>&1; echo $?)"
 }
 

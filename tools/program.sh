@@ -97,3 +97,13 @@ put_program() {
     mv -f "$2/tcdesk.new" "$2/tcdesk" || return
     printf '%s\n' "sources $4" "toolchain $3" "sha256 $(sum_of "$2/tcdesk")" "version $(version_of "$2/tcdesk")" >"$2/tcdesk.built"
 }
+
+# is_other FOLDER OTHER: whether two folders hold programs that were made of the same sources by the same toolchain, and are not the same.
+is_other() {
+    local word
+    [ -r "$2/tcdesk.built" ] || return
+    for word in sources toolchain; do
+        [ "$(grep "^$word " "$1/tcdesk.built")" = "$(grep "^$word " "$2/tcdesk.built")" ] || return
+    done
+    [ "$(grep '^sha256 ' "$1/tcdesk.built")" != "$(grep '^sha256 ' "$2/tcdesk.built")" ]
+}
