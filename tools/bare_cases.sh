@@ -58,7 +58,7 @@ make_root() {
     while read -r name; do
         name=$(type -P "$name") && put "$name"
     done <<<$'basename\ncat\nchmod\ncp\ndirname\necho\nenv\nhead\nls\nmkdir\nmv\npwd\nreadlink\nrm\nsha256sum\nsort\ntail\ntrue\nuname'
-    (cd "$top" && git ls-files -z --cached -- . | tar --null -T - -cf -) | tar -xf - -C "$desk" || exit 1
+    (cd "$top" && git ls-files -z --cached --others --exclude-standard | tar --null -T - -cf -) | tar -xf - -C "$desk" || exit 1
     chmod -R a+rX,a-w "$root/opt" && chmod a+x "$desk"
 }
 
