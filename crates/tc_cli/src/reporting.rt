@@ -23,7 +23,7 @@ pub(crate) struct Kept {
 }
 
 /// The path of the log of the database at this path, which has no link in it.
-fn log_path(alloc: Global, database: &str) -> Result<String, ScriptFault> {
+pub(crate) fn log_path(alloc: Global, database: &str) -> Result<String, ScriptFault> {
     match format!(in alloc; "{database}-wal") {
         Ok(path) => Ok(path),
         Err(_) => Err(ScriptFault::Memory),

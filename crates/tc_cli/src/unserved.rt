@@ -1,11 +1,13 @@
 //! What the opening of a desk that is kept in a file would be refused for, where nothing is to be written: its port is in use.
 
-use crate::reporting::{find, forget_log, open_kept};
+use crate::files::open_database;
+use crate::reporting::{find, forget_log, log_path, open_kept};
 use crate::script::ScriptFault;
 use sqlite::{Alter, Connection};
+use sqlite_disk::Wary;
 use sqlite_schema::schema::Schema;
 use std::alloc::Global;
-use std::fs::{self, OpenOptions};
+use std::fs;
 use tc_desk::configs::Config;
 use tc_room::desks::reopen_desk;
 use tc_store::faults::StoreFault;
@@ -51,19 +53,25 @@ fn judge<S: Alter + Drop>(
     }
 }
 
-/// Fails where no file can be made at a path. None is left there.
-fn judge_path(rt: &HostRuntime, file: &str) -> Result<(), ScriptFault> {
-    match OpenOptions::new()
-        .write(true)
-        .create_new(true)
-        .open(rt, file)
-    {
-        Ok(_) => match fs::remove_file(rt, file) {
-            Ok(()) => Ok(()),
-            Err(_) => Err(ScriptFault::Tables),
-        },
+/// Takes away the database that this program made at a path, and its log. A link that led there stays.
+fn forget_made(rt: &HostRuntime, file: &str) -> Result<(), ScriptFault> {
+    let Ok(real) = fs::canonicalize(rt, file) else {
+        return Err(ScriptFault::Tables);
+    };
+    let log = log_path(rt.alloc(), real.as_str())?;
+    let _ = fs::remove_file(rt, log.as_str());
+    match fs::remove_file(rt, real.as_str()) {
+        Ok(()) => Ok(()),
         Err(_) => Err(ScriptFault::Tables),
     }
+}
+
+/// Fails where no database can be made at a path where there is no file. None is left there.
+fn judge_path(rt: &HostRuntime, file: &str) -> Result<(), ScriptFault> {
+    let store = open_database(rt, file, Wary)?;
+    let forgotten = forget_made(rt, file);
+    drop(store);
+    forgotten
 }
 
 /// Fails as the opening of the desk that a file keeps would. The file stays as it is.
