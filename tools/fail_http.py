@@ -28,7 +28,7 @@ from http_requests import BODY, ENTRY, PLACES, act
 from plain_http import LARGE, NO_PATH, OTHER_METHOD, reply_response
 
 MOST_BAD = 10
-MOST_BEHIND = 33  # reads behind an answer
+MOST_BEHIND = 1000  # reads behind an answer
 SLOW = 5.0  # seconds in which a request that is read a byte at a time has to be answered
 MEMORY, STORE, STOPPED = (reply_response([it]) for it in ("refused 30 Memory", "refused 31 Store", "refused 32 Stopped"))
 
@@ -94,7 +94,7 @@ def stream(runs, name, raws, wanted, within=PATIENCE, **settings):
         took, ended = time.monotonic() - began, server.end()
     counts = tuple(int(it) for it in runs.told().split())
     found = Wanted(got, wanted.counts if is_counted(wanted.counts, counts, len(raws)) else counts, runs.entered())
-    if found != wanted or ended != Ended(0, "", "") or took > within:
+    if found != wanted or ended != Ended(0, "", server.says) or took > within:
         runs.bad(f"{name}, {settings}", found, wanted, ended, f"{took:.1f} s")
 
 
@@ -174,7 +174,8 @@ def refused(runs, it, at):
     runs.seen[kind_of(it, got[0]) if got else "not accepted"] += 1
     why = why_bad(it, *got, runs.entered()) if len(got) == 2 else got
     # Where both were answered the memory was wanted as the desk was closed.
-    closings = [Ended(0, "", "")] + [Ended(2, "", f"tcdesk: cannot use {what}\n") for what in ("memory", "kept.db") if b"" not in got]
+    closings = [Ended(0, "", server.says)]
+    closings += [Ended(2, "", f"{server.says}tcdesk: cannot use {what}\n") for what in ("memory", "kept.db") if b"" not in got]
     if why or ended not in closings:
         runs.bad(f"request {at} for memory of {it.raw[:20]!r}", why, ended)
     return True
@@ -222,7 +223,7 @@ def disk(runs):
             got = [server.exchange(it.raw) for it in told]
             ended = server.end()
         runs.counts["disk"] += 1
-        says = ended.status == 0 and not ended.err or ended.status == 2 and ended.err == "tcdesk: cannot use kept.db\n"
+        says = (ended.status, ended.err) in ((0, server.says), (2, f"{server.says}tcdesk: cannot use kept.db\n"))
         stands = runs.entered()
         for case, it, found in zip(told, wanted, got):
             if it != found:

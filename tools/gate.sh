@@ -87,6 +87,7 @@ part "memory refused to a check" tools/fail_check.sh
 part "memory refused to a desk that is kept" tools/fail_kept.sh
 part "stopped at each call on its files" tools/stop_kept.py
 part "HTTP over sockets" tools/http_cases.py
+part "a server that nobody stalls" tools/http_stalls.py
 part "HTTP that fails" tools/fail_http.py
 part "loop beside run" tools/loop_cases.sh
 part "the curl lines of the manual" tools/curl_cases.sh

@@ -61,7 +61,7 @@ class Cases:
 
     def ended(self, name, server, out=""):
         """Waits for a server's end, which has to be a good one."""
-        self.tell(f"{name}: the program's end", Ended(0, out, ""), server.end())
+        self.tell(f"{name}: the program's end", Ended(0, out, server.says), server.end())
 
     def expected(self, folder, cases, before=()):
         """The responses that these cases have to be given; a case whose writer and the plain reading disagree has failed."""
@@ -320,7 +320,7 @@ def words(cases):
     with open(f"{folder}/noise.db", "wb") as file:
         file.write(random.Random(SEED).randbytes(8192))
     huge = "99999999999999999999"
-    for more in ([], ["{db}"], ["{db}", port], ["{db}", port, "1", "x"],
+    for more in ([], ["{db}"], ["{db}", port, "1", "x"],
                  *(["{db}", it, "1"] for it in ("0", "65536", "-1", "x", "", "80.0", huge, "0x50")),
                  *(["{db}", port, it] for it in ("0", "1000001", "-1", "x", "", "1.0", huge)),
                  *(["{db}", port, "1", *it] for it in (["--w", "3"], ["--w", "0"], ["--w", "256"], ["--vc", "64"], ["--at", "4102444800"],
@@ -352,11 +352,16 @@ def files_and_ports(cases):
                 cases.tell(f"serve {name} at a port", Ended(2, "", f"tcdesk: cannot use {name}\n"), began(cases, folder, [name, it, "1"]))
         for name, text in texts.items():
             cases.tell(f"{name} stays as it is", text, read(f"{folder}/{name}"))
-        for name in ("new.db", "desk.db"):
+        os.symlink("linked.db", f"{folder}/link.db")
+        before = sorted(os.listdir(folder))
+        for name in ("new.db", "desk.db", "link.db"):
             want = Ended(2, "", f"tcdesk: cannot use port {taken}\n")
             cases.tell(f"serve {name} at a port that is taken", want, began(cases, folder, [name, taken, "1"]))
+        cases.tell("the files, where the port is taken", before, sorted(os.listdir(folder)))
+        os.remove(f"{folder}/link.db")
+    cases.tell("desk.db, where the port is taken", whole, read(f"{folder}/desk.db"))
     left = sorted(it for it in os.listdir(folder) if it.endswith(".db"))
-    cases.tell("files that were made", sorted([*texts, "desk.db", "new.db"]), left)
+    cases.tell("files that were made", sorted([*texts, "desk.db"]), left)
     with cases.server(folder, 2) as server:
         server.exchange(PLACES)
         cases.tell("a file that is served", Ended(2, "", "tcdesk: cannot use desk.db\n"), began(cases, folder, ["desk.db", port, "1"]))

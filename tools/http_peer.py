@@ -59,16 +59,17 @@ class Server:
     """The program as it serves a desk in a file, for so many connections. It is killed at the end of the block, if it has not ended."""
 
     def __init__(self, program, folder, database, count, words=(), env=None, first=None, port=None, told=None):
-        """Starts it, with these variables beside those of this process, after that call. What it writes to descriptor 9 comes into the file
+        """Starts it, without a word for how many connections where that is None, with these variables beside those of this process, after that
+        call. What it writes to descriptor 9 comes into the file
         `told`."""
         def begin():
             if told:
                 os.dup2(os.open(told, os.O_WRONLY | os.O_CREAT | os.O_TRUNC), 9)
             if first:
                 first()
-        self.port = port or free_port()
+        self.port, self.count = port or free_port(), count
         self.files = [open(f"{folder}/served.{it}", "w+b") for it in ("out", "err")]
-        words = [program, "serve", database, str(self.port), str(count), *words]
+        words = [program, "serve", database, str(self.port), *([] if count is None else [str(count)]), *words]
         self.process = subprocess.Popen(words, cwd=folder, stdin=subprocess.DEVNULL, stdout=self.files[0], stderr=self.files[1], close_fds=False,
                                         preexec_fn=begin, env={**os.environ, **(env or {})})
 
@@ -81,6 +82,16 @@ class Server:
         self.process.wait()
         for file in self.files:
             file.close()
+
+    @property
+    def listens(self):
+        """What it says on the standard error once it listens."""
+        return f"tcdesk: listening on {HERE}:{self.port}\n"
+
+    @property
+    def says(self):
+        """All that it says there, where every connection was served."""
+        return f"{self.listens}tcdesk: ended after {self.count} connections\n"
 
     def connect(self):
         """A connection to it. Before it listens a connection is refused, so that none is counted."""
