@@ -6,6 +6,7 @@
 set -u
 export LC_ALL=C
 top=$(cd "$(dirname "${BASH_SOURCE[0]}")/.." && pwd) || exit 1
+command -v curl >/dev/null || { echo "bare_cases: curl is not installed (Debian: curl)" >&2; exit 1; }
 work=$(mktemp -d) || exit 1
 server=
 end() {

@@ -6,7 +6,7 @@ set -u
 top=$(cd "$(dirname "${BASH_SOURCE[0]}")/.." && pwd) || exit 1
 program=${1:-$top/crates/tc_cli/out/tc_cli}
 [[ -x $program ]] || { echo "curl_cases: $program is not built" >&2; exit 1; }
-command -v curl >/dev/null || { echo "curl_cases: there is no curl" >&2; exit 1; }
+command -v curl >/dev/null || { echo "curl_cases: curl is not installed (Debian: curl)" >&2; exit 1; }
 program=$(readlink -f "$program")
 work=$(mktemp -d) || exit 1
 server=
@@ -35,19 +35,20 @@ free() {
     python3 -c 'import socket; s = socket.socket(); s.bind(("127.0.0.1", 0)); print(s.getsockname()[1])'
 }
 
-# start FILE COUNT: serves the desk of a file, and waits until the port is taken, without a connection.
+# start FILE COUNT: serves the desk of a file, and waits until it says that it listens.
 start() {
     port=$(free)
-    "$program" serve "$1" "$port" "$2" >"$work/served" 2>"$work/served.err" &
+    count=$2
+    "$program" serve "$1" "$port" "$count" >"$work/served" 2>"$work/served.err" &
     server=$!
     for ((i = 0; i < 200; i++)); do
-        grep -q "$(printf '0100007F:%04X 00000000:0000 0A' "$port")" /proc/net/tcp && return
+        grep -qxF "tcdesk: listening on 127.0.0.1:$port" "$work/served.err" && return
         kill -0 "$server" 2>/dev/null || return
         sleep 0.05
     done
 }
 
-# ended NAME: the server that was started ends by itself, with status 0.
+# ended NAME: the server that was started ends by itself, with status 0, and says where it listened and why it ended.
 ended() {
     for ((i = 0; i < 200; i++)); do
         kill -0 "$server" 2>/dev/null || break
@@ -59,7 +60,7 @@ ended() {
     server=
     cp "$work/served" "$work/out"
     cp "$work/served.err" "$work/err"
-    [[ $status == 0 && ! -s $work/served.err ]]
+    [[ $status == 0 && $(<"$work/err") == "tcdesk: listening on 127.0.0.1:$port"$'\n'"tcdesk: ended after $count connections" ]]
     tell "$1: status $status"
 }
 
@@ -178,11 +179,13 @@ start "$work/first.db" 1
 [[ $? == 2 && ! -s $work/out && $(<"$work/err") == "tcdesk: cannot use $work/none/new.db" ]]
 tell "a file that cannot be made, and a port that is taken"
 "$program" serve "$work/second.db" "$port" 1 >"$work/out" 2>"$work/err"
-[[ $? == 2 && ! -s $work/out && $(<"$work/err") == "tcdesk: cannot use port $port" ]]
-tell "a port that is taken"
-"$program" run --db "$work/second.db" /dev/null >"$work/out" 2>"$work/err"
-[[ $? == 0 && -s $work/out ]]
-tell "the file is closed where the port is taken"
+[[ $? == 2 && ! -s $work/out && $(<"$work/err") == "tcdesk: cannot use port $port" && ! -e $work/second.db && ! -e $work/second.db-wal ]]
+tell "a port that is taken, and no file"
+# its next opening would put what is Sent in doubt
+"$program" run --db "$work/second.db" examples/monday.tc >/dev/null && cp "$work/second.db" "$work/stood.db"
+"$program" serve "$work/second.db" "$port" 1 >"$work/out" 2>"$work/err"
+[[ $? == 2 && ! -s $work/out && $(<"$work/err") == "tcdesk: cannot use port $port" ]] && cmp "$work/stood.db" "$work/second.db" >>"$work/err" 2>&1
+tell "a port that is taken, and a desk"
 "$program" serve "$work/first.db" "$(free)" 1 >"$work/out" 2>"$work/err"
 [[ $? == 2 && ! -s $work/out && $(<"$work/err") == "tcdesk: cannot use $work/first.db" ]]
 tell "a desk that is served already"

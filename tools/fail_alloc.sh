@@ -17,7 +17,7 @@ script=${2:-$top/tools/cases/each-act.tc}
 
 work=$(mktemp -d) || exit 1
 trap 'rm -rf "$work"' EXIT
-"${CC:-cc}" -O2 -shared -fPIC -o "$work/fail_malloc.so" "$top/tools/fail_malloc.c" || exit 1
+"$top/tools/make_shim.sh" fail_malloc "$work" || exit 1
 
 # ---- what a run may print
 

@@ -14,7 +14,7 @@ program=$(readlink -m "${1:-$top/crates/tc_cli/out/tc_cli}")
 work=$(mktemp -d) || exit 1
 trap 'rm -rf "$work"' EXIT
 cd "$work" || exit 1
-"${CC:-cc}" -O2 -shared -fPIC -o fail_malloc.so "$top/tools/fail_malloc.c" || exit 1
+"$top/tools/make_shim.sh" fail_malloc . || exit 1
 runs=0
 ended=0
 bad=0

@@ -7,7 +7,7 @@
 set -u
 export LC_ALL=C SHELL=/bin/bash
 top=$(cd "$(dirname "${BASH_SOURCE[0]}")/.." && pwd) || exit 1
-command -v script >/dev/null || { echo "first_run_cases: there is no script, which is of bsdutils" >&2; exit 1; }
+command -v script >/dev/null || { echo "first_run_cases: script is not installed (Debian: bsdutils)" >&2; exit 1; }
 work=$(mktemp -d) || exit 1
 work=$(readlink -f "$work")
 # what still runs at the end, of what was started here

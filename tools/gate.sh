@@ -4,11 +4,14 @@
 # program's words, files, statuses, every line of long random scripts beside a plain desk in Python, what lies in its tables, desks that are kept in a file,
 # faulty streams, each of its requests for memory refused in turn, a stop at each of its calls on the files of a desk, and the desk over HTTP, by real sockets;
 # and what ./tcdesk says and does at its first run, over a toy.
-# It stops at the first part that fails. At its end it prints what each part took: docs/GATE.md has that table as it was seen last.
+# It stops at the first part that fails. At its end it prints what each part took: docs/GATE.md has that table as it was seen last. A part that does without
+# something says so in a line `not tried: ..`; these are told again at the end, and the last line counts them.
 #
 # tools/gate.sh [--all] [--record] [--keep]: --all tries the edits of every crate, also of those that tools/edits.tried has as they
 # stand; --record writes that file anew, and --keep puts the program that rt ci built into dist/, for the landing's commit.
-set -u
+set -uo pipefail
+# the parts' output is piped, and is to come all the same while they run
+export PYTHONUNBUFFERED=1
 cd "$(dirname "$(readlink -f "$0")")/.." || exit 1
 
 asked=()
@@ -21,6 +24,7 @@ for word in "$@"; do
     esac
 done
 parts=()
+untried=()
 began=$(date +%s)
 
 # part NAME COMMAND..: runs the command, and notes what it took: minutes by the clock, and of processors.
@@ -29,8 +33,9 @@ part() {
     shift
     echo "== $name"
     TIMEFORMAT='%R %U %S'
-    { time "$@" 2>&3; } 3>&2 2>"$times"
+    { time "$@" 2>&3 | tee "$said"; } 3>&2 2>"$times"
     status=$?
+    mapfile -t -O ${#untried[@]} untried < <(grep '^not tried: ' "$said")
     parts+=("$(awk -v name="$name" '{ printf "%-44s %6.1f %10.1f", name, $1 / 60, ($2 + $3) / 60 }' "$times")")
     if ((status != 0)); then
         table
@@ -56,8 +61,8 @@ layout() {
     find crates \( -name '*.rt' -o -name '*.antt' \) -print0 | xargs -0 "$rattle" fmt --check
 }
 
-times=$(mktemp) || exit 1
-trap 'rm -f "$times"' EXIT
+times=$(mktemp) && said=$(mktemp) || exit 1
+trap 'rm -f "$times" "$said"' EXIT
 rm -rf crates/*/out
 
 part "the layout of files" layout
@@ -92,4 +97,5 @@ part "HTTP that fails" tools/fail_http.py
 part "loop beside run" tools/loop_cases.sh
 part "the curl lines of the manual" tools/curl_cases.sh
 table
-echo "gate: all parts passed"
+((${#untried[@]} == 0)) || printf '%s\n' "${untried[@]}"
+echo "gate: all parts passed; not tried: ${#untried[@]}"

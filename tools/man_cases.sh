@@ -3,7 +3,8 @@
 #
 # Where mandoc or man is installed, the page is rendered without a warning. The refusals of the page (number, name, and what to do then) are those of the
 # table of docs/OPERATORS.md. The commands of its synopsis, and the options and words of each, are those that `--help` of the program and of
-# each command names, and so are the options that its description lists. Each limit stands there as in docs/OPERATORS.md.
+# each command names, and so are the options that its description lists. Each limit stands there as in docs/OPERATORS.md. Its example of a desk over
+# HTTP is run as a script, at a port that nobody uses; curl and python3 are needed for that.
 #
 # A difference is printed, and makes the status 1. The last line counts what was compared.
 set -u
@@ -12,6 +13,7 @@ program=$(readlink -m "${1:-$top/crates/tc_cli/out/tc_cli}")
 manual=$top/docs/OPERATORS.md
 page=$top/docs/tcdesk.1
 [[ -x $program ]] || { echo "man: $program is not built" >&2; exit 1; }
+command -v curl >/dev/null || { echo "man: curl is not installed (Debian: curl)" >&2; exit 1; }
 work=$(mktemp -d) || exit 1
 trap 'rm -rf "$work"' EXIT
 status=0
@@ -35,7 +37,8 @@ if command -v mandoc >/dev/null; then
 elif command -v man >/dev/null; then
     man --warnings --local-file "$page" 2>"$work/lint" >/dev/null </dev/null
 else
-    linted="neither mandoc nor man is installed: the page is not linted"
+    linted="the page is not linted"
+    echo "not tried: neither mandoc nor man is installed"
     : >"$work/lint"
 fi
 if [[ $? != 0 || -s $work/lint ]]; then
@@ -76,17 +79,18 @@ commands=$(awk '/^Commands:/ { inside = 1; next } /^$/ { inside = 0 } inside { p
 cp "$work/help" "$work/helps"
 for name in $commands; do
     echo "$name" >>"$work/words"
-    [[ $name != help ]] || { echo "help COMMAND" >>"$work/words"; continue; }
+    [[ $name != help ]] || { echo "help [COMMAND]" >>"$work/words"; continue; }
     "$program" "$name" --help >"$work/help" || { echo "man: $name --help ends otherwise than with 0" >&2; exit 1; }
     cat "$work/help" >>"$work/helps"
     awk -v name="$name" '
-        /^ +--[a-z]/ { gsub(/[<>]/, ""); print name, $1, $2 }
-        /^  <[A-Z]+>/ { gsub(/[<>]/, ""); print name, $1 }' "$work/help" >>"$work/words"
+        /^ +--[a-z]/ { sub(/[.]+$/, "", $1); print name, $1 ($2 ~ /^</ ? " " substr($2, 2, length($2) - 2) : "") }
+        /^  <[A-Z]+>/ { gsub(/[<>]/, ""); print name, $1 }
+        /^  \[[A-Z]+\]/ { print name, $1 }' "$work/help" >>"$work/words"
 done
 section "$page" '.Sh SYNOPSIS' | sed 's/\\-/-/g' | awk '
     $1 == ".Cm" { name = $2; print name }
-    $1 == ".Op" && $2 == "Fl" { print name, "-" $3, $5 }
-    $1 == ".Op" && $2 == "Ar" { print name, $3 }
+    $1 == ".Op" && $2 == "Fl" { print name, "-" $3 ($5 == "" ? "" : " " $5) }
+    $1 == ".Op" && $2 == "Ar" { print name, "[" $3 "]" }
     $1 == ".Ar" { print name, $2 }' >"$work/words.page"
 compare "commands and their options" "$work/words" "$work/words.page"
 
@@ -96,6 +100,18 @@ compare options "$work/options" "$work/options.page"
 echo "$commands" >"$work/commands"
 section "$page" '.Sh DESCRIPTION' | sed -n 's/^\.It Cm //p' >"$work/commands.page"
 compare commands "$work/commands" "$work/commands.page"
+
+# The example of a desk over HTTP, as a script.
+port=$(python3 -c 'import socket; s = socket.socket(); s.bind(("127.0.0.1", 0)); print(s.getsockname()[1])') || exit 1
+section "$page" '.Sh EXAMPLES' | awk '/^\.Bd/ { text = ""; next } /^\.Ed/ { if (text ~ /tcdesk serve/) printf "%s", text; next }
+    { text = text $0 "\n" }' | sed "s/8080/$port/" >"$work/example"
+mkdir "$work/bin" "$work/folder" && ln -s "$program" "$work/bin/tcdesk" || exit 1
+(cd "$work/folder" && PATH=$work/bin:$PATH timeout 60 sh "$work/example") >"$work/answer" 2>&1 </dev/null
+if [[ $(<"$work/answer") != '{"lines":["places 0: '*'"],"more":0,"refusal":0}' ]]; then
+    cat "$work/answer" >&2
+    echo "man: the example of a desk over HTTP is not answered" >&2
+    status=1
+fi
 
 ((status == 0)) && said="as they stand elsewhere" || said="and they differ"
 echo "man: $linted; $(wc -l <"$work/refusals") refusals, $(wc -l <"$work/limits") limits, $(wc -l <"$work/commands") commands," \

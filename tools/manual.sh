@@ -20,6 +20,7 @@ top=$(cd "$(dirname "${BASH_SOURCE[0]}")/.." && pwd) || exit 1
 program=$(readlink -m "${1:-$top/crates/tc_cli/out/tc_cli}")
 manual=$top/docs/OPERATORS.md
 [[ -x $program ]] || { echo "manual: $program is not built" >&2; exit 1; }
+command -v curl >/dev/null || { echo "manual: curl is not installed (Debian: curl)" >&2; exit 1; }
 work=$(mktemp -d) || exit 1
 server=
 trap '[[ -z $server ]] || kill "$server" 2>/dev/null; rm -rf "$work"' EXIT
@@ -91,7 +92,7 @@ while read -r line kind path; do
     case $kind in
     sh)
         if grep -q '^sqlite3 ' "$block" && ! command -v sqlite3 >/dev/null; then
-            echo "manual: no sqlite3 is installed: docs/OPERATORS.md, line $line, is not run"
+            echo "not tried: the shell sqlite3 is not installed: docs/OPERATORS.md, line $line, is not run"
             is_waiting=2
             continue
         fi
@@ -147,17 +148,17 @@ run_command() {
     ((status == refused)) || fail "README.md's $1 ends with status $status"
 }
 
-# start_server WORDS: starts the server of README.md, for one connection, and waits until it listens.
+# start_server WORDS: starts the server of README.md, for one connection, and waits until it says that it listens.
 start_server() {
     port=$(python3 -c 'import socket; s = socket.socket(); s.bind(("127.0.0.1", 0)); print(s.getsockname()[1])') || exit 1
-    bash -c "exec ${1/8080/$port} 1" >"$work/served" 2>"$work/errors" </dev/null &
+    bash -c "exec ${1/8080/$port} 1" >"$work/served" 2>"$work/said" </dev/null &
     server=$!
     for ((i = 0; i < 200; i++)); do
-        ! grep -q "$(printf '0100007F:%04X 00000000:0000 0A' "$port")" /proc/net/tcp || return 0
+        ! grep -qxF "tcdesk: listening on 127.0.0.1:$port" "$work/said" || return 0
         kill -0 "$server" 2>/dev/null || break
         sleep 0.05
     done
-    fail "README.md's $1 does not listen: $(<"$work/errors")"
+    fail "README.md's $1 does not listen: $(<"$work/said")"
 }
 
 # ask_server WORDS: sends a line of curl to the server, which ends then. What it prints is in $work/printed.
@@ -170,6 +171,8 @@ ask_server() {
     status=$?
     server=
     ((status == 0)) || fail "the server of README.md ends with status $status"
+    printf 'tcdesk: listening on 127.0.0.1:%s\ntcdesk: ended after 1 connections\n' "$port" >"$work/wanted"
+    compare "what the server of README.md says on standard error" "$work/wanted" "$work/said"
 }
 
 page=$top/README.md
@@ -199,14 +202,8 @@ while read -r line kind path; do
             last=-
             continue
             ;;
-        ./tcdesk\ serve\ * | curl\ *)
-            if ! command -v curl >/dev/null; then
-                echo "manual: there is no curl: README.md's $words is not run"
-                last=-
-                continue
-            fi
-            if [[ $words == curl* ]]; then ask_server "$words"; else start_server "$words"; fi
-            ;;
+        ./tcdesk\ serve\ *) start_server "$words" ;;
+        curl\ *) ask_server "$words" ;;
         *) run_command "$words" ;;
         esac
         first=$((first + 1))

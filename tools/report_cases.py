@@ -31,6 +31,8 @@ LAST = 4102444799
 ALL = (0, LAST)
 LONG = "op00000000000016"
 ENTRY = "enter 5 a--c no 8 1 - - ok"
+# How many moves a shift has whose last page of 1,000 is just not full, is full, or is of one move.
+PAGES = [count + more for count in (1000, 2000, 3000, 4000) for more in (-1, 0, 1)]
 
 WORKED = ["100 ann enter 5 a--c no 8 1 - - ok", "110 bob enter 5 a--c no 8 2 - - ok", "120 ann withdraw 1"]
 ANSWERS = """\
@@ -342,16 +344,16 @@ def bad_start(cases):
 
 
 def pages(cases):
-    """Shifts of more moves than are read at a time, outputs that take nothing, and a row that does not read behind many that do."""
-    base, many = 10**9, 2600
+    """Shifts of more moves than are read at a time, up to its fifth page, outputs that take nothing, and a row that does not read behind many."""
+    base, many = 10**9, 4600
     lines = [f"{base + number * 7919 % many} ann {ENTRY}" for number in range(1, many + 1)]
-    shifts = [(base, base + it) for it in (999, 1000, 1001, 2000, 2001, many)] + [(base + 600, base + many), (base + many, LAST)]
+    shifts = [(base, base + it) for it in PAGES + [many]] + [(base + 1600, base + many), (base + many, LAST)]
     folder, moves = cases.both("pages", lines, shifts)
     sizes = [sum(begin <= it.moment < end for it in moves) for begin, end in shifts]
-    cases.tell("pages: how many moves", unless(sizes == [999, 1000, 1001, 2000, 2001, many, 2000, 0], f"{sizes}"))
+    cases.tell("pages: how many moves", unless(sizes == PAGES + [many, 3000, 0], f"{sizes}"))
     for it in (folder, cases.copy(folder), cases.copy(cases.made(WORKED)[0])):
         outputs(cases, it)
-    change(folder, "UPDATE move SET to_place = 99 WHERE seq = 2500")
+    change(folder, "UPDATE move SET to_place = 99 WHERE seq = 4500")
     cases.unusable("a row behind many that does not read", folder)
 
 

@@ -22,10 +22,7 @@ from concurrent.futures import ThreadPoolExecutor
 from contextlib import closing
 from dataclasses import dataclass
 
-try:
-    import sqlite3
-except ImportError:
-    sqlite3 = None
+from desk_tables import sqlite3
 
 TOP = os.path.dirname(os.path.dirname(os.path.abspath(__file__)))
 
@@ -315,27 +312,13 @@ class Trial:
         return stops, bad
 
 
-def can_run(work):
-    """Whether there is all that the tool wants. Says what is missing."""
-    if sqlite3 is None or sqlite3.sqlite_version_info < (3, 37):
-        print("stop_kept: not tried: this Python has no sqlite3 that knows STRICT tables")
-        return False
-    compiler = shutil.which(os.environ.get("CC", "cc"))
-    if compiler is None:
-        print("stop_kept: not tried: there is no C compiler")
-        return False
-    words = [compiler, "-O2", "-Wall", "-Wextra", "-shared", "-fPIC", "-o", f"{work}/stop_io.so", f"{TOP}/tools/stop_io.c"]
-    subprocess.run(words, check=True)
-    return True
-
-
 def main():
     program = os.path.abspath(sys.argv[1] if len(sys.argv) > 1 else f"{TOP}/crates/tc_cli/out/tc_cli")
     if not os.access(program, os.X_OK):
         sys.exit(f"stop_kept: {program} is not built")
     with tempfile.TemporaryDirectory() as work:
-        if not can_run(work):
-            return 0
+        if subprocess.run([f"{TOP}/tools/make_shim.sh", "stop_io", work], check=False).returncode:
+            return 1
         write(f"{work}/some.csv", stack_of(12))
         write(f"{work}/many.csv", stack_of(200))
         write(f"{work}/warm.csv", PROCEDURE)

@@ -16,7 +16,7 @@ script=$top/examples/first-run.tc
 work=$(mktemp -d) || exit 1
 trap 'rm -rf "$work"' EXIT
 cd "$work" || exit 1
-"${CC:-cc}" -O2 -shared -fPIC -o fail_io.so "$top/tools/fail_io.c" || exit 1
+"$top/tools/make_shim.sh" fail_io . || exit 1
 passed=0
 failed=0
 
