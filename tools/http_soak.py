@@ -1,6 +1,6 @@
 #!/usr/bin/env python3
 """Ten good clients beside peers that stall, drip, reset, end half, speak TLS and flood with connects, on one server: tools/http_soak.py
-[PROGRAM [MINUTES]], by hand. All is on this machine, and ends by itself.
+[PROGRAM [MINUTES [SEED]]], by hand. All is on this machine, and ends by itself.
 
 A peer of each of three kinds is there at any time. Each good client enters requests and asks for the places, a second after its last answer. A line a
 minute tells what was answered, the longest wait so far, and the server's memory and handles. In the end the file has to tell exactly the requests that were
@@ -24,8 +24,8 @@ HELLO = bytes.fromhex("160301008f0100008b0303") + bytes(132)  # the front of a T
 class Soak:
     """A server, and what came of the good requests."""
 
-    def __init__(self, server, seconds):
-        self.server, self.end, self.lock = server, time.monotonic() + seconds, threading.Lock()
+    def __init__(self, server, seconds, seed):
+        self.server, self.seed, self.end, self.lock = server, seed, time.monotonic() + seconds, threading.Lock()
         self.answered, self.entered, self.longest, self.bad, self.peers = 0, 0, 0.0, [], 0
 
     @property
@@ -34,7 +34,7 @@ class Soak:
 
     def good(self, number):
         """One good client."""
-        dice = random.Random(number)
+        dice = random.Random(f"{self.seed} {number}")
         while self.goes_on:
             enters = dice.random() < 0.5
             began = time.monotonic()
@@ -52,7 +52,7 @@ class Soak:
 
     def rude(self, kinds):
         """Peers of these kinds, one after the other."""
-        dice = random.Random(str(kinds))
+        dice = random.Random(f"{self.seed} {kinds[0].__name__}")
         while self.goes_on:
             try:
                 dice.choice(kinds)(self, dice)
@@ -117,7 +117,7 @@ def main():
     """Runs it for some minutes."""
     program, minutes = program_in(sys.argv[1:2]), float(sys.argv[2]) if len(sys.argv) > 2 else 5
     with tempfile.TemporaryDirectory(prefix="http-soak-") as folder, Server(program, folder, "desk.db", None) as server:
-        soak = Soak(server, 60 * minutes)
+        soak = Soak(server, 60 * minutes, sys.argv[3] if len(sys.argv) > 3 else "1")
         threads = [threading.Thread(target=soak.good, args=(it,)) for it in range(GOOD)]
         threads += [threading.Thread(target=soak.rude, args=(it,)) for it in ((silent, dripping), (resetting, half, foreign, noisy), (flooding,))]
         for it in threads:
