@@ -353,11 +353,12 @@ def files_and_ports(cases):
         for name, text in texts.items():
             cases.tell(f"{name} stays as it is", text, read(f"{folder}/{name}"))
         os.symlink("linked.db", f"{folder}/link.db")
-        before = sorted(os.listdir(folder))
+        before, moment = sorted(os.listdir(folder)), os.stat(f"{folder}/desk.db").st_mtime_ns
         for name in ("new.db", "desk.db", "link.db"):
             want = Ended(2, "", f"tcdesk: cannot use port {taken}\n")
             cases.tell(f"serve {name} at a port that is taken", want, began(cases, folder, [name, taken, "1"]))
         cases.tell("the files, where the port is taken", before, sorted(os.listdir(folder)))
+        cases.tell("when desk.db was written", moment, os.stat(f"{folder}/desk.db").st_mtime_ns)
         os.remove(f"{folder}/link.db")
     cases.tell("desk.db, where the port is taken", whole, read(f"{folder}/desk.db"))
     left = sorted(it for it in os.listdir(folder) if it.endswith(".db"))

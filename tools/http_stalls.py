@@ -6,6 +6,7 @@ Behind each bad peer a good one has to be answered, and within the time that the
 run side by side, each on a server of its own. There is a line for each case that failed. The last line is
 'http stalls: N passed, M failed, in S s'; the status is 1 where one failed.
 """
+import errno
 import os
 import resource
 import socket
@@ -122,16 +123,39 @@ def ends(cases):
         cases.tell("how they ended", Ended(0, "", server.says.replace("tcdesk: ended", f"{told}tcdesk: ended")), server.end())
 
 
+def own_address():
+    """The address by which this machine would speak to others, if it has one. Nothing is sent."""
+    with socket.socket(socket.AF_INET, socket.SOCK_DGRAM) as asked:
+        try:
+            asked.connect(("192.0.2.1", 9))
+            return asked.getsockname()[0]
+        except OSError:
+            return "127.0.0.1"
+
+
+def lost(cases):
+    """A peer that resets before its answer: the write fails, and the act stands."""
+    folder = cases.folder()
+    with cases.server(folder, 3, "--verbose") as server, server.connect() as first:
+        peer = server.connect()
+        send(peer, act(ENTRY))
+        reset(peer)
+        send(first, PLACES)
+        received(first)
+        cases.tell("the act whose answer was lost", True, b"places 1: 1 0" in server.exchange(PLACES))
+        told = server.end().err
+        cases.tell("how a connection ended that was reset", True, "tcdesk: connection 2: 34 WriteFault\n" in told)
+
+
 def uncounted(cases):
     """No word for how many connections: it goes on. And 127.0.0.1 is the one address that is listened at."""
     none, folder = cases.places(), cases.folder()
     with cases.server(folder, None) as server:
         for at in range(300):
             cases.tell(f"question {at} without a COUNT", none, server.exchange(PLACES))
-        for address in ("127.0.0.2", *{it[4][0] for it in socket.getaddrinfo(socket.gethostname(), None, socket.AF_INET)} - {"127.0.0.1"}):
+        for address in {"127.0.0.2", own_address()} - {"127.0.0.1"}:
             with socket.socket() as other:
-                other.settimeout(2)
-                cases.tell(f"a connection to {address}", True, other.connect_ex((address, server.port)) != 0)
+                cases.tell(f"a connection to {address}", errno.ECONNREFUSED, other.connect_ex((address, server.port)))
         with open(server.files[1].name, encoding="ascii") as said:
             cases.tell("where it says that it listens", server.listens, said.read())
 
@@ -184,7 +208,7 @@ def exhausted(cases):
     cases.tell("the desk that it kept", "places 1: 1 0", run(cases.program, folder, [], "--db", "desk.db")[:13])
 
 
-GROUPS = (silent, foreign, dripping, behind, taking, ends, uncounted, starved, exhausted)
+GROUPS = (silent, foreign, dripping, behind, taking, ends, lost, uncounted, starved, exhausted)
 
 
 def tried(program, work, group):

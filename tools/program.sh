@@ -92,9 +92,10 @@ is_program() {
 
 # put_program FILE FOLDER TOOLCHAIN SOURCES: puts a program that was just built, stripped, into a folder, with what it was made of.
 put_program() {
-    mkdir -p "$2" && strip -o "$2/tcdesk.new" "$1" && chmod 755 "$2/tcdesk.new" || return
+    local new=$2/tcdesk.$BASHPID
+    mkdir -p "$2" && strip -o "$new" "$1" && chmod 755 "$new" || return
     rm -f "$2/tcdesk.built"
-    mv -f "$2/tcdesk.new" "$2/tcdesk" || return
+    mv -f "$new" "$2/tcdesk" || return
     printf '%s\n' "sources $4" "toolchain $3" "sha256 $(sum_of "$2/tcdesk")" "version $(version_of "$2/tcdesk")" >"$2/tcdesk.built"
 }
 
