@@ -40,7 +40,8 @@ class Runs:
         self.program, self.folder, self.counts, self.seen = program, folder, Counter(), Counter()
         top = os.path.dirname(os.path.realpath(__file__))
         for name in ("fail_io", "fail_malloc"):
-            subprocess.run([os.environ.get("CC", "cc"), "-O2", "-shared", "-fPIC", "-o", f"{folder}/{name}.so", f"{top}/{name}.c"], check=True)
+            if subprocess.run([f"{top}/make_shim.sh", name, folder], check=False).returncode:
+                sys.exit(f"fail_http: {name} cannot be made")
         run(program, folder, [], "--db", "left.db")
 
     def bad(self, name, *what):
@@ -50,14 +51,14 @@ class Runs:
         if self.counts["bad"] >= MOST_BAD:
             raise Fault("too many runs were bad")
 
-    def server(self, connections, library=None, first=None, **settings):
+    def server(self, connections, library=None, words=(), first=None, **settings):
         """The server of a copy of the desk that was left, with this library preloaded; what this tells by descriptor 9 is in the file `told`."""
         for end in ("", "-wal"):
             if os.path.exists(f"{self.folder}/kept.db{end}"):
                 os.remove(f"{self.folder}/kept.db{end}")
         shutil.copy(f"{self.folder}/left.db", f"{self.folder}/kept.db")
         env = {**{it: str(value) for it, value in settings.items()}, **({"LD_PRELOAD": f"{self.folder}/{library}.so"} if library else {})}
-        return Server(self.program, self.folder, "kept.db", connections, env=env, told=f"{self.folder}/told", first=first)
+        return Server(self.program, self.folder, "kept.db", connections, words, env=env, told=f"{self.folder}/told", first=first)
 
     def told(self):
         """What a library told."""
@@ -158,20 +159,36 @@ def kind_of(it, response):
     return {it.right: "right", it.after: "right", MEMORY: "refused 30", STORE: "refused 31", b"": "not answered"}.get(response, "another")
 
 
+def parted(ended):
+    """How a program ended but for what it said of connections, and how it said that each of these ended."""
+    lines = ended.err.splitlines(keepends=True)
+    told = [it for it in lines if it.startswith("tcdesk: connection ")]
+    return ended._replace(err="".join(it for it in lines if it not in told)), [it.split(": ")[2].strip() for it in told]
+
+
+def look_at_ends(runs, got, ends):
+    """Whether of each connection is told that it was answered, or why not."""
+    for response, end in zip(got, ends):
+        runs.seen[f"told {end}"] += 1
+        if (response != b"") != (end == "answered") or end not in ("answered", "30 Memory", "34 WriteFault"):
+            runs.bad("how a connection ended", end, response)
+
+
 def refused(runs, it, at):
     """One run with the request for memory of this number refused. False where it was not made."""
-    got = []
-    with runs.server(2, "fail_malloc", FAIL_AT=at, FAIL_BEHIND_ACCEPT=1) as server:
+    got, ends = [], []
+    with runs.server(2, "fail_malloc", ("--verbose",), FAIL_AT=at, FAIL_BEHIND_ACCEPT=1) as server:
         try:
             for raw in (it.raw, PLACES):
                 got.append(server.exchange(raw))
-            ended = server.end()
+            ended, ends = parted(server.end())
         except Fault as fault:
             ended = fault
     if not runs.told():
         return False
     runs.counts["memory"] += 1
     runs.seen[kind_of(it, got[0]) if got else "not accepted"] += 1
+    look_at_ends(runs, got, ends)
     why = why_bad(it, *got, runs.entered()) if len(got) == 2 else got
     # Where both were answered the memory was wanted as the desk was closed.
     closings = [Ended(0, "", server.says)]
@@ -190,8 +207,8 @@ def memory(runs):
             at += step
         if at == 1:
             runs.bad(f"{raw[:20]!r}: no request for memory was counted")
-    if not runs.seen["right"] or not runs.seen["refused 30"]:
-        runs.bad("no run was right, or none was refused 30", dict(runs.seen))
+    if not runs.seen["right"] or not runs.seen["refused 30"] or not runs.seen["told 30 Memory"]:
+        runs.bad("no run was right, or none was refused 30, or told so", dict(runs.seen))
 
 
 # ---- the disk

@@ -343,23 +343,22 @@ def files_and_ports(cases):
         with open(f"{folder}/{name}", "wb") as file:
             file.write(text)
     os.mkdir(f"{folder}/folder")
+    os.symlink("nowhere.db", f"{folder}/link")
     with socket.socket() as held:
         held.bind(("127.0.0.1", free_port()))
         held.listen()
         taken, port = str(held.getsockname()[1]), str(free_port())
-        for name in [*texts, "folder", "none/new.db", ":memory:"]:
+        for name in [*texts, "folder", "link", "none/new.db", ":memory:"]:
             for it in (port, taken):
                 cases.tell(f"serve {name} at a port", Ended(2, "", f"tcdesk: cannot use {name}\n"), began(cases, folder, [name, it, "1"]))
         for name, text in texts.items():
             cases.tell(f"{name} stays as it is", text, read(f"{folder}/{name}"))
-        os.symlink("linked.db", f"{folder}/link.db")
         before, moment = sorted(os.listdir(folder)), os.stat(f"{folder}/desk.db").st_mtime_ns
-        for name in ("new.db", "desk.db", "link.db"):
+        for name in ("new.db", "desk.db"):
             want = Ended(2, "", f"tcdesk: cannot use port {taken}\n")
             cases.tell(f"serve {name} at a port that is taken", want, began(cases, folder, [name, taken, "1"]))
         cases.tell("the files, where the port is taken", before, sorted(os.listdir(folder)))
         cases.tell("when desk.db was written", moment, os.stat(f"{folder}/desk.db").st_mtime_ns)
-        os.remove(f"{folder}/link.db")
     cases.tell("desk.db, where the port is taken", whole, read(f"{folder}/desk.db"))
     left = sorted(it for it in os.listdir(folder) if it.endswith(".db"))
     cases.tell("files that were made", sorted([*texts, "desk.db"]), left)
