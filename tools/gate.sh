@@ -96,6 +96,7 @@ part "a server that nobody stalls" tools/http_stalls.py
 part "HTTP that fails" tools/fail_http.py
 part "loop beside run" tools/loop_cases.sh
 part "the curl lines of the manual" tools/curl_cases.sh
+part "the proxy of the manual" tools/proxy_cases.py
 table
 ((${#untried[@]} == 0)) || printf '%s\n' "${untried[@]}"
 echo "gate: all parts passed; not tried: ${#untried[@]}"
