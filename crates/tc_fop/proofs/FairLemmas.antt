@@ -6,7 +6,7 @@ use Rattle.std.proofs.lemmas.Grind.{flat_map-append}
 use Rattle.std.proofs.lemmas.List.Folds.{list_all-append}
 use Rattle.tc_fop.specs.declared.signals.AlertKind.{AlertKind}
 use Rattle.tc_fop.specs.declared.signals.Indication.TheVariants as indication
-use Rattle.std.specs.Prelude.{Bool, false, Ok, Err}
+use Rattle.std.specs.Prelude.{Bool, Ok, Err}
 use Rattle.std.proofs.lemmas.Bool.{false≢true}
 use Rattle.tc_fop.specs.declared.signals.FopState.{FopState}
 use Rattle.tc_fop.specs.Calls.{Given, Answers}

@@ -1,5 +1,5 @@
 -- K stays where no action sets it.
-use Rattle.std.proofs.Common.{◌≡◌, true, false, Option, Some, None, Ok, Err, List, [], ◌∷◌, refl, ◌∙◌, ap}
+use Rattle.std.proofs.Common.{◌≡◌, true, Option, Some, None, Ok, Err, List, [], ◌∷◌, refl, ◌∙◌, ap}
 use Rattle.std.proofs.lemmas.Bool.{false≢true}
 use Rattle.std.specs.List.{list_all}
 use Rattle.tc_fop.specs.Machine.{Machine, Waiting, Out, Action, SetKTo, Transmit, change, transmitted, due, after}

@@ -1,5 +1,5 @@
 -- What leaves K as it is.
-use Rattle.std.specs.Prelude.{◌≡◌, ℕ, Bool, true, false, Ok, Err, List}
+use Rattle.std.specs.Prelude.{◌≡◌, ℕ, Bool, true, false, Ok, Err}
 use Rattle.std.specs.List.{list_all}
 use Rattle.tc_types.specs.declared.directives.Directive.{Directive}
 use Rattle.tc_types.specs.declared.directives.Directive.TheVariants as directive

@@ -1,5 +1,5 @@
 -- One event where the windows fit: what stands between events, and the alerts.
-use Rattle.std.proofs.Common.{◌≡◌, ◌≢◌, ℕ, ◌+◌, ◌-◌, ◌%◌, ◌<◌, ◌≤◌, ◌==◌, ◌⊎◌, inl, inr, ⊎_elim, Bool, true, false, not, if◌then◌else◌, Option, Some, None, Ok, List, [], ◌∷◌, ◌++◌, map, length, refl, sym, ◌∙◌, ap, subst, arith}
+use Rattle.std.proofs.Common.{◌≡◌, ◌≢◌, ℕ, ◌+◌, ◌-◌, ◌%◌, ◌<◌, ◌≤◌, ◌==◌, ◌⊎◌, inl, inr, ⊎_elim, Bool, true, false, not, if◌then◌else◌, Option, Some, None, Ok, List, [], ◌∷◌, ◌++◌, length, refl, sym, ◌∙◌, ap, subst, arith}
 use Rattle.std.specs.Prelude.{nat_lt, MatchBool}
 use Rattle.std.specs.List.{list_all}
 use Rattle.std.proofs.lemmas.Bool.{false≢true, cases_Bool, eqb-true}
@@ -13,31 +13,29 @@ use Rattle.tc_types.specs.declared.directives.Directive.TheVariants as directive
 use Rattle.tc_farm.specs.declared.clcws.Clcw.{Clcw}
 use Rattle.tc_farm.specs.declared.farms.FarmView.{FarmView}
 use Rattle.tc_farm.specs.ControlWord.{word_of}
-use Rattle.tc_farm.specs.Farm.{IsFarm, released, distance}
+use Rattle.tc_farm.specs.Farm.{IsFarm, distance}
 use Rattle.tc_fop.specs.declared.signals.FopState.{FopState}
 use Rattle.tc_fop.specs.declared.signals.FopState.TheVariants.{Active, RetransmitWithoutWait, RetransmitWithWait, InitialisingWithoutBc, InitialisingWithBc, Initial}
 use Rattle.tc_fop.specs.Machine.{Machine, Waiting, Action, Out, after, output, option_list}
 use Rattle.tc_fop.specs.Rows.{row_of}
 use Rattle.tc_fop.specs.Cells.{cell}
-use Rattle.tc_fop.specs.Calls.{Given, offered, directed, reported, ticked, Answers, is_taking}
+use Rattle.tc_fop.specs.Calls.{offered, directed, reported, ticked, Answers, is_taking}
 use Rattle.tc_fop.specs.Standing.{IsFop, is_starting}
 use Rattle.tc_fop.specs.Moves.{MovesIn, is_initiation, first_vs, control_of, initiated_state}
 use Rattle.tc_fop.specs.Fair.{alerts_in, is_retransmitting, is_checking, may_alert, may_come, IsHeardFairly}
 use Rattle.tc_world.specs.declared.events.Event.{Event}
 use Rattle.tc_world.specs.declared.events.Event.TheVariants as event
 use Rattle.tc_world.specs.declared.events.Indication.{Indication}
-use Rattle.tc_world.specs.declared.events.Indication.TheVariants.{Received}
 use Rattle.tc_world.specs.Sublist.{IsSublist, IsSublist-same, IsSublist-behind}
 use Rattle.tc_world.specs.Links.{lossy}
-use Rattle.tc_world.specs.Logs.{noted, blank}
 use Rattle.tc_world.specs.Abstraction.{Bare, report_value}
-use Rattle.tc_world.specs.Kept.{IsKept, Each, Pairs, AreWords, AreControls, AreOwnWords}
+use Rattle.tc_world.specs.Kept.{IsKept, Each, AreWords, AreControls, AreOwnWords}
 use Rattle.std.proofs.lemmas.List.{append-nil}
 use Rattle.tc_world.specs.Fitting.{IsFitting, IsFit, half_window}
 use Rattle.tc_world.proofs.Stills.{clean_is, clean_before}
 use Rattle.tc_world.proofs.Fitted.{event_fits, fits_before}
-use Rattle.tc_world.specs.Fair.{is_fair, words_of, is_set, asks, AreOpen, NoneAsks, ControlsFirst, IsMarked, IsCalming, IsLevel, IsFair, IsFairOn}
-use Rattle.tc_world.specs.World.{Happens, unjudged, Carries, Begins, IsIdle, Boards, Hears, Descends, Reads, IsWordOf, told_by_fop, told_of_loss, is_level, is_level_for, is_level_with, is_level_start, level_after, is_good_start, clean_after}
+use Rattle.tc_world.specs.Fair.{is_fair, words_of, is_set, asks, AreOpen, NoneAsks, ControlsFirst, IsCalming, IsFair, IsFairOn}
+use Rattle.tc_world.specs.World.{Happens, unjudged, Carries, Begins, IsIdle, Hears, Descends, Reads, IsWordOf, told_by_fop, told_of_loss, is_level, is_level_for, is_level_with, is_level_start, level_after, is_good_start, clean_after}
 use Rattle.tc_world.proofs.TableLaws.{Laws}
 use Rattle.tc_world.proofs.Lists.{each_sub, each_map, pairs_sub, puts_lose, sublist_trans}
 use Rattle.tc_world.proofs.FrameLists.{controls_sub, controls_append}
@@ -47,7 +45,7 @@ use Rattle.tc_world.proofs.Moving.{Moving}
 use Rattle.tc_world.proofs.Starting.{both_true, good_parts}
 use Rattle.tc_world.proofs.Assembly.{answers_of, moving_of, sane_judged}
 use Rattle.tc_world.proofs.Marking.{words_of_sub, words_of_append, asks_is, waits_is, locks_is, first_sub, controls_first, marked_calm}
-use Rattle.tc_world.proofs.Fairly.{AsksAhead, Numbers, numbers, told_fairly, and_of, kinds, checking_starts, starting_opens, starting_of, unstarted_by, fair_loses, fair_releases, fair_tells, fair_boards, fair_call, taking_call}
+use Rattle.tc_world.proofs.Fairly.{AsksAhead, Numbers, numbers, told_fairly, and_of, kinds, starting_opens, starting_of, unstarted_by, fair_loses, fair_releases, fair_tells, fair_boards, fair_call, taking_call}
 
 -- the laws of the tables that speak of alerts and of Retransmit
 pub record FairLaws : Type 0 where

@@ -1,45 +1,42 @@
 -- Where the windows fit, only those alerts come that may.
-use Rattle.std.proofs.Common.{◌≡◌, ◌≢◌, ℕ, ◌+◌, ◌/◌, ◌%◌, ◌<◌, ◌≤◌, ◌==◌, ◌⊎◌, inl, inr, ⊎_elim, Bool, true, false, not, if◌then◌else◌, is_some, Option, Some, None, Ok, List, [], ◌∷◌, ◌++◌, map, drop, length, refl, sym, ◌∙◌, ap, subst, append-nil, arith}
-use Rattle.std.specs.Prelude.{nat_lt, ◌&&◌, MatchBool}
+use Rattle.std.proofs.Common.{◌≡◌, ◌≢◌, ℕ, ◌+◌, ◌/◌, ◌%◌, ◌<◌, ◌≤◌, ◌⊎◌, inl, inr, ⊎_elim, Bool, true, false, if◌then◌else◌, is_some, Option, Some, None, List, [], ◌∷◌, ◌++◌, map, drop, length, refl, sym, ◌∙◌, ap, subst, append-nil, arith}
+use Rattle.std.specs.Prelude.{nat_lt, ◌&&◌}
 use Rattle.std.specs.List.{flat_map, list_all}
 use Rattle.std.proofs.lemmas.List.{length-append}
-use Rattle.std.proofs.lemmas.Bool.{false≢true, cases_Bool, eqb-true}
+use Rattle.std.proofs.lemmas.Bool.{false≢true, cases_Bool}
 use Rattle.std.proofs.lemmas.Bool.Decides.{nat_tests}
 use Rattle.tc_types.specs.declared.telecommands.Payload.{Payload}
 use Rattle.tc_types.specs.declared.frames.Frame.{Frame}
 use Rattle.tc_types.specs.declared.frames.Frame.TheVariants.{Ad, Unlock, SetVr}
 use Rattle.tc_types.specs.declared.reports.Report.{Report}
-use Rattle.tc_types.specs.declared.reports.Report.TheVariants.{Word, Telemetry}
+use Rattle.tc_types.specs.declared.reports.Report.TheVariants.{Word}
 use Rattle.tc_farm.specs.declared.clcws.Clcw.{Clcw}
 use Rattle.tc_farm.specs.declared.farms.FarmState.{FarmState}
 use Rattle.tc_farm.specs.declared.farms.FarmState.TheVariants as state
 use Rattle.tc_farm.specs.declared.farms.FarmView.{FarmView}
-use Rattle.tc_farm.specs.ControlWord.{word_of}
-use Rattle.tc_farm.specs.Farm.{IsFarm, farm_after, verdict_of, released, with_vr, distance}
+use Rattle.tc_farm.specs.Farm.{IsFarm, farm_after, released, with_vr, distance}
 use Rattle.tc_fop.specs.declared.signals.FopState.{FopState}
 use Rattle.tc_fop.specs.declared.signals.FopState.TheVariants.{Active, RetransmitWithoutWait, RetransmitWithWait, InitialisingWithoutBc, InitialisingWithBc, Initial}
 use Rattle.tc_fop.specs.declared.signals.Indication.{Indication as Signal}
 use Rattle.tc_fop.specs.declared.signals.Indication.TheVariants as signal
-use Rattle.tc_fop.specs.Machine.{Machine, Held, Waiting, Out, frame_of, option_list}
+use Rattle.tc_fop.specs.Machine.{Machine, Held, Out, frame_of, option_list}
 use Rattle.tc_fop.specs.Calls.{is_taking}
-use Rattle.tc_fop.specs.Standing.{IsFop, is_starting, has_control}
+use Rattle.tc_fop.specs.Standing.{is_starting, has_control}
 use Rattle.tc_fop.specs.Requests.{acknowledged}
 use Rattle.tc_fop.specs.Moves.{MovesIn, Advances, Opens, Rests, first_frame, transmitted_in}
-use Rattle.tc_fop.specs.Fair.{alert_by, alerts_in, is_retransmitting, is_checking, may_alert}
-use Rattle.tc_world.specs.declared.events.Indication.{Indication}
+use Rattle.tc_fop.specs.Fair.{alert_by, is_retransmitting, is_checking, may_alert}
 use Rattle.tc_world.specs.declared.events.Indication.TheVariants.{Fop}
 use Rattle.tc_world.specs.Sublist.{IsSublist, IsSublist-same, IsSublist-behind}
-use Rattle.tc_world.specs.Logs.{Log, noted, boarded}
 use Rattle.tc_world.specs.Abstraction.{Bare, session_with, report_value}
-use Rattle.tc_world.specs.Kept.{Each, Pairs, AreWords, AreFrames, AreControls, IsLeftover, IsStarted, IsUnstarted, IsStarting, IsSane, Stands, Starts}
+use Rattle.tc_world.specs.Kept.{Each, AreFrames, AreControls, IsLeftover, IsStarted, IsUnstarted, IsStarting, IsSane, Stands, Starts}
 use Rattle.tc_world.specs.Fitting.{IsFitting, half_window}
-use Rattle.tc_world.specs.Fair.{is_fair, words_of, is_set, asks, AreOpen, NoneAsks, NoControl, ControlsFirst, has_control as has_control_in, IsMarked, IsCalming, IsLevel, IsFair}
+use Rattle.tc_world.specs.Fair.{is_fair, words_of, is_set, asks, AreOpen, NoControl, IsMarked, IsCalming, IsLevel, IsFair}
 use Rattle.tc_world.proofs.Lists.{each_sub, each_append, each_map, sublist_trans}
-use Rattle.tc_world.proofs.FrameLists.{frames_behind, leftover_behind, controls_behind, controls_sub, controls_append}
+use Rattle.tc_world.proofs.FrameLists.{frames_behind, leftover_behind, controls_behind}
 use Rattle.tc_world.proofs.Moving.{Moving}
 use Rattle.tc_world.proofs.Putting.{taking_advances}
 use Rattle.tc_world.proofs.OtherSides.{after_frame}
-use Rattle.tc_world.proofs.Marking.{words_of_sub, words_of_append, first_sub, has_sub, controls_first, map_no_control, no_control_both, apart, not_beyond, marked_calm, marked_sub, marked_tell, marked_accept, marked_discard, marked_call, calming_sub, calming_tell, level_sub, level_tell}
+use Rattle.tc_world.proofs.Marking.{words_of_sub, words_of_append, first_sub, has_sub, map_no_control, no_control_both, apart, not_beyond, marked_sub, marked_tell, marked_accept, marked_discard, marked_call, calming_sub, calming_tell, level_sub, level_tell}
 
 -- ---- what is told
 

@@ -1,14 +1,14 @@
 -- Where K fitted at every moment so far, the windows fit.
-use Rattle.std.proofs.Common.{◌≡◌, ℕ, ◌≤◌, Bool, true, inl, inr, Ok, List, sym, ◌∙◌, ap, arith, if◌then◌else◌}
-use Rattle.std.specs.Prelude.{nat_le, ◌/◌, Result, Err, IfOk, IfErr}
+use Rattle.std.proofs.Common.{◌≡◌, ◌≤◌, true, inl, inr, Ok, List, sym, ◌∙◌, ap, arith}
+use Rattle.std.specs.Prelude.{Result, Err, IfOk, IfErr}
 use Rattle.tc_types.specs.declared.frames.Frame.{Frame}
 use Rattle.tc_types.specs.declared.refusals.Refusal.{Refusal}
 use Rattle.std.proofs.lemmas.Bool.{leb-true}
 use Rattle.tc_types.specs.declared.reports.Report.{Report}
 use Rattle.tc_types.specs.declared.reports.Report.TheVariants.{Word, Telemetry}
 use Rattle.tc_farm.specs.Farm.{IsFarm}
-use Rattle.tc_fop.specs.Machine.{Machine, Waiting, Action, output}
-use Rattle.tc_fop.specs.Calls.{Given, offered, reported, ticked}
+use Rattle.tc_fop.specs.Machine.{Waiting, output}
+use Rattle.tc_fop.specs.Calls.{offered, reported, ticked}
 use Rattle.tc_fop.specs.Standing.{IsFop}
 use Rattle.tc_world.specs.declared.events.Event.{Event}
 use Rattle.tc_world.specs.declared.events.Event.TheVariants as event

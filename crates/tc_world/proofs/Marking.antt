@@ -1,23 +1,20 @@
 -- What flies and asks, piece by piece.
-use Rattle.std.proofs.Common.{◌≡◌, ◌≢◌, ℕ, ◌+◌, ◌*◌, ◌/◌, ◌%◌, ◌^◌, ◌<◌, ◌≤◌, ◌==◌, ◌⊎◌, inl, inr, ⊎_elim, Bool, true, false, if◌then◌else◌, List, [], ◌∷◌, ◌++◌, map, length, refl, sym, ◌∙◌, ap, subst, arith}
-use Rattle.std.specs.Prelude.{nat_lt}
+use Rattle.std.proofs.Common.{◌≡◌, ◌≢◌, ℕ, ◌+◌, ◌*◌, ◌/◌, ◌%◌, ◌<◌, ◌≤◌, ◌==◌, ◌⊎◌, inl, inr, ⊎_elim, Bool, true, false, List, [], ◌∷◌, ◌++◌, map, refl, sym, ◌∙◌, ap, subst, arith}
 use Rattle.std.specs.Int.{from_bool}
-use Rattle.std.proofs.lemmas.Bool.{false≢true, cases_Bool}
-use Rattle.std.proofs.lemmas.Bool.Decides.{nat_tests}
+use Rattle.std.proofs.lemmas.Bool.{false≢true}
 use Rattle.tc_types.specs.declared.frames.Frame.{Frame}
 use Rattle.tc_types.specs.declared.frames.Frame.TheVariants.{Ad, Unlock, SetVr}
 use Rattle.tc_types.specs.declared.reports.Report.{Report}
 use Rattle.tc_types.specs.declared.reports.Report.TheVariants.{Word, Telemetry}
 use Rattle.tc_farm.specs.declared.clcws.Clcw.{Clcw}
 use Rattle.tc_farm.specs.declared.farms.FarmView.{FarmView}
-use Rattle.tc_farm.specs.ControlWord.{word_of, field}
-use Rattle.tc_farm.specs.Farm.{distance}
-use Rattle.tc_fop.specs.Machine.{Machine, Held, frame_of}
+use Rattle.tc_farm.specs.ControlWord.{word_of}
+use Rattle.tc_fop.specs.Machine.{Machine}
 use Rattle.tc_fop.specs.Fair.{is_retransmitting}
 use Rattle.tc_world.specs.Sublist.{IsSublist}
 use Rattle.tc_world.specs.Abstraction.{report_value}
 use Rattle.tc_world.specs.Kept.{Each, Pairs, AreWords, AreControls}
-use Rattle.tc_world.specs.Fair.{words_of, is_set, asks, AreOpen, NoneAsks, NoControl, ControlsFirst, has_control, IsMarked, IsCalming, IsLevel}
+use Rattle.tc_world.specs.Fair.{words_of, is_set, asks, NoneAsks, NoControl, ControlsFirst, has_control, IsMarked, IsCalming, IsLevel}
 use Rattle.tc_world.proofs.Lists.{each_sub, each_append, each_map, pairs_sub, pairs_push}
 
 -- ---- the words of the downlink

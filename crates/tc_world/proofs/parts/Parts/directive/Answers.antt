@@ -1,7 +1,7 @@
 -- The directive was carried out, and it was looked at K and at the start.
 use Rattle.std.proofs.Common.{sym, subst}
 use Rattle.tc_world.specs.declared.events.Event.TheVariants as event
-use Rattle.tc_world.specs.World.{Whole, Happens}
+use Rattle.tc_world.specs.World.{Happens}
 use Rattle.tc_world.proofs.CarryLemmas.{judged}
 use Rattle.tc_world.proofs.parts.Parts.directive.Goals as goal
 
