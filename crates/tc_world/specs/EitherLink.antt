@@ -1,5 +1,5 @@
 -- What a link does that is a list or a ring: what the one does that it is, and stays.
-use Rattle.std.specs.Prelude.{◌≡◌, ◌-◌, ◌^◌, ℕ, Bool, List, [], ◌∷◌, ◌++◌}
+use Rattle.std.specs.Prelude.{◌≡◌, ◌⊎◌, ◌<◌, ◌-◌, ◌^◌, ℕ, Bool, Option, Some, None, List, [], ◌∷◌, ◌++◌}
 use Rattle.std.proofs.Common.{refl}
 use Rattle.tc_world.specs.declared.link_carriers.LinkCarrier.{LinkCarrier}
 use Rattle.tc_world.specs.declared.link_carriers.LinkCarrier.TheVariants as link
@@ -11,6 +11,18 @@ use Rattle.tc_world.specs.Sublist.{IsSublist}
 abbrev pub content_of : {T A : Type 0} → LinkCarrier T A → List T
 content_of (link.List list) = listed.content list
 content_of (link.Ring ring) = ringed.content ring
+
+-- A link as it is made, with nothing in flight: a list, or a ring of this size.
+abbrev pub IsMade : {T A : Type 0} → Option ℕ → LinkCarrier T A → Type 0
+IsMade None (link.List list) = list.content ≡ []
+IsMade None (link.Ring ring) = ⊥
+IsMade (Some size) (link.List list) = ⊥
+IsMade (Some size) (link.Ring ring) = (ring.content ≡ []) × (ring.size ≡ size)
+
+-- a ring is asked for of a size that none has
+abbrev pub IsNoSize : Option ℕ → Type 0
+IsNoSize None = ⊥
+IsNoSize (Some size) = (size ≡ 0) ⊎ (4096 < size)
 
 abbrev pub without_room_of : {T A : Type 0} → LinkCarrier T A → LinkCarrier T A
 without_room_of (link.List list) = link.List (listed.without_room list)

@@ -1,6 +1,6 @@
 //! A link that is a list or a ring, as it was made.
-ghost use Rattle.std.specs.Prelude.{◌≡◌, ◌↔◌, ◌+◌, ◌-◌, ◌^◌, ◌<◌, ◌≤◌, ℕ, Bool, List, [], ◌∷◌, ◌++◌, length, OnOk, IsOk, IsNone, IfNone, IfSome, IfErr, IsTrue};
-ghost use Rattle.tc_types.specs.declared.refusals.Refusal.TheVariants.{Memory};
+ghost use Rattle.std.specs.Prelude.{◌≡◌, ◌≢◌, ◌↔◌, Err, IfOk, ◌+◌, ◌-◌, ◌^◌, ◌<◌, ◌≤◌, ℕ, Bool, List, [], ◌∷◌, ◌++◌, length, OnOk, IsOk, IsNone, IfNone, IfSome, IfErr, IsTrue};
+ghost use Rattle.tc_types.specs.declared.refusals.Refusal.TheVariants.{BadDirective, Memory};
 ghost use Rattle.tc_world.specs.Sublist.{IsSublist};
 
 use crate::carriers::Carrier;
@@ -16,6 +16,24 @@ pub enum LinkCarrier<T: Drop, A: Allocator> {
     List(ListCarrier<T, A>),
     /// It drops its oldest item where it is full.
     Ring(RingCarrier<T, A>),
+}
+
+impl<T: Drop, A: Allocator> LinkCarrier<T, A> {
+    ghost use Rattle.tc_world.specs.EitherLink.{IsMade, IsNoSize, content_of};
+
+    /// A link with nothing in flight: a ring that holds so many items, 1 to 4,096, else `BadDirective`; a list where no
+    /// size is given. `Memory` where its memory is refused.
+    pub fn new(alloc: A, ring: Option<u32>) -> Result<Self, Refusal>
+        ensures made { IfOk result (λ link. IsMade ring link) }
+        ensures empty { IfOk result (λ link. content_of link ≡ []) }
+        ensures bad { (result ≡ Err BadDirective) ↔ IsNoSize ring }
+        ensures memory { IfErr result (λ e. e ≢ BadDirective → e ≡ Memory) }
+    {
+        match ring {
+            None => Ok(LinkCarrier::List(ListCarrier::new(alloc))),
+            Some(size) => Ok(LinkCarrier::Ring(RingCarrier::new(alloc, size)?)),
+        }
+    }
 }
 
 impl<T: Drop, A: Allocator> Carrier<T> for LinkCarrier<T, A> {
