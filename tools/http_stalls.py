@@ -20,7 +20,7 @@ from http_peer import Case, Ended, Fault, get, program_in, quick_folder, receive
 from http_requests import ENTRY, PLACES, act
 
 SILENCE, WHOLE, FAREWELL = 5.0, 30.0, 2.0  # seconds: without a byte, for a request, behind an answer
-SLACK = 4.0  # seconds that a busy machine may add
+EARLY, SLACK = 0.5, 4.0  # seconds by which a peer's clock may begin later than the server's, and that a busy machine may add
 HELLO = bytes.fromhex("160301008f0100008b0303") + bytes(132)  # the front of a TLS hello
 
 
@@ -33,7 +33,7 @@ class Cases(http_cases.Cases):
 
     def within(self, name, least, most, took):
         """Counts a case by whether something took so many seconds."""
-        self.tell(f"{name}: {least} to {most} s", "", "" if least <= took <= most + SLACK else f"{took:.1f} s")
+        self.tell(f"{name}: {least} to {most} s", "", "" if least - EARLY <= took <= most + SLACK else f"{took:.3f} s")
 
 
 def hold(peer, raw, pause):
