@@ -9,6 +9,7 @@ mod calls;
 mod cells;
 mod ends;
 mod numbers;
+mod queues;
 mod rooms;
 mod runs;
 mod starting;

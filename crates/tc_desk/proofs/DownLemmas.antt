@@ -24,8 +24,8 @@ use Rattle.tc_world.specs.declared.events.Indication.TheVariants as said
 use Rattle.tc_world.specs.Abstraction.{Bare, seen}
 use Rattle.tc_world.specs.Links.{Kind, lossy}
 use Rattle.tc_world.specs.Sublist.{IsSublist, IsSublist-same, IsSublist-behind}
-use Rattle.tc_world.specs.World.{Whole, Happens, Hears, Carries, Begins, IsWordOf, told_of_loss}
-use Rattle.tc_world.proofs.Bridge.{OnlyLoses, happens_seen}
+use Rattle.tc_world.specs.World.{Whole, Happens, Hears, Carries, Begins, IsWordOf, told_of_loss, unjudged}
+use Rattle.tc_world.proofs.Bridge.{OnlyLoses, readied_content, happens_seen}
 use Rattle.tc_world.proofs.Lists.{sublist_trans, sublist_front, sublist_both}
 use Rattle.tc_board.specs.Board.{work_reports}
 use Rattle.tc_book.specs.declared.stamps.Stamp.{Stamp}
@@ -96,7 +96,7 @@ lands_down item w v lost left all taken came rest =
 
 pub event_down : (given : Event) (w v : Bare) (all : List Indication) → Happens lossy lossy given w v all → EventMoves given w v all
 event_down (event.Offer request body) w v all (actions, unknown, gives, h) = record { put = []; are = refl; rest = carries_down w v actions all h }
-event_down (event.Directive given) w v all (actions, gives, h) = record { put = []; are = refl; rest = directs_down given w v actions all (is_initiation given) h }
+event_down (event.Directive given) w v all (actions, gives, h, fits, level) = record { put = []; are = refl; rest = directs_down given w (unjudged w v) actions all (is_initiation given) h }
 event_down event.Tick w v all (actions, gives, h) = record { put = []; are = refl; rest = carries_down w v actions all h }
 event_down (event.Uplink room) w v all (inl (nothing, h)) = record { put = []; are = refl; rest = stays_down w v all (ap came_down h.answered) (same_down w v h.same.down) }
 event_down (event.Uplink room) w v all (inr h) = record { put = []; are = refl; rest = stays_down w v all (ap came_down h.answered) (same_down w v (ap (λ (x : Bare). x.down) h.whole)) }
@@ -142,7 +142,7 @@ puts_down up down ul dl (item ∷ items) w v puts =
 reports_down : {U D : Type 0} (up : Kind U Frame) (down : Kind D Report) → OnlyLoses up → OnlyLoses down → (items : List Telemetry) (w v : Whole U D)
     → Reports up down items w v → IsSublist (down.content v.down) (down.content w.down ++ flying items)
 reports_down up down ul dl items w v reports =
-    subst (λ l. IsSublist (down.content v.down) (l ++ flying items)) reports.readied.down (puts_down up down ul dl items reports.ready v reports.put)
+    subst (λ l. IsSublist (down.content v.down) (l ++ flying items)) (readied_content down dl w.down reports.ready.down reports.readied.down) (puts_down up down ul dl items reports.ready v reports.put)
 
 -- nothing was asked of the link
 none_down : {U D : Type 0} (down : Kind D Report) (w v : Whole U D) (all : List Indication) → (v ≡ w) × (all ≡ []) → IsSublist (came_down all ++ down.content v.down) (down.content w.down ++ [])
@@ -170,7 +170,7 @@ boards_down up down ul dl old new all boards =
     let items : List Report = flying (reports_after (taken_in all)) in
     let came : List Report = came_down all in
     let here = quiet_down up down ul dl (event.Uplink (has_buffer old.board)) boards.ready boards.carried all (λ items e. e) boards.frame in
-    let flew : IsSublist (came ++ down.content boards.carried.down) (down.content old.world.down) = subst (IsSublist (came ++ down.content boards.carried.down)) (append-nil (down.content boards.ready.down) ∙ boards.readied.down) here in
+    let flew : IsSublist (came ++ down.content boards.carried.down) (down.content old.world.down) = subst (IsSublist (came ++ down.content boards.carried.down)) (append-nil (down.content boards.ready.down) ∙ readied_content down dl old.world.down boards.ready.down boards.readied.down) here in
     let puts = puts_down up down ul dl (reports_after (taken_in all)) boards.carried new.world boards.reports in
     let front = sublist_front came (down.content new.world.down) (down.content boards.carried.down ++ items) puts in
     let both = sublist_both (came ++ down.content boards.carried.down) (down.content old.world.down) items items flew (IsSublist-same items) in

@@ -14,7 +14,7 @@ use Rattle.tc_world.specs.Payloads.{AreCarried}
 use Rattle.tc_world.specs.Window.{all_confirmed}
 use Rattle.tc_world.specs.World.{Whole, all_sent}
 use Rattle.tc_world.proofs.AllLists.{all_sub, all_append, all_behind, all_follow}
-use Rattle.tc_world.proofs.Bridge.{OnlyLoses}
+use Rattle.tc_world.proofs.Bridge.{OnlyLoses, readied_content}
 use Rattle.tc_world.proofs.Payloads.{payloads_start, payloads_weaker}
 use Rattle.tc_board.specs.Board.{BoardState}
 use Rattle.tc_board.specs.Follows.{IsBoardOf}
@@ -149,21 +149,24 @@ does_followed {U} {D} up down stamp given old new all first steps losing_up losi
     moved = steps_on moves.put moves.are
 
 -- one that was refused keeps it too
-pub same_followed : {U D : Type 0} (up : Kind U Frame) (down : Kind D Report) (old new : DeskState U D) → StaysSame up down old.parts new.parts → new.whole ≡ old.whole → IsFollowed up down old → IsFollowed up down new
-same_followed {U} {D} up down old new same whole followed = record {
-  payloads = subst (λ (book : Book). AreCarried (IsPayloadOf book) (seen up down new.parts.world)) (sym same.book) (before_payloads (IsPayloadOf old.parts.book) up down old.parts.world new.parts.world same.world followed.payloads);
+pub same_followed : {U D : Type 0} (up : Kind U Frame) (down : Kind D Report) → OnlyLoses up → OnlyLoses down → (old new : DeskState U D) → StaysSame up down old.parts new.parts → new.whole ≡ old.whole → IsFollowed up down old → IsFollowed up down new
+same_followed {U} {D} up down ul dl old new same whole followed = record {
+  payloads = subst (λ (book : Book). AreCarried (IsPayloadOf book) (seen up down new.parts.world)) (sym same.book) (before_payloads (IsPayloadOf old.parts.book) up down ul dl old.parts.world new.parts.world same.world followed.payloads);
   board = as_before (λ book sent board. IsBoardOf (roll_of book sent) board) followed.board;
   named = as_before (λ book sent board. AreNamed (IsFlown book sent) board) followed.named;
-  flying = subst (λ (items : List Report). AllByRecursion (IsNamedDown (IsFlown new.parts.book (all_sent new.parts.world))) items) (sym same.world.down)
+  flying = subst (λ (items : List Report). AllByRecursion (IsNamedDown (IsFlown new.parts.book (all_sent new.parts.world))) items) (sym flies)
       (as_before (λ book sent board. AllByRecursion (IsNamedDown (IsFlown book sent)) (down.content old.parts.world.down)) followed.flying);
   follows = λ is_whole.
-      ap (λ (items : List Report). mirror_through new.parts.book items new.parts.mirror) same.world.down
+      ap (λ (items : List Report). mirror_through new.parts.book items new.parts.mirror) flies
       ∙ ap (mirror_through new.parts.book (down.content old.parts.world.down)) same.mirror
       ∙ as_before (λ book sent board. mirror_through book (down.content old.parts.world.down) old.parts.mirror ≡ mirror_of board.schedule) (followed.follows (sym whole ∙ is_whole));
 }
   where
     sent : all_sent new.parts.world ≡ all_sent old.parts.world
     sent = ap (λ (w : Whole U D). all_sent w) same.world.rest
+
+    flies : down.content new.parts.world.down ≡ down.content old.parts.world.down
+    flies = readied_content down dl old.parts.world.down new.parts.world.down same.world.down
 
     as_before : (P : Book → List ℕ → BoardState → Type 0) → P old.parts.book (all_sent old.parts.world) old.parts.board → P new.parts.book (all_sent new.parts.world) new.parts.board
     as_before P held =

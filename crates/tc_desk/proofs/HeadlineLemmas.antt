@@ -28,7 +28,7 @@ use Rattle.tc_world.specs.Logs.{Log}
 use Rattle.tc_world.specs.Sublist.{IsSublist}
 use Rattle.tc_world.specs.Telling.{accepted_said}
 use Rattle.tc_world.specs.Window.{ArePrefixed, IsClaimed, all_accepted}
-use Rattle.tc_world.specs.World.{Whole, Happens, Hears, Carries, Begins, IsAsBefore, told_by_fop, told_of_loss}
+use Rattle.tc_world.specs.World.{Whole, Happens, Hears, Carries, Begins, IsAsBefore, told_by_fop, told_of_loss, unjudged}
 use Rattle.tc_world.proofs.Lists.{sublist_trans, sublist_both, sublist_take}
 use Rattle.tc_world.proofs.Stills.{clean_is}
 use Rattle.tc_board.specs.Board.{BoardState, accepted}
@@ -85,7 +85,7 @@ hears_takes up (report.Telemetry telemetry) w v all (readied, whole, answered) =
 -- nothing is accepted but of what comes up
 takes_nothing : {U D : Type 0} (up : Kind U Frame) (down : Kind D Report) (given : Event) (w v : Whole U D) (all : List Indication) → is_coming_up given ≡ false → Happens up down given w v all → taken_said all ≡ []
 takes_nothing up down (event.Offer request body) w v all other (actions, unknown, gives, h) = ap taken_said h.answered ∙ fops_take (output actions w.fop)
-takes_nothing up down (event.Directive given) w v all other (actions, gives, h) = directs_takes up down given actions w v all (is_initiation given) h
+takes_nothing up down (event.Directive given) w v all other (actions, gives, h, fits, level) = directs_takes up down given actions w (unjudged w v) all (is_initiation given) h
 takes_nothing up down event.Tick w v all other (actions, gives, h) = ap taken_said h.answered ∙ fops_take (output actions w.fop)
 takes_nothing up down (event.Uplink room) w v all other h = absurd (let no : true ≡ false = other in cc)
 takes_nothing up down (event.LoseUp place) w v all other h = ap taken_said h.answered ∙ loss_takes h.found

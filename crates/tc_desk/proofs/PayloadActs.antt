@@ -57,8 +57,8 @@ same_on {U} {D} P up down w v all same none carried = record {
 before_sent : {U D : Type 0} (up : Kind U Frame) (down : Kind D Report) (w v : Whole U D) → IsAsBefore up down w v → all_sent v ≡ all_sent w
 before_sent {U} {D} up down w v same = ap (λ (x : Whole U D). all_sent x) same.rest
 
-pub before_payloads : {U D : Type 0} (P : ℕ → Payload → Type 0) (up : Kind U Frame) (down : Kind D Report) (w v : Whole U D) → IsAsBefore up down w v → AreCarried P (seen up down w) → AreCarried P (seen up down v)
-before_payloads P up down w v same carried = subst (AreCarried P) (sym (as_before_seen up down w v same)) carried
+pub before_payloads : {U D : Type 0} (P : ℕ → Payload → Type 0) (up : Kind U Frame) (down : Kind D Report) → OnlyLoses up → OnlyLoses down → (w v : Whole U D) → IsAsBefore up down w v → AreCarried P (seen up down w) → AreCarried P (seen up down v)
+before_payloads P up down ul dl w v same carried = subst (AreCarried P) (sym (as_before_seen up down ul dl w v same)) carried
 
 -- reports that are put on the downlink
 puts_on : {U D : Type 0} (P : ℕ → Payload → Type 0) (up : Kind U Frame) (down : Kind D Report) → OnlyLoses up → OnlyLoses down → (items : List Telemetry) (w v : Whole U D)
@@ -73,7 +73,7 @@ puts_on P up down losing_up losing_down (item ∷ items) w v (next, first, other
 reports_on : {U D : Type 0} (P : ℕ → Payload → Type 0) (up : Kind U Frame) (down : Kind D Report) → OnlyLoses up → OnlyLoses down → (items : List Telemetry) (w v : Whole U D)
     → Reports up down items w v → AreCarried P (seen up down w) → AreCarried P (seen up down v) × (all_sent v ≡ all_sent w)
 reports_on P up down losing_up losing_down items w v reports carried =
-    let put = puts_on P up down losing_up losing_down items reports.ready v reports.put (before_payloads P up down w reports.ready reports.readied carried) in
+    let put = puts_on P up down losing_up losing_down items reports.ready v reports.put (before_payloads P up down losing_up losing_down w reports.ready reports.readied carried) in
     (put.0, put.1 ∙ before_sent up down w reports.ready reports.readied)
 
 -- ---- acts
@@ -90,7 +90,7 @@ offer_on P up down losing_up losing_down n old v all (Some r) own passes carried
 boards_on : {U D : Type 0} (P : ℕ → Payload → Type 0) (up : Kind U Frame) (down : Kind D Report) → OnlyLoses up → OnlyLoses down → (old new : State U D) (all : List Indication)
     → Boards up down old new all → AreCarried P (seen up down old.world) → CarriedOn P up down old.world new.world all
 boards_on P up down losing_up losing_down old new all boards carried =
-    let on = happened_on P up down losing_up losing_down (event.Uplink (has_buffer old.board)) boards.ready boards.carried all tt boards.frame (before_payloads P up down old.world boards.ready boards.readied carried) in
+    let on = happened_on P up down losing_up losing_down (event.Uplink (has_buffer old.board)) boards.ready boards.carried all tt boards.frame (before_payloads P up down losing_up losing_down old.world boards.ready boards.readied carried) in
     let put = puts_on P up down losing_up losing_down (reports_after (taken_in all)) boards.carried new.world boards.reports on.payloads in
     record {
       payloads = put.0;

@@ -15,7 +15,7 @@ use Rattle.tc_world.specs.declared.events.Event.TheVariants as event
 use Rattle.tc_world.specs.declared.events.Indication.{Indication}
 use Rattle.tc_world.specs.declared.events.Indication.TheVariants as said
 use Rattle.tc_world.specs.Links.{Kind}
-use Rattle.tc_world.specs.World.{Whole, Happens, IsIdle, Boards, Begins, Carries, told_of_loss}
+use Rattle.tc_world.specs.World.{Whole, Happens, IsIdle, Boards, Begins, Carries, told_of_loss, unjudged}
 use Rattle.tc_world.proofs.AllLists.{all_made}
 use Rattle.tc_board.specs.Follows.{with_command, read_all}
 use Rattle.tc_board.specs.Mirror.{MirrorState, mirror_after}
@@ -90,7 +90,7 @@ directed_brings_none up down given actions old new all false carries = signals_b
 -- at every other event
 pub brings_none : {U D : Type 0} (up : Kind U Frame) (down : Kind D Report) (given : Event) (old new : Whole U D) (all : List Indication) → brings_down given ≡ false → Happens up down given old new all → came_down all ≡ []
 brings_none up down (event.Offer request body) old new all quiet h = signals_bring_none (output h.0 old.fop).indications all h.3.answered
-brings_none up down (event.Directive given) old new all quiet h = directed_brings_none up down given h.0 old new all (is_initiation given) h.2
+brings_none up down (event.Directive given) old new all quiet h = directed_brings_none up down given h.0 old (unjudged old new) all (is_initiation given) h.2
 brings_none up down event.Tick old new all quiet h = signals_bring_none (output h.0 old.fop).indications all h.2.answered
 brings_none up down (event.Uplink free_buffer) old new all quiet h = ⊎_elim
     (λ (idle : (up.content old.up ≡ []) × IsIdle up down old new all). ap came_down idle.1.answered)

@@ -47,12 +47,12 @@ does_stand up down stamp given old new all first law ul dl good goes_on passes d
     }
 
 -- one that was refused
-pub same_stand : {U D : Type 0} (up : Kind U Frame) (down : Kind D Report) (old new : DeskState U D) → StaysSame up down old.parts new.parts → new.opened ≡ old.opened → new.whole ≡ old.whole
+pub same_stand : {U D : Type 0} (up : Kind U Frame) (down : Kind D Report) → OnlyLoses up → OnlyLoses down → (old new : DeskState U D) → StaysSame up down old.parts new.parts → new.opened ≡ old.opened → new.whole ≡ old.whole
     → IsStanding up down old → IsStanding up down new
-same_stand up down old new same opened whole stands = record {
+same_stand up down ul dl old new same opened whole stands = record {
   tied = subst (λ o. IsTied o new.parts) (sym opened) (same_tied old.opened up down old.parts new.parts same stands.tied);
   claims = same_claims up down old.parts.world new.parts.world same.world stands.claims;
-  followed = same_followed up down old new same whole stands.followed;
+  followed = same_followed up down ul dl old new same whole stands.followed;
 }
 
 -- while every start was good, what the rows call confirmed was taken on board once

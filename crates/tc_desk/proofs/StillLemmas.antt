@@ -14,7 +14,7 @@ use Rattle.tc_world.specs.declared.events.Event.TheVariants as event
 use Rattle.tc_world.specs.declared.events.Indication.{Indication}
 use Rattle.tc_world.specs.declared.events.Indication.TheVariants as said
 use Rattle.tc_world.specs.Links.{Kind}
-use Rattle.tc_world.specs.World.{Whole, Happens, Hears, Lands, IsIdle, Boards, Begins, Carries, told_of_loss, may_move, tells_move}
+use Rattle.tc_world.specs.World.{Whole, Happens, Hears, Lands, IsIdle, Boards, Begins, Carries, told_of_loss, may_move, tells_move, unjudged}
 use Rattle.tc_book.specs.declared.stamps.Stamp.{Stamp}
 use Rattle.tc_book.specs.Book.{Book}
 use Rattle.tc_board.specs.Mirror.{MirrorState}
@@ -48,7 +48,7 @@ directed_still up down given actions old new all stamp mirror book false still c
 pub silent : {U D : Type 0} (up : Kind U Frame) (down : Kind D Report) (given : Event) (old new : Whole U D) (all : List Indication) (stamp : Stamp) (mirror : MirrorState) (book : Book)
     → may_move given ≡ false → list_any tells_move all ≡ false → Happens up down given old new all → heard_all stamp mirror all book ≡ book
 silent up down (event.Offer request body) old new all stamp mirror book quiet still h = cc
-silent up down (event.Directive given) old new all stamp mirror book quiet still h = directed_still up down given h.0 old new all stamp mirror book (is_initiation given) still h.2
+silent up down (event.Directive given) old new all stamp mirror book quiet still h = directed_still up down given h.0 old (unjudged old new) all stamp mirror book (is_initiation given) still h.2
 silent up down event.Tick old new all stamp mirror book quiet still h = cc
 silent up down (event.Uplink free_buffer) old new all stamp mirror book quiet still h = ⊎_elim
     (λ (idle : (up.content old.up ≡ []) × IsIdle up down old new all). ap (λ l. heard_all stamp mirror l book) idle.1.answered)
@@ -82,7 +82,7 @@ directed_no_report up down given actions old new all false carries = told_no_rep
 pub no_report : {U D : Type 0} (up : Kind U Frame) (down : Kind D Report) (given : Event) (old new : Whole U D) (all : List Indication)
     → brings_down given ≡ false → Happens up down given old new all → list_any tells_report all ≡ false
 no_report up down (event.Offer request body) old new all quiet h = told_no_report (output h.0 old.fop).indications all h.3.answered
-no_report up down (event.Directive given) old new all quiet h = directed_no_report up down given h.0 old new all (is_initiation given) h.2
+no_report up down (event.Directive given) old new all quiet h = directed_no_report up down given h.0 old (unjudged old new) all (is_initiation given) h.2
 no_report up down event.Tick old new all quiet h = told_no_report (output h.0 old.fop).indications all h.2.answered
 no_report up down (event.Uplink free_buffer) old new all quiet h = ⊎_elim
     (λ (idle : (up.content old.up ≡ []) × IsIdle up down old new all). ap (λ l. list_any tells_report l) idle.1.answered)

@@ -1,9 +1,9 @@
 -- What a desk is made of: its book, its link, the rehearsal spacecraft, and the mirror of its schedule.
-use Rattle.std.specs.Prelude.{ℕ, ◌≤◌, Bool, true, []}
+use Rattle.std.specs.Prelude.{ℕ, ◌≤◌, Bool, true, false, []}
 use Rattle.tc_farm.specs.Farm.{IsWindowWidth, new_farm}
 use Rattle.tc_fop.specs.Calls.{new_machine}
 use Rattle.tc_world.specs.Logs.{blank}
-use Rattle.tc_world.specs.World.{Whole}
+use Rattle.tc_world.specs.World.{Whole, is_fitting}
 use Rattle.tc_board.specs.Board.{BoardState, new_board}
 use Rattle.tc_board.specs.Mirror.{MirrorState, no_mirror}
 use Rattle.tc_book.specs.Book.{Book, empty_book}
@@ -30,6 +30,8 @@ new_world config up down = record {
   past = [];
   newest = blank 0;
   clean = true;
+  fits = is_fitting (new_machine 10 10 3) (new_farm config.window);
+  level = false;
   vc = config.channel;
 }
 

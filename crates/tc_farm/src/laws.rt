@@ -1,12 +1,20 @@
 //! What the table says, in the words of frames. This function does nothing: its clause is the law.
-ghost use Rattle.std.specs.Prelude.{Bool};
+ghost use Rattle.std.specs.Prelude.{◌≡◌, ◌⊎◌, ◌+◌, ◌/◌, ◌%◌, ◌<◌, ℕ, Bool, true, false};
+ghost use Rattle.tc_types.specs.declared.frames.Frame.TheVariants.{Ad};
+ghost use Rattle.tc_types.specs.declared.telecommands.Payload.{Payload};
 ghost use Rattle.tc_types.specs.declared.frames.Frame.{Frame};
 ghost use Rattle.tc_farm.specs.declared.farms.FarmView.{FarmView};
-ghost use Rattle.tc_farm.specs.Farm.{IsFarm, farm_after, verdict_of};
+ghost use Rattle.tc_farm.specs.Farm.{IsFarm, distance, farm_after, verdict_of};
 ghost use Rattle.tc_farm.specs.FarmLaws.{IsNumbered, Says};
 
 /// What the verdict says of a frame and of V(R): accepted only in order, in Open and with a free buffer; V(R) moves only
 /// by an acceptance or a Set V(R).
 pub fn frames_in_order()
     ensures { (farm : FarmView) (frame : Frame) (free_buffer : Bool) → IsFarm farm → IsNumbered frame → Says (verdict_of farm frame free_buffer) farm frame free_buffer (farm_after farm frame free_buffer) }
+{}
+
+/// A type-AD frame that is accepted ends Retransmit; one that is discarded keeps it, and sets it only where it lies ahead
+/// in the window.
+pub fn asks_ahead()
+    ensures { (farm : FarmView) (ns request : ℕ) (body : Payload) (free_buffer : Bool) → IsFarm farm → (((farm_after farm (Ad ns request body) free_buffer).vr ≡ (farm.vr + 1) % 256) × ((farm_after farm (Ad ns request body) free_buffer).retransmit ≡ false)) ⊎ (((farm_after farm (Ad ns request body) free_buffer).vr ≡ farm.vr) × ((farm_after farm (Ad ns request body) free_buffer).retransmit ≡ true → (farm.retransmit ≡ true) ⊎ (distance ns farm.vr < farm.window / 2)) × (farm.retransmit ≡ true → (farm_after farm (Ad ns request body) free_buffer).retransmit ≡ true)) }
 {}

@@ -23,11 +23,11 @@ abbrev pub start_of : Indication → List Indication
 start_of i = if is_start i then i ∷ [] else []
 
 -- indications that each give nothing give nothing
-silent_map : {X Y : Type 0} (f : Indication → List Y) (g : X → Indication) → ((x : X) → f (g x) ≡ []) → (xs : List X) → flat_map f (map g xs) ≡ []
+pub silent_map : {X Y : Type 0} (f : Indication → List Y) (g : X → Indication) → ((x : X) → f (g x) ≡ []) → (xs : List X) → flat_map f (map g xs) ≡ []
 silent_map f g h [] = refl
 silent_map f g h (x ∷ xs) = ap (λ l. l ++ flat_map f (map g xs)) (h x) ∙ silent_map f g h xs
 
-silent_append : {Y : Type 0} (f : Indication → List Y) (is js : List Indication) → flat_map f is ≡ [] → flat_map f js ≡ [] → flat_map f (is ++ js) ≡ []
+pub silent_append : {Y : Type 0} (f : Indication → List Y) (is js : List Indication) → flat_map f is ≡ [] → flat_map f js ≡ [] → flat_map f (is ++ js) ≡ []
 silent_append f is js h k = flat_map-append f is js ∙ ap (λ l. l ++ flat_map f js) h ∙ k
 
 -- an alert's indications give nothing, where none of their kinds does
@@ -111,7 +111,7 @@ pub none_confirmable : (most : ℕ) (m : Machine) → Confirmable most 0 m
 none_confirmable most m = record { few = omega arith; which = inl refl }
 
 advance : (most d : ℕ) (again : Bool) (fresh : Option Waiting) (m x new : Machine) (out : Out)
-    → Confirmable most d m → m.vs < 256 → Remains d m x → (is_some fresh ≡ true → length (drop d m.sent) < 255)
+    → Confirmable most d m → m.vs < 256 → Remains d m x → (is_some fresh ≡ true → length (drop d m.sent) < m.k)
     → new ≡ transmitted fresh x
     → out.frames ≡ (if again then map frame_of (drop d m.sent) else []) ++ (transmits fresh m.vs).frames
     → out.indications ≡ front_of d m ++ (transmits fresh m.vs).indications
@@ -187,10 +187,10 @@ flagged_looks d m y vs nn k sent taking = record {
   frames = ap (λ l. map frame_of (flagged_of l)) sent ∙ ap (λ l. map frame_of l) (flagged_all (drop d m.sent)) ∙ flagged_frames (drop d m.sent);
 }
 
--- where a request is due, the window is open, so that fewer than 255 are out
-ready_room : (opened : Bool) (w : Option Waiting) (out k : ℕ) → k ≤ 255 → (opened ≡ true → out < k) → is_some (due_from opened w) ≡ true → out < 255
-ready_room true w out k most h e = let few : out < k = h refl in omega (arith, few, most)
-ready_room false w out k most h e = absurd (false≢true e)
+-- where a request is due, the window is open, so that fewer than K are out
+ready_room : (opened : Bool) (w : Option Waiting) (out k : ℕ) → (opened ≡ true → out < k) → is_some (due_from opened w) ≡ true → out < k
+ready_room true w out k h e = h refl
+ready_room false w out k h e = absurd (false≢true e)
 
 open_room : (d : ℕ) (again : Bool) (m y : Machine) → IsFop m → is_taking m.state ≡ true → d ≤ length m.sent → Looks d again m y → is_window_open y ≡ true → length (drop d m.sent) < y.k
 open_room d again m y h t few l o =
@@ -209,11 +209,10 @@ looked most d again m y new out h t which l e o =
     let x = change Resend y in
     let same : (transmits (due x) x.vs).frames ≡ (transmits (due x) m.vs).frames = ap (λ v. (transmits (due x) v).frames) l.remains.vs in
     let indicated : (transmits (due x) x.vs).indications ≡ (transmits (due x) m.vs).indications = ap (λ v. (transmits (due x) v).indications) l.remains.vs in
-    let most_k : y.k ≤ 255 = subst (λ k. k ≤ 255) (sym l.k) h.k_most in
     let repeated = map frame_of (flagged_of y.sent) in
     advance most d again (due x) m x new out which h.vs
     (record { vs = l.remains.vs; nn = l.remains.nn; sent = cleared_requests y.sent ∙ l.remains.sent; taking = l.remains.taking })
-    (ready_room (is_window_open y) y.waiting (length (drop d m.sent)) y.k most_k (open_room d again m y h t which.few l))
+    (λ n. subst (λ k. length (drop d m.sent) < k) l.k (ready_room (is_window_open y) y.waiting (length (drop d m.sent)) y.k (open_room d again m y h t which.few l) n))
     e
     (ap (λ (q : Out). q.frames) o
     ∙ ap (λ s. repeated ++ s) (append-nil (transmits (due x) x.vs).frames ∙ same)

@@ -34,7 +34,7 @@ pub held_doubted : (q : List Outstanding) → map (λ (held : Held). InDoubt hel
 held_doubted [] = refl
 held_doubted (first ∷ others) = ap (λ l. InDoubt first.request ∷ l) (held_doubted others)
 
-slice_get_after : {X : Type 0} (d : ℕ) (xs : List X) (i : ℕ) → slice_get (drop d xs) i ≡ slice_get xs (d + i)
+pub slice_get_after : {X : Type 0} (d : ℕ) (xs : List X) (i : ℕ) → slice_get (drop d xs) i ≡ slice_get xs (d + i)
 slice_get_after zero xs i = ap (λ j. slice_get xs j) (sym (zero-add i))
 slice_get_after (suc d) [] i = refl
 slice_get_after (suc d) (x ∷ xs) i =

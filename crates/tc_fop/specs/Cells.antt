@@ -1,6 +1,6 @@
 -- The table of FOP-1 in this desk's profile: for each row and state the actions. A row without To keeps its state.
 -- An empty list is 'ignore'; S6 ignores every row.
-use Rattle.std.specs.Prelude.{ℕ, ◌==◌, if◌then◌else◌, List, [], ◌∷◌, ◌++◌}
+use Rattle.std.specs.Prelude.{ℕ, ◌==◌, if◌then◌else◌, Bool, true, false, List, [], ◌∷◌, ◌++◌}
 use Rattle.tc_fop.specs.declared.signals.FopState.{FopState}
 use Rattle.tc_fop.specs.declared.signals.FopState.TheVariants.{Active, RetransmitWithoutWait, RetransmitWithWait, InitialisingWithoutBc, InitialisingWithBc, Initial}
 use Rattle.tc_fop.specs.declared.signals.AlertKind.{AlertKind}
@@ -125,3 +125,11 @@ timer_ended_at_limit RetransmitWithWait = alerts alert.T1
 timer_ended_at_limit InitialisingWithoutBc = alerts alert.T1
 timer_ended_at_limit InitialisingWithBc = alerts alert.T1
 timer_ended_at_limit Initial = []
+
+-- whether nothing is done at a word of this row
+abbrev pub does_nothing : List Action → Bool
+does_nothing [] = true
+does_nothing (first ∷ others) = false
+
+abbrev pub is_ignored : Row → FopState → Bool
+is_ignored row state = does_nothing (cell row state)

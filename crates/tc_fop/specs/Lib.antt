@@ -4,7 +4,10 @@ pub mod Cells
 pub mod Calls
 pub mod Standing
 pub mod Queued
+pub mod Slots
 pub mod Views
 pub mod Requests
 pub mod Laws
 pub mod Moves
+pub mod Fair
+pub mod Width

@@ -68,8 +68,8 @@ pub record Advances (acknowledged : ℕ) (old new : Machine) (out : Out) : Type 
   pub confirms : confirmed_in out ≡ take confirmed (sent_requests old)
   pub transmits : transmitted_in out ≡ map (λ (w : Waiting). w.request) (option_list fresh)
   pub frames : out.frames ≡ (if again then map frame_of (drop confirmed old.sent) else []) ++ map (first_frame old.vs) (option_list fresh)
-  -- at most 255 are out
-  pub few_out : is_some fresh ≡ true → length (drop confirmed old.sent) < 255
+  -- fewer than K are out
+  pub few_out : is_some fresh ≡ true → length (drop confirmed old.sent) < old.k
   pub no_start : starts_in out ≡ []
   pub goes_on : is_taking new.state ≡ true → GoesOn confirmed fresh old new
   pub stops : is_taking new.state ≡ false → (new.state ≡ Initial) × (out.frames ≡ []) × (fresh ≡ None)

@@ -1,11 +1,11 @@
 -- What callers see of a FOP.
-use Rattle.std.specs.Prelude.{◌≡◌, ◌≢◌, ◌<◌, ◌≤◌, Bool, true, IfOk, IfErr, Result, List, length}
+use Rattle.std.specs.Prelude.{◌≡◌, ◌≢◌, ◌<◌, ◌≤◌, Bool, true, IfOk, IfErr, Result, Option, Some, None, List, length}
 use Rattle.tc_types.specs.declared.refusals.Refusal.{Refusal}
 use Rattle.tc_types.specs.declared.refusals.Refusal.TheVariants.{Memory}
 use Rattle.tc_fop.specs.declared.views.FopView.{FopView}
 use Rattle.tc_fop.specs.declared.rows.Row.{Row}
 use Rattle.tc_fop.specs.declared.rows.Row.TheVariants.{P1, P2, P3, P4, P5, P6, P7, P8, P9, P10, P11, P12, P13, P14, P15, P16}
-use Rattle.tc_fop.specs.Machine.{Machine, Out, Action, after, output, option_list}
+use Rattle.tc_fop.specs.Machine.{Machine, Out, Action, after, output, option_list, nothing}
 use Rattle.tc_fop.specs.Calls.{Given, Answers}
 use Rattle.tc_fop.specs.Standing.{IsFop}
 
@@ -13,6 +13,11 @@ use Rattle.tc_fop.specs.Standing.{IsFop}
 pub record FopModel : Type 0 where
   pub machine : Machine
   pub ready : Bool
+
+-- what was drawn up, or nothing
+abbrev pub drawn : Option Out → Out
+drawn None = nothing
+drawn (Some out) = out
 
 -- How a call responds: it answers as given; where the memory of the call was taken it is not refused memory; an error leaves
 -- that memory as it was; and the machine is one that calls can reach.

@@ -1,12 +1,13 @@
 //! What is done at a control word (CCSDS 232.1-B, 5.3).
 ghost use Rattle.std.specs.Prelude.{◌≡◌, ◌≤◌, length, true, IsTrue, ◌↔◌};
 ghost use Rattle.tc_fop.specs.Machine.{nothing, output};
-ghost use Rattle.tc_fop.specs.Cells.{cell};
+ghost use Rattle.tc_fop.specs.Cells.{cell, is_ignored};
 ghost use Rattle.tc_fop.specs.Calls.{is_taking, reported};
+ghost use Rattle.tc_fop.specs.Rows.{row_of};
 ghost use Rattle.tc_fop.specs.Standing.{IsFop};
 ghost use Rattle.tc_fop.specs.Views.{Becomes, Fits, Carried};
 
-use crate::outputs::Output;
+use crate::outputs::Draft;
 use crate::rows::Row;
 use crate::signals::{AlertKind, FopState};
 use crate::variables::Variables;
@@ -20,9 +21,36 @@ fn is_active(state: FopState) -> bool
     matches!(state, FopState::Active)
 }
 
+/// Whether nothing is done at a word of this row in this state.
+fn does_nothing(row: Row, state: FopState) -> bool
+    ensures { result ≡ is_ignored row state }
+{
+    match state {
+        FopState::Initial => true,
+        FopState::Active => matches!(row, Row::P1 | Row::P5),
+        FopState::RetransmitWithoutWait => matches!(row, Row::P11 | Row::P13),
+        FopState::RetransmitWithWait => matches!(row, Row::P12),
+        FopState::InitialisingWithoutBc => match row {
+            Row::P1 | Row::P3 | Row::P4 | Row::P14 | Row::P15 | Row::P16 => false,
+            _ => true,
+        },
+        FopState::InitialisingWithBc => match row {
+            Row::P1 | Row::P16 => false,
+            _ => true,
+        },
+    }
+}
+
 impl<A: Allocator + Copy + Drop> Variables<A> {
+    /// Whether nothing is done at this control word.
+    pub(crate) fn ignores(&self, word: Option<Clcw>) -> bool
+        ensures { result ≡ is_ignored (row_of self.now word) self.now.state }
+    {
+        does_nothing(self.row(word), self.state())
+    }
+
     /// Removes what is acknowledged, and stops for the limit.
-    fn stop_at_limit(&mut self, acknowledged: u8, out: &mut Output<A>)
+    fn stop_at_limit(&mut self, acknowledged: u8, out: &mut Draft<A>)
         requires taking { is_taking self.old.state ≡ true }
         requires there { acknowledged ≤ length self.old.sent }
         requires start { out.old ≡ nothing }
@@ -37,7 +65,7 @@ impl<A: Allocator + Copy + Drop> Variables<A> {
     }
 
     /// A control word in S1, S2 or S3.
-    fn sending(&mut self, row: Row, out: &mut Output<A>)
+    fn sending(&mut self, row: Row, out: &mut Draft<A>)
         requires taking { is_taking self.old.state ≡ true }
         requires fits { Fits row self.old }
         requires start { out.old ≡ nothing }
@@ -90,7 +118,7 @@ impl<A: Allocator + Copy + Drop> Variables<A> {
     }
 
     /// A control word in S4, where nothing is out and there is no BC frame.
-    fn checking(&mut self, row: Row, out: &mut Output<A>)
+    fn checking(&mut self, row: Row, out: &mut Draft<A>)
         requires state { self.old.state ≡ FopState.InitialisingWithoutBc }
         requires start { out.old ≡ nothing }
         ensures machine { Becomes (cell row self.old.state) self.old self.new }
@@ -118,7 +146,7 @@ impl<A: Allocator + Copy + Drop> Variables<A> {
     }
 
     /// A control word in S5, where the BC frame is not acknowledged yet.
-    fn commanding(&mut self, row: Row, out: &mut Output<A>)
+    fn commanding(&mut self, row: Row, out: &mut Draft<A>)
         requires state { self.old.state ≡ FopState.InitialisingWithBc }
         requires start { out.old ≡ nothing }
         ensures machine { Becomes (cell row self.old.state) self.old self.new }
@@ -144,7 +172,7 @@ impl<A: Allocator + Copy + Drop> Variables<A> {
     }
 
     /// A control word, or one that is not valid.
-    pub(crate) fn clcw(&mut self, word: Option<Clcw>, out: &mut Output<A>)
+    pub(crate) fn clcw(&mut self, word: Option<Clcw>, out: &mut Draft<A>)
         requires start { out.old ≡ nothing }
         ensures machine { Carried (reported self.old word) self.old self.new out.new }
         ensures fop { IsFop self.new }

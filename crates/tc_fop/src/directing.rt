@@ -6,7 +6,7 @@ ghost use Rattle.tc_fop.specs.Queued.{waiting_of};
 ghost use Rattle.tc_fop.specs.Standing.{IsFop};
 ghost use Rattle.tc_fop.specs.Views.{Carried};
 
-use crate::outputs::Output;
+use crate::outputs::Draft;
 use crate::queues::Offer;
 use crate::signals::{AlertKind, FopState};
 use crate::variables::Variables;
@@ -16,7 +16,7 @@ use tc_types::frames::Frame;
 
 impl<A: Allocator + Copy + Drop> Variables<A> {
     /// A request that waits now, and may be transmitted at once in S1 and S2.
-    pub(crate) fn offer(&mut self, offer: Offer, out: &mut Output<A>)
+    pub(crate) fn offer(&mut self, offer: Offer, out: &mut Draft<A>)
         requires taken { IsOk (offered self.old (waiting_of offer)) }
         requires start { out.old ≡ nothing }
         ensures machine { Carried (offered self.old (waiting_of offer)) self.old self.new out.new }
@@ -48,7 +48,7 @@ impl<A: Allocator + Copy + Drop> Variables<A> {
     }
 
     /// Carries out a directive that is allowed now.
-    pub(crate) fn carry_out(&mut self, directive: &Directive, out: &mut Output<A>)
+    pub(crate) fn carry_out(&mut self, directive: &Directive, out: &mut Draft<A>)
         requires allowed { IsOk (directed self.old directive.now) }
         requires start { out.old ≡ nothing }
         ensures machine { Carried (directed self.old directive.now) self.old self.new out.new }

@@ -1,13 +1,15 @@
 //! The FOP of one virtual channel.
-ghost use Rattle.std.specs.Prelude.{◌≡◌, ◌≢◌, ◌↔◌, ◌⊎◌, ◌==◌, true, is_some, IfSome, IfNone, IfOk, IfErr, IsOk, OnOk, Some, Ok, Err};
+ghost use Rattle.std.specs.Prelude.{◌≡◌, ◌≢◌, ◌↔◌, ◌⊎◌, ◌==◌, true, false, is_some, IfSome, IfNone, IfOk, IfErr, IsOk, OnOk, Some, Ok, Err};
 ghost use Rattle.std.specs.List.{list_any};
-ghost use Rattle.tc_fop.specs.Machine.{Waiting, nothing};
+ghost use Rattle.tc_fop.specs.Machine.{Waiting, nothing, is_window_open};
+ghost use Rattle.tc_fop.specs.Rows.{row_of};
+ghost use Rattle.tc_fop.specs.Cells.{is_ignored};
 ghost use Rattle.tc_fop.specs.Calls.{new_machine, offered, directed, reported, ticked, Answers};
 ghost use Rattle.tc_fop.specs.Standing.{IsFop};
 ghost use Rattle.tc_fop.specs.Requests.{waiting_requests};
 ghost use Rattle.tc_fop.specs.Views.{FopModel, Responds, view_of};
 
-use crate::outputs::Output;
+use crate::outputs::{Draft, Output};
 use crate::queues::Offer;
 use crate::signals::FopState;
 use crate::variables::Variables;
@@ -25,7 +27,7 @@ use tc_types::telecommands::Payload;
 pub struct Fop<A: Allocator + Copy + Drop> {
     alloc: A,
     variables: Variables<A>,
-    spare: Option<Output<A>>,
+    spare: Option<Draft<A>>,
 }
 
 impl<A: Allocator + Copy + Drop> Model for Fop<A> {
@@ -65,13 +67,13 @@ impl<A: Allocator + Copy + Drop> Fop<A> {
         ensures fop { IsFop self.new.machine }
     {
         if self.spare.is_none() {
-            self.spare = Some(Output::new(self.alloc)?);
+            self.spare = Some(Draft::new(self.alloc)?);
         }
         Ok(())
     }
 
     /// The empty output that `reserve` took.
-    fn take_spare(&mut self) -> Output<A>
+    fn take_spare(&mut self) -> Draft<A>
         requires ready { self.old.ready ≡ true }
         ensures machine { self.new.machine ≡ self.old.machine }
         ensures fop { IsFop self.old.machine }
@@ -126,16 +128,40 @@ impl<A: Allocator + Copy + Drop> Fop<A> {
         self.variables.is_waiting(request)
     }
 
+    /// Whether the window is open: fewer than K frames are out. It takes no memory.
+    pub fn may_transmit(&self) -> bool
+        ensures { result ≡ is_window_open self.now.machine }
+    {
+        self.variables.may_transmit()
+    }
+
     /// Offers a request. `ServiceNotActive` but in S1 to S3, else `WaitQueueFull` where one waits, else `Memory`; an
     /// error changes nothing.
     pub fn offer(&mut self, request: RequestNumber, body: Payload) -> Result<Output<A>, Refusal>
-        ensures { Responds (offered self.old.machine (record { request = request; body = body })) self.old self.new result }
+        ensures responds { Responds (offered self.old.machine (record { request = request; body = body })) self.old self.new result }
+        // an offer that waits takes no memory
+        ensures spared { is_window_open self.old.machine ≡ false → IfErr result (λ e. e ≢ Refusal.Memory) }
     {
         if let Some(refusal) = self.offer_refusal() {
             return Err(refusal);
         }
+        if !self.may_transmit() {
+            self.hold(request, body);
+            return Ok(Output::silent());
+        }
         self.reserve()?;
         Ok(self.offer_reserved(request, body))
+    }
+
+    /// The same where it is known that the offer is not refused, and the window is closed: the request waits, and nothing
+    /// is put out. It takes no memory.
+    pub fn hold(&mut self, request: RequestNumber, body: Payload)
+        requires taken { IsOk (offered self.old.machine (record { request = request; body = body })) }
+        requires closed { is_window_open self.old.machine ≡ false }
+        ensures answers { Answers (offered self.old.machine (record { request = request; body = body })) self.old.machine self.new.machine (Ok nothing) }
+        ensures fop { IsFop self.new.machine }
+    {
+        self.variables.accept_only(Offer { request, body });
     }
 
     /// The same where it is known that the offer is not refused, and its memory was taken by `reserve`.
@@ -147,7 +173,7 @@ impl<A: Allocator + Copy + Drop> Fop<A> {
     {
         let mut out = self.take_spare();
         self.variables.offer(Offer { request, body }, &mut out);
-        out
+        Output::of(out)
     }
 
     /// Carries out a directive. `BadDirective` where it cannot be carried out now or its number is 0, else `Memory`;
@@ -171,13 +197,18 @@ impl<A: Allocator + Copy + Drop> Fop<A> {
     {
         let mut out = self.take_spare();
         self.variables.carry_out(directive, &mut out);
-        out
+        Output::of(out)
     }
 
     /// A control word, or `None` for one that is not valid. `Memory` changes nothing.
     pub fn clcw(&mut self, word: Option<Clcw>) -> Result<Output<A>, Refusal>
-        ensures { Responds (reported self.old.machine word) self.old self.new result }
+        ensures responds { Responds (reported self.old.machine word) self.old self.new result }
+        // a word that is ignored takes no memory
+        ensures spared { is_ignored (row_of self.old.machine word) self.old.machine.state ≡ true → IfErr result (λ e. e ≢ Refusal.Memory) }
     {
+        if self.variables.ignores(word) {
+            return Ok(Output::silent());
+        }
         self.reserve()?;
         Ok(self.clcw_reserved(word))
     }
@@ -190,7 +221,7 @@ impl<A: Allocator + Copy + Drop> Fop<A> {
     {
         let mut out = self.take_spare();
         self.variables.clcw(word, &mut out);
-        out
+        Output::of(out)
     }
 
     /// One tick of the timer. `Memory` changes nothing.
@@ -209,7 +240,7 @@ impl<A: Allocator + Copy + Drop> Fop<A> {
     {
         let mut out = self.take_spare();
         self.variables.tick(&mut out);
-        out
+        Output::of(out)
     }
 
     /// What a status line prints. It takes no memory.

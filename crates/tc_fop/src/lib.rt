@@ -9,6 +9,7 @@ pub mod outputs;
 pub mod queues;
 pub mod rows;
 pub mod signals;
+mod slots;
 mod ticks;
 mod variables;
 pub mod views;

@@ -1,12 +1,11 @@
 //! The Sent_Queue: what is done with many requests at once.
 ghost use Rattle.std.specs.Prelude.{◌≡◌, ◌+◌, ◌<◌, ◌≤◌, [], length, map, take, drop};
-ghost use Rattle.std.specs.VecDeque.{deque_capacity};
 ghost use Rattle.tc_fop.specs.Machine.{joined};
 
-use crate::outputs::Output;
+use crate::outputs::Draft;
 use crate::signals::Indication;
+use crate::slots::SentSlots;
 use std::alloc::Allocator;
-use std::collections::VecDeque;
 use tc_types::frames::Frame;
 use tc_types::numbers::RequestNumber;
 use tc_types::telecommands::Payload;
@@ -33,15 +32,14 @@ pub struct Outstanding {
 
 /// Takes this many requests from the front: they are confirmed.
 pub(crate) fn confirm_front<A: Allocator + Copy + Drop>(
-    sent: &mut VecDeque<Outstanding, A>,
+    sent: &mut SentSlots<A>,
     count: u8,
-    out: &mut Output<A>,
+    out: &mut Draft<A>,
 )
-    requires there { count ≤ length sent.old.items }
+    requires there { count ≤ length sent.old }
     requires room { length out.old.indications + count ≤ 257 }
-    ensures sent { sent.new.items ≡ drop count sent.old.items }
-    ensures out { out.new ≡ joined out.old (record { frames = []; indications = map (λ held. Indication.Confirmed held.request) (take count sent.old.items) }) }
-    ensures capacity { deque_capacity sent.old ≤ deque_capacity sent.new }
+    ensures sent { sent.new ≡ drop count sent.old }
+    ensures out { out.new ≡ joined out.old (record { frames = []; indications = map (λ held. Indication.Confirmed held.request) (take count sent.old) }) }
 {
     for _ in 0..count {
         let Some(first) = sent.pop_front() else {
@@ -52,11 +50,14 @@ pub(crate) fn confirm_front<A: Allocator + Copy + Drop>(
 }
 
 /// Sends the frame of each request again, from the front, under the number that it had.
-pub(crate) fn send_again<A: Allocator + Copy + Drop>(sent: &[Outstanding], out: &mut Output<A>)
+pub(crate) fn send_again<A: Allocator + Copy + Drop>(sent: &SentSlots<A>, out: &mut Draft<A>)
     requires room { length out.old.frames + length sent.now ≤ 256 }
     ensures out { out.new ≡ joined out.old (record { frames = map (λ held. Frame.Ad held.ns held.request held.body) sent.now; indications = [] }) }
 {
-    for held in sent {
+    for place in 0..sent.len() {
+        let Some(held) = sent.get(place) else {
+            unreachable!() // there are so many
+        };
         out.send(Frame::Ad {
             ns: held.ns,
             request: held.request,
@@ -66,11 +67,14 @@ pub(crate) fn send_again<A: Allocator + Copy + Drop>(sent: &[Outstanding], out: 
 }
 
 /// Indicates of each request, from the front, that it is in doubt.
-pub(crate) fn doubt_all<A: Allocator + Copy + Drop>(sent: &[Outstanding], out: &mut Output<A>)
+pub(crate) fn doubt_all<A: Allocator + Copy + Drop>(sent: &SentSlots<A>, out: &mut Draft<A>)
     requires room { length out.old.indications + length sent.now ≤ 257 }
     ensures out { out.new ≡ joined out.old (record { frames = []; indications = map (λ held. Indication.InDoubt held.request) sent.now }) }
 {
-    for held in sent {
+    for position in 0..sent.len() {
+        let Some(held) = sent.get(position) else {
+            unreachable!() // there are so many
+        };
         out.indicate(Indication::InDoubt(held.request));
     }
 }

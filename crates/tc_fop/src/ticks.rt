@@ -6,14 +6,14 @@ ghost use Rattle.tc_fop.specs.Calls.{ticked};
 ghost use Rattle.tc_fop.specs.Standing.{IsFop};
 ghost use Rattle.tc_fop.specs.Views.{Becomes, Carried};
 
-use crate::outputs::Output;
+use crate::outputs::Draft;
 use crate::signals::{AlertKind, FopState};
 use crate::variables::Variables;
 use std::alloc::Allocator;
 
 impl<A: Allocator + Copy + Drop> Variables<A> {
     /// The timer ended, and once more may be counted: P17.
-    fn timer_ended(&mut self, out: &mut Output<A>)
+    fn timer_ended(&mut self, out: &mut Draft<A>)
         requires below { self.old.count < self.old.limit }
         requires start { out.old ≡ nothing }
         ensures machine { Becomes (timer_ended self.old.state) self.old self.new }
@@ -32,7 +32,7 @@ impl<A: Allocator + Copy + Drop> Variables<A> {
     }
 
     /// The timer ended, and nothing more may be counted: P18.
-    fn timer_ended_at_limit(&mut self, out: &mut Output<A>)
+    fn timer_ended_at_limit(&mut self, out: &mut Draft<A>)
         requires start { out.old ≡ nothing }
         ensures machine { Becomes (timer_ended_at_limit self.old.state) self.old self.new }
         ensures out { out.new ≡ output (timer_ended_at_limit self.old.state) self.old }
@@ -48,7 +48,7 @@ impl<A: Allocator + Copy + Drop> Variables<A> {
     }
 
     /// One tick.
-    pub(crate) fn tick(&mut self, out: &mut Output<A>)
+    pub(crate) fn tick(&mut self, out: &mut Draft<A>)
         requires start { out.old ≡ nothing }
         ensures machine { Carried (ticked self.old) self.old self.new out.new }
         ensures fop { IsFop self.new }

@@ -1,32 +1,28 @@
 //! The variables of FOP-1 (CCSDS 232.1-B, 5.1) and the actions on them. A method knows what stands between calls once it
 //! has read a field; some read one for that alone.
-ghost use Rattle.std.specs.Prelude.{◌≡◌, ◌+◌, ◌<◌, ◌≤◌, ◌==◌, nat_lt, [], ◌∷◌, length, map, option_map, true, false, None, Some, IfOk, IfErr, is_some, IsTrue, ◌↔◌, if◌then◌else◌};
+ghost use Rattle.std.specs.Prelude.{◌≡◌, ◌+◌, ◌<◌, ◌≤◌, ◌==◌, nat_lt, [], ◌∷◌, length, map, option_map, true, false, None, Some, IfOk, IfErr, is_some, IsOk, IsTrue, ◌↔◌, if◌then◌else◌};
 ghost use Rattle.std.specs.List.{list_any};
-ghost use Rattle.std.specs.VecDeque.{deque_capacity};
-ghost use Rattle.tc_fop.specs.Machine.{Machine, CancelTimer, InitiateRetransmission, Resend, Transmit, Remove, Alert, StartTimer, LowerTimer, CountOne, SendControl, DropControl, Begin, To, Wait, Initiate, SetVsAlone, SetVsAndNn, SetKTo, SetT1To, SetLimitTo, joined, change, said, transmitted, transmits};
+ghost use Rattle.tc_fop.specs.Machine.{Machine, CancelTimer, InitiateRetransmission, Resend, Transmit, Remove, Alert, StartTimer, LowerTimer, CountOne, SendControl, DropControl, Begin, To, Wait, Initiate, SetVsAlone, SetVsAndNn, SetKTo, SetT1To, SetLimitTo, joined, nothing, is_window_open, change, said, transmitted, transmits};
 ghost use Rattle.tc_fop.specs.Rows.{row_of};
-ghost use Rattle.tc_fop.specs.Calls.{new_machine, is_taking, is_initial};
+ghost use Rattle.tc_fop.specs.Calls.{new_machine, offered, is_taking, is_initial};
 ghost use Rattle.tc_fop.specs.Cells.{look};
 ghost use Rattle.tc_fop.specs.Standing.{IsFop, is_starting, has_control};
 ghost use Rattle.tc_fop.specs.Queued.{held_of, waiting_of};
 ghost use Rattle.tc_fop.specs.Requests.{waiting_requests};
-ghost use Rattle.tc_fop.specs.Views.{Becomes, Fits, view_of};
+ghost use Rattle.tc_fop.specs.Views.{Becomes, Carried, Fits, view_of};
 
-use crate::outputs::Output;
+use crate::outputs::Draft;
 use crate::queues::{Offer, Outstanding, confirm_front, doubt_all, send_again};
 use crate::rows::Row;
 use crate::signals::{AlertKind, FopState, Indication};
+use crate::slots::SentSlots;
 use crate::views::FopView;
 use std::alloc::Allocator;
-use std::collections::VecDeque;
 use std::marker::Model;
 use tc_farm::clcws::Clcw;
 use tc_types::frames::Frame;
 use tc_types::numbers::RequestNumber;
 use tc_types::refusals::Refusal;
-
-/// The most frames that are out: the greatest K.
-const MOST_SENT: usize = 255;
 
 /// The variables of FOP-1. A contract sees the machine that they are. The memory of the Sent_Queue is taken by `new`.
 #[derive(Drop)]
@@ -34,7 +30,7 @@ pub(crate) struct Variables<A: Allocator + Copy + Drop> {
     state: FopState,
     vs: u8,
     nn: u8,
-    sent: VecDeque<Outstanding, A>,
+    sent: SentSlots<A>,
     waiting: Option<Offer>,
     control: Option<Frame>,
     t1: u16,
@@ -51,7 +47,7 @@ impl<A: Allocator + Copy + Drop> Model for Variables<A> {
       state = v.state;
       vs = v.vs;
       nn = v.nn;
-      sent = map held_of v.sent.items;
+      sent = map held_of v.sent;
       waiting = option_map waiting_of v.waiting;
       control = v.control;
       t1 = v.t1;
@@ -65,7 +61,7 @@ impl<A: Allocator + Copy + Drop> Model for Variables<A> {
       state = v.state;
       vs = v.vs;
       nn = v.nn;
-      sent = map held_of v.sent.items;
+      sent = map held_of v.sent;
       waiting = option_map waiting_of v.waiting;
       control = v.control;
       t1 = v.t1;
@@ -73,7 +69,7 @@ impl<A: Allocator + Copy + Drop> Model for Variables<A> {
       limit = v.limit;
       count = v.count;
       k = v.k;
-    }) × (255 ≤ deque_capacity v.sent) };
+    }) };
 }
 
 impl<A: Allocator + Copy + Drop> Variables<A> {
@@ -86,9 +82,7 @@ impl<A: Allocator + Copy + Drop> Variables<A> {
         ensures fop { IfOk result (λ v. IsFop v) }
         ensures err { IfErr result (λ e. e ≡ Refusal.Memory) }
     {
-        let Ok(sent) = VecDeque::with_capacity(alloc, MOST_SENT) else {
-            return Err(Refusal::Memory);
-        };
+        let sent = SentSlots::new(alloc)?;
         Ok(Variables {
             state: FopState::Initial,
             vs: 0,
@@ -144,6 +138,13 @@ impl<A: Allocator + Copy + Drop> Variables<A> {
         self.timer
     }
 
+    /// Whether one more may be transmitted.
+    pub(crate) fn may_transmit(&self) -> bool
+        ensures { result ≡ is_window_open self.now }
+    {
+        self.vs.wrapping_sub(self.nn) < self.k
+    }
+
     /// What a status line prints.
     pub(crate) fn view(&self) -> FopView
         ensures { result ≡ view_of self.now }
@@ -152,7 +153,7 @@ impl<A: Allocator + Copy + Drop> Variables<A> {
             state: self.state,
             vs: self.vs,
             nn: self.nn,
-            sent: self.sent.len() as u8,
+            sent: self.sent.len(),
             waiting: if self.waiting.is_some() { 1 } else { 0 },
             count: self.count,
             timer: self.timer,
@@ -245,7 +246,7 @@ impl<A: Allocator + Copy + Drop> Variables<A> {
 
     /// The acknowledged requests leave the front of the Sent_Queue.
     #[tactic(auto, using(crate::proofs::QueueLemmas::queues))]
-    pub(crate) fn remove(&mut self, acknowledged: u8, out: &mut Output<A>)
+    pub(crate) fn remove(&mut self, acknowledged: u8, out: &mut Draft<A>)
         requires taking { is_taking self.old.state ≡ true }
         requires there { acknowledged ≤ length self.old.sent }
         requires room { length out.old.indications + acknowledged ≤ 257 }
@@ -259,7 +260,7 @@ impl<A: Allocator + Copy + Drop> Variables<A> {
 
     /// Sends all that is out again, counts it, and starts the timer.
     #[tactic(auto, using(crate::proofs::QueueLemmas::queues))]
-    pub(crate) fn retransmit(&mut self, out: &mut Output<A>)
+    pub(crate) fn retransmit(&mut self, out: &mut Draft<A>)
         requires taking { is_taking self.old.state ≡ true }
         requires counted { self.old.count < 255 }
         requires room { length out.old.frames + length self.old.sent ≤ 256 }
@@ -267,16 +268,14 @@ impl<A: Allocator + Copy + Drop> Variables<A> {
         ensures out { out.new ≡ joined out.old (said Resend (change InitiateRetransmission self.old)) }
         ensures frames { length out.new.frames ≡ length out.old.frames + length self.old.sent }
     {
-        let (front, back) = self.sent.as_slices();
-        send_again(front, out);
-        send_again(back, out);
+        send_again(&self.sent, out);
         self.count += 1;
         self.timer = self.t1;
     }
 
     /// The first transmission of a request, under the next number.
     #[tactic(auto, using(crate::proofs::QueueLemmas::queues))]
-    fn send_first(&mut self, offer: &Offer, out: &mut Output<A>)
+    fn send_first(&mut self, offer: &Offer, out: &mut Draft<A>)
         requires taking { is_taking self.old.state ≡ true }
         requires few { length self.old.sent < 255 }
         requires frame { length out.old.frames < 256 }
@@ -289,7 +288,7 @@ impl<A: Allocator + Copy + Drop> Variables<A> {
         if self.sent.is_empty() {
             self.count = 1;
         }
-        self.sent.push_back_reserved(Outstanding {
+        self.sent.push(&Outstanding {
             ns,
             request: offer.request,
             body: offer.body,
@@ -306,7 +305,7 @@ impl<A: Allocator + Copy + Drop> Variables<A> {
     }
 
     /// Transmits the waiting request, if there is one and the window is open.
-    pub(crate) fn transmit(&mut self, out: &mut Output<A>)
+    pub(crate) fn transmit(&mut self, out: &mut Draft<A>)
         requires frame { length out.old.frames < 256 }
         requires indication { length out.old.indications < 257 }
         ensures machine { Becomes (Transmit ∷ []) self.old self.new }
@@ -322,7 +321,7 @@ impl<A: Allocator + Copy + Drop> Variables<A> {
 
     /// Transmits where nothing is to be sent again.
     #[tactic(auto, using(crate::proofs::QueueLemmas::queues))]
-    pub(crate) fn look(&mut self, out: &mut Output<A>)
+    pub(crate) fn look(&mut self, out: &mut Draft<A>)
         requires frame { length out.old.frames < 256 }
         requires indication { length out.old.indications < 257 }
         ensures machine { Becomes look self.old self.new }
@@ -334,14 +333,12 @@ impl<A: Allocator + Copy + Drop> Variables<A> {
 
     /// The service stops: both queues are given back, and the timer and a BC copy go.
     #[tactic(auto, using(crate::proofs::QueueLemmas::queues))]
-    pub(crate) fn alert(&mut self, kind: AlertKind, out: &mut Output<A>)
+    pub(crate) fn alert(&mut self, kind: AlertKind, out: &mut Draft<A>)
         requires room { length out.old.indications + length self.old.sent ≤ 255 }
         ensures machine { Becomes (Alert kind ∷ []) self.old self.new }
         ensures out { out.new ≡ joined out.old (said (Alert kind) self.old) }
     {
-        let (front, back) = self.sent.as_slices();
-        doubt_all(front, out);
-        doubt_all(back, out);
+        doubt_all(&self.sent, out);
         if let Some(offer) = self.waiting.take() {
             out.indicate(Indication::GivenBack(offer.request));
         }
@@ -353,7 +350,7 @@ impl<A: Allocator + Copy + Drop> Variables<A> {
     }
 
     /// The service begins after the check or a BC frame.
-    pub(crate) fn begin(&mut self, out: &mut Output<A>)
+    pub(crate) fn begin(&mut self, out: &mut Draft<A>)
         requires starting { is_starting self.old.state ≡ true }
         requires room { length out.old.indications < 257 }
         ensures machine { Becomes (CancelTimer ∷ DropControl ∷ To FopState.Active ∷ Begin ∷ []) self.old self.new }
@@ -366,7 +363,7 @@ impl<A: Allocator + Copy + Drop> Variables<A> {
     }
 
     /// Sends the BC frame again, counts it, and starts the timer.
-    pub(crate) fn repeat_control(&mut self, out: &mut Output<A>)
+    pub(crate) fn repeat_control(&mut self, out: &mut Draft<A>)
         requires state { has_control self.old.state ≡ true }
         requires counted { self.old.count < 255 }
         requires room { length out.old.frames < 256 }
@@ -389,8 +386,20 @@ impl<A: Allocator + Copy + Drop> Variables<A> {
         self.waiting = Some(offer);
     }
 
+    /// The request waits, and none is transmitted, since the window is closed.
+    #[tactic(auto, using(crate::proofs::QueueLemmas::queues))]
+    pub(crate) fn accept_only(&mut self, offer: Offer)
+        requires taken { IsOk (offered self.old (waiting_of offer)) }
+        requires closed { is_window_open self.old ≡ false }
+        ensures machine { Carried (offered self.old (waiting_of offer)) self.old self.new nothing }
+        ensures fop { IsFop self.new }
+    {
+        let _state = self.state(); // read for what it tells the prover alone
+        self.accept(offer);
+    }
+
     /// The service begins with no check.
-    pub(crate) fn begin_at_once(&mut self, out: &mut Output<A>)
+    pub(crate) fn begin_at_once(&mut self, out: &mut Draft<A>)
         requires initial { is_initial self.old.state ≡ true }
         requires room { length out.old.indications < 257 }
         ensures machine { Becomes (Initiate None ∷ To FopState.Active ∷ Begin ∷ []) self.old self.new }
@@ -414,7 +423,7 @@ impl<A: Allocator + Copy + Drop> Variables<A> {
     }
 
     /// Sends a BC frame, and waits for its acknowledgement before the service begins.
-    pub(crate) fn command(&mut self, frame: &Frame, out: &mut Output<A>)
+    pub(crate) fn command(&mut self, frame: &Frame, out: &mut Draft<A>)
         requires initial { is_initial self.old.state ≡ true }
         requires room { length out.old.frames < 256 }
         ensures machine { Becomes (Initiate (Some frame.now) ∷ SendControl ∷ StartTimer ∷ To FopState.InitialisingWithBc ∷ []) self.old self.new }

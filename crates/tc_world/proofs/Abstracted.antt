@@ -72,9 +72,9 @@ values_are base confirmed (Word word ∷ ds) rs words low high =
 values_are base confirmed (Telemetry telemetry ∷ ds) rs words low high = values_are base confirmed ds rs words low high
 
 -- a session that has started
-pub session_started : (w : Bare) (ns rs : List ℕ) → w.newest.started ≡ true → Distinct w.newest.sent → IsStarted w ns rs
+pub session_started : (bound : ℕ) → (w : Bare) (ns rs : List ℕ) → w.newest.started ≡ true → Distinct w.newest.sent → IsStarted bound w ns rs
     → session_of w ≡ session_with w.newest ns rs
-session_started w ns rs started distinct kept =
+session_started bound w ns rs started distinct kept =
     let log = w.newest in
     let window = kept.window in
     let confirmed = length log.confirmed in
@@ -83,7 +83,7 @@ session_started w ns rs started distinct kept =
     let highs : Each (λ (r : ℕ). r ≤ confirmed + 255) rs = each_map
     (λ (r : ℕ). r ≤ length log.accepted)
     (λ (r : ℕ). r ≤ confirmed + 255) rs
-    (λ r high. omega (arith, high, window.accepted_few, window.sent_few)) window.down_high in
+    (λ r high. omega (arith, high, window.accepted_few, window.sent_few, window.small)) window.down_high in
     let up : ups ≡ ns = positions_are log.base log.sent w.up ns kept.frames distinct in
     let down : downs ≡ rs = values_are log.base confirmed w.down rs kept.words window.down_low highs in
     ap (λ (b : Bool). session_with log (if b then ups else []) (if b then downs else [])) started

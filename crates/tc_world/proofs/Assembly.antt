@@ -1,6 +1,6 @@
 -- One event keeps what stands between events, and is a run of the session that is on or begins another.
-use Rattle.std.proofs.Common.{◌≡◌, ℕ, ◌<◌, Bool, true, false, inl, inr, Option, Some, None, Ok, List, [], ◌∷◌, ◌++◌, refl, sym, ◌∙◌, ap, subst, map}
-use Rattle.std.specs.Prelude.{MatchBool, if◌then◌else◌}
+use Rattle.std.proofs.Common.{◌≡◌, ℕ, ◌<◌, ◌≤◌, arith, Bool, true, false, inl, inr, Option, Some, None, Ok, List, [], ◌∷◌, ◌++◌, refl, sym, ◌∙◌, ap, subst, map}
+use Rattle.std.specs.Prelude.{MatchBool, if◌then◌else◌, ◌/◌}
 use Rattle.std.specs.List.{flat_map}
 use Rattle.std.proofs.lemmas.List.{append-nil}
 use Rattle.tc_types.specs.declared.frames.Frame.{Frame}
@@ -26,13 +26,15 @@ use Rattle.tc_world.specs.Logs.{noted, blank}
 use Rattle.tc_world.specs.Session.{SessionRun, nothing_yet}
 use Rattle.tc_world.specs.Abstraction.{Bare, session_of, report_value}
 use Rattle.tc_world.specs.Window.{Distinct, IsPrefix, IsPrefixed, ArePrefixed, Follows}
-use Rattle.tc_world.specs.Kept.{IsKept, IsSane, AreOwnWords}
-use Rattle.tc_world.specs.World.{Happens, Carries, Begins, IsIdle, Boards, Hears, Descends, Reads, all_sent, is_good_start, clean_after}
+use Rattle.tc_world.specs.Kept.{IsKept, IsSane, IsStarted, AreOwnWords}
+use Rattle.tc_world.specs.Fitting.{IsFitting, half_window}
+use Rattle.tc_world.specs.World.{Happens, unjudged, Carries, Begins, IsIdle, Boards, Hears, Descends, Reads, all_sent, is_good_start, clean_after}
 use Rattle.tc_world.proofs.TableLaws.{Laws}
 use Rattle.tc_world.proofs.Lists.{puts_lose, sublist_trans}
 use Rattle.tc_world.proofs.WordLists.{value_of_word, own_append, own_sub, own_behind}
 use Rattle.tc_world.proofs.Moving.{Moving}
 use Rattle.tc_world.proofs.Stepping.{Steps, moves_on, hears_on, boards_on, releases_on, tells_on, reports_on, loses_on}
+use Rattle.tc_world.proofs.Fits.{boards_open, boards_window}
 use Rattle.tc_world.proofs.Newest.{same_sent, distinct_newest}
 use Rattle.tc_world.proofs.Starting.{Initiating, both_true, good_start}
 use Rattle.tc_world.proofs.Abstracted.{session_started, session_unstarted}
@@ -42,11 +44,27 @@ use Rattle.tc_world.proofs.Requests.{carries_distinct, offered_distinct, begins_
 pub record Goes (w v : Bare) : Type 0 where
   pub kept : IsKept v
   pub follows : v.clean ≡ true → Follows w v
+  pub fits : v.clean ≡ true → IsFitting w → v.fop.k ≤ half_window v → IsFitting v
+
+-- a step keeps the session sane, for each bound that K fits into
+abbrev pub StepsFor : Bare → Bare → Type 0
+StepsFor w v = (bound : ℕ) → bound ≤ 255 → w.fop.k ≤ bound → IsSane bound w → Steps bound w v
+
+-- the width of the FARM's window stays, and Lockout does not come where the session lies in half of it
+pub record StaysOpen (w v : Bare) : Type 0 where
+  pub window : v.farm.window ≡ w.farm.window
+  pub open_farm : IsSane (half_window w) w → w.farm.lockout ≡ false → v.farm.lockout ≡ false
+
+same_farm : (w v : Bare) → v.farm ≡ w.farm → StaysOpen w v
+same_farm w v e = record { window = ap (λ f. f.window) e; open_farm = λ sane l. ap (λ f. f.lockout) e ∙ l }
+
+half_small : (w : Bare) → IsFarm w.farm → half_window w ≤ 255
+half_small w farm = omega (arith, farm.window.2)
 
 -- the session that is on goes on; the rest is as it was
 goes_on : (w v : Bare) → IsKept w → IsFop v.fop → IsFarm v.farm → v.past ≡ w.past → v.clean ≡ w.clean
-    → AreOwnWords v.vc v.down → Distinct (all_sent v ++ waiting_requests v.fop) → (IsSane w → Steps w v) → Goes w v
-goes_on w v kept fop farm past clean words distinct steps = record {
+    → AreOwnWords v.vc v.down → Distinct (all_sent v ++ waiting_requests v.fop) → StaysOpen w v → StepsFor w v → Goes w v
+goes_on w v kept fop farm past clean words distinct stays steps_for = let steps = λ (sane : IsSane 255 w). steps_for 255 (omega arith) kept.fop.k_most sane in record {
   kept = record {
     fop = fop;
     farm = farm;
@@ -56,6 +74,11 @@ goes_on w v kept fop farm past clean words distinct steps = record {
     sane = λ c. (steps (kept.sane (sym clean ∙ c))).sane;
   };
   follows = λ c. inl (past, (steps (kept.sane (sym clean ∙ c))).run);
+  fits = λ c old small. record {
+    k = small;
+    sane = subst (λ (width : ℕ). IsSane (width / 2) v) (sym stays.window) (steps_for (half_window w) (half_small w kept.farm) old.k old.sane).sane;
+    open_farm = stays.open_farm old.sane old.open_farm;
+  };
 }
 
 -- what was carried out, as a call of the FOP
@@ -69,11 +92,12 @@ up_loses w v actions answer h =
     subst (λ l. IsSublist v.up (l ++ (output actions w.fop).frames)) h.readied
     (puts_lose lossy h.ready (output actions w.fop).frames v.up (λ before next item put. put) h.frames)
 
-moving_of : (heard : Option Clcw) (w v : Bare) (actions : List Action) (answer : List Indication) → IsFop w.fop
+pub moving_of : (bound : ℕ) → (heard : Option Clcw) (w v : Bare) (actions : List Action) (answer : List Indication) → IsFop w.fop → w.fop.k ≤ bound
     → Carries lossy actions w v answer → MovesIn w.fop.state heard w.fop v.fop (output actions w.fop)
-    → Moving heard w v (output actions w.fop)
-moving_of heard w v actions answer old_fop h moves = record {
+    → Moving bound heard w v (output actions w.fop)
+moving_of bound heard w v actions answer old_fop fits h moves = record {
   old_fop = old_fop;
+  fits = fits;
   moves = moves;
   up = up_loses w v actions answer h;
   whole = h.whole ∙ ap (λ m. record w { fop = m; up = v.up; newest = noted (output actions w.fop) w.newest }) (sym (ap (λ x. x.fop) h.whole));
@@ -91,12 +115,12 @@ carried w v actions answer requests kept fop farm h moves order fresh =
     subst (λ x. AreOwnWords x.vc x.down) (sym h.whole) kept.words in
     let distinct : Distinct (all_sent v ++ waiting_requests v.fop) =
     carries_distinct w v (output actions w.fop) requests past (ap (λ x. x.newest.sent) h.whole) order fresh in
-    goes_on w v kept fop farm past clean words distinct
-    (λ sane. moves_on w v (output actions w.fop) (distinct_newest w (waiting_requests w.fop) kept.distinct)
-    (distinct_newest v (waiting_requests v.fop) distinct) (moving_of None w v actions answer kept.fop h moves) sane)
+    goes_on w v kept fop farm past clean words distinct (same_farm w v (ap (λ x. x.farm) h.whole))
+    (λ bound fit wide sane. moves_on bound fit w v (output actions w.fop) (distinct_newest w (waiting_requests w.fop) kept.distinct)
+    (distinct_newest v (waiting_requests v.fop) distinct) (moving_of bound None w v actions answer kept.fop wide h moves) sane)
 
 -- nothing is offered
-without_offer : (w : Bare) → Distinct (all_sent w ++ waiting_requests w.fop) → Distinct (all_sent w ++ waiting_requests w.fop ++ [])
+pub without_offer : (w : Bare) → Distinct (all_sent w ++ waiting_requests w.fop) → Distinct (all_sent w ++ waiting_requests w.fop ++ [])
 without_offer w d = subst (λ l. Distinct l) (sym (append-nil (all_sent w ++ waiting_requests w.fop))) d
 
 -- ---- the events, one by one
@@ -136,16 +160,20 @@ boards laws w v room answer kept fop farm h =
     subst (λ l. Distinct (l ++ waiting_requests v.fop)) (sym sent)
     (subst (λ m. Distinct (all_sent w ++ waiting_requests m)) (sym (ap (λ x. x.fop) h.whole)) kept.distinct) in
     goes_on w v kept fop farm past (ap (λ x. x.clean) h.whole) words distinct
-    (λ sane. subst (λ x. Steps w x) (sym h.whole)
-    (boards_on w h.frame room h.taken.0 v.up (distinct_newest w (waiting_requests w.fop) kept.distinct)
+    (record {
+      window = ap (λ x. x.farm.window) h.whole ∙ boards_window w.farm h.frame room;
+      open_farm = λ sane l. ap (λ x. x.farm.lockout) h.whole ∙ boards_open w h.frame room h.taken.0 v.up h.taken.1 kept.farm sane l;
+    })
+    (λ bound fit wide sane. subst (λ x. Steps bound w x) (sym h.whole)
+    (boards_on bound fit w h.frame room h.taken.0 v.up (distinct_newest w (waiting_requests w.fop) kept.distinct)
     (laws.frames w.farm h.frame room kept.farm) h.taken.1 sane))
 
 -- something that leaves the FOP, the FARM and the sessions
 flies : (w v : Bare) (up : List Frame) (down : List Report) → IsKept w → v ≡ record w { up = up; down = down }
-    → AreOwnWords w.vc down → (IsSane w → Steps w (record w { up = up; down = down })) → Goes w v
+    → AreOwnWords w.vc down → StepsFor w (record w { up = up; down = down }) → Goes w v
 flies w v up down kept whole words steps =
     subst (λ x. Goes w x) (sym whole)
-    (goes_on w (record w { up = up; down = down }) kept kept.fop kept.farm refl refl words kept.distinct steps)
+    (goes_on w (record w { up = up; down = down }) kept kept.fop kept.farm refl refl words kept.distinct (record { window = refl; open_farm = λ sane l. l }) steps)
 
 tells : (w v : Bare) (clcw : Clcw) (answer : List Indication) → IsKept w → clcw.vc ≡ w.vc → clcw.report ≡ w.farm.vr
     → Descends lossy (Word (word_of clcw)) w v answer → Goes w v
@@ -157,7 +185,7 @@ tells w v clcw answer kept channel value h =
     own_sub w.vc v.down (w.down ++ Word (word_of clcw) ∷ []) sub
     (own_append w.vc w.down (Word (word_of clcw) ∷ []) kept.words ((clcw, refl, channel, small), tt)) in
     flies w v w.up v.down kept h.whole words
-    (λ sane. tells_on w (word_of clcw) v.down (distinct_newest w (waiting_requests w.fop) kept.distinct)
+    (λ bound fit wide sane. tells_on bound fit w (word_of clcw) v.down (distinct_newest w (waiting_requests w.fop) kept.distinct)
     (value_of_word clcw small ∙ value) sub sane)
 
 reports : (w v : Bare) (telemetry : Packet) (answer : List Indication) → IsKept w → Descends lossy (Telemetry telemetry) w v answer → Goes w v
@@ -168,13 +196,13 @@ reports w v telemetry answer kept h =
     own_sub w.vc v.down (w.down ++ Telemetry telemetry ∷ []) sub
     (own_append w.vc w.down (Telemetry telemetry ∷ []) kept.words tt) in
     flies w v w.up v.down kept h.whole words
-    (λ sane. reports_on w telemetry v.down (distinct_newest w (waiting_requests w.fop) kept.distinct) sub sane)
+    (λ bound fit wide sane. reports_on bound fit w telemetry v.down (distinct_newest w (waiting_requests w.fop) kept.distinct) sub sane)
 
 loses : (w v : Bare) (up : List Frame) (down : List Report) → IsKept w → v ≡ record w { up = up; down = down }
     → IsSublist up w.up → IsSublist down w.down → Goes w v
 loses w v up down kept whole sub_up sub_down =
     flies w v up down kept whole (own_sub w.vc down w.down sub_down kept.words)
-    (λ sane. loses_on w up down (distinct_newest w (waiting_requests w.fop) kept.distinct) sub_up sub_down sane)
+    (λ bound fit wide sane. loses_on bound fit w up down (distinct_newest w (waiting_requests w.fop) kept.distinct) sub_up sub_down sane)
 
 -- nothing happened
 idles : (w v : Bare) (answer : List Indication) → IsKept w → IsIdle lossy lossy w v answer → Goes w v
@@ -187,7 +215,8 @@ releases : (w v : Bare) → IsKept w → IsFarm v.farm → v ≡ record w { farm
 releases w v kept farm whole =
     subst (λ x. Goes w x) (sym whole)
     (goes_on w (record w { farm = released w.farm }) kept kept.fop (subst (λ x. IsFarm x) (ap (λ x. x.farm) whole) farm) refl refl
-    kept.words kept.distinct (λ sane. releases_on w (distinct_newest w (waiting_requests w.fop) kept.distinct) sane))
+    kept.words kept.distinct (record { window = refl; open_farm = λ sane l. l })
+    (λ bound fit wide sane. releases_on bound fit w (distinct_newest w (waiting_requests w.fop) kept.distinct) sane))
 
 -- a control word of the FARM's came down
 hears : Laws → (w v : Bare) (word : ℕ) (lost left : List Report) (heard : Option Clcw) (actions : List Action) (answer : List Indication)
@@ -210,10 +239,10 @@ hears laws w v word lost left heard actions answer kept fop farm down reads give
     let words : AreOwnWords v.vc v.down = subst (λ x. AreOwnWords x.vc x.down) (sym h.whole) own.1 in
     let distinct : Distinct (all_sent v ++ waiting_requests v.fop) =
     carries_distinct w v (output actions w.fop) [] past (ap (λ x. x.newest.sent) h.whole) order (without_offer w kept.distinct) in
-    goes_on w v kept fop farm past (ap (λ x. x.clean) h.whole) words distinct
-    (λ sane. hears_on w v (output actions w.fop) word clcw lost left (distinct_newest w (waiting_requests w.fop) kept.distinct)
+    goes_on w v kept fop farm past (ap (λ x. x.clean) h.whole) words distinct (same_farm w v (ap (λ x. x.farm) h.whole))
+    (λ bound fit wide sane. hears_on bound fit w v (output actions w.fop) word clcw lost left (distinct_newest w (waiting_requests w.fop) kept.distinct)
     (distinct_newest v (waiting_requests v.fop) distinct) small (ap (λ n. report_value n) written ∙ value_of_word clcw small) down
-    (moving_of (Some clcw) before v actions answer kept.fop h moves) sane)
+    (moving_of bound (Some clcw) before v actions answer kept.fop wide h moves) sane)
 
 -- a report of the spacecraft came down
 receives : (w v : Bare) (telemetry : Packet) (lost left : List Report) → IsKept w
@@ -233,7 +262,7 @@ lands laws w v (Telemetry telemetry) lost left answer kept fop farm down (readie
     (whole ∙ ap (λ up. record w { up = up; down = left }) readied)
 
 -- the session that was on is prefixed
-pub newest_prefixed : (w : Bare) → IsSane w → IsPrefixed w.newest
+pub newest_prefixed : (w : Bare) → IsSane 255 w → IsPrefixed w.newest
 newest_prefixed w (inl (started, kept)) = record {
   accepted = subst (λ l. IsPrefix l w.newest.sent) (sym kept.accepted) refl;
   confirmed = subst (λ l. IsPrefix l w.newest.accepted) (sym kept.confirmed) refl;
@@ -245,11 +274,11 @@ none_sent : (out : Out) (begun : Bool) → out.indications ≡ (if begun then si
 none_sent out true e = ap (λ is. flat_map transmitted_by is) e
 none_sent out false e = ap (λ is. flat_map transmitted_by is) e
 
-good_goes : (given : Directive) (w v : Bare) (out : Out) → Distinct v.newest.sent → Initiating given w v out
-    → is_good_start lossy lossy given w ≡ true → IsSane v × SessionRun 255 nothing_yet (session_of v)
-good_goes given w v out distinct initiating good = elim (good_start given w v out initiating good) [
+good_goes : (bound : ℕ) → bound ≤ 255 → (given : Directive) (w v : Bare) (out : Out) → Distinct v.newest.sent → Initiating given w v out
+    → is_good_start lossy lossy given w ≡ true → IsSane bound v × SessionRun bound nothing_yet (session_of v)
+good_goes bound fit given w v out distinct initiating good = elim (good_start bound fit given w v out initiating good) [
   | inl begun ↦ (inl begun, ([], session_unstarted v begun.0 begun.1))
-  | inr begun ↦ (inr ([], [], begun.0, begun.1), ([], session_started v [] [] begun.0 distinct begun.1 ∙ begun.2))
+  | inr begun ↦ (inr ([], [], begun.0, begun.1), ([], session_started bound v [] [] begun.0 distinct begun.1 ∙ begun.2))
 ]
 
 -- an initiation: the session that was on has ended, and another begins
@@ -275,8 +304,8 @@ begins laws w v given actions answer kept fop farm initiation gives h =
           ∙ ap (λ m. record w { fop = m; up = v.up; past = w.past ++ w.newest ∷ []; newest = noted out (blank m.vs); clean = clean_after lossy lossy given w }) (sym fop_is)
           ∙ ap (λ c. record w { fop = v.fop; up = v.up; past = w.past ++ w.newest ∷ []; newest = noted out (blank v.fop.vs); clean = c }) (sym clean);
     } in
-    let good : v.clean ≡ true → IsSane v × SessionRun 255 nothing_yet (session_of v) =
-    λ c. good_goes given w v out (distinct_newest v (waiting_requests v.fop) distinct) initiating
+    let good : (bound : ℕ) → bound ≤ 255 → v.clean ≡ true → IsSane bound v × SessionRun bound nothing_yet (session_of v) =
+    λ bound fit c. good_goes bound fit given w v out (distinct_newest v (waiting_requests v.fop) distinct) initiating
     (both_true w.clean (is_good_start lossy lossy given w) (sym clean ∙ c)).1 in
     record {
       kept = record {
@@ -287,9 +316,14 @@ begins laws w v given actions answer kept fop farm initiation gives h =
         past = λ c.
             let was : w.clean ≡ true = (both_true w.clean (is_good_start lossy lossy given w) (sym clean ∙ c)).0 in
             subst (λ logs. ArePrefixed logs) (sym past) (prefixed_push w.past w.newest (kept.past was) (newest_prefixed w (kept.sane was)));
-        sane = λ c. (good c).0;
+        sane = λ c. (good 255 (omega arith) c).0;
       };
-      follows = λ c. inr (past, (good c).1);
+      follows = λ c. inr (past, (good 255 (omega arith) c).1);
+      fits = λ c old small. record {
+        k = small;
+        sane = (good (half_window v) (half_small v farm) c).0;
+        open_farm = ap (λ x. x.farm.lockout) h.whole ∙ old.open_farm;
+      };
     }
 
 event_goes_directive : Laws → (w v : Bare) (given : Directive) (actions : List Action) (answer : List Indication) (initiation : Bool)
@@ -298,14 +332,58 @@ event_goes_directive : Laws → (w v : Bare) (given : Directive) (actions : List
 event_goes_directive laws w v given actions answer true kept fop farm is gives h = begins laws w v given actions answer kept fop farm is gives h
 event_goes_directive laws w v given actions answer false kept fop farm is gives h = directs laws w v given actions answer kept fop farm is gives h
 
+-- what is known of widths and starts has no part in it
+started_judged : (bound : ℕ) (v : Bare) (fits level : Bool) (ns rs : List ℕ) → IsStarted bound (record v { fits = fits; level = level }) ns rs → IsStarted bound v ns rs
+started_judged bound v fits level ns rs h = record {
+  base = h.base;
+  window = h.window;
+  frames = h.frames;
+  leftover = h.leftover;
+  words = h.words;
+  vr = h.vr;
+  fop = h.fop;
+}
+
+pub sane_judged : (bound : ℕ) (v : Bare) (fits level : Bool) → IsSane bound (record v { fits = fits; level = level }) → IsSane bound v
+sane_judged bound v fits level (inl (started, h)) = inl (
+  started,
+  record {
+    base = h.base;
+    sent = h.sent;
+    accepted = h.accepted;
+    confirmed = h.confirmed;
+    up = h.up;
+    down = h.down;
+    fop = h.fop;
+  },
+)
+sane_judged bound v fits level (inr (ns, rs, started, h)) = inr (ns, rs, started, started_judged bound v fits level ns rs h)
+
+goes_judged : (w v : Bare) → Goes w (unjudged w v) → Goes w v
+goes_judged w v h = record {
+  kept = record {
+    fop = h.kept.fop;
+    farm = h.kept.farm;
+    words = h.kept.words;
+    distinct = h.kept.distinct;
+    past = h.kept.past;
+    sane = λ clean. sane_judged 255 v w.fits w.level (h.kept.sane clean);
+  };
+  follows = h.follows;
+  fits = λ clean old small.
+      let new = h.fits clean old small in
+      record { k = new.k; sane = sane_judged (half_window v) v w.fits w.level new.sane; open_farm = new.open_farm };
+}
+
 -- one event
 pub event_goes : Laws → (given : Event) (w v : Bare) (answer : List Indication) → IsKept w → IsFop v.fop → IsFarm v.farm
     → Happens lossy lossy given w v answer → Goes w v
 event_goes laws (event.Offer request body) w v answer kept fop farm (actions, unknown, gives, h) =
     offers laws w v (record { request = request; body = body }) actions answer kept fop farm gives
     (offered_distinct w request unknown kept.distinct) h
-event_goes laws (event.Directive given) w v answer kept fop farm (actions, gives, h) =
-    event_goes_directive laws w v given actions answer (is_initiation given) kept fop farm refl gives h
+event_goes laws (event.Directive given) w v answer kept fop farm (actions, gives, h, fits, level) =
+    goes_judged w v
+    (event_goes_directive laws w (unjudged w v) given actions answer (is_initiation given) kept fop farm refl gives h)
 event_goes laws event.Tick w v answer kept fop farm (actions, gives, h) = ticks laws w v actions answer kept fop farm gives h
 event_goes laws (event.Uplink room) w v answer kept fop farm (inl (nothing, h)) = idles w v answer kept h
 event_goes laws (event.Uplink room) w v answer kept fop farm (inr h) = boards laws w v room answer kept fop farm h

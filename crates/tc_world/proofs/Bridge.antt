@@ -1,5 +1,5 @@
 -- What happens over links of any kind that keep the laws happens, in what is in flight, over links that only lose.
-use Rattle.std.proofs.Common.{◌≡◌, ℕ, Bool, true, false, inl, inr, List, [], ◌∷◌, ◌++◌, ap}
+use Rattle.std.proofs.Common.{◌≡◌, ℕ, Bool, true, false, inl, inr, List, [], ◌∷◌, ◌++◌, sym, ◌∙◌, ap}
 use Rattle.std.specs.Prelude.{MatchBool}
 use Rattle.tc_types.specs.declared.frames.Frame.{Frame}
 use Rattle.tc_types.specs.declared.reports.Report.{Report}
@@ -11,15 +11,20 @@ use Rattle.tc_world.specs.declared.events.Event.{Event}
 use Rattle.tc_world.specs.declared.events.Event.TheVariants as event
 use Rattle.tc_world.specs.declared.events.Indication.{Indication}
 use Rattle.tc_world.specs.Sublist.{IsSublist}
-use Rattle.tc_world.specs.Links.{Kind, lossy, PutsAll}
+use Rattle.tc_world.specs.Links.{Kind, lossy, PutsAll, IsReadied}
 use Rattle.tc_world.specs.Abstraction.{seen}
-use Rattle.tc_world.specs.World.{Whole, Happens, Carries, Begins, IsIdle, Boards, Lands, Hears, Descends}
+use Rattle.tc_world.specs.World.{Whole, Happens, unjudged, Carries, Begins, IsIdle, Boards, Lands, Hears, Descends}
 
 -- the laws of a carrier, of its kind
 pub record OnlyLoses {C T : Type 0} (kind : Kind C T) : Type 0 where
+  pub room : (link : C) → kind.content (kind.without_room link) ≡ kind.content link
   pub puts : (old new : C) (item : T) → kind.puts old item new → IsSublist (kind.content new) (kind.content old ++ item ∷ [])
   pub takes : (old new : C) (item : T) → kind.takes old item new → (lost : List T) × (kind.content old ≡ lost ++ item ∷ kind.content new)
   pub loses : (old new : C) (place : ℕ) (answer : Bool) → kind.loses old place answer new → IsSublist (kind.content new) (kind.content old)
+
+-- where only room was made, what is in flight stays
+pub readied_content : {C T : Type 0} (kind : Kind C T) → OnlyLoses kind → (old ready : C) → IsReadied kind old ready → kind.content ready ≡ kind.content old
+readied_content kind law old ready same = sym (law.room ready) ∙ ap (λ c. kind.content c) same ∙ law.room old
 
 puts_seen : {C T : Type 0} (kind : Kind C T) → OnlyLoses kind → (old : C) (items : List T) (new : C)
     → PutsAll kind old items new → PutsAll lossy (kind.content old) items (kind.content new)
@@ -32,7 +37,7 @@ carries_seen : {U D : Type 0} (uplink : Kind U Frame) (downlink : Kind D Report)
     → Carries uplink actions old new answer → Carries lossy actions (seen uplink downlink old) (seen uplink downlink new) answer
 carries_seen uplink downlink law actions old new answer h = record {
   ready = uplink.content h.ready;
-  readied = h.readied;
+  readied = readied_content uplink law old.up h.ready h.readied;
   frames = puts_seen uplink law h.ready _ new.up h.frames;
   whole = ap (λ w. seen uplink downlink w) h.whole;
   answered = h.answered;
@@ -44,7 +49,7 @@ begins_seen : {U D : Type 0} (uplink : Kind U Frame) (downlink : Kind D Report) 
     → Begins lossy lossy given actions (seen uplink downlink old) (seen uplink downlink new) answer
 begins_seen uplink downlink law given actions old new answer h = record {
   ready = uplink.content h.ready;
-  readied = h.readied;
+  readied = readied_content uplink law old.up h.ready h.readied;
   frames = puts_seen uplink law h.ready _ new.up h.frames;
   whole = ap (λ w. seen uplink downlink w) h.whole;
   answered = h.answered;
@@ -58,10 +63,15 @@ directs_seen : {U D : Type 0} (uplink : Kind U Frame) (downlink : Kind D Report)
 directs_seen uplink downlink law given actions old new answer true h = begins_seen uplink downlink law given actions old new answer h
 directs_seen uplink downlink law given actions old new answer false h = carries_seen uplink downlink law actions old new answer h
 
-idle_seen : {U D : Type 0} (uplink : Kind U Frame) (downlink : Kind D Report) (old new : Whole U D) (answer : List Indication)
+idle_seen : {U D : Type 0} (uplink : Kind U Frame) (downlink : Kind D Report) → OnlyLoses uplink → OnlyLoses downlink
+    → (old new : Whole U D) (answer : List Indication)
     → IsIdle uplink downlink old new answer → IsIdle lossy lossy (seen uplink downlink old) (seen uplink downlink new) answer
-idle_seen uplink downlink old new answer h = record {
-  same = record { up = h.same.up; down = h.same.down; rest = ap (λ w. seen uplink downlink w) h.same.rest };
+idle_seen uplink downlink ul dl old new answer h = record {
+  same = record {
+    up = readied_content uplink ul old.up new.up h.same.up;
+    down = readied_content downlink dl old.down new.down h.same.down;
+    rest = ap (λ w. seen uplink downlink w) h.same.rest;
+  };
   answered = h.answered;
 }
 
@@ -81,7 +91,7 @@ hears_seen : {U D : Type 0} (uplink : Kind U Frame) (downlink : Kind D Report) �
 hears_seen uplink downlink law (report.Word word) old new answer (heard, actions, rest, reads, gives, carries, answered) =
     (heard, actions, rest, reads, gives, carries_seen uplink downlink law actions old new rest carries, answered)
 hears_seen uplink downlink law (report.Telemetry telemetry) old new answer (readied, whole, answered) =
-    (readied, ap (λ w. seen uplink downlink w) whole, answered)
+    (readied_content uplink law old.up new.up readied, ap (λ w. seen uplink downlink w) whole, answered)
 
 lands_seen : {U D : Type 0} (uplink : Kind U Frame) (downlink : Kind D Report) → OnlyLoses uplink → OnlyLoses downlink
     → (old new : Whole U D) (answer : List Indication)
@@ -98,7 +108,7 @@ descends_seen : {U D : Type 0} (uplink : Kind U Frame) (downlink : Kind D Report
     → Descends downlink item old new answer → Descends lossy item (seen uplink downlink old) (seen uplink downlink new) answer
 descends_seen uplink downlink law item old new answer h = record {
   ready = downlink.content h.ready;
-  readied = h.readied;
+  readied = readied_content downlink law old.down h.ready h.readied;
   put = law.puts h.ready new.down item h.put;
   whole = ap (λ w. seen uplink downlink w) h.whole;
   answered = h.answered;
@@ -111,12 +121,12 @@ pub happens_seen : {U D : Type 0} (uplink : Kind U Frame) (downlink : Kind D Rep
     → Happens lossy lossy given (seen uplink downlink old) (seen uplink downlink new) answer
 happens_seen uplink downlink ul dl (event.Offer request body) old new answer (actions, unknown, gives, h) =
     (actions, unknown, gives, carries_seen uplink downlink ul actions old new answer h)
-happens_seen uplink downlink ul dl (event.Directive given) old new answer (actions, gives, h) =
-    (actions, gives, directs_seen uplink downlink ul given actions old new answer (is_initiation given) h)
+happens_seen uplink downlink ul dl (event.Directive given) old new answer (actions, gives, h, fits, level) =
+    (actions, gives, directs_seen uplink downlink ul given actions old (unjudged old new) answer (is_initiation given) h, fits, level)
 happens_seen uplink downlink ul dl event.Tick old new answer (actions, gives, h) =
     (actions, gives, carries_seen uplink downlink ul actions old new answer h)
 happens_seen uplink downlink ul dl (event.Uplink room) old new answer (inl (nothing, h)) =
-    inl (nothing, idle_seen uplink downlink old new answer h)
+    inl (nothing, idle_seen uplink downlink ul dl old new answer h)
 happens_seen uplink downlink ul dl (event.Uplink room) old new answer (inr h) =
     inr (boards_seen uplink downlink ul room old new answer h)
 happens_seen uplink downlink ul dl (event.LoseUp place) old new answer h = record {
@@ -132,7 +142,7 @@ happens_seen uplink downlink ul dl event.Clcw old new answer (clcw, tells, h) =
 happens_seen uplink downlink ul dl (event.Put telemetry) old new answer h =
     descends_seen uplink downlink dl _ old new answer h
 happens_seen uplink downlink ul dl event.Downlink old new answer (inl (nothing, h)) =
-    inl (nothing, idle_seen uplink downlink old new answer h)
+    inl (nothing, idle_seen uplink downlink ul dl old new answer h)
 happens_seen uplink downlink ul dl event.Downlink old new answer (inr h) =
     inr (lands_seen uplink downlink ul dl old new answer h)
 happens_seen uplink downlink ul dl (event.LoseDown place) old new answer h = record {

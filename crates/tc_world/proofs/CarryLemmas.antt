@@ -9,7 +9,7 @@ use Rattle.tc_farm.specs.declared.clcws.Clcw.{Clcw}
 use Rattle.tc_farm.specs.ControlWord.{IsValid, word_of, without_ignored}
 use Rattle.tc_types.specs.declared.directives.Directive.{Directive}
 use Rattle.tc_fop.specs.Moves.{is_initiation}
-use Rattle.tc_fop.specs.Machine.{Machine, Action, Out, after, output}
+use Rattle.tc_fop.specs.Machine.{Machine, Action, Out, after, output, nothing}
 use Rattle.tc_fop.specs.Calls.{Given, Answers, directed, reported, ticked}
 use Rattle.tc_world.specs.declared.events.Event.TheVariants as event
 use Rattle.tc_world.specs.declared.events.Indication.{Indication}
@@ -17,7 +17,7 @@ use Rattle.tc_world.specs.declared.fop_side.FopSide.{FopSide}
 use Rattle.tc_world.specs.Links.{Kind, PutsAll, IsReadied}
 use Rattle.tc_world.specs.Logs.{Log, noted, blank}
 use Rattle.tc_world.specs.Sides.{Passes}
-use Rattle.tc_world.specs.World.{Whole, Happens, Hears, Carries, Begins, Directs, IsAsBefore, Reads, refusal_in, clean_after, told_by_fop}
+use Rattle.tc_world.specs.World.{Whole, Happens, Hears, Carries, Begins, Directs, IsAsBefore, Reads, refusal_in, clean_after, level_after, is_fitting, is_still_fitting, told_by_fop}
 
 -- what was answered was given: the actions were carried out
 pub answered : (given : Given) (old new : Machine) (out : Out) → Answers given old new (Ok out) → (actions : List Action) × (given ≡ Ok actions) × (new ≡ after actions old) × (out ≡ output actions old)
@@ -93,11 +93,26 @@ hears uplink vc word old new before answer same readied log channel h =
     let reads = subst (λ (c : ℕ). Reads word c h.heard) (sym channel) h.reads in
     (h.heard, done.0, _, reads, done.1, done.2, h.answered)
 
--- where no timer runs a tick changes nothing
+-- where nothing was put out nothing is written down
 started_stays : (before : Bool) → before ≡ (if before then true else false)
 started_stays true = refl
 started_stays false = refl
 
+nothing_noted : (log : Log) → log ≡ noted nothing log
+nothing_noted log = λ i. record log {
+  started = started_stays log.started i;
+  sent = sym (append-nil log.sent) i;
+  confirmed = sym (append-nil log.confirmed) i;
+}
+
+-- the call put nothing out: the machine alone is another
+pub carried_silently : {U D : Type 0} (uplink : Kind U Frame) (old : Whole U D) (given : Given) (fop : Machine) (answer : List Indication)
+    → Answers given old.fop fop (Ok nothing) → answer ≡ []
+    → (actions : List Action) × (given ≡ Ok actions) × Carries uplink actions old (record old { fop = fop }) answer
+carried_silently uplink old given fop answer h silent =
+    carried uplink old given fop nothing old.up old.up old.newest answer h refl refl (nothing_noted old.newest) silent
+
+-- where no timer runs a tick changes nothing
 ticked_none : (m : Machine) → m.timer ≡ 0 → ticked m ≡ Ok []
 ticked_none m none = ap (λ (n : ℕ). ticked (record m { timer = n })) none
 
@@ -110,13 +125,20 @@ ticks_idly uplink downlink w answer none answered = (
     ready = w.up;
     readied = refl;
     frames = refl;
-    whole = λ i. record w {
-      newest = record w.newest {
-        started = started_stays w.newest.started i;
-        sent = sym (append-nil w.newest.sent) i;
-        confirmed = sym (append-nil w.newest.confirmed) i;
-      };
-    };
+    whole = λ i. record w { newest = nothing_noted w.newest i };
     answered = answered;
   },
+)
+
+-- what was carried out, with what is now known of widths and starts
+pub judged : {U D : Type 0} (uplink : Kind U Frame) (downlink : Kind D Report) (given : Directive) (old new : Whole U D) (answer : List Indication) (fits level : Bool)
+    → (actions : List Action) × (directed old.fop given ≡ Ok actions) × Directs uplink downlink given actions old new answer
+    → (new.fits ≡ old.fits) × (new.level ≡ old.level) → fits ≡ is_still_fitting new → level ≡ level_after uplink downlink given old
+    → Happens uplink downlink (event.Directive given) old (record new { fits = fits; level = level }) answer
+judged {U} {D} uplink downlink given old new answer fits level done same fit start = (
+  done.0,
+  done.1,
+  subst (λ (x : Whole U D). Directs uplink downlink given done.0 old x answer) (λ i. record new { fits = same.0 i; level = same.1 i }) done.2,
+  fit ∙ ap (λ (b : Bool). if b then is_fitting new.fop new.farm else false) same.0,
+  start,
 )

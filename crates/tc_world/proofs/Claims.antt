@@ -13,18 +13,21 @@ use Rattle.tc_world.specs.Links.{Kind, lossy}
 use Rattle.tc_world.specs.Abstraction.{Bare, seen}
 use Rattle.tc_world.specs.Window.{Distinct, ArePrefixed, IsClaimed, Follows, FollowsThrough}
 use Rattle.tc_world.specs.Kept.{IsKept}
+use Rattle.std.specs.List.{list_all}
+use Rattle.tc_world.specs.Fitting.{IsFit, IsNarrow}
+use Rattle.tc_world.specs.Fair.{IsFairOn, is_fair}
 use Rattle.tc_world.specs.World.{Whole, Happens, IsAsBefore, IsRefused, all_sent}
-use Rattle.tc_world.proofs.Bridge.{OnlyLoses, happens_seen}
+use Rattle.tc_world.proofs.Bridge.{OnlyLoses, readied_content, happens_seen}
 use Rattle.tc_world.proofs.Requests.{distinct_front, prefixed_push, accepted_distinct}
 use Rattle.tc_world.proofs.Assembly.{newest_prefixed}
 
 -- what was reserved shows in nothing that flies
-pub as_before_seen : {U D : Type 0} (uplink : Kind U Frame) (downlink : Kind D Report) (old new : Whole U D)
-    → IsAsBefore uplink downlink old new → seen uplink downlink new ≡ seen uplink downlink old
-as_before_seen uplink downlink old new h =
+pub as_before_seen : {U D : Type 0} (uplink : Kind U Frame) (downlink : Kind D Report) → OnlyLoses uplink → OnlyLoses downlink
+    → (old new : Whole U D) → IsAsBefore uplink downlink old new → seen uplink downlink new ≡ seen uplink downlink old
+as_before_seen uplink downlink ul dl old new h =
     ap (λ w. seen uplink downlink w) h.rest
-    ∙ ap (λ up. record (seen uplink downlink old) { up = up; down = downlink.content new.down }) h.up
-    ∙ ap (λ down. record (seen uplink downlink old) { down = down }) h.down
+    ∙ ap (λ up. record (seen uplink downlink old) { up = up; down = downlink.content new.down }) (readied_content uplink ul old.up new.up h.up)
+    ∙ ap (λ down. record (seen uplink downlink old) { down = down }) (readied_content downlink dl old.down new.down h.down)
 
 -- the claims
 pub claims : (w : Bare) → IsKept w → w.clean ≡ true → IsClaimed w
@@ -55,7 +58,58 @@ stays uplink downlink ul dl law given old new items (Ok answer) happens refused 
     law given (seen uplink downlink old) (seen uplink downlink new) (items answer) kept fop farm
     (happens_seen uplink downlink ul dl given old new (items answer) happens)
 stays uplink downlink ul dl law given old new items (Err refusal) happens refused fop farm kept =
-    subst (λ w. IsKept w) (sym (as_before_seen uplink downlink old new refused.1)) kept
+    subst (λ w. IsKept w) (sym (as_before_seen uplink downlink ul dl old new refused.1)) kept
+
+-- where the windows fitted they fit after the call
+pub stays_fit : {U D : Type 0} (uplink : Kind U Frame) (downlink : Kind D Report) → OnlyLoses uplink → OnlyLoses downlink
+    → ((given : Event) (w v : Bare) (answer : List Indication) → IsKept w → IsFit w → IsFop v.fop → IsFarm v.farm → Happens lossy lossy given w v answer → IsFit v)
+    → (given : Event) (old new : Whole U D) (result : Result (List Indication) Refusal)
+    → IfOk result (λ (answer : List Indication). Happens uplink downlink given old new answer)
+    → IfErr result (λ (refusal : Refusal). IsRefused given old refusal × IsAsBefore uplink downlink old new)
+    → IsFop new.fop → IsFarm new.farm → IsKept (seen uplink downlink old) → IsFit (seen uplink downlink old) → IsFit (seen uplink downlink new)
+stays_fit uplink downlink ul dl law given old new (Ok answer) happens refused fop farm kept fit =
+    law given (seen uplink downlink old) (seen uplink downlink new) answer kept fit fop farm
+    (happens_seen uplink downlink ul dl given old new answer happens)
+stays_fit uplink downlink ul dl law given old new (Err refusal) happens refused fop farm kept fit =
+    subst (λ w. IsFit w) (sym (as_before_seen uplink downlink ul dl old new refused.1)) fit
+
+-- and K fits
+pub stays_narrow : {U D : Type 0} (uplink : Kind U Frame) (downlink : Kind D Report) → OnlyLoses uplink → OnlyLoses downlink
+    → ((given : Event) (w v : Bare) (answer : List Indication) → IsNarrow w → Happens lossy lossy given w v answer → IsNarrow v)
+    → (given : Event) (old new : Whole U D) (result : Result (List Indication) Refusal)
+    → IfOk result (λ (answer : List Indication). Happens uplink downlink given old new answer)
+    → IfErr result (λ (refusal : Refusal). IsRefused given old refusal × IsAsBefore uplink downlink old new)
+    → IsNarrow (seen uplink downlink old) → IsNarrow (seen uplink downlink new)
+stays_narrow uplink downlink ul dl law given old new (Ok answer) happens refused narrow =
+    law given (seen uplink downlink old) (seen uplink downlink new) answer narrow (happens_seen uplink downlink ul dl given old new answer happens)
+stays_narrow uplink downlink ul dl law given old new (Err refusal) happens refused narrow =
+    subst (λ w. IsNarrow w) (sym (as_before_seen uplink downlink ul dl old new refused.1)) narrow
+
+-- and no other alerts come
+pub stays_fair : {U D : Type 0} (uplink : Kind U Frame) (downlink : Kind D Report) → OnlyLoses uplink → OnlyLoses downlink
+    → ((given : Event) (w v : Bare) (answer : List Indication) → IsKept w → IsFit w → IsFairOn w → IsFop v.fop → IsFarm v.farm → Happens lossy lossy given w v answer → IsFairOn v)
+    → (given : Event) (old new : Whole U D) (result : Result (List Indication) Refusal)
+    → IfOk result (λ (answer : List Indication). Happens uplink downlink given old new answer)
+    → IfErr result (λ (refusal : Refusal). IsRefused given old refusal × IsAsBefore uplink downlink old new)
+    → IsFop new.fop → IsFarm new.farm → IsKept (seen uplink downlink old) → IsFit (seen uplink downlink old) → IsFairOn (seen uplink downlink old)
+    → IsFairOn (seen uplink downlink new)
+stays_fair uplink downlink ul dl law given old new (Ok answer) happens refused fop farm kept fit fair =
+    law given (seen uplink downlink old) (seen uplink downlink new) answer kept fit fair fop farm
+    (happens_seen uplink downlink ul dl given old new answer happens)
+stays_fair uplink downlink ul dl law given old new (Err refusal) happens refused fop farm kept fit fair =
+    subst (λ w. IsFairOn w) (sym (as_before_seen uplink downlink ul dl old new refused.1)) fair
+
+pub tells_fairly : {U D : Type 0} (uplink : Kind U Frame) (downlink : Kind D Report) → OnlyLoses uplink → OnlyLoses downlink
+    → ((given : Event) (w v : Bare) (answer : List Indication) → IsKept w → IsFit w → IsFairOn w → IsFop v.fop → IsFarm v.farm → Happens lossy lossy given w v answer
+    → v.clean ≡ true → v.fits ≡ true → list_all (is_fair w.level w.fop.state) answer ≡ true)
+    → (given : Event) (old new : Whole U D) (result : Result (List Indication) Refusal)
+    → IfOk result (λ (answer : List Indication). Happens uplink downlink given old new answer)
+    → IsFop new.fop → IsFarm new.farm → IsKept (seen uplink downlink old) → IsFit (seen uplink downlink old) → IsFairOn (seen uplink downlink old)
+    → IfOk result (λ (answer : List Indication). new.clean ≡ true → new.fits ≡ true → list_all (is_fair old.level old.fop.state) answer ≡ true)
+tells_fairly uplink downlink ul dl law given old new (Ok answer) happens fop farm kept fit fair = λ clean fits.
+    law given (seen uplink downlink old) (seen uplink downlink new) answer kept fit fair fop farm
+    (happens_seen uplink downlink ul dl given old new answer happens) clean fits
+tells_fairly uplink downlink ul dl law given old new (Err refusal) happens fop farm kept fit fair = tt
 
 -- a call that is not refused is a run of the session that is on, or another begins
 pub follows : {U D X : Type 0} (uplink : Kind U Frame) (downlink : Kind D Report) → OnlyLoses uplink → OnlyLoses downlink

@@ -53,7 +53,7 @@ nothing_in_window = record {
   down_order = tt;
 }
 
-sane_flies : (w : Bare) → Distinct w.newest.sent → IsSane w → FliesInOrder w
+sane_flies : (w : Bare) → Distinct w.newest.sent → IsSane 255 w → FliesInOrder w
 sane_flies w distinct (inl (started, kept)) =
     let is : session_of w ≡ nothing_yet = session_unstarted w started kept in
     record {
@@ -64,7 +64,7 @@ sane_flies w distinct (inl (started, kept)) =
 sane_flies w distinct (inr (ns, rs, started, kept)) = record {
   numbered = frames_numbered w.newest w.up ns distinct kept.frames;
   unstarted = λ e. absurd (let not : true ≡ false = sym started ∙ e in cc);
-  bounds = subst (IsInWindow 255) (sym (session_started w ns rs started distinct kept)) kept.window;
+  bounds = subst (IsInWindow 255) (sym (session_started 255 w ns rs started distinct kept)) kept.window;
 }
 
 pub flies_in_order : (w : Bare) → IsKept w → w.clean ≡ true → FliesInOrder w

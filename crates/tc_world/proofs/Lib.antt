@@ -1,8 +1,14 @@
 pub mod Lists
+pub mod RingLemmas
 pub mod FrameLists
 pub mod WordLists
 pub mod WindowSteps
 pub mod Moving
+pub mod Fits
+pub mod Fitted
+pub mod Marking
+pub mod Fairly
+pub mod FairEvents
 pub mod Sending
 pub mod Distances
 pub mod Putting

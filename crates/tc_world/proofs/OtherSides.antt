@@ -37,9 +37,9 @@ after_frame w frame room rest = record w {
 }
 
 -- a step that loses something in flight
-loses : (log : Log) (ns ms rs qs : List ℕ) → IsSublist ms ns → IsSublist qs rs
-    → SessionStep 255 (session_with log ns rs) (session_with log ms qs)
-loses log ns ms rs qs h k = inr (inr (inr (inr (inr (record { up = h; down = k; whole = refl })))))
+loses : (bound : ℕ) → (log : Log) (ns ms rs qs : List ℕ) → IsSublist ms ns → IsSublist qs rs
+    → SessionStep bound (session_with log ns rs) (session_with log ms qs)
+loses bound log ns ms rs qs h k = inr (inr (inr (inr (inr (record { up = h; down = k; whole = refl })))))
 
 -- what the FOP stands for hangs on neither the accepted nor what is in flight
 fop_stays : (base : ℕ) (log : Log) (accepted ns rs ms qs : List ℕ) (m : Machine)
@@ -99,65 +99,65 @@ same_request n m q r b c e = ap request_of e
 -- ---- a session that has started
 
 -- the world where the FARM has V(R) as before, and of the uplink this is left
-passes_with : (w : Bare) (farm : FarmView) (rest : List Frame) (ns os rs : List ℕ) → IsSublist os ns
+passes_with : (bound : ℕ) → (w : Bare) (farm : FarmView) (rest : List Frame) (ns os rs : List ℕ) → IsSublist os ns
     → AreFrames w.newest.base w.newest.sent rest os → IsLeftover w.newest.base (length w.newest.accepted) rest
-    → farm.vr ≡ (w.newest.base + length w.newest.accepted) % 256 → IsStarted w ns rs
-    → (ms : List ℕ) × IsStarted (record w { farm = farm; up = rest }) ms rs
-    × SessionRun 255 (session_with w.newest ns rs) (session_with w.newest ms rs)
-passes_with w farm rest ns os rs sub frames leftover vr kept =
-    let step = loses w.newest ns os rs rs sub (IsSublist-same rs) in (
+    → farm.vr ≡ (w.newest.base + length w.newest.accepted) % 256 → IsStarted bound w ns rs
+    → (ms : List ℕ) × IsStarted bound (record w { farm = farm; up = rest }) ms rs
+    × SessionRun bound (session_with w.newest ns rs) (session_with w.newest ms rs)
+passes_with bound w farm rest ns os rs sub frames leftover vr kept =
+    let step = loses bound w.newest ns os rs rs sub (IsSublist-same rs) in (
       os,
       record {
         base = kept.base;
-        window = step_keeps_window 255 (session_with w.newest ns rs) (session_with w.newest os rs) step kept.window;
+        window = step_keeps_window bound (session_with w.newest ns rs) (session_with w.newest os rs) step kept.window;
         frames = frames;
         leftover = leftover;
         words = kept.words;
         vr = vr;
         fop = fop_stays w.newest.base w.newest w.newest.accepted ns rs os rs w.fop kept.fop;
       },
-      run_of_step 255 (session_with w.newest ns rs) (session_with w.newest os rs) step,
+      run_of_step bound (session_with w.newest ns rs) (session_with w.newest os rs) step,
     )
 
 -- the same, with nothing added to the log
-passes : (w : Bare) (farm : FarmView) (rest : List Frame) (ns os rs : List ℕ) → IsSublist os ns
+passes : (bound : ℕ) → (w : Bare) (farm : FarmView) (rest : List Frame) (ns os rs : List ℕ) → IsSublist os ns
     → AreFrames w.newest.base w.newest.sent rest os → IsLeftover w.newest.base (length w.newest.accepted) rest
-    → farm.vr ≡ (w.newest.base + length w.newest.accepted) % 256 → IsStarted w ns rs
-    → (ms : List ℕ) × IsStarted (record w { farm = farm; up = rest; newest = record w.newest { accepted = w.newest.accepted ++ [] } }) ms rs
-    × SessionRun 255 (session_with w.newest ns rs) (session_with (record w.newest { accepted = w.newest.accepted ++ [] }) ms rs)
-passes w farm rest ns os rs sub frames leftover vr kept =
+    → farm.vr ≡ (w.newest.base + length w.newest.accepted) % 256 → IsStarted bound w ns rs
+    → (ms : List ℕ) × IsStarted bound (record w { farm = farm; up = rest; newest = record w.newest { accepted = w.newest.accepted ++ [] } }) ms rs
+    × SessionRun bound (session_with w.newest ns rs) (session_with (record w.newest { accepted = w.newest.accepted ++ [] }) ms rs)
+passes bound w farm rest ns os rs sub frames leftover vr kept =
     subst
     (λ (l : List ℕ). (ms : List ℕ)
-    × IsStarted (record w { farm = farm; up = rest; newest = record w.newest { accepted = l } }) ms rs
-    × SessionRun 255 (session_with w.newest ns rs) (session_with (record w.newest { accepted = l }) ms rs))
+    × IsStarted bound (record w { farm = farm; up = rest; newest = record w.newest { accepted = l } }) ms rs
+    × SessionRun bound (session_with w.newest ns rs) (session_with (record w.newest { accepted = l }) ms rs))
     (sym (append-nil w.newest.accepted))
-    (passes_with w farm rest ns os rs sub frames leftover vr kept)
+    (passes_with bound w farm rest ns os rs sub frames leftover vr kept)
 
 -- the next one arrives and is accepted
-accepts : (w : Bare) (farm : FarmView) (request : ℕ) (rest : List Frame) (ns : List ℕ) (n : ℕ) (others rs : List ℕ)
+accepts : (bound : ℕ) → (w : Bare) (farm : FarmView) (request : ℕ) (rest : List Frame) (ns : List ℕ) (n : ℕ) (others rs : List ℕ)
     → IsSublist (n ∷ others) ns → AreFrames w.newest.base w.newest.sent rest others → HasNoSetVr rest
     → (w.newest.base + n) % 256 ≡ w.farm.vr → slice_get w.newest.sent n ≡ Some request → farm.vr ≡ (w.farm.vr + 1) % 256
-    → IsStarted w ns rs
+    → IsStarted bound w ns rs
     → (ms : List ℕ)
-    × IsStarted (record w { farm = farm; up = rest; newest = record w.newest { accepted = w.newest.accepted ++ request ∷ [] } }) ms rs
-    × SessionRun 255 (session_with w.newest ns rs) (session_with (record w.newest { accepted = w.newest.accepted ++ request ∷ [] }) ms rs)
-accepts w farm request rest ns n others rs sub frames none number there next kept =
+    × IsStarted bound (record w { farm = farm; up = rest; newest = record w.newest { accepted = w.newest.accepted ++ request ∷ [] } }) ms rs
+    × SessionRun bound (session_with w.newest ns rs) (session_with (record w.newest { accepted = w.newest.accepted ++ request ∷ [] }) ms rs)
+accepts bound w farm request rest ns n others rs sub frames none number there next kept =
     let log = record w.newest { accepted = w.newest.accepted ++ request ∷ [] } in
     let base = w.newest.base in
     let start = session_with w.newest ns rs in
     let middle = session_with w.newest (n ∷ others) rs in
     let end = session_with log others rs in
-    let first : SessionStep 255 start middle = loses w.newest ns (n ∷ others) rs rs sub (IsSublist-same rs) in
-    let window = step_keeps_window 255 start middle first kept.window in
-    let place = same_position base n (length w.newest.accepted) (number ∙ kept.vr) window.up_low.0
-    (omega (arith, window.up_high.0, window.sent_few, window.confirmed_few)) in
-    let second : SessionStep 255 middle end =
+    let first : SessionStep bound start middle = loses bound w.newest ns (n ∷ others) rs rs sub (IsSublist-same rs) in
+    let window = step_keeps_window bound start middle first kept.window in
+    let place = same_position base n (length w.newest.accepted) (number ∙ kept.vr) (omega (arith, window.up_low.0, window.small))
+    (omega (arith, window.up_high.0, window.sent_few, window.confirmed_few, window.small)) in
+    let second : SessionStep bound middle end =
     inr (inr (inl (record { position = n; rest = others; first = refl; whole = inr (request, place, there, refl) }))) in
     let grown = length-append w.newest.accepted (request ∷ []) in (
       others,
       record {
         base = kept.base;
-        window = step_keeps_window 255 middle end second window;
+        window = step_keeps_window bound middle end second window;
         frames = frames;
         leftover = no_set_vr_leftover base (length log.accepted) rest none;
         words = kept.words;
@@ -168,48 +168,48 @@ accepts w farm request rest ns n others rs sub frames none number there next kep
     )
 
 -- a type-AD frame arrives
-ad_boards : (w : Bare) (number request : ℕ) (body : Payload) (room : Bool) (verdict : Verdict) (farm : FarmView) (rest : List Frame)
+ad_boards : (bound : ℕ) → (w : Bare) (number request : ℕ) (body : Payload) (room : Bool) (verdict : Verdict) (farm : FarmView) (rest : List Frame)
     (ns : List ℕ) (n : ℕ) (others rs : List ℕ)
     → Says verdict w.farm (Ad number request body) room farm
     → IsSublist (n ∷ others) ns → AreFrames w.newest.base w.newest.sent rest others → HasNoSetVr rest
-    → number ≡ (w.newest.base + n) % 256 → slice_get w.newest.sent n ≡ Some request → IsStarted w ns rs
-    → (ms : List ℕ) × IsStarted (record w { farm = farm; up = rest; newest = boarded verdict w.newest }) ms rs
-    × SessionRun 255 (session_with w.newest ns rs) (session_with (boarded verdict w.newest) ms rs)
-ad_boards w number request body room (Accepted other part) farm rest ns n others rs says sub frames none value there kept =
+    → number ≡ (w.newest.base + n) % 256 → slice_get w.newest.sent n ≡ Some request → IsStarted bound w ns rs
+    → (ms : List ℕ) × IsStarted bound (record w { farm = farm; up = rest; newest = boarded verdict w.newest }) ms rs
+    × SessionRun bound (session_with w.newest ns rs) (session_with (boarded verdict w.newest) ms rs)
+ad_boards bound w number request body room (Accepted other part) farm rest ns n others rs says sub frames none value there kept =
     let same = same_number number w.farm.vr request other body part says.expected in
     let asked = same_request number w.farm.vr request other body part says.expected in
-    accepts w farm other rest ns n others rs sub frames none (sym value ∙ same) (there ∙ ap (λ (q : ℕ). Some q) asked) says.next_expected kept
-ad_boards w number request body room Discarded farm rest ns n others rs says sub frames none value there kept =
-    passes w farm rest ns others rs (sublist_trans others (n ∷ others) ns (inl (IsSublist-same others)) sub) frames
+    accepts bound w farm other rest ns n others rs sub frames none (sym value ∙ same) (there ∙ ap (λ (q : ℕ). Some q) asked) says.next_expected kept
+ad_boards bound w number request body room Discarded farm rest ns n others rs says sub frames none value there kept =
+    passes bound w farm rest ns others rs (sublist_trans others (n ∷ others) ns (inl (IsSublist-same others)) sub) frames
     (no_set_vr_leftover w.newest.base (length w.newest.accepted) rest none) (says ∙ kept.vr) kept
-ad_boards w number request body room Control farm rest ns n others rs says sub frames none value there kept = absurd says
+ad_boards bound w number request body room Control farm rest ns n others rs says sub frames none value there kept = absurd says
 
-pub started_boards : (w : Bare) (frame : Frame) (room : Bool) (lost rest : List Frame) (ns rs : List ℕ)
+pub started_boards : (bound : ℕ) → (w : Bare) (frame : Frame) (room : Bool) (lost rest : List Frame) (ns rs : List ℕ)
     → Says (verdict_of w.farm frame room) w.farm frame room (farm_after w.farm frame room)
-    → w.up ≡ lost ++ frame ∷ rest → IsStarted w ns rs
-    → (ms : List ℕ) × IsStarted (after_frame w frame room rest) ms rs
-    × SessionRun 255 (session_with w.newest ns rs) (session_with (after_frame w frame room rest).newest ms rs)
-started_boards w (Ad number request body) room lost rest ns rs says up kept =
+    → w.up ≡ lost ++ frame ∷ rest → IsStarted bound w ns rs
+    → (ms : List ℕ) × IsStarted bound (after_frame w frame room rest) ms rs
+    × SessionRun bound (session_with w.newest ns rs) (session_with (after_frame w frame room rest).newest ms rs)
+started_boards bound w (Ad number request body) room lost rest ns rs says up kept =
     let base = w.newest.base in
     let frame = Ad number request body in
     let b = frames_behind base w.newest.sent lost (frame ∷ rest) ns (subst (λ (l : List Frame). AreFrames base w.newest.sent l ns) up kept.frames) in
     let none = leftover_behind base (length w.newest.accepted) lost (frame ∷ rest)
     (subst (λ (l : List Frame). IsLeftover base (length w.newest.accepted) l) up kept.leftover) in
     let f = b.4 in
-    ad_boards w number request body room (verdict_of w.farm frame room) (farm_after w.farm frame room) rest ns f.0 f.1 rs says
+    ad_boards bound w number request body room (verdict_of w.farm frame room) (farm_after w.farm frame room) rest ns f.0 f.1 rs says
     (left_behind b.0 (f.0 ∷ f.1) ns (b.2 ∙ ap (λ (l : List ℕ). b.0 ++ l) f.2)) f.5 none f.3 f.4 kept
-started_boards w Unlock room lost rest ns rs says up kept =
+started_boards bound w Unlock room lost rest ns rs says up kept =
     let base = w.newest.base in
     let b = frames_behind base w.newest.sent lost (Unlock ∷ rest) ns (subst (λ (l : List Frame). AreFrames base w.newest.sent l ns) up kept.frames) in
     let left = leftover_behind base (length w.newest.accepted) lost (Unlock ∷ rest)
     (subst (λ (l : List Frame). IsLeftover base (length w.newest.accepted) l) up kept.leftover) in
-    passes w (unlocked w.farm) rest ns b.1 rs (left_behind b.0 b.1 ns b.2) b.4 left kept.vr kept
-started_boards w (SetVr v) room lost rest ns rs says up kept =
+    passes bound w (unlocked w.farm) rest ns b.1 rs (left_behind b.0 b.1 ns b.2) b.4 left kept.vr kept
+started_boards bound w (SetVr v) room lost rest ns rs says up kept =
     let base = w.newest.base in
     let b = frames_behind base w.newest.sent lost (SetVr v ∷ rest) ns (subst (λ (l : List Frame). AreFrames base w.newest.sent l ns) up kept.frames) in
     let left = leftover_behind base (length w.newest.accepted) lost (SetVr v ∷ rest)
     (subst (λ (l : List Frame). IsLeftover base (length w.newest.accepted) l) up kept.leftover) in
-    passes w (with_vr v w.farm.state w.farm) rest ns b.1 rs (left_behind b.0 b.1 ns b.2) b.4 left.2
+    passes bound w (with_vr v w.farm.state w.farm) rest ns b.1 rs (left_behind b.0 b.1 ns b.2) b.4 left.2
     (vr_set base (length w.newest.accepted) v w.farm.state w.farm kept.base left.0 left.1 kept.vr) kept
 
 pub unstarted_boards : (w : Bare) (frame : Frame) (room : Bool) (lost rest : List Frame)
@@ -238,8 +238,8 @@ unstarted_boards w (SetVr v) room lost rest up kept =
       fop = kept.fop;
     }
 
-pub started_releases : (w : Bare) (ns rs : List ℕ) → IsStarted w ns rs → IsStarted (record w { farm = released w.farm }) ns rs
-started_releases w ns rs kept =
+pub started_releases : (bound : ℕ) → (w : Bare) (ns rs : List ℕ) → IsStarted bound w ns rs → IsStarted bound (record w { farm = released w.farm }) ns rs
+started_releases bound w ns rs kept =
     record {
       base = kept.base;
       window = kept.window;
@@ -268,14 +268,14 @@ pub unstarted_releases : (w : Bare) → IsUnstarted w → IsUnstarted (record w 
 unstarted_releases w kept = unstarted_flies w (released w.farm) w.up w.down kept.up kept.down kept
 
 -- other things in flight, after a run
-flies : (w : Bare) (up : List Frame) (down : List Report) (ns rs ms qs : List ℕ)
+flies : (bound : ℕ) → (w : Bare) (up : List Frame) (down : List Report) (ns rs ms qs : List ℕ)
     → AreFrames w.newest.base w.newest.sent up ms → IsLeftover w.newest.base (length w.newest.accepted) up
-    → AreWords w.newest.base down qs → SessionRun 255 (session_with w.newest ns rs) (session_with w.newest ms qs) → IsStarted w ns rs
-    → IsStarted (record w { up = up; down = down }) ms qs
-flies w up down ns rs ms qs frames leftover words run kept =
+    → AreWords w.newest.base down qs → SessionRun bound (session_with w.newest ns rs) (session_with w.newest ms qs) → IsStarted bound w ns rs
+    → IsStarted bound (record w { up = up; down = down }) ms qs
+flies bound w up down ns rs ms qs frames leftover words run kept =
     record {
       base = kept.base;
-      window = run_keeps_window 255 (session_with w.newest ns rs) (session_with w.newest ms qs) run kept.window;
+      window = run_keeps_window bound (session_with w.newest ns rs) (session_with w.newest ms qs) run kept.window;
       frames = frames;
       leftover = leftover;
       words = words;
@@ -284,21 +284,21 @@ flies w up down ns rs ms qs frames leftover words run kept =
     }
 
 -- the FARM's control word is put on the downlink
-pub started_tells : (w : Bare) (word : ℕ) (down : List Report) (ns rs : List ℕ) → report_value word ≡ w.farm.vr
-    → IsSublist down (w.down ++ Word word ∷ []) → IsStarted w ns rs
-    → (qs : List ℕ) × IsStarted (record w { down = down }) ns qs
-    × SessionRun 255 (session_with w.newest ns rs) (session_with w.newest ns qs)
-started_tells w word down ns rs value sub kept =
+pub started_tells : (bound : ℕ) → (w : Bare) (word : ℕ) (down : List Report) (ns rs : List ℕ) → report_value word ≡ w.farm.vr
+    → IsSublist down (w.down ++ Word word ∷ []) → IsStarted bound w ns rs
+    → (qs : List ℕ) × IsStarted bound (record w { down = down }) ns qs
+    × SessionRun bound (session_with w.newest ns rs) (session_with w.newest ns qs)
+started_tells bound w word down ns rs value sub kept =
     let accepted = length w.newest.accepted in
     let put = words_append w.newest.base w.down (Word word ∷ []) rs (accepted ∷ []) kept.words (accepted, [], refl, value ∙ kept.vr, refl) in
     let q = words_sub w.newest.base down (w.down ++ Word word ∷ []) (rs ++ accepted ∷ []) sub put in
     let start = session_with w.newest ns rs in
     let middle = session_with w.newest ns (rs ++ accepted ∷ []) in
     let end = session_with w.newest ns q.0 in
-    let told : SessionStep 255 start middle = inr (inr (inr (inl refl))) in
-    let lost : SessionStep 255 middle end = loses w.newest ns ns (rs ++ accepted ∷ []) q.0 (IsSublist-same ns) q.1 in
-    let run : SessionRun 255 start end = (middle ∷ end ∷ [], (told, (lost, refl))) in
-    (q.0, flies w w.up down ns rs ns q.0 kept.frames kept.leftover q.2 run kept, run)
+    let told : SessionStep bound start middle = inr (inr (inr (inl refl))) in
+    let lost : SessionStep bound middle end = loses bound w.newest ns ns (rs ++ accepted ∷ []) q.0 (IsSublist-same ns) q.1 in
+    let run : SessionRun bound start end = (middle ∷ end ∷ [], (told, (lost, refl))) in
+    (q.0, flies bound w w.up down ns rs ns q.0 kept.frames kept.leftover q.2 run kept, run)
 
 pub unstarted_tells : (w : Bare) (word : ℕ) (down : List Report) → report_value word ≡ w.farm.vr
     → IsSublist down (w.down ++ Word word ∷ []) → IsUnstarted w → IsUnstarted (record w { down = down })
@@ -321,16 +321,16 @@ sticks_telemetry base vr telemetry (Word word ∷ xs) a =
 sticks_telemetry base vr telemetry (Telemetry other ∷ xs) a = sticks_telemetry base vr telemetry xs a
 
 -- a report of the spacecraft is put on the downlink
-pub started_reports : (w : Bare) (telemetry : Sent) (down : List Report) (ns rs : List ℕ)
-    → IsSublist down (w.down ++ Telemetry telemetry ∷ []) → IsStarted w ns rs
-    → (qs : List ℕ) × IsStarted (record w { down = down }) ns qs
-    × SessionRun 255 (session_with w.newest ns rs) (session_with w.newest ns qs)
-started_reports w telemetry down ns rs sub kept =
+pub started_reports : (bound : ℕ) → (w : Bare) (telemetry : Sent) (down : List Report) (ns rs : List ℕ)
+    → IsSublist down (w.down ++ Telemetry telemetry ∷ []) → IsStarted bound w ns rs
+    → (qs : List ℕ) × IsStarted bound (record w { down = down }) ns qs
+    × SessionRun bound (session_with w.newest ns rs) (session_with w.newest ns qs)
+started_reports bound w telemetry down ns rs sub kept =
     let put = words_append w.newest.base w.down (Telemetry telemetry ∷ []) rs [] kept.words refl in
     let q = words_sub w.newest.base down (w.down ++ Telemetry telemetry ∷ []) (rs ++ []) sub put in
     let left = subst (λ (l : List ℕ). IsSublist q.0 l) (append-nil rs) q.1 in
-    let run = run_of_step 255 (session_with w.newest ns rs) (session_with w.newest ns q.0) (loses w.newest ns ns rs q.0 (IsSublist-same ns) left) in
-    (q.0, flies w w.up down ns rs ns q.0 kept.frames kept.leftover q.2 run kept, run)
+    let run = run_of_step bound (session_with w.newest ns rs) (session_with w.newest ns q.0) (loses bound w.newest ns ns rs q.0 (IsSublist-same ns) left) in
+    (q.0, flies bound w w.up down ns rs ns q.0 kept.frames kept.leftover q.2 run kept, run)
 
 pub unstarted_reports : (w : Bare) (telemetry : Sent) (down : List Report)
     → IsSublist down (w.down ++ Telemetry telemetry ∷ []) → IsUnstarted w → IsUnstarted (record w { down = down })
@@ -341,16 +341,16 @@ unstarted_reports w telemetry down sub kept =
     kept
 
 -- something in flight is lost
-pub started_loses : (w : Bare) (up : List Frame) (down : List Report) (ns rs : List ℕ)
-    → IsSublist up w.up → IsSublist down w.down → IsStarted w ns rs
-    → (ms qs : List ℕ) × IsStarted (record w { up = up; down = down }) ms qs
-    × SessionRun 255 (session_with w.newest ns rs) (session_with w.newest ms qs)
-started_loses w up down ns rs sub_up sub_down kept =
+pub started_loses : (bound : ℕ) → (w : Bare) (up : List Frame) (down : List Report) (ns rs : List ℕ)
+    → IsSublist up w.up → IsSublist down w.down → IsStarted bound w ns rs
+    → (ms qs : List ℕ) × IsStarted bound (record w { up = up; down = down }) ms qs
+    × SessionRun bound (session_with w.newest ns rs) (session_with w.newest ms qs)
+started_loses bound w up down ns rs sub_up sub_down kept =
     let m = frames_sub w.newest.base w.newest.sent up w.up ns sub_up kept.frames in
     let q = words_sub w.newest.base down w.down rs sub_down kept.words in
     let leftover = leftover_sub w.newest.base (length w.newest.accepted) up w.up sub_up kept.leftover in
-    let run = run_of_step 255 (session_with w.newest ns rs) (session_with w.newest m.0 q.0) (loses w.newest ns m.0 rs q.0 m.1 q.1) in
-    (m.0, q.0, flies w up down ns rs m.0 q.0 m.2 leftover q.2 run kept, run)
+    let run = run_of_step bound (session_with w.newest ns rs) (session_with w.newest m.0 q.0) (loses bound w.newest ns m.0 rs q.0 m.1 q.1) in
+    (m.0, q.0, flies bound w up down ns rs m.0 q.0 m.2 leftover q.2 run kept, run)
 
 pub unstarted_loses : (w : Bare) (up : List Frame) (down : List Report)
     → IsSublist up w.up → IsSublist down w.down → IsUnstarted w → IsUnstarted (record w { up = up; down = down })
@@ -359,12 +359,12 @@ unstarted_loses w up down sub_up sub_down kept =
     (sticks_sub w.newest.base w.farm.vr down w.down sub_down kept.down) kept
 
 -- the first of the downlink is taken, and others before it are lost: a control word flew for some r
-pub started_word_taken : (w : Bare) (word : ℕ) (lost rest : List Report) (ns rs : List ℕ)
-    → w.down ≡ lost ++ Word word ∷ rest → IsStarted w ns rs
+pub started_word_taken : (bound : ℕ) → (w : Bare) (word : ℕ) (lost rest : List Report) (ns rs : List ℕ)
+    → w.down ≡ lost ++ Word word ∷ rest → IsStarted bound w ns rs
     → (r : ℕ) × (qs : List ℕ) × (report_value word ≡ (w.newest.base + r) % 256)
-    × IsInWindow 255 (session_with w.newest ns (r ∷ qs)) × IsStarted (record w { down = rest }) ns qs
-    × SessionRun 255 (session_with w.newest ns rs) (session_with w.newest ns (r ∷ qs))
-started_word_taken w word lost rest ns rs down kept =
+    × IsInWindow bound (session_with w.newest ns (r ∷ qs)) × IsStarted bound (record w { down = rest }) ns qs
+    × SessionRun bound (session_with w.newest ns rs) (session_with w.newest ns (r ∷ qs))
+started_word_taken bound w word lost rest ns rs down kept =
     let base = w.newest.base in
     let b = words_behind base lost (Word word ∷ rest) rs (subst (λ (l : List Report). AreWords base l rs) down kept.words) in
     let f = b.4 in
@@ -372,15 +372,15 @@ started_word_taken w word lost rest ns rs down kept =
     let start = session_with w.newest ns rs in
     let middle = session_with w.newest ns (f.0 ∷ f.1) in
     let end = session_with w.newest ns f.1 in
-    let first = loses w.newest ns ns rs (f.0 ∷ f.1) (IsSublist-same ns) behind in
-    let second = loses w.newest ns ns (f.0 ∷ f.1) f.1 (IsSublist-same ns) (inl (IsSublist-same f.1)) in
-    let run : SessionRun 255 start end = (middle ∷ end ∷ [], (first, (second, refl))) in (
+    let first = loses bound w.newest ns ns rs (f.0 ∷ f.1) (IsSublist-same ns) behind in
+    let second = loses bound w.newest ns ns (f.0 ∷ f.1) f.1 (IsSublist-same ns) (inl (IsSublist-same f.1)) in
+    let run : SessionRun bound start end = (middle ∷ end ∷ [], (first, (second, refl))) in (
       f.0,
       f.1,
       f.3,
-      step_keeps_window 255 start middle first kept.window,
-      flies w w.up rest ns rs ns f.1 kept.frames kept.leftover f.4 run kept,
-      run_of_step 255 start middle first,
+      step_keeps_window bound start middle first kept.window,
+      flies bound w w.up rest ns rs ns f.1 kept.frames kept.leftover f.4 run kept,
+      run_of_step bound start middle first,
     )
 
 pub unstarted_word_taken : (w : Bare) (word : ℕ) (lost rest : List Report)

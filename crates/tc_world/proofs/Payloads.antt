@@ -23,7 +23,7 @@ use Rattle.tc_world.specs.Sublist.{IsSublist, IsSublist-same, IsSublist-behind}
 use Rattle.tc_world.specs.Links.{lossy, PutsAll, IsReadied}
 use Rattle.tc_world.specs.Logs.{Log}
 use Rattle.tc_world.specs.Abstraction.{Bare}
-use Rattle.tc_world.specs.World.{Happens, Carries, Begins, Boards, Hears, all_sent, told_of_loss}
+use Rattle.tc_world.specs.World.{unjudged, Happens, Carries, Begins, Boards, Hears, all_sent, told_of_loss}
 use Rattle.tc_world.specs.Payloads.{IsOneOf, CarriesOf, AreCarried, IsOfferOf, IsToldOf}
 use Rattle.tc_world.proofs.Lists.{puts_lose}
 use Rattle.tc_world.proofs.AllLists.{all_sub, all_append, all_behind, all_follow}
@@ -223,8 +223,9 @@ payloads_kept P (event.Offer request body) w v answer carried own (actions, unkn
     carries_kept P w v actions answer
     (brought P (offered w.fop (record { request = request; body = body })) actions gives (offers_bring P w.fop (record { request = request; body = body }) own))
     carried h
-payloads_kept P (event.Directive given) w v answer carried own (actions, gives, h) =
-    directs_kept P w v given actions answer (is_initiation given) (brought P (directed w.fop given) actions gives (directives_bring P w.fop given)) carried h
+payloads_kept P (event.Directive given) w v answer carried own (actions, gives, h, fits, level) =
+    let kept = directs_kept P w (unjudged w v) given actions answer (is_initiation given) (brought P (directed w.fop given) actions gives (directives_bring P w.fop given)) carried h in
+    (record { waiting = kept.0.waiting; held = kept.0.held; control = kept.0.control; up = kept.0.up }, kept.1)
 payloads_kept P event.Tick w v answer carried own (actions, gives, h) =
     carries_kept P w v actions answer (brought P (ticked w.fop) actions gives (ticks_bring P w.fop)) carried h
 payloads_kept P (event.Uplink room) w v answer carried own (inl (nothing, h)) =

@@ -23,10 +23,10 @@ session_after log out ns rs = session_with (record log { confirmed = log.confirm
 
 -- The frames that are put out fly for these positions, by a run of the session; none is a Set V(R); the service stands
 -- for the session after it, or has stopped.
-pub record Putting (base : ℕ) (s : Session) (new : Machine) (out : Out) : Type 0 where
+pub record Putting (bound : ℕ) (base : ℕ) (s : Session) (new : Machine) (out : Out) : Type 0 where
   pub ps : List ℕ
   pub frames : AreFrames base (s.sent ++ transmitted_in out) out.frames ps
-  pub run : SessionRun 255 s (record s { sent = s.sent ++ transmitted_in out; up = s.up ++ ps })
+  pub run : SessionRun bound s (record s { sent = s.sent ++ transmitted_in out; up = s.up ++ ps })
   pub plain : HasNoSetVr out.frames
   pub fop : (up : List ℕ) → ((is_taking new.state ≡ true) × Stands base (record s { sent = s.sent ++ transmitted_in out; up = up }) new) ⊎ (new.state ≡ Initial)
 
@@ -91,10 +91,10 @@ goes_standing base log ns rs up old new out confirmed fresh stands within many t
     }
 
 -- S1 to S3
-pub advance_puts : (base : ℕ) (log : Log) (ns rs : List ℕ) (acknowledged : ℕ) (old new : Machine) (out : Out) → IsFop old
-    → Stands base (session_with log ns rs) old → IsInWindow 255 (session_with log ns rs) → Advances acknowledged old new out
-    → Putting base (session_after log out ns rs) new out
-advance_puts base log ns rs acknowledged old new out is_fop stands window a =
+pub advance_puts : (bound : ℕ) → (base : ℕ) (log : Log) (ns rs : List ℕ) (acknowledged : ℕ) (old new : Machine) (out : Out) → IsFop old → old.k ≤ bound
+    → Stands base (session_with log ns rs) old → IsInWindow bound (session_with log ns rs) → Advances acknowledged old new out
+    → Putting bound base (session_after log out ns rs) new out
+advance_puts bound base log ns rs acknowledged old new out is_fop fits stands window a =
     let s = session_after log out ns rs in
     let size = out_count base log ns rs old stands in
     let some = a.few in
@@ -117,16 +117,16 @@ advance_puts base log ns rs acknowledged old new out is_fop stands window a =
     omega (arith, known, nn, many)
     in
     let left = length-drop a.confirmed old.sent in
-    let room : is_some a.fresh ≡ true → length log.sent < length s.confirmed + 255 =
-    λ t. let few_left = a.few_out t in omega (arith, few_left, left, size, many, within)
+    let room : is_some a.fresh ≡ true → length log.sent < length s.confirmed + bound =
+    λ t. let few_left = a.few_out t in omega (arith, few_left, left, size, many, within, fits)
     in
-    let flies = all_fly base s a.again queue old.vs a.fresh numbers rest few stands.vs room in
+    let flies = all_fly bound base s a.again queue old.vs a.fresh numbers rest few stands.vs room in
     let sent = log.sent ++ requests_of a.fresh in
     record {
       ps = flies.0;
       frames = subst (λ (l : List ℕ). AreFrames base (log.sent ++ l) out.frames flies.0) (sym a.transmits)
           (subst (λ (fs : List Frame). AreFrames base sent fs flies.0) (sym a.frames) flies.1);
-      run = subst (λ (l : List ℕ). SessionRun 255 s (record s { sent = log.sent ++ l; up = ns ++ flies.0 })) (sym a.transmits) flies.2;
+      run = subst (λ (l : List ℕ). SessionRun bound s (record s { sent = log.sent ++ l; up = ns ++ flies.0 })) (sym a.transmits) flies.2;
       plain = subst (λ (fs : List Frame). HasNoSetVr fs) (sym a.frames) (all_plain a.again queue old.vs a.fresh);
       fop = λ up. ⊎_elim
           (λ t. inl (t, goes_standing base log ns rs up old new out a.confirmed a.fresh stands within many a.transmits (a.goes_on t)))
@@ -135,11 +135,11 @@ advance_puts base log ns rs acknowledged old new out is_fop stands window a =
     }
 
 -- S6
-pub rest_puts : (base : ℕ) (log : Log) (ns rs : List ℕ) (old new : Machine) (out : Out) → Rests old new out
-    → Putting base (session_after log out ns rs) new out
-rest_puts base log ns rs old new out rests =
+pub rest_puts : (bound : ℕ) → (base : ℕ) (log : Log) (ns rs : List ℕ) (old new : Machine) (out : Out) → Rests old new out
+    → Putting bound base (session_after log out ns rs) new out
+rest_puts bound base log ns rs old new out rests =
     let s = session_after log nothing ns rs in
-    let silent : Putting base s new nothing = record {
+    let silent : Putting bound base s new nothing = record {
       ps = [];
       frames = refl;
       run = ([], λ i. record s { sent = append-nil s.sent i; up = append-nil s.up i });
@@ -147,4 +147,4 @@ rest_puts base log ns rs old new out rests =
       fop = λ up. inr rests.state;
     }
     in
-    subst (λ (o : Out). Putting base (session_after log o ns rs) new o) (sym rests.silent) silent
+    subst (λ (o : Out). Putting bound base (session_after log o ns rs) new o) (sym rests.silent) silent

@@ -58,72 +58,72 @@ queue_flies base sent n (held ∷ queue) numbers e =
     )
 
 -- one after the other is sent again
-runs_again : (s : Session) (n k : ℕ) (up : List ℕ) → length s.confirmed ≤ n → n + k ≤ length s.sent
-    → up ≡ s.up ++ positions_from n k → SessionRun 255 s (record s { up = up })
-runs_again s n zero up low high e = ([], ap (λ (l : List ℕ). let t : Session = record s { up = l } in t) (e ∙ append-nil s.up))
-runs_again s n (suc k) up low high e =
+runs_again : (bound : ℕ) → (s : Session) (n k : ℕ) (up : List ℕ) → length s.confirmed ≤ n → n + k ≤ length s.sent
+    → up ≡ s.up ++ positions_from n k → SessionRun bound s (record s { up = up })
+runs_again bound s n zero up low high e = ([], ap (λ (l : List ℕ). let t : Session = record s { up = l } in t) (e ∙ append-nil s.up))
+runs_again bound s n (suc k) up low high e =
     let next : Session = record s { up = s.up ++ n ∷ [] } in
-    runs_on 255 s next (record s { up = up })
-    (run_of_step 255 s next (inr (inl (record { position = n; low = low; high = omega (arith, high); whole = refl }))))
-    (runs_again next (suc n) k up (omega (arith, low)) (omega (arith, high))
+    runs_on bound s next (record s { up = up })
+    (run_of_step bound s next (inr (inl (record { position = n; low = low; high = omega (arith, high); whole = refl }))))
+    (runs_again bound next (suc n) k up (omega (arith, low)) (omega (arith, high))
     (e ∙ sym (append_assoc s.up (n ∷ []) (positions_from (suc n) k))))
 
 -- the queue of what is not confirmed is sent again, or not
-again_flies : (base : ℕ) (s : Session) (again : Bool) (queue : List Held)
+again_flies : (bound : ℕ) → (base : ℕ) (s : Session) (again : Bool) (queue : List Held)
     → ((i : ℕ) (held : Held) → slice_get queue i ≡ Some held → held.ns ≡ (base + (length s.confirmed + i)) % 256)
     → map request_of queue ≡ drop (length s.confirmed) s.sent → length s.confirmed ≤ length s.sent
-    → (ps : List ℕ) × AreFrames base s.sent (frames_again again queue) ps × SessionRun 255 s (record s { up = s.up ++ ps })
-again_flies base s true queue numbers e few =
+    → (ps : List ℕ) × AreFrames base s.sent (frames_again again queue) ps × SessionRun bound s (record s { up = s.up ++ ps })
+again_flies bound base s true queue numbers e few =
     let size : length queue ≡ length s.sent - length s.confirmed =
     sym (length-map queue request_of) ∙ ap length e ∙ length-drop (length s.confirmed) s.sent
     in
     let ps = positions_from (length s.confirmed) (length queue) in (
       ps,
       queue_flies base s.sent (length s.confirmed) queue numbers e,
-      runs_again s (length s.confirmed) (length queue) (s.up ++ ps)
+      runs_again bound s (length s.confirmed) (length queue) (s.up ++ ps)
           (omega arith)
           (omega (arith, size, few))
           refl,
     )
-again_flies base s false queue numbers e few =
-    ([], refl, runs_again s (length s.sent) 0 (s.up ++ []) few (omega arith) refl)
+again_flies bound base s false queue numbers e few =
+    ([], refl, runs_again bound s (length s.sent) 0 (s.up ++ []) few (omega arith) refl)
 
 -- one is sent for the first time, or none
-fresh_flies : (base : ℕ) (s : Session) (vs : ℕ) (fresh : Option Waiting) → vs ≡ (base + length s.sent) % 256
-    → (is_some fresh ≡ true → length s.sent < length s.confirmed + 255)
+fresh_flies : (bound : ℕ) → (base : ℕ) (s : Session) (vs : ℕ) (fresh : Option Waiting) → vs ≡ (base + length s.sent) % 256
+    → (is_some fresh ≡ true → length s.sent < length s.confirmed + bound)
     → (ps : List ℕ) × AreFrames base (s.sent ++ requests_of fresh) (map (first_frame vs) (option_list fresh)) ps
-    × SessionRun 255 s (record s { sent = s.sent ++ requests_of fresh; up = s.up ++ ps })
-fresh_flies base s vs None e room =
+    × SessionRun bound s (record s { sent = s.sent ++ requests_of fresh; up = s.up ++ ps })
+fresh_flies bound base s vs None e room =
     ([], refl, ([], λ i. record s { sent = append-nil s.sent i; up = append-nil s.up i }))
-fresh_flies base s vs (Some w) e room =
+fresh_flies bound base s vs (Some w) e room =
     let next : Session = record s { sent = s.sent ++ w.request ∷ []; up = s.up ++ length s.sent ∷ [] } in (
       length s.sent ∷ [],
       (length s.sent, [], refl, e, last_stands s.sent w.request, refl),
-      run_of_step 255 s next
+      run_of_step bound s next
           (inl (record { request = w.request; room = room refl; whole = refl })),
     )
 
 -- both, one after the other
-pub all_fly : (base : ℕ) (s : Session) (again : Bool) (queue : List Held) (vs : ℕ) (fresh : Option Waiting)
+pub all_fly : (bound : ℕ) → (base : ℕ) (s : Session) (again : Bool) (queue : List Held) (vs : ℕ) (fresh : Option Waiting)
     → ((i : ℕ) (held : Held) → slice_get queue i ≡ Some held → held.ns ≡ (base + (length s.confirmed + i)) % 256)
     → map request_of queue ≡ drop (length s.confirmed) s.sent → length s.confirmed ≤ length s.sent
-    → vs ≡ (base + length s.sent) % 256 → (is_some fresh ≡ true → length s.sent < length s.confirmed + 255)
+    → vs ≡ (base + length s.sent) % 256 → (is_some fresh ≡ true → length s.sent < length s.confirmed + bound)
     → (ps : List ℕ)
     × AreFrames base (s.sent ++ requests_of fresh) (frames_again again queue ++ map (first_frame vs) (option_list fresh)) ps
-    × SessionRun 255 s (record s { sent = s.sent ++ requests_of fresh; up = s.up ++ ps })
-all_fly base s again queue vs fresh numbers e few next room =
-    let old = again_flies base s again queue numbers e few in
+    × SessionRun bound s (record s { sent = s.sent ++ requests_of fresh; up = s.up ++ ps })
+all_fly bound base s again queue vs fresh numbers e few next room =
+    let old = again_flies bound base s again queue numbers e few in
     let mid : Session = record s { up = s.up ++ old.0 } in
-    let new = fresh_flies base mid vs fresh next room in
+    let new = fresh_flies bound base mid vs fresh next room in
     let sent = s.sent ++ requests_of fresh in
-    let last : SessionRun 255 s (record s { sent = sent; up = (s.up ++ old.0) ++ new.0 }) =
-    runs_on 255 s mid (record s { sent = sent; up = (s.up ++ old.0) ++ new.0 }) old.2 new.2
+    let last : SessionRun bound s (record s { sent = sent; up = (s.up ++ old.0) ++ new.0 }) =
+    runs_on bound s mid (record s { sent = sent; up = (s.up ++ old.0) ++ new.0 }) old.2 new.2
     in (
       old.0 ++ new.0,
       frames_append base sent (frames_again again queue) (map (first_frame vs) (option_list fresh)) old.0 new.0
           (frames_grow base s.sent (requests_of fresh) (frames_again again queue) old.0 old.1)
           new.1,
-      subst (λ (up : List ℕ). SessionRun 255 s (record s { sent = sent; up = up })) (append_assoc s.up old.0 new.0) last,
+      subst (λ (up : List ℕ). SessionRun bound s (record s { sent = sent; up = up })) (append_assoc s.up old.0 new.0) last,
     )
 
 plain_queue : (queue : List Held) → HasNoSetVr (map frame_of queue)

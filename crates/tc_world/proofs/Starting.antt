@@ -90,9 +90,9 @@ zeros_rise (r ∷ rs) e =
     (each_map (λ (q : ℕ). q ≡ 0) (λ (q : ℕ). r ≤ q) rs (λ q z. omega (arith, e.0, z)) e.1, zeros_rise rs e.1)
 
 -- nothing was sent, and reports of 0 are in flight: the window is kept
-zeros_window : (base : ℕ) (rs : List ℕ) → Each (λ (r : ℕ). r ≡ 0) rs → IsInWindow 255 (session_with (begun base) [] rs)
-zeros_window base rs zeros = record {
-  small = omega arith;
+zeros_window : (bound : ℕ) → bound ≤ 255 → (base : ℕ) (rs : List ℕ) → Each (λ (r : ℕ). r ≡ 0) rs → IsInWindow bound (session_with (begun base) [] rs)
+zeros_window bound fit base rs zeros = record {
+  small = fit;
   accepted = refl;
   confirmed = refl;
   confirmed_few = omega arith;
@@ -107,28 +107,28 @@ zeros_window base rs zeros = record {
 }
 
 -- where nothing was accepted, each 0 is one report
-zeros_run : (base : ℕ) (front rs : List ℕ) → Each (λ (r : ℕ). r ≡ 0) rs
-    → SessionRun 255 (session_with (begun base) [] front) (session_with (begun base) [] (front ++ rs))
-zeros_run base front [] zeros = ([], ap (λ (l : List ℕ). session_with (begun base) [] l) (append-nil front))
-zeros_run base front (r ∷ rs) zeros =
+zeros_run : (bound : ℕ) → (base : ℕ) (front rs : List ℕ) → Each (λ (r : ℕ). r ≡ 0) rs
+    → SessionRun bound (session_with (begun base) [] front) (session_with (begun base) [] (front ++ rs))
+zeros_run bound base front [] zeros = ([], ap (λ (l : List ℕ). session_with (begun base) [] l) (append-nil front))
+zeros_run bound base front (r ∷ rs) zeros =
     let next = session_with (begun base) [] (front ++ 0 ∷ []) in
-    let more = zeros_run base (front ++ 0 ∷ []) rs zeros.1 in
+    let more = zeros_run bound base (front ++ 0 ∷ []) rs zeros.1 in
     let same : front ++ r ∷ rs ≡ (front ++ 0 ∷ []) ++ rs =
     ap (λ (x : ℕ). front ++ x ∷ rs) zeros.0 ∙ sym (append_assoc front (0 ∷ []) rs) in
-    subst (λ (l : List ℕ). SessionRun 255 (session_with (begun base) [] front) (session_with (begun base) [] l))
+    subst (λ (l : List ℕ). SessionRun bound (session_with (begun base) [] front) (session_with (begun base) [] l))
     (sym same)
     (next ∷ more.0, (inr (inr (inr (inl refl))), more.1))
 
 -- a session that has started with nothing sent, while each word in flight reports the base
-started_at : (w : Bare) (base : ℕ) (rs : List ℕ) → w.newest ≡ begun base → base < 256 → AreControls base w.up
+started_at : (bound : ℕ) → bound ≤ 255 → (w : Bare) (base : ℕ) (rs : List ℕ) → w.newest ≡ begun base → base < 256 → AreControls base w.up
     → Each (λ (r : ℕ). r ≡ 0) rs → AreWords base w.down rs → w.farm.vr ≡ base
-    → is_taking w.fop.state ≡ true → w.fop.vs ≡ base → w.fop.nn ≡ base → w.fop.sent ≡ [] → IsStarted w [] rs
-started_at w base rs newest small up zeros words vr taking vs nn sent =
+    → is_taking w.fop.state ≡ true → w.fop.vs ≡ base → w.fop.nn ≡ base → w.fop.sent ≡ [] → IsStarted bound w [] rs
+started_at bound fit w base rs newest small up zeros words vr taking vs nn sent =
     let moved : (P : Log → Type 0) → P (begun base) → P w.newest = λ P x. subst P (sym newest) x in
     let level : base ≡ (base + 0) % 256 = omega (arith, small) in
     record {
       base = moved (λ (n : Log). n.base < 256) small;
-      window = moved (λ (n : Log). IsInWindow 255 (session_with n [] rs)) (zeros_window base rs zeros);
+      window = moved (λ (n : Log). IsInWindow bound (session_with n [] rs)) (zeros_window bound fit base rs zeros);
       frames = moved (λ (n : Log). AreFrames n.base n.sent w.up []) (frames_controls base [] w.up up);
       leftover = moved (λ (n : Log). IsLeftover n.base (length n.accepted) w.up) (controls_leftover base w.up up);
       words = moved (λ (n : Log). AreWords n.base w.down rs) words;
@@ -147,11 +147,11 @@ started_at w base rs newest small up zeros words vr taking vs nn sent =
 -- ---- a call
 
 -- a session that has not started, or one that has, in which each control word in flight flies for 0
-abbrev pub IsBegun : Bare → Type 0
-IsBegun v =
+abbrev pub IsBegun : ℕ → Bare → Type 0
+IsBegun bound v =
     ((v.newest.started ≡ false) × IsUnstarted v)
-    ⊎ ((rs : List ℕ) × (v.newest.started ≡ true) × IsStarted v [] rs
-    × SessionRun 255 nothing_yet (session_with v.newest [] rs))
+    ⊎ ((rs : List ℕ) × (v.newest.started ≡ true) × IsStarted bound v [] rs
+    × SessionRun bound nothing_yet (session_with v.newest [] rs))
 
 -- a state takes requests, or is one of a start, or is S6
 by_kind : (P : Type 0) (s : FopState) → (is_taking s ≡ true → P) → (is_starting s ≡ true → P)
@@ -203,11 +203,11 @@ controls_after w v out base up old fresh =
     controls_sub base v.up (w.up ++ out.frames) up (controls_append base w.up out.frames old fresh)
 
 -- the start goes on or is given up: nothing starts
-still_unstarted : (heard : Option Clcw) (w v : Bare) (out : Out) → w.newest.started ≡ false → Moving heard w v out
+still_unstarted : (bound : ℕ) → (heard : Option Clcw) (w v : Bare) (out : Out) → w.newest.started ≡ false → Moving bound heard w v out
     → IsUnstarted w
     → transmitted_in out ≡ [] → confirmed_in out ≡ [] → starts_in out ≡ [] → AreControls w.newest.base out.frames
-    → Starts w.newest.base v.fop.state v.fop → IsBegun v
-still_unstarted heard w v out started moving kept transmits confirms none frames starts =
+    → Starts w.newest.base v.fop.state v.fop → IsBegun bound v
+still_unstarted bound heard w v out started moving kept transmits confirms none frames starts =
     let base = w.newest.base in
     let newest : v.newest ≡ blank base =
     ap (λ (x : Bare). x.newest) moving.whole ∙ unstarted_log w out started kept transmits confirms
@@ -217,11 +217,11 @@ still_unstarted heard w v out started moving kept transmits confirms none frames
     inl (unstarted_at v base newest kept.base (controls_after w v out base moving.up kept.up frames) down starts)
 
 -- the service begins: each word in flight reports the base
-begins_started : (heard : Option Clcw) (w v : Bare) (out : Out) → w.newest.started ≡ false → IsHeardWell heard w
-    → Moving heard w v out → IsUnstarted w → IsStarting w.newest.base w.fop
+begins_started : (bound : ℕ) → bound ≤ 255 → (heard : Option Clcw) (w v : Bare) (out : Out) → w.newest.started ≡ false → IsHeardWell heard w
+    → Moving bound heard w v out → IsUnstarted w → IsStarting w.newest.base w.fop
     → transmitted_in out ≡ [] → confirmed_in out ≡ [] → is_taking v.fop.state ≡ true → BeginsBy heard w.fop v.fop out
-    → IsBegun v
-begins_started heard w v out started well moving kept starting transmits confirms taking begins =
+    → IsBegun bound v
+begins_started bound fit heard w v out started well moving kept starting transmits confirms taking begins =
     let base = w.newest.base in
     let mine : IsHeardWell (Some begins.word) w = subst (λ (h : Option Clcw). IsHeardWell h w) begins.by well in
     let same : begins.word.report ≡ base =
@@ -239,30 +239,30 @@ begins_started heard w v out started well moving kept starting transmits confirm
     inr (
       words.0,
       ap (λ (n : Log). n.started) newest,
-      started_at v base words.0 newest kept.base (controls_after w v out base moving.up kept.up frames) words.1
+      started_at bound fit v base words.0 newest kept.base (controls_after w v out base moving.up kept.up frames) words.1
           down vr taking
           (begins.vs ∙ starting.vs) (begins.nn ∙ starting.nn) begins.sent,
-      subst (λ (n : Log). SessionRun 255 nothing_yet (session_with n [] words.0)) (sym newest)
-          (zeros_run base [] words.0 words.1),
+      subst (λ (n : Log). SessionRun bound nothing_yet (session_with n [] words.0)) (sym newest)
+          (zeros_run bound base [] words.0 words.1),
     )
 
 -- in S4 and S5
-opens_moves : (heard : Option Clcw) (w v : Bare) (out : Out) → w.newest.started ≡ false → IsHeardWell heard w
-    → Moving heard w v out → IsUnstarted w → IsStarting w.newest.base w.fop → Opens heard w.fop v.fop out → IsBegun v
-opens_moves heard w v out started well moving kept starting opens =
+opens_moves : (bound : ℕ) → bound ≤ 255 → (heard : Option Clcw) (w v : Bare) (out : Out) → w.newest.started ≡ false → IsHeardWell heard w
+    → Moving bound heard w v out → IsUnstarted w → IsStarting w.newest.base w.fop → Opens heard w.fop v.fop out → IsBegun bound v
+opens_moves bound fit heard w v out started well moving kept starting opens =
     let base = w.newest.base in
     let frames : AreControls base out.frames = ⊎_elim
     (λ (none : out.frames ≡ []). subst (λ (l : List Frame). AreControls base l) (sym none) tt)
     (λ (copy : out.frames ≡ option_list w.fop.control).
     subst (λ (l : List Frame). AreControls base l) (sym copy) starting.control)
     opens.frames in
-    by_kind (IsBegun v) v.fop.state
+    by_kind (IsBegun bound v) v.fop.state
     (λ taking.
-    begins_started heard w v out started well moving kept starting opens.transmits opens.confirms taking
+    begins_started bound fit heard w v out started well moving kept starting opens.transmits opens.confirms taking
     (opens.begins taking))
     (λ on.
     let goes = opens.goes_on on in
-    still_unstarted heard w v out started moving kept opens.transmits opens.confirms goes.no_start frames
+    still_unstarted bound heard w v out started moving kept opens.transmits opens.confirms goes.no_start frames
     (starts_starting base v.fop.state v.fop on
     (record {
       vs = goes.vs ∙ starting.vs;
@@ -270,30 +270,30 @@ opens_moves heard w v out started well moving kept starting opens =
       control = subst (λ (c : Option Frame). AreControls base (option_list c)) (sym goes.control) starting.control;
     })))
     (λ initial.
-    still_unstarted heard w v out started moving kept opens.transmits opens.confirms
+    still_unstarted bound heard w v out started moving kept opens.transmits opens.confirms
     (opens.gives_up initial).0 frames
     (starts_initial base v.fop.state v.fop initial))
 
 -- in S6
-rests_moves : (heard : Option Clcw) (w v : Bare) (out : Out) → w.newest.started ≡ false → Moving heard w v out
+rests_moves : (bound : ℕ) → (heard : Option Clcw) (w v : Bare) (out : Out) → w.newest.started ≡ false → Moving bound heard w v out
     → IsUnstarted w
-    → Rests w.fop v.fop out → IsBegun v
-rests_moves heard w v out started moving kept rests =
+    → Rests w.fop v.fop out → IsBegun bound v
+rests_moves bound heard w v out started moving kept rests =
     let base = w.newest.base in
-    still_unstarted heard w v out started moving kept
+    still_unstarted bound heard w v out started moving kept
     (ap transmitted_in rests.silent) (ap confirmed_in rests.silent) (ap starts_in rests.silent)
     (subst (λ (o : Out). AreControls base o.frames) (sym rests.silent) tt)
     (starts_initial base v.fop.state v.fop (ap is_initial rests.state))
 
 -- the service goes on starting, is given up, or begins: then each control word in flight flies for 0
-pub unstarted_moves : (heard : Option Clcw) (w v : Bare) (out : Out) → w.newest.started ≡ false → IsHeardWell heard w
-    → Moving heard w v out → IsUnstarted w
+pub unstarted_moves : (bound : ℕ) → bound ≤ 255 → (heard : Option Clcw) (w v : Bare) (out : Out) → w.newest.started ≡ false → IsHeardWell heard w
+    → Moving bound heard w v out → IsUnstarted w
     → ((v.newest.started ≡ false) × IsUnstarted v)
-    ⊎ ((rs : List ℕ) × (v.newest.started ≡ true) × IsStarted v [] rs × SessionRun 255 nothing_yet (session_with v.newest [] rs))
-unstarted_moves heard w v out started well moving kept =
-    by_move (IsBegun v) w.newest.base w.fop.state heard w.fop v.fop out kept.fop moving.moves
-    (λ starting opens. opens_moves heard w v out started well moving kept starting opens)
-    (λ rests. rests_moves heard w v out started moving kept rests)
+    ⊎ ((rs : List ℕ) × (v.newest.started ≡ true) × IsStarted bound v [] rs × SessionRun bound nothing_yet (session_with v.newest [] rs))
+unstarted_moves bound fit heard w v out started well moving kept =
+    by_move (IsBegun bound v) w.newest.base w.fop.state heard w.fop v.fop out kept.fop moving.moves
+    (λ starting opens. opens_moves bound fit heard w v out started well moving kept starting opens)
+    (λ rests. rests_moves bound heard w v out started moving kept rests)
 
 -- ---- an initiation
 
@@ -303,7 +303,7 @@ both_true true b e = (refl, e)
 both_true false b e = absurd (false≢true e)
 
 -- the test for an empty list
-nothing_empty : {T : Type 0} (items : List T) → is_nothing items ≡ true → items ≡ []
+pub nothing_empty : {T : Type 0} (items : List T) → is_nothing items ≡ true → items ≡ []
 nothing_empty [] e = refl
 nothing_empty (item ∷ items) e = absurd (false≢true e)
 
@@ -322,7 +322,7 @@ pub record Initiating (given : Directive) (w v : Bare) (out : Out) : Type 0 wher
   }
 
 -- a good start starts with nothing in flight
-good_parts : (given : Directive) (w : Bare) → is_good_start lossy lossy given w ≡ true
+pub good_parts : (given : Directive) (w : Bare) → is_good_start lossy lossy given w ≡ true
     → (w.up ≡ []) × (w.down ≡ []) × (is_level_for given w.fop w.farm ≡ true)
 good_parts given w good =
     let first = both_true (is_nothing w.up)
@@ -339,7 +339,7 @@ fresh_log given w v out indications initiating same =
     ∙ ap (λ (l : List Indication). noted (record { frames = []; indications = l }) (blank v.fop.vs)) same
 
 -- nothing is in flight but the initiation's own control command
-fresh_up : (given : Directive) (w v : Bare) (out : Out) → Initiating given w v out → w.up ≡ []
+pub fresh_up : (given : Directive) (w v : Bare) (out : Out) → Initiating given w v out → w.up ≡ []
     → IsSublist v.up (option_list (control_of given))
 fresh_up given w v out initiating none =
     subst (λ (l : List Frame). IsSublist v.up l)
@@ -376,10 +376,10 @@ level_equals fop farm e =
     (if farm.lockout then false else if farm.wait then false else not farm.retransmit) e).0
 
 -- without check: the service begins at once
-begins_at_once : (w v : Bare) (out : Out) → Initiating directive.InitiateNone w v out
+begins_at_once : (bound : ℕ) → bound ≤ 255 → (w v : Bare) (out : Out) → Initiating directive.InitiateNone w v out
     → is_good_start lossy lossy directive.InitiateNone w ≡ true
-    → (v.newest.started ≡ true) × IsStarted v [] [] × (session_with v.newest [] [] ≡ nothing_yet)
-begins_at_once w v out initiating good =
+    → (v.newest.started ≡ true) × IsStarted bound v [] [] × (session_with v.newest [] [] ≡ nothing_yet)
+begins_at_once bound fit w v out initiating good =
     let parts = good_parts directive.InitiateNone w good in
     let begins = initiating.begins in
     let base = v.fop.vs in
@@ -393,26 +393,26 @@ begins_at_once w v out initiating good =
     let vr : v.farm.vr ≡ base =
     ap (λ (x : Bare). x.farm.vr) initiating.whole ∙ sym (level_equals w.fop w.farm parts.2) ∙ sym begins.vs in (
       ap (λ (n : Log). n.started) newest,
-      started_at v base [] newest initiating.new_fop.vs
+      started_at bound fit v base [] newest initiating.new_fop.vs
           (subst (λ (l : List Frame). AreControls base l) (sym up) tt) tt
           (subst (λ (l : List Report). AreWords base l []) (sym down) refl) vr taking refl begins.nn begins.sent,
       ap (λ (n : Log). session_with n [] []) newest,
     )
 
 -- a good start begins a session of which nothing is in flight but its own control command
-pub good_start : (given : Directive) (w v : Bare) (out : Out) → Initiating given w v out
+pub good_start : (bound : ℕ) → bound ≤ 255 → (given : Directive) (w v : Bare) (out : Out) → Initiating given w v out
     → is_good_start lossy lossy given w ≡ true
     → ((v.newest.started ≡ false) × IsUnstarted v)
-    ⊎ ((v.newest.started ≡ true) × IsStarted v [] [] × (session_with v.newest [] [] ≡ nothing_yet))
-good_start directive.InitiateNone w v out initiating good = inr (begins_at_once w v out initiating good)
-good_start directive.InitiateCheck w v out initiating good =
+    ⊎ ((v.newest.started ≡ true) × IsStarted bound v [] [] × (session_with v.newest [] [] ≡ nothing_yet))
+good_start bound fit directive.InitiateNone w v out initiating good = inr (begins_at_once bound fit w v out initiating good)
+good_start bound fit directive.InitiateCheck w v out initiating good =
     inl (checks directive.InitiateCheck w v out initiating good refl refl tt)
-good_start directive.InitiateUnlock w v out initiating good =
+good_start bound fit directive.InitiateUnlock w v out initiating good =
     inl (checks directive.InitiateUnlock w v out initiating good refl refl tt)
-good_start (directive.InitiateSetVr x) w v out initiating good =
+good_start bound fit (directive.InitiateSetVr x) w v out initiating good =
     inl (checks (directive.InitiateSetVr x) w v out initiating good refl refl (sym initiating.begins.vs, tt))
-good_start directive.Terminate w v out initiating good = absurd (false≢true initiating.initiation)
-good_start (directive.SetVs x) w v out initiating good = absurd (false≢true initiating.initiation)
-good_start (directive.SetK k) w v out initiating good = absurd (false≢true initiating.initiation)
-good_start (directive.SetT1 t1) w v out initiating good = absurd (false≢true initiating.initiation)
-good_start (directive.SetLimit limit) w v out initiating good = absurd (false≢true initiating.initiation)
+good_start bound fit directive.Terminate w v out initiating good = absurd (false≢true initiating.initiation)
+good_start bound fit (directive.SetVs x) w v out initiating good = absurd (false≢true initiating.initiation)
+good_start bound fit (directive.SetK k) w v out initiating good = absurd (false≢true initiating.initiation)
+good_start bound fit (directive.SetT1 t1) w v out initiating good = absurd (false≢true initiating.initiation)
+good_start bound fit (directive.SetLimit limit) w v out initiating good = absurd (false≢true initiating.initiation)

@@ -18,7 +18,7 @@ use Rattle.tc_world.specs.declared.events.Event.{Event}
 use Rattle.tc_world.specs.declared.events.Event.TheVariants as event
 use Rattle.tc_world.specs.declared.events.Indication.{Indication}
 use Rattle.tc_world.specs.Links.{Kind}
-use Rattle.tc_world.specs.World.{Whole, Happens, Carries, Begins, Hears, told_by_fop, told_of_loss, clean_after, clean_by, is_good_start, IsRefused, IsAsBefore, tells_move, may_move, is_terminate, IsQuietAboard, is_of_fop}
+use Rattle.tc_world.specs.World.{Whole, Happens, unjudged, fits_by, level_by, Carries, Begins, Hears, told_by_fop, told_of_loss, clean_after, clean_by, is_good_start, IsRefused, IsAsBefore, tells_move, may_move, is_terminate, IsQuietAboard, is_of_fop}
 
 -- ---- no request moves
 
@@ -74,9 +74,9 @@ loss_still false = refl
 pub still : {U D : Type 0} (uplink : Kind U Frame) (downlink : Kind D Report) (given : Event) (old new : Whole U D) (answer : List Indication)
     → may_move given ≡ false → Happens uplink downlink given old new answer → list_any tells_move answer ≡ false
 still uplink downlink (event.Offer request body) old new answer other h = absurd (let no_other : true ≡ false = other in cc)
-still uplink downlink (event.Directive given) old new answer other (actions, gives, h) =
+still uplink downlink (event.Directive given) old new answer other (actions, gives, h, fits, level) =
     directive_still old.fop given actions answer other gives
-    (directs_answer uplink downlink given actions old new answer (is_initiation given) h)
+    (directs_answer uplink downlink given actions old (unjudged old new) answer (is_initiation given) h)
 still uplink downlink event.Tick old new answer other h = absurd (let no_other : true ≡ false = other in cc)
 still uplink downlink (event.Uplink room) old new answer other (inl (nothing, h)) = ap (λ (l : List Indication). list_any tells_move l) h.answered
 still uplink downlink (event.Uplink room) old new answer other (inr h) = ap (λ (l : List Indication). list_any tells_move l) h.answered
@@ -117,8 +117,8 @@ hears_clean {U} {D} uplink (Telemetry telemetry) old new answer (readied, whole,
 pub clean_is : {U D : Type 0} (uplink : Kind U Frame) (downlink : Kind D Report) (given : Event) (old new : Whole U D) (answer : List Indication)
     → Happens uplink downlink given old new answer → new.clean ≡ clean_by uplink downlink given old
 clean_is {U} {D} uplink downlink (event.Offer request body) old new answer (actions, unknown, gives, h) = ap (λ (x : Whole U D). x.clean) h.whole
-clean_is uplink downlink (event.Directive given) old new answer (actions, gives, h) =
-    directs_clean uplink downlink given actions old new answer (is_initiation given) h
+clean_is uplink downlink (event.Directive given) old new answer (actions, gives, h, fits, level) =
+    directs_clean uplink downlink given actions old (unjudged old new) answer (is_initiation given) h
 clean_is {U} {D} uplink downlink event.Tick old new answer (actions, gives, h) = ap (λ (x : Whole U D). x.clean) h.whole
 clean_is {U} {D} uplink downlink (event.Uplink room) old new answer (inl (nothing, h)) = ap (λ (x : Whole U D). x.clean) h.same.rest
 clean_is {U} {D} uplink downlink (event.Uplink room) old new answer (inr h) = ap (λ (x : Whole U D). x.clean) h.whole
@@ -135,7 +135,7 @@ clean_of true true good e = refl
 clean_of true false good e = e
 clean_of false clean good e = e
 
-clean_before : {U D : Type 0} (uplink : Kind U Frame) (downlink : Kind D Report) (given : Event) (w : Whole U D) → clean_by uplink downlink given w ≡ true → w.clean ≡ true
+pub clean_before : {U D : Type 0} (uplink : Kind U Frame) (downlink : Kind D Report) (given : Event) (w : Whole U D) → clean_by uplink downlink given w ≡ true → w.clean ≡ true
 clean_before uplink downlink (event.Offer request body) w e = e
 clean_before uplink downlink (event.Directive given) w e = clean_of (is_initiation given) w.clean (is_good_start uplink downlink given w) e
 clean_before uplink downlink event.Tick w e = e
@@ -156,3 +156,43 @@ was_clean uplink downlink given old new (Ok answer) happens refused clean =
     clean_before uplink downlink given old (sym (clean_is uplink downlink given old new answer happens) ∙ clean)
 was_clean {U} {D} uplink downlink given old new (Err refusal) happens refused clean =
     sym (ap (λ (x : Whole U D). x.clean) refused.1.rest) ∙ clean
+
+-- ---- whether K fitted, and whether the last start was level
+
+hears_fits : {U D : Type 0} (uplink : Kind U Frame) (item : Report) (old new : Whole U D) (answer : List Indication) → Hears uplink item old new answer → new.fits ≡ old.fits
+hears_fits {U} {D} uplink (Word word) old new answer (heard, actions, rest, reads, gives, h, answered) = ap (λ (x : Whole U D). x.fits) h.whole
+hears_fits {U} {D} uplink (Telemetry telemetry) old new answer (readied, whole, answered) = ap (λ (x : Whole U D). x.fits) whole
+
+pub fits_is : {U D : Type 0} (uplink : Kind U Frame) (downlink : Kind D Report) (given : Event) (old new : Whole U D) (answer : List Indication)
+    → Happens uplink downlink given old new answer → new.fits ≡ fits_by given old new
+fits_is {U} {D} uplink downlink (event.Offer request body) old new answer (actions, unknown, gives, h) = ap (λ (x : Whole U D). x.fits) h.whole
+fits_is uplink downlink (event.Directive given) old new answer (actions, gives, h, fits, level) = fits
+fits_is {U} {D} uplink downlink event.Tick old new answer (actions, gives, h) = ap (λ (x : Whole U D). x.fits) h.whole
+fits_is {U} {D} uplink downlink (event.Uplink room) old new answer (inl (nothing, h)) = ap (λ (x : Whole U D). x.fits) h.same.rest
+fits_is {U} {D} uplink downlink (event.Uplink room) old new answer (inr h) = ap (λ (x : Whole U D). x.fits) h.whole
+fits_is {U} {D} uplink downlink (event.LoseUp place) old new answer h = ap (λ (x : Whole U D). x.fits) h.whole
+fits_is {U} {D} uplink downlink event.Release old new answer (whole, answered) = ap (λ (x : Whole U D). x.fits) whole
+fits_is {U} {D} uplink downlink event.Clcw old new answer (clcw, is_word, h) = ap (λ (x : Whole U D). x.fits) h.whole
+fits_is {U} {D} uplink downlink (event.Put telemetry) old new answer h = ap (λ (x : Whole U D). x.fits) h.whole
+fits_is {U} {D} uplink downlink event.Downlink old new answer (inl (nothing, h)) = ap (λ (x : Whole U D). x.fits) h.same.rest
+fits_is {U} {D} uplink downlink event.Downlink old new answer (inr h) = hears_fits uplink h.item (record old { down = h.left }) new answer h.heard
+fits_is {U} {D} uplink downlink (event.LoseDown place) old new answer h = ap (λ (x : Whole U D). x.fits) h.whole
+
+hears_level : {U D : Type 0} (uplink : Kind U Frame) (item : Report) (old new : Whole U D) (answer : List Indication) → Hears uplink item old new answer → new.level ≡ old.level
+hears_level {U} {D} uplink (Word word) old new answer (heard, actions, rest, reads, gives, h, answered) = ap (λ (x : Whole U D). x.level) h.whole
+hears_level {U} {D} uplink (Telemetry telemetry) old new answer (readied, whole, answered) = ap (λ (x : Whole U D). x.level) whole
+
+pub level_is : {U D : Type 0} (uplink : Kind U Frame) (downlink : Kind D Report) (given : Event) (old new : Whole U D) (answer : List Indication)
+    → Happens uplink downlink given old new answer → new.level ≡ level_by uplink downlink given old
+level_is {U} {D} uplink downlink (event.Offer request body) old new answer (actions, unknown, gives, h) = ap (λ (x : Whole U D). x.level) h.whole
+level_is uplink downlink (event.Directive given) old new answer (actions, gives, h, fits, level) = level
+level_is {U} {D} uplink downlink event.Tick old new answer (actions, gives, h) = ap (λ (x : Whole U D). x.level) h.whole
+level_is {U} {D} uplink downlink (event.Uplink room) old new answer (inl (nothing, h)) = ap (λ (x : Whole U D). x.level) h.same.rest
+level_is {U} {D} uplink downlink (event.Uplink room) old new answer (inr h) = ap (λ (x : Whole U D). x.level) h.whole
+level_is {U} {D} uplink downlink (event.LoseUp place) old new answer h = ap (λ (x : Whole U D). x.level) h.whole
+level_is {U} {D} uplink downlink event.Release old new answer (whole, answered) = ap (λ (x : Whole U D). x.level) whole
+level_is {U} {D} uplink downlink event.Clcw old new answer (clcw, is_word, h) = ap (λ (x : Whole U D). x.level) h.whole
+level_is {U} {D} uplink downlink (event.Put telemetry) old new answer h = ap (λ (x : Whole U D). x.level) h.whole
+level_is {U} {D} uplink downlink event.Downlink old new answer (inl (nothing, h)) = ap (λ (x : Whole U D). x.level) h.same.rest
+level_is {U} {D} uplink downlink event.Downlink old new answer (inr h) = hears_level uplink h.item (record old { down = h.left }) new answer h.heard
+level_is {U} {D} uplink downlink (event.LoseDown place) old new answer h = ap (λ (x : Whole U D). x.level) h.whole

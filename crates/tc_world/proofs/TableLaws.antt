@@ -6,8 +6,8 @@ use Rattle.tc_farm.specs.declared.farms.FarmView.{FarmView}
 use Rattle.tc_farm.specs.Farm.{IsFarm, farm_after, verdict_of}
 use Rattle.tc_farm.specs.FarmLaws.{IsNumbered, Says}
 use Rattle.tc_types.specs.declared.directives.Directive.{Directive}
-use Rattle.tc_fop.specs.Machine.{Machine, Out}
-use Rattle.tc_fop.specs.Calls.{directed, reported, Answers}
+use Rattle.tc_fop.specs.Machine.{Machine, Waiting, Out}
+use Rattle.tc_fop.specs.Calls.{offered, directed, reported, ticked, Answers}
 use Rattle.tc_fop.specs.Standing.{IsFop}
 use Rattle.tc_fop.specs.Laws.{AtWords, AtTicks, AtOffers, AtDirectives}
 use Rattle.tc_fop.specs.Requests.{KeepsOrder}
@@ -26,5 +26,8 @@ pub record Laws : Type 0 where
   pub ticks_order : AtTicks KeepsOrder
   pub offers_order : AtOffers KeepsOrder
   pub directives_order : AtDirectives KeepsOrder
+  pub words_k : (m : Machine) (word : Option Clcw) (new : Machine) (out : Out) → Answers (reported m word) m new (Ok out) → new.k ≡ m.k
+  pub ticks_k : (m : Machine) (new : Machine) (out : Out) → Answers (ticked m) m new (Ok out) → new.k ≡ m.k
+  pub offers_k : (m : Machine) (w : Waiting) (new : Machine) (out : Out) → Answers (offered m w) m new (Ok out) → new.k ≡ m.k
   pub frames : (farm : FarmView) (frame : Frame) (room : Bool)
       → IsFarm farm → IsNumbered frame → Says (verdict_of farm frame room) farm frame room (farm_after farm frame room)

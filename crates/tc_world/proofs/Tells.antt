@@ -22,7 +22,7 @@ use Rattle.tc_world.specs.declared.events.Indication.{Indication}
 use Rattle.tc_world.specs.declared.events.Indication.TheVariants.{Fop, Farm, Received}
 use Rattle.tc_world.specs.Links.{Kind}
 use Rattle.tc_world.specs.Logs.{Log, accepted_by}
-use Rattle.tc_world.specs.World.{Whole, Happens, Carries, Begins, Boards, Hears, told_of_loss}
+use Rattle.tc_world.specs.World.{unjudged, Whole, Happens, Carries, Begins, Boards, Hears, told_of_loss}
 use Rattle.tc_world.specs.Telling.{TellsRequests, leaves_said, sent_said, accepted_said, confirmed_said, offered_by}
 use Rattle.tc_world.proofs.Assembly.{answers_of}
 
@@ -198,10 +198,11 @@ tells_requests {U} {D} uplink downlink orders (event.Offer request body) old new
     carries_tells uplink (event.Offer request body) actions old new answer h
     (orders.offers old.fop (record { request = request; body = body }) new.fop (output actions old.fop) fop new_fop
     (answers_of (offered old.fop (record { request = request; body = body })) old.fop new.fop actions gives (ap (λ (x : Whole U D). x.fop) h.whole)))
-tells_requests {U} {D} uplink downlink orders (event.Directive given) old new answer fop new_fop (actions, gives, h) =
-    directs_tells uplink downlink given actions old new answer (is_initiation given) h
+tells_requests {U} {D} uplink downlink orders (event.Directive given) old new answer fop new_fop (actions, gives, h, fits, level) =
+    let told = directs_tells uplink downlink given actions old (unjudged old new) answer (is_initiation given) h
     (λ is. orders.directives old.fop given new.fop (output actions old.fop) fop new_fop
-    (answers_of (directed old.fop given) old.fop new.fop actions gives is))
+    (answers_of (directed old.fop given) old.fop new.fop actions gives is)) in
+    record { waits = told.waits; sent = told.sent; accepted = told.accepted; confirmed = told.confirmed }
 tells_requests {U} {D} uplink downlink orders event.Tick old new answer fop new_fop (actions, gives, h) =
     carries_tells uplink event.Tick actions old new answer h
     (orders.ticks old.fop new.fop (output actions old.fop) fop new_fop

@@ -23,6 +23,8 @@ seen uplink downlink w = record {
   past = w.past;
   newest = w.newest;
   clean = w.clean;
+  fits = w.fits;
+  level = w.level;
   vc = w.vc;
 }
 

@@ -136,19 +136,19 @@ pub record Stands (base : ℕ) (s : Session) (m : Machine) : Type 0 where
 
 -- A session that has started, with these positions and reports in flight. Where the service has ended the FOP stands for
 -- nothing, and frames may still arrive.
-pub record IsStarted (w : Bare) (ns rs : List ℕ) : Type 0 where
+pub record IsStarted (bound : ℕ) (w : Bare) (ns rs : List ℕ) : Type 0 where
   pub base : w.newest.base < 256
-  pub window : IsInWindow 255 (session_with w.newest ns rs)
+  pub window : IsInWindow bound (session_with w.newest ns rs)
   pub frames : AreFrames w.newest.base w.newest.sent w.up ns
   pub leftover : IsLeftover w.newest.base (length w.newest.accepted) w.up
   pub words : AreWords w.newest.base w.down rs
   pub vr : w.farm.vr ≡ (w.newest.base + length w.newest.accepted) % 256
   pub fop : ((is_taking w.fop.state ≡ true) × Stands w.newest.base (session_with w.newest ns rs) w.fop) ⊎ (w.fop.state ≡ Initial)
 
-abbrev pub IsSane : Bare → Type 0
-IsSane w =
+abbrev pub IsSane : ℕ → Bare → Type 0
+IsSane bound w =
     ((w.newest.started ≡ false) × IsUnstarted w)
-    ⊎ ((ns : List ℕ) × (rs : List ℕ) × (w.newest.started ≡ true) × IsStarted w ns rs)
+    ⊎ ((ns : List ℕ) × (rs : List ℕ) × (w.newest.started ≡ true) × IsStarted bound w ns rs)
 
 -- What stands between two events.
 pub record IsKept (w : Bare) : Type 0 where
@@ -157,4 +157,4 @@ pub record IsKept (w : Bare) : Type 0 where
   pub words : AreOwnWords w.vc w.down
   pub distinct : Distinct (all_sent w ++ waiting_requests w.fop)
   pub past : w.clean ≡ true → ArePrefixed w.past
-  pub sane : w.clean ≡ true → IsSane w
+  pub sane : w.clean ≡ true → IsSane 255 w

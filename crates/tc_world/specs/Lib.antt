@@ -1,5 +1,7 @@
 pub mod Sublist
 pub mod InFlight
+pub mod EitherLink
+pub mod Rings
 pub mod Links
 pub mod Logs
 pub mod Pages
@@ -8,6 +10,8 @@ pub mod Session
 pub mod Abstraction
 pub mod Window
 pub mod Kept
+pub mod Fitting
+pub mod Fair
 pub mod Flight
 pub mod Telling
 pub mod Runs

@@ -2,9 +2,11 @@
 use Rattle.std.specs.Prelude.{◌≡◌, ℕ, Bool, List, [], ◌∷◌, ◌++◌}
 use Rattle.tc_world.specs.Sublist.{IsSublist}
 
--- The items in flight, the oldest first; what a put, a take that gives an item, and a lose at a place leave.
+-- The items in flight, the oldest first; the link but for the room of its puts, which is all that a call changes that
+-- makes room; and what a put, a take that gives an item, and a lose at a place leave.
 pub record Kind (C T : Type 0) : Type 1 where
   pub content : C → List T
+  pub without_room : C → C
   pub puts : C → T → C → Type 0
   pub takes : C → T → C → Type 0
   pub loses : C → ℕ → Bool → C → Type 0
@@ -14,6 +16,7 @@ pub record Kind (C T : Type 0) : Type 1 where
 abbrev pub lossy : {T : Type 0} → Kind (List T) T
 lossy {T} = record {
   content = λ (items : List T). items;
+  without_room = λ (items : List T). items;
   puts = λ (old : List T) (item : T) (new : List T). IsSublist new (old ++ item ∷ []);
   takes = λ (old : List T) (item : T) (new : List T). (lost : List T) × (old ≡ lost ++ item ∷ new);
   loses = λ (old : List T) (place : ℕ) (answer : Bool) (new : List T). IsSublist new old;
@@ -24,6 +27,6 @@ abbrev pub PutsAll : {C T : Type 0} → Kind C T → C → List T → C → Type
 PutsAll kind old [] new = new ≡ old
 PutsAll {C} kind old (item ∷ items) new = (next : C) × kind.puts old item next × PutsAll kind next items new
 
--- room was made and nothing else: what is in flight stays
+-- room was made and nothing else: what is in flight stays, and all else that a contract sees
 abbrev pub IsReadied : {C T : Type 0} → Kind C T → C → C → Type 0
-IsReadied kind old ready = kind.content ready ≡ kind.content old
+IsReadied kind old ready = kind.without_room ready ≡ kind.without_room old

@@ -7,6 +7,8 @@ use Rattle.tc_world.specs.declared.events.Event.{Event}
 use Rattle.tc_world.specs.declared.events.Indication.{Indication}
 use Rattle.tc_world.specs.Links.{Kind}
 use Rattle.tc_world.specs.Abstraction.{seen}
+use Rattle.std.specs.List.{list_all}
+use Rattle.tc_world.specs.Fair.{is_fair}
 use Rattle.tc_world.specs.Window.{FollowsThrough}
 use Rattle.tc_world.specs.World.{Whole, Happens, IsRefused, IsAsBefore, IsSpared}
 
@@ -18,13 +20,24 @@ Runs uplink downlink (given ∷ others) old [] new = ⊥
 Runs uplink downlink (given ∷ others) old (next ∷ worlds) new =
     (answer : List Indication) × Happens uplink downlink given old next answer × Runs uplink downlink others next worlds new
 
+-- The same, and no alert is told but those that may come in the state of the FOP: also in S4 as the last start was level
+-- or not.
+abbrev pub RunsFairly : {U D : Type 0} → Kind U Frame → Kind D Report → List Event → Whole U D → List (Whole U D) → Whole U D → Type 0
+RunsFairly uplink downlink [] old [] new = new ≡ old
+RunsFairly uplink downlink [] old (next ∷ worlds) new = ⊥
+RunsFairly uplink downlink (given ∷ others) old [] new = ⊥
+RunsFairly uplink downlink (given ∷ others) old (next ∷ worlds) new =
+    (answer : List Indication) × Happens uplink downlink given old next answer
+    × (list_all (is_fair old.level old.fop.state) answer ≡ true) × RunsFairly uplink downlink others next worlds new
+
 -- Events happen in turn; and while every start was good each of them is, to the same worlds, a run of the session that
--- is on, or another session begins.
+-- is on, or another session begins; and while K fitted too only those alerts come that may.
 pub record RunsOn {U D : Type 0} (uplink : Kind U Frame) (downlink : Kind D Report) (events : List Event) (old new : Whole U D) : Type 0 where
   pub worlds : List (Whole U D)
   pub happen : Runs uplink downlink events old worlds new
   pub window : new.clean ≡ true
       → FollowsThrough (seen uplink downlink old) (map (λ (w : Whole U D). seen uplink downlink w) worlds) (seen uplink downlink new)
+  pub fair : new.clean ≡ true → new.fits ≡ true → RunsFairly uplink downlink events old worlds new
 
 -- Where a run ends: after so many events, where there is no other, or where the next one is refused, as it stood then;
 -- memory is not refused to one that is spared.

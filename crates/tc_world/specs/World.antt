@@ -1,6 +1,6 @@
 -- The link as one machine, and what one event makes of it: the tables of FOP-1 and FARM-1, and the carriers' own
 -- relations.
-use Rattle.std.specs.Prelude.{◌≡◌, ◌⊎◌, ◌↔◌, ◌<◌, ◌≤◌, ◌+◌, IsSome, IfSome, IsOk, IfOk, Result, ℕ, ◌==◌, Bool, true, false, not, if◌then◌else◌, MatchBool, Option, Some, None, Ok, Err, List, [], ◌∷◌, ◌++◌, map, drop, length}
+use Rattle.std.specs.Prelude.{◌≡◌, ◌⊎◌, ◌↔◌, ◌<◌, ◌≤◌, ◌+◌, IsSome, IfSome, IsOk, IfOk, Result, ℕ, ◌==◌, ◌/◌, nat_le, Bool, true, false, not, if◌then◌else◌, MatchBool, Option, Some, None, Ok, Err, List, [], ◌∷◌, ◌++◌, map, drop, length}
 use Rattle.std.specs.List.{flat_map, list_any}
 use Rattle.tc_types.specs.declared.frames.Frame.{Frame}
 use Rattle.tc_types.specs.declared.reports.Report.{Report}
@@ -14,7 +14,7 @@ use Rattle.tc_farm.specs.Farm.{IsFarm, farm_after, verdict_of, released}
 use Rattle.tc_types.specs.declared.directives.Directive.{Directive}
 use Rattle.tc_types.specs.declared.directives.Directive.TheVariants as directive
 use Rattle.tc_fop.specs.declared.signals.Indication.TheVariants as signal
-use Rattle.tc_fop.specs.Machine.{Machine, Action, Out, after, output}
+use Rattle.tc_fop.specs.Machine.{Machine, Action, Out, after, output, is_window_open}
 use Rattle.tc_fop.specs.Calls.{Given, offered, directed, reported, ticked}
 use Rattle.tc_fop.specs.Standing.{IsFop}
 use Rattle.tc_fop.specs.Requests.{waiting_requests}
@@ -27,7 +27,8 @@ use Rattle.tc_world.specs.Links.{Kind, PutsAll, IsReadied}
 use Rattle.tc_world.specs.Logs.{Log, blank, noted, boarded}
 
 -- The FOP, the FARM, the uplink and the downlink; the sessions, the newest apart and the earlier in order, of which the
--- first is the time before the first initiation; whether every start was good; the virtual channel.
+-- first is the time before the first initiation; whether every start was good, whether K was at most half of the FARM's
+-- window at every moment, and whether the last start was level; the virtual channel.
 pub record Whole (U D : Type 0) : Type 0 where
   pub fop : Machine
   pub farm : FarmView
@@ -36,6 +37,8 @@ pub record Whole (U D : Type 0) : Type 0 where
   pub past : List Log
   pub newest : Log
   pub clean : Bool
+  pub fits : Bool
+  pub level : Bool
   pub vc : ℕ
 
 -- the sessions, in order
@@ -113,6 +116,65 @@ is_good_start uplink downlink given w =
 -- whether every start so far was good, after this one
 abbrev pub clean_after : {U D : Type 0} → Kind U Frame → Kind D Report → Directive → Whole U D → Bool
 clean_after uplink downlink given w = if w.clean then is_good_start uplink downlink given w else false
+
+-- what a start with check asks besides to be level: the others are level where they are good
+abbrev pub is_level_with : Directive → Machine → FarmView → Bool
+is_level_with directive.InitiateNone fop farm = true
+is_level_with directive.InitiateCheck fop farm = is_level fop farm
+is_level_with directive.InitiateUnlock fop farm = true
+is_level_with (directive.InitiateSetVr v) fop farm = true
+is_level_with directive.Terminate fop farm = true
+is_level_with (directive.SetVs v) fop farm = true
+is_level_with (directive.SetK k) fop farm = true
+is_level_with (directive.SetT1 t1) fop farm = true
+is_level_with (directive.SetLimit limit) fop farm = true
+
+-- a level start: a good one, and, also with check, V(S) = V(R) and no flag
+abbrev pub is_level_start : {U D : Type 0} → Kind U Frame → Kind D Report → Directive → Whole U D → Bool
+is_level_start uplink downlink given w =
+    if is_good_start uplink downlink given w then is_level_with given w.fop w.farm else false
+
+-- whether the last start was level, after this directive
+abbrev pub level_after : {U D : Type 0} → Kind U Frame → Kind D Report → Directive → Whole U D → Bool
+level_after uplink downlink given w = if is_initiation given then is_level_start uplink downlink given w else w.level
+
+-- K is at most half of the FARM's window
+abbrev pub is_fitting : Machine → FarmView → Bool
+is_fitting fop farm = nat_le fop.k (farm.window / 2)
+
+-- it fitted so far, and it fits now
+abbrev pub is_still_fitting : {U D : Type 0} → Whole U D → Bool
+is_still_fitting w = if w.fits then is_fitting w.fop w.farm else false
+
+-- whether K fitted at every moment so far, after a directive
+abbrev pub fits_after : {U D : Type 0} → Whole U D → Whole U D → Bool
+fits_after old new = if old.fits then is_fitting new.fop new.farm else false
+
+-- the same after any event that happens: directives alone set K
+abbrev pub fits_by : {U D : Type 0} → Event → Whole U D → Whole U D → Bool
+fits_by (event.Offer request body) old new = old.fits
+fits_by (event.Directive given) old new = fits_after old new
+fits_by event.Tick old new = old.fits
+fits_by (event.Uplink free_buffer) old new = old.fits
+fits_by (event.LoseUp place) old new = old.fits
+fits_by event.Release old new = old.fits
+fits_by event.Clcw old new = old.fits
+fits_by (event.Put telemetry) old new = old.fits
+fits_by event.Downlink old new = old.fits
+fits_by (event.LoseDown place) old new = old.fits
+
+-- whether the last start was level, after any event that happens
+abbrev pub level_by : {U D : Type 0} → Kind U Frame → Kind D Report → Event → Whole U D → Bool
+level_by uplink downlink (event.Offer request body) w = w.level
+level_by uplink downlink (event.Directive given) w = level_after uplink downlink given w
+level_by uplink downlink event.Tick w = w.level
+level_by uplink downlink (event.Uplink free_buffer) w = w.level
+level_by uplink downlink (event.LoseUp place) w = w.level
+level_by uplink downlink event.Release w = w.level
+level_by uplink downlink event.Clcw w = w.level
+level_by uplink downlink (event.Put telemetry) w = w.level
+level_by uplink downlink event.Downlink w = w.level
+level_by uplink downlink (event.LoseDown place) w = w.level
 
 -- the same after any event that happens: an initiation is a start, and no other event is
 abbrev pub clean_by : {U D : Type 0} → Kind U Frame → Kind D Report → Event → Whole U D → Bool
@@ -241,13 +303,19 @@ Directs uplink downlink given actions old new answer = MatchBool (is_initiation 
     (Begins uplink downlink given actions old new answer)
     (Carries uplink actions old new answer)
 
+-- what is new, but with what was known before of widths and starts
+abbrev pub unjudged : {U D : Type 0} → Whole U D → Whole U D → Whole U D
+unjudged old new = record new { fits = old.fits; level = old.level }
+
 -- What one event makes of the link, and what it answers.
 abbrev pub Happens : {U D : Type 0} → Kind U Frame → Kind D Report → Event → Whole U D → Whole U D → List Indication → Type 0
 Happens uplink downlink (event.Offer request body) old new answer =
     (actions : List Action) × (is_known request old ≡ false)
     × (offered old.fop (record { request = request; body = body }) ≡ Ok actions) × Carries uplink actions old new answer
 Happens uplink downlink (event.Directive given) old new answer =
-    (actions : List Action) × (directed old.fop given ≡ Ok actions) × Directs uplink downlink given actions old new answer
+    (actions : List Action) × (directed old.fop given ≡ Ok actions)
+    × Directs uplink downlink given actions old (unjudged old new) answer
+    × (new.fits ≡ fits_after old new) × (new.level ≡ level_after uplink downlink given old)
 Happens uplink downlink event.Tick old new answer =
     (actions : List Action) × (ticked old.fop ≡ Ok actions) × Carries uplink actions old new answer
 Happens uplink downlink (event.Uplink free_buffer) old new answer =
@@ -263,10 +331,12 @@ Happens uplink downlink (event.LoseDown place) old new answer = LosesDown downli
 
 -- ---- what one event takes and gives at most
 
--- Where memory is never refused: to a loss and a release; to a report and a control word where the downlink has the
--- room of one put; and where nothing can happen, since no timer runs or nothing is in flight.
+-- Where memory is never refused: to an offer that waits since the window is closed; to a loss and a release; to a report
+-- and a control word where the downlink has the room of one put; and where nothing can happen, since no timer runs or
+-- nothing is in flight.
 abbrev pub IsSpared : {U D : Type 0} → Kind U Frame → Kind D Report → (D → ℕ) → Event → Whole U D → Type 0
-IsSpared uplink downlink covered (event.Offer request body) w = ⊥
+IsSpared uplink downlink covered (event.Offer request body) w =
+    (refusal_of (event.Offer request body) w ≡ None) × (is_window_open w.fop ≡ false)
 IsSpared uplink downlink covered (event.Directive given) w = ⊥
 IsSpared uplink downlink covered event.Tick w = w.fop.timer ≡ 0
 IsSpared uplink downlink covered (event.Uplink free_buffer) w = uplink.content w.up ≡ []

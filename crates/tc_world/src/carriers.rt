@@ -11,15 +11,16 @@ use tc_types::refusals::Refusal;
 /// Each kind of link says by relations of its own what a put, a take and a lose leave; the laws bound these relations:
 /// whatever a call does, the content after is the content before, followed by what was put, with items left out.
 pub trait Carrier<T> {
-    /// Its content, and what a put, a take that gives an item, and a lose leave.
+    /// Its content, itself but for its room, and what a put, a take that gives an item, and a lose leave.
     ghost kind: { Kind Self T };
 
     /// How many puts have their room.
     ghost covered: { Self → ℕ };
 
-    /// Makes room for so many puts. The content stays, whatever is answered.
+    /// Makes room for so many puts. The content stays, and all else but the room, whatever is answered.
     fn reserve(&mut self, count: usize) -> Result<(), Refusal>
         ensures content { kind.content self.new ≡ kind.content self.old }
+        ensures readied { kind.without_room self.new ≡ kind.without_room self.old }
         ensures room { OnOk result (count ≤ covered self.new) }
         ensures kept { covered self.old ≤ covered self.new }
         ensures within { count ≤ covered self.old → IsOk result }
@@ -35,7 +36,7 @@ pub trait Carrier<T> {
     fn take(&mut self) -> Option<T>
         ensures none { IsNone result ↔ (kind.content self.old ≡ []) }
         ensures some { IfSome result (λ item. kind.takes self.old item self.new) }
-        ensures same { IfNone result (kind.content self.new ≡ kind.content self.old) }
+        ensures same { IfNone result (kind.without_room self.new ≡ kind.without_room self.old) }
         ensures room { covered self.old ≤ covered self.new };
 
     /// Loses the item at a place, from 0 for the oldest, and says whether there was one.
@@ -50,6 +51,8 @@ pub trait Carrier<T> {
     /// Whether nothing is in flight.
     fn is_empty(&self) -> bool
         ensures { IsTrue result ↔ (kind.content self.now ≡ []) };
+
+    ghost room_holds_nothing: { (link : Self) → kind.content (kind.without_room link) ≡ kind.content link };
 
     ghost put_only_loses: { (old new : Self) (item : T) → kind.puts old item new → IsSublist (kind.content new) (kind.content old ++ item ∷ []) };
 

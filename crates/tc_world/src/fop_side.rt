@@ -5,17 +5,17 @@
 //! is then visible.
 //!
 //! What gets items from the downlink calls `reserve`, then takes an item, and passes a control word by `pass_word`.
-ghost use Rattle.std.specs.Prelude.{◌≡◌, ◌+◌, ◌≤◌, length, map, true, vec_len, vec_capacity, IfErr, IfOk, IsOk, OnOk, Ok, [], ◌++◌, ℕ, List};
+ghost use Rattle.std.specs.Prelude.{◌≡◌, ◌+◌, ◌≤◌, length, map, true, false, vec_len, vec_capacity, IfErr, IfOk, IsOk, OnOk, Ok, [], ◌++◌, ℕ, List};
 ghost use Rattle.tc_types.specs.declared.refusals.Refusal.TheVariants.{Memory};
-ghost use Rattle.tc_fop.specs.Calls.{directed};
-ghost use Rattle.tc_fop.specs.Machine.{Action};
+ghost use Rattle.tc_fop.specs.Calls.{directed, offered};
+ghost use Rattle.tc_fop.specs.Machine.{Action, is_window_open};
 ghost use Rattle.tc_fop.specs.Moves.{is_initiation};
 ghost use Rattle.tc_world.specs.Links.{PutsAll, IsReadied};
 ghost use Rattle.tc_fop.specs.Standing.{IsFop};
 ghost use Rattle.tc_world.specs.Logs.{noted};
 ghost use Rattle.tc_world.specs.Marks.{AreMarked};
 ghost use Rattle.tc_world.specs.Sides.{Passes};
-ghost use Rattle.tc_world.specs.World.{Happens, Begins, IsRefused, IsAsBefore, EndsWithin, is_known, clean_after, told_by_fop};
+ghost use Rattle.tc_world.specs.World.{Happens, Begins, Directs, IsRefused, IsAsBefore, EndsWithin, is_known, clean_after, is_level, level_after, is_still_fitting, told_by_fop};
 
 use crate::carriers::Carrier;
 use crate::events::{Event, Indication};
@@ -93,6 +93,7 @@ impl<U: Carrier<Frame> + Drop, A: Allocator + Copy + Drop> FopSide<U, A> {
     pub(crate) fn reserve(&mut self, alloc: A) -> Result<Vec<Indication, A>, Refusal>
         ensures machine { self.new.fop.machine ≡ self.old.fop.machine }
         ensures readied { IsReadied U.kind self.old.up self.new.up }
+        ensures content { U.kind.content self.new.up ≡ U.kind.content self.old.up }
         ensures log { self.new.newest.log ≡ self.old.newest.log }
         ensures marks { (requests : List ℕ) → AreMarked requests self.old.marks.items → AreMarked requests self.new.marks.items }
         ensures all { OnOk result (65536 ≤ length self.new.marks.items) }
@@ -194,6 +195,37 @@ impl<U: Carrier<Frame> + Drop, D: Carrier<Report> + Drop, A: Allocator + Copy + 
         if let Some(refusal) = self.side.fop.offer_refusal() {
             return Err(refusal);
         }
+        if !self.side.fop.may_transmit() {
+            return Ok(self.hold(request, body));
+        }
+        self.pass_offer(request, body)
+    }
+
+    /// An offer that is not refused, where the window is closed: the request waits, and nothing is told.
+    fn hold(&mut self, request: RequestNumber, body: Payload) -> Indications<A>
+        requires unknown { is_known request self.old ≡ false }
+        requires taken { IsOk (offered self.old.fop (record { request = request; body = body })) }
+        requires closed { is_window_open self.old.fop ≡ false }
+        ensures happens { Happens U.kind D.kind (Event.Offer request body) self.old self.new result }
+        ensures limits { EndsWithin U.kind D.kind D.covered (Event.Offer request body) self.old self.new (Ok result) }
+    {
+        self.side.fop.hold(request, body);
+        Indications::none(self.alloc)
+    }
+
+    /// An offer that is not refused, where the window is open.
+    fn pass_offer(
+        &mut self,
+        request: RequestNumber,
+        body: Payload,
+    ) -> Result<Indications<A>, Refusal>
+        requires unknown { is_known request self.old ≡ false }
+        requires taken { IsOk (offered self.old.fop (record { request = request; body = body })) }
+        requires opened { is_window_open self.old.fop ≡ true }
+        ensures happens { IfOk result (λ answer. Happens U.kind D.kind (Event.Offer request body) self.old self.new answer) }
+        ensures refused { IfErr result (λ refusal. IsRefused (Event.Offer request body) self.old refusal × IsAsBefore U.kind D.kind self.old self.new) }
+        ensures limits { EndsWithin U.kind D.kind D.covered (Event.Offer request body) self.old self.new result }
+    {
         let answer = self.side.reserve(self.alloc)?;
         let out = self.side.fop.offer_reserved(request, body);
         Ok(Indications::many(self.side.carry(&out, answer)))
@@ -213,21 +245,70 @@ impl<U: Carrier<Frame> + Drop, D: Carrier<Report> + Drop, A: Allocator + Copy + 
         Ok(Indications::many(self.side.carry(&out, answer)))
     }
 
-    /// Carries out a directive, as the FOP allows. An accepted initiation ends the newest session and begins another.
+    /// A directive, and whether K fitted and the last start was level.
     pub(crate) fn directive(&mut self, directive: Directive) -> Result<Indications<A>, Refusal>
         ensures happens { IfOk result (λ answer. Happens U.kind D.kind (Event.Directive directive) self.old self.new answer) }
         ensures refused { IfErr result (λ refusal. IsRefused (Event.Directive directive) self.old refusal × IsAsBefore U.kind D.kind self.old self.new) }
         ensures limits { EndsWithin U.kind D.kind D.covered (Event.Directive directive) self.old self.new result }
     {
-        if let Some(refusal) = self.side.fop.directive_refusal(&directive) {
+        let level = self.stays_level(&directive);
+        let answer = self.carry_out(&directive)?;
+        self.fits = self.still_fits();
+        self.level = level;
+        Ok(answer)
+    }
+
+    /// Carries out a directive, as the FOP allows. An accepted initiation ends the newest session and begins another.
+    fn carry_out(&mut self, directive: &Directive) -> Result<Indications<A>, Refusal>
+        ensures directs { IfOk result (λ answer. (actions : List Action) × (directed self.old.fop directive.now ≡ Ok actions) × Directs U.kind D.kind directive.now actions self.old self.new answer) }
+        ensures refused { IfErr result (λ refusal. IsRefused (Event.Directive directive.now) self.old refusal × IsAsBefore U.kind D.kind self.old self.new) }
+        ensures limits { EndsWithin U.kind D.kind D.covered (Event.Directive directive.now) self.old self.new result }
+        ensures unjudged { (self.new.fits ≡ self.old.fits) × (self.new.level ≡ self.old.level) }
+    {
+        if let Some(refusal) = self.side.fop.directive_refusal(directive) {
             return Err(refusal);
         }
-        if begins_session(&directive) {
-            return self.initiate(&directive);
+        if begins_session(directive) {
+            return self.initiate(directive);
         }
         let answer = self.side.reserve(self.alloc)?;
-        let out = self.side.fop.directive_reserved(&directive);
+        let out = self.side.fop.directive_reserved(directive);
         Ok(Indications::many(self.side.carry(&out, answer)))
+    }
+
+    /// Whether K fitted so far, and is at most half of the FARM's window now.
+    fn still_fits(&self) -> bool
+        ensures { result ≡ is_still_fitting self.now }
+    {
+        self.fits && self.side.fop.view().k <= self.farm.view().window / 2
+    }
+
+    /// Whether V(S) is V(R), and the FARM has no flag.
+    fn is_level(&self) -> bool
+        ensures { result ≡ is_level self.now.fop self.now.farm }
+    {
+        let farm = self.farm.view();
+        self.side.fop.view().vs == farm.vr && !farm.lockout && !farm.wait && !farm.retransmit
+    }
+
+    /// Whether the last start was level, after this directive: an initiation starts level where nothing is in flight and,
+    /// with check or without, both sides agree.
+    fn stays_level(&self, directive: &Directive) -> bool
+        ensures { result ≡ level_after U.kind D.kind directive.now self.now }
+    {
+        if !begins_session(directive) {
+            return self.level;
+        }
+        if !self.side.up.is_empty() || !self.down.is_empty() {
+            return false;
+        }
+        if matches!(
+            *directive,
+            Directive::InitiateUnlock | Directive::InitiateSetVr(_)
+        ) {
+            return true;
+        }
+        self.is_level()
     }
 
     /// Whether every start so far was good, after this initiation: nothing is in flight, and without check both sides
@@ -241,8 +322,7 @@ impl<U: Carrier<Frame> + Drop, D: Carrier<Report> + Drop, A: Allocator + Copy + 
         if !matches!(*directive, Directive::InitiateNone) {
             return true;
         }
-        let farm = self.farm.view();
-        self.side.fop.view().vs == farm.vr && !farm.lockout && !farm.wait && !farm.retransmit
+        self.is_level()
     }
 
     /// Begins a session.
@@ -252,6 +332,7 @@ impl<U: Carrier<Frame> + Drop, D: Carrier<Report> + Drop, A: Allocator + Copy + 
         ensures begins { IfOk result (λ answer. (actions : List Action) × (directed self.old.fop directive.now ≡ Ok actions) × Begins U.kind D.kind directive.now actions self.old self.new answer) }
         ensures refused { IfErr result (λ refusal. IsRefused (Event.Directive directive.now) self.old refusal × IsAsBefore U.kind D.kind self.old self.new) }
         ensures limits { EndsWithin U.kind D.kind D.covered (Event.Directive directive.now) self.old self.new result }
+        ensures unjudged { (self.new.fits ≡ self.old.fits) × (self.new.level ≡ self.old.level) }
     {
         let clean = self.stays_clean(directive);
         if self.past.reserve(1).is_err() {
@@ -260,11 +341,11 @@ impl<U: Carrier<Frame> + Drop, D: Carrier<Report> + Drop, A: Allocator + Copy + 
         let mut session = SessionLog::new(self.alloc, 0);
         session.reserve_notes()?;
         let answer = self.side.reserve(self.alloc)?;
-        let out = self.side.fop.directive_reserved(directive);
+        let output = self.side.fop.directive_reserved(directive);
         session.begin(self.side.fop.view().vs);
         let ended = mem::replace(&mut self.side.newest, session);
         self.past.push_reserved(ended);
         self.clean = clean;
-        Ok(Indications::many(self.side.carry(&out, answer)))
+        Ok(Indications::many(self.side.carry(&output, answer)))
     }
 }

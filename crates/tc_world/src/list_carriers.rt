@@ -37,10 +37,9 @@ impl<T: Drop, A: Allocator> ListCarrier<T, A> {
 }
 
 impl<T: Drop, A: Allocator> Carrier<T> for ListCarrier<T, A> {
-    ghost use Rattle.std.proofs.Common.{subst, sym};
+    ghost use Rattle.std.proofs.Common.{refl};
     ghost use Rattle.std.specs.Prelude.{◌≡◌, ℕ, Bool, List, [], ◌∷◌, ◌++◌, length, remove, nat_lt};
-    ghost use Rattle.tc_world.specs.Sublist.{IsSublist, IsSublist-same, IsSublist-remove};
-    ghost use Rattle.tc_world.specs.InFlight.{listed};
+    ghost use Rattle.tc_world.specs.InFlight.{listed, listed_puts, listed_takes, listed_loses};
 
     ghost kind = { listed };
 
@@ -73,9 +72,11 @@ impl<T: Drop, A: Allocator> Carrier<T> for ListCarrier<T, A> {
         self.items.is_empty()
     }
 
-    ghost put_only_loses = { λ old new item e. subst (λ xs. IsSublist xs (old.content ++ item ∷ [])) (sym e) (IsSublist-same (old.content ++ item ∷ [])) };
+    ghost room_holds_nothing = { λ link. refl };
 
-    ghost take_is_in_order = { λ old new item e. ([], e) };
+    ghost put_only_loses = { listed_puts };
 
-    ghost lose_only_loses = { λ old new place answer e. subst (λ xs. IsSublist xs old.content) (sym e.1) (IsSublist-remove old.content place) };
+    ghost take_is_in_order = { listed_takes };
+
+    ghost lose_only_loses = { listed_loses };
 }

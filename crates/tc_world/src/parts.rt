@@ -1,12 +1,12 @@
 //! The parts of the link.
-ghost use Rattle.std.specs.Prelude.{◌≡◌, ◌≤◌, map, true, [], ◌++◌};
+ghost use Rattle.std.specs.Prelude.{◌≡◌, ◌≤◌, map, true, false, [], ◌++◌};
 ghost use Rattle.tc_fop.specs.Standing.{IsFop};
 ghost use Rattle.tc_farm.specs.Farm.{IsFarm};
 ghost use Rattle.tc_world.specs.Logs.{blank};
 ghost use Rattle.std.specs.List.{flat_map};
 ghost use Rattle.tc_world.specs.Marks.{AreMarked};
 ghost use Rattle.tc_world.specs.Pages.{Page};
-ghost use Rattle.tc_world.specs.World.{Whole};
+ghost use Rattle.tc_world.specs.World.{Whole, is_fitting};
 
 use crate::carriers::Carrier;
 use crate::fop_side::FopSide;
@@ -34,6 +34,8 @@ pub(crate) struct Parts<
     pub(crate) down: D,
     pub(crate) past: Vec<SessionLog<A>, A>,
     pub(crate) clean: bool,
+    pub(crate) fits: bool,
+    pub(crate) level: bool,
     pub(crate) vc: u8,
 }
 
@@ -41,7 +43,7 @@ impl<U: Carrier<Frame> + Drop, D: Carrier<Report> + Drop, A: Allocator + Copy + 
     for Parts<U, D, A> {
     ghost Value = { Whole U D };
 
-    ghost view = { λ p. record { fop = p.side.fop.machine; farm = p.farm; up = p.side.up; down = p.down; past = map (λ (page : Page). page.log) p.past.items; newest = p.side.newest.log; clean = p.clean; vc = p.vc } };
+    ghost view = { λ p. record { fop = p.side.fop.machine; farm = p.farm; up = p.side.up; down = p.down; past = map (λ (page : Page). page.log) p.past.items; newest = p.side.newest.log; clean = p.clean; fits = p.fits; level = p.level; vc = p.vc } };
 
     // the marks are those of the requests that were sent in some session
     ghost invariant = { λ p. (p.vc ≤ 63) × IsFop p.side.fop.machine × IsFarm p.farm × AreMarked (flat_map (λ (page : Page). page.log.sent) p.past.items ++ p.side.newest.log.sent) p.side.marks.items };
@@ -56,8 +58,9 @@ impl<U: Carrier<Frame> + Drop, D: Carrier<Report> + Drop, A: Allocator + Copy + 
     #[tactic(auto, using(crate::proofs::MarkLemmas::marks_none))]
     pub(crate) fn new(alloc: A, fop: Fop<A>, farm: Farm, up: U, down: D, vc: u8) -> Parts<U, D, A>
         requires { vc ≤ 63 }
-        ensures { result ≡ record { fop = fop.machine; farm = farm; up = up; down = down; past = []; newest = blank 0; clean = true; vc = vc } }
+        ensures { result ≡ record { fop = fop.machine; farm = farm; up = up; down = down; past = []; newest = blank 0; clean = true; fits = is_fitting fop.machine farm; level = false; vc = vc } }
     {
+        let fits = fop.view().k <= farm.view().window / 2;
         Parts {
             alloc,
             side: FopSide {
@@ -70,6 +73,8 @@ impl<U: Carrier<Frame> + Drop, D: Carrier<Report> + Drop, A: Allocator + Copy + 
             down,
             past: Vec::new(alloc),
             clean: true,
+            fits,
+            level: false,
             vc,
         }
     }

@@ -1,15 +1,17 @@
 //! The world: the link, and the sessions that were held over it.
-ghost use Rattle.std.specs.Prelude.{◌≡◌, ◌+◌, ◌≤◌, ◌<◌, ◌↔◌, ℕ, Bool, Some, None, Err, length, true, false, slice_get, IfErr, IfOk, IfSome, IfNone, IsOk, OnOk, [], ◌∷◌};
-ghost use Rattle.std.specs.List.{list_any};
+ghost use Rattle.std.specs.Prelude.{◌≡◌, ◌+◌, ◌/◌, ◌≤◌, ◌<◌, ◌↔◌, ℕ, Bool, Some, None, Err, length, true, false, slice_get, IfErr, IfOk, IfSome, IfNone, IsOk, OnOk, [], ◌∷◌};
+ghost use Rattle.std.specs.List.{list_any, list_all};
 ghost use Rattle.tc_types.specs.declared.refusals.Refusal.TheVariants.{BadDirective, Memory};
-ghost use Rattle.tc_farm.specs.Farm.{new_farm};
+ghost use Rattle.tc_farm.specs.Farm.{new_farm, is_locked_out};
 ghost use Rattle.tc_fop.specs.declared.signals.FopState.TheVariants.{Initial};
 ghost use Rattle.tc_fop.specs.Views.{view_of};
 ghost use Rattle.tc_world.specs.Logs.{blank};
 ghost use Rattle.tc_world.specs.Abstraction.{seen};
 ghost use Rattle.tc_world.specs.Window.{Follows, IsClaimed};
 ghost use Rattle.tc_world.specs.Kept.{IsKept};
-ghost use Rattle.tc_world.specs.World.{Whole, Happens, IsRefused, IsAsBefore, IsSpared, IsQuietAboard, sessions_of, clean_by, puts_down, may_move, tells_move};
+ghost use Rattle.tc_world.specs.Fitting.{IsFit, IsNarrow};
+ghost use Rattle.tc_world.specs.Fair.{IsFairOn, is_fair};
+ghost use Rattle.tc_world.specs.World.{Whole, Happens, IsRefused, IsAsBefore, IsSpared, IsQuietAboard, sessions_of, is_fitting, clean_by, fits_by, level_by, puts_down, may_move, tells_move};
 ghost use Rattle.tc_world.specs.Runs.{IsRun};
 ghost use Rattle.tc_world.specs.Telling.{TellsRequests};
 ghost use Rattle.tc_world.specs.Flight.{FliesInOrder};
@@ -43,7 +45,7 @@ impl<U: Carrier<Frame> + Drop, D: Carrier<Report> + Drop, A: Allocator + Copy + 
     ghost view = { λ w. w.parts };
 
     // what stands between two events, and carries the window's claims
-    ghost invariant = { λ w. IsKept (seen U.kind D.kind w.parts) };
+    ghost invariant = { λ w. IsKept (seen U.kind D.kind w.parts) × IsFit (seen U.kind D.kind w.parts) × IsFairOn (seen U.kind D.kind w.parts) × IsNarrow (seen U.kind D.kind w.parts) };
 }
 
 impl<U: Carrier<Frame> + Drop, D: Carrier<Report> + Drop, A: Allocator + Copy + Drop> World<
@@ -65,7 +67,7 @@ impl<U: Carrier<Frame> + Drop, D: Carrier<Report> + Drop, A: Allocator + Copy + 
         requires down { D.kind.content down ≡ [] }
         requires fop { fop.machine.state ≡ Initial }
         requires farm { farm ≡ new_farm farm.window }
-        ensures world { IfOk result (λ w. w ≡ record { fop = fop.machine; farm = farm; up = up; down = down; past = []; newest = blank 0; clean = true; vc = vc }) }
+        ensures world { IfOk result (λ w. w ≡ record { fop = fop.machine; farm = farm; up = up; down = down; past = []; newest = blank 0; clean = true; fits = is_fitting fop.machine farm; level = false; vc = vc }) }
         ensures channel { IsOk result ↔ (vc ≤ 63) }
         ensures bad { IfErr result (λ refusal. refusal ≡ BadDirective) }
     {
@@ -96,6 +98,14 @@ impl<U: Carrier<Frame> + Drop, D: Carrier<Report> + Drop, A: Allocator + Copy + 
         ensures room { D.covered self.old.down ≤ D.covered self.new.down + 1 }
         // an initiation is a good start or not, and no other event is a start
         ensures clean { IfOk result (λ answer. self.new.clean ≡ clean_by U.kind D.kind event self.old) }
+        // whether K fitted at every moment so far, and whether the last start was level
+        ensures fits { IfOk result (λ answer. self.new.fits ≡ fits_by event self.old self.new) }
+        ensures fitting { self.new.fits ≡ true → self.new.fop.k ≤ self.new.farm.window / 2 }
+        ensures level { IfOk result (λ answer. self.new.level ≡ level_by U.kind D.kind event self.old) }
+        // while every start was good and K fitted, the FARM is not in Lockout, and no other alert comes than those that may
+        ensures never_locked_out { self.new.clean ≡ true → self.new.fits ≡ true → is_locked_out self.new.farm.state ≡ false }
+        ensures fair { IfOk result (λ answer. self.new.clean ≡ true → self.new.fits ≡ true → list_all (is_fair self.old.level self.old.fop.state) answer ≡ true) }
+        ensures was_fitting { self.new.fits ≡ true → self.old.fits ≡ true }
         // while every start was good, an event is a run of the session that is on, or another begins
         ensures window { IfOk result (λ answer. self.new.clean ≡ true → Follows (seen U.kind D.kind self.old) (seen U.kind D.kind self.new)) }
         ensures flight { self.new.clean ≡ true → FliesInOrder (seen U.kind D.kind self.new) }
@@ -111,6 +121,7 @@ impl<U: Carrier<Frame> + Drop, D: Carrier<Report> + Drop, A: Allocator + Copy + 
     /// of it.
     pub fn run(&mut self, events: &[Event]) -> RunEnd
         ensures run { IsRun U.kind D.kind D.covered events.now result.done result.refusal self.old self.new }
+        ensures never_locked_out { self.new.clean ≡ true → self.new.fits ≡ true → is_locked_out self.new.farm.state ≡ false }
         ensures flight { self.new.clean ≡ true → FliesInOrder (seen U.kind D.kind self.new) }
         ensures claims { self.new.clean ≡ true → IsClaimed self.new }
     {
@@ -145,11 +156,28 @@ impl<U: Carrier<Frame> + Drop, D: Carrier<Report> + Drop, A: Allocator + Copy + 
     /// check also V(S) was V(R) and the FARM had no flag.
     pub fn clean(&self) -> bool
         ensures value { result ≡ self.now.clean }
+        ensures never_locked_out { self.now.clean ≡ true → self.now.fits ≡ true → is_locked_out self.now.farm.state ≡ false }
         ensures flight { self.now.clean ≡ true → FliesInOrder (seen U.kind D.kind self.now) }
         ensures claims { self.now.clean ≡ true → IsClaimed self.now }
     {
         window_is_kept();
         self.parts.clean
+    }
+
+    /// Whether K was at most half of the FARM's window, W / 2, at every moment so far.
+    pub fn fits(&self) -> bool
+        ensures value { result ≡ self.now.fits }
+        ensures fitting { self.now.fits ≡ true → self.now.fop.k ≤ self.now.farm.window / 2 }
+    {
+        self.parts.fits
+    }
+
+    /// Whether the last accepted initiation was a level start: both carriers were empty, and, with check or without,
+    /// V(S) was V(R) and the FARM had no flag. False before any.
+    pub fn level(&self) -> bool
+        ensures { result ≡ self.now.level }
+    {
+        self.parts.level
     }
 
     /// How many sessions there were, the one that is on among them.

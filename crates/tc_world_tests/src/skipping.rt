@@ -36,7 +36,7 @@ impl<T: Drop, A: Allocator> SkippingCarrier<T, A> {
 }
 
 impl<T: Drop, A: Allocator> Carrier<T> for SkippingCarrier<T, A> {
-    ghost use Rattle.std.proofs.Common.{subst, sym};
+    ghost use Rattle.std.proofs.Common.{refl, subst, sym};
     ghost use Rattle.std.specs.Prelude.{◌≡◌, ℕ, Bool, List, [], ◌∷◌, ◌++◌, length, remove, nat_lt};
     ghost use Rattle.tc_world.specs.Sublist.{IsSublist, IsSublist-same, IsSublist-remove};
     ghost use Rattle.tc_world.specs.Links.{Kind};
@@ -46,6 +46,7 @@ impl<T: Drop, A: Allocator> Carrier<T> for SkippingCarrier<T, A> {
     // lost, and past the end nothing is, and the answer is false
     ghost kind = { record {
       content = λ c. c.content;
+      without_room = λ c. record c { covered = 0 };
       puts = λ old item new. new.content ≡ old.content ++ item ∷ [];
       takes = λ old item new. Skips old.content item new.content;
       loses = λ old place answer new. (answer ≡ nat_lt place (length old.content)) × (new.content ≡ remove old.content place);
@@ -83,6 +84,8 @@ impl<T: Drop, A: Allocator> Carrier<T> for SkippingCarrier<T, A> {
     fn is_empty(&self) -> bool {
         self.items.is_empty()
     }
+
+    ghost room_holds_nothing = { λ link. refl };
 
     ghost put_only_loses = { λ old new item e. subst (λ xs. IsSublist xs (old.content ++ item ∷ [])) (sym e) (IsSublist-same (old.content ++ item ∷ [])) };
 

@@ -27,6 +27,7 @@ use tc_world::worlds::World;
 mod courses;
 mod lockouts;
 mod refusing;
+mod rings;
 mod rooms;
 mod rounds;
 mod starts;

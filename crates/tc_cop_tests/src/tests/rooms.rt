@@ -1,5 +1,5 @@
 //! Where memory is refused nothing changes, and what was reserved is there.
-use super::calls::{Call, all_done, check_output, check_refused, check_view, done};
+use super::calls::{Call, all_done, check_call, check_output, check_refused, check_view, done};
 use super::ends::{OnGround, fop, refusal_to_make};
 use super::{ad, number};
 use linked_list_allocator::LocalHeap;
@@ -60,11 +60,10 @@ fn squeezed<G: OnGround>(
     Err(Refusal::Memory)
 }
 
-/// An offer that waits, a word of P6 and a retransmission are refused memory, and go on.
+/// A word of P6 and a retransmission are refused memory, and go on.
 fn goes_on<G: OnGround>(rt: &impl Abort, heap: &LocalHeap, fop: &mut G) -> Result<(), Refusal> {
     all_done(rt, fop, &[START, Call::Offer(1), Call::Offer(2)])?;
-    let out = squeezed(rt, heap, fop, Call::Offer(3))?;
-    check_output(rt, &out, &[], &[], "an offer that waits");
+    done(rt, fop, Call::Offer(3))?;
     let out = squeezed(rt, heap, fop, Call::Report(1))?;
     let indicated = [
         Indication::Confirmed(number(rt, 1)),
@@ -96,31 +95,36 @@ fn fill<'a>(heap: &'a LocalHeap) -> Vec<u8, &'a LocalHeap> {
     Vec::new(heap)
 }
 
-/// Checks that a call is not refused the memory that was reserved for it, where the heap is full.
+/// Checks that a call is not refused the memory that was reserved for it, where the heap is full, and whether it took
+/// that memory.
 fn check_reserved<G: OnGround>(
     rt: &impl Abort,
     heap: &LocalHeap,
     fop: &mut G,
     call: Call,
+    takes: bool,
 ) -> Result<(), Refusal> {
     fop.reserves()?;
     let taken = fill(heap);
     let out = done(rt, fop, call);
     assert!(rt; out.is_ok(), "{call:?}");
-    assert!(rt; fop.reserves() == Err(Refusal::Memory), "{call:?}");
+    let is_taken = fop.reserves().is_err();
+    assert!(rt; is_taken == takes, "{call:?}");
     drop(taken);
     Ok(())
 }
 
-/// Calls that send, that wait, that send again, that confirm, and that stop the service.
-const CALLS: &[Call] = &[
-    START,
-    Call::Offer(1),
-    Call::Offer(2),
-    Call::Again(0),
-    Call::Report(1),
-    Call::Ticks(1),
-    Call::Invalid,
+/// Calls that send, that wait, that are ignored, that send again, that confirm, and that stop the service, and which of
+/// them take the memory that was reserved: what waits and what is ignored leaves it.
+const CALLS: &[(Call, bool)] = &[
+    (START, true),
+    (Call::Offer(1), true),
+    (Call::Offer(2), false),
+    (Call::Report(0), false),
+    (Call::Again(0), true),
+    (Call::Report(1), true),
+    (Call::Ticks(1), true),
+    (Call::Invalid, true),
 ];
 
 /// Checks the same of these calls, one after the other.
@@ -128,10 +132,10 @@ fn check_all_reserved<G: OnGround>(
     rt: &impl Abort,
     heap: &LocalHeap,
     fop: &mut G,
-    calls: &[Call],
+    calls: &[(Call, bool)],
 ) -> Result<(), Refusal> {
-    for call in calls {
-        check_reserved(rt, heap, fop, *call)?;
+    for (call, takes) in calls {
+        check_reserved(rt, heap, fop, *call, *takes)?;
     }
     Ok(())
 }
@@ -141,6 +145,33 @@ fn is_not_refused_what_was_reserved(rt: HostRuntime) -> Result<(), Fail> {
     let heap = LocalHeap::new(rt.alloc(), HEAP)?;
     let mut fop = fop(&heap, 1, 10, 3)?;
     check_all_reserved(&rt, &heap, &mut fop, CALLS)?;
+    Ok(())
+}
+
+/// Where the window is full and so much of the heap is taken by something else, an offer waits, and a word of P5 in S1 is
+/// ignored: neither is refused memory.
+fn waits_beside<G: OnGround>(
+    rt: &impl Abort,
+    heap: &LocalHeap,
+    fop: &mut G,
+    size: usize,
+) -> Result<(), Refusal> {
+    all_done(rt, fop, &[START, Call::Offer(1), Call::Offer(2)])?;
+    let taken = Vec::<u8, &LocalHeap>::with_capacity(heap, size);
+    check_call(rt, fop, Call::Report(0), &[], &[], "P5")?;
+    check_call(rt, fop, Call::Offer(3), &[], &[], "an offer that waits")?;
+    check_call(rt, fop, Call::Report(0), &[], &[], "P5 while one waits")?;
+    drop(taken);
+    Ok(())
+}
+
+#[test]
+fn what_waits_wants_no_memory(rt: HostRuntime) -> Result<(), Fail> {
+    let heap = LocalHeap::new(rt.alloc(), HEAP)?;
+    for place in 0..SIZES {
+        let mut fop = fop(&heap, 2, 10, 3)?;
+        waits_beside(&rt, &heap, &mut fop, size_at(place))?;
+    }
     Ok(())
 }
 

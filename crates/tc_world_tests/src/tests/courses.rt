@@ -17,13 +17,18 @@ use tc_world::events::Event;
 
 /// A linear congruential generator.
 #[derive(Drop)]
-struct Dice {
+pub struct Dice {
     state: u64,
 }
 
 impl Dice {
+    /// A generator that starts here.
+    pub fn new(state: u64) -> Dice {
+        Dice { state }
+    }
+
     /// A number below this one.
-    fn roll(&mut self, sides: u32) -> u32 {
+    pub fn roll(&mut self, sides: u32) -> u32 {
         self.state = self
             .state
             .wrapping_mul(6_364_136_223_846_793_005)
@@ -197,14 +202,14 @@ fn turns<L: Link>(rt: &impl Abort, link: &mut L, course: &mut Course) -> Result<
 
 /// So many random events, from a generator that starts here: several sessions, and some requests offered again. Answers
 /// how many requests were confirmed, and how often the FOP stopped by itself.
-fn courses<L: Link>(
+pub fn courses<L: Link>(
     rt: &impl Abort,
     link: &mut L,
     seed: u64,
     events: u32,
 ) -> Result<(usize, u32), Fail> {
     let mut course = Course {
-        dice: Dice { state: seed },
+        dice: Dice::new(seed),
         next: 1,
         alerts: 0,
         again: 0,

@@ -4,5 +4,5 @@ use Rattle.tc_fop.specs.declared.queues.Outstanding.{Outstanding}
 use Rattle.tc_fop.specs.Machine.{joined}
 use Rattle.tc_fop.proofs.queues.doubt_all.Given as goal
 
-abbrev pub invariant-loop-held : goal.invariant-loop-held
-invariant-loop-held g l = l.out ≡ joined l.fn.out (record { frames = []; indications = map (λ (held : Outstanding). InDoubt held.request) (take l.held-index l.sent) })
+abbrev pub invariant-loop-position : goal.invariant-loop-position
+invariant-loop-position g l = l.out ≡ joined l.fn.out (record { frames = []; indications = map (λ (held : Outstanding). InDoubt held.request) (take l.position l.sent) })

@@ -4,5 +4,5 @@ use Rattle.tc_fop.specs.declared.queues.Outstanding.{Outstanding}
 use Rattle.tc_fop.specs.Machine.{joined}
 use Rattle.tc_fop.proofs.queues.send_again.Given as goal
 
-abbrev pub invariant-loop-held : goal.invariant-loop-held
-invariant-loop-held g l = l.out ≡ joined l.fn.out (record { frames = map (λ (held : Outstanding). Ad held.ns held.request held.body) (take l.held-index l.sent); indications = [] })
+abbrev pub invariant-loop-place : goal.invariant-loop-place
+invariant-loop-place g l = l.out ≡ joined l.fn.out (record { frames = map (λ (held : Outstanding). Ad held.ns held.request held.body) (take l.place l.sent); indications = [] })

@@ -8,7 +8,7 @@ returns-clause-happens g c = rw (← c.self.view_is) (
   c.control_word-clcw.ensures,
   record {
     ready = c.reserve.new.self;
-    readied = c.reserve.ensures.content;
+    readied = c.reserve.ensures.readied;
     put = rw c.word.ensures at c.put.ensures.put;
     whole = refl;
     answered = c.none.ensures;

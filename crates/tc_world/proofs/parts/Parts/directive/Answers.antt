@@ -1,27 +1,13 @@
--- The directive was carried out in the newest session.
-use Rattle.std.proofs.Common.{sym, ◌∙◌}
-use Rattle.tc_world.proofs.CarryLemmas.{carried, directs_on}
+-- The directive was carried out, and it was looked at K and at the start.
+use Rattle.std.proofs.Common.{sym, subst}
+use Rattle.tc_world.specs.declared.events.Event.TheVariants as event
+use Rattle.tc_world.specs.World.{Happens}
+use Rattle.tc_world.proofs.CarryLemmas.{judged}
 use Rattle.tc_world.proofs.parts.Parts.directive.Goals as goal
 
 pub returns-clause-happens : goal.returns-clause-happens
 returns-clause-happens g c =
-    let other = sym c.begins_session.ensures ∙ c.if-begins_session.false in
-    rw (← c.self.view_is)
-    (let done = carried g.U.Carrier.kind _ _ _ _ _ _ _ _ (rw (c.reserve.ensures.machine, ← c.carry.ensures.machine) at c.directive_reserved-out.ensures.answers) c.reserve.ensures.readied c.carry.ensures.frames (rw c.reserve.ensures.log at c.carry.ensures.log) (c.many.ensures ∙ rw c.in_ok-answer.ensures.answer.0 at c.carry.ensures.answer) in
-    (done.0, done.1, directs_on g.U.Carrier.kind g.D.Carrier.kind _ _ _ _ _ other done.2))
-
-pub invariant_of-self : goal.invariant_of-self
-invariant_of-self g c = (
-  c.self.invariant.0,
-  rw c.reserve.ensures.machine c.self.invariant.1,
-  c.self.invariant.2,
-  rw c.reserve.ensures.log (c.reserve.ensures.marks _ c.self.invariant.3),
-)
-
-pub invariant_of-self-2 : goal.invariant_of-self-2
-invariant_of-self-2 g c = (
-  c.self.invariant.0,
-  rw c.carry.ensures.machine c.directive_reserved-out.ensures.fop,
-  c.self.invariant.2,
-  c.carry.ensures.marks _ (rw c.reserve.ensures.log (c.reserve.ensures.marks _ c.self.invariant.3)),
-)
+    subst (λ v. Happens g.U.Carrier.kind g.D.Carrier.kind (event.Directive c.args.directive) c.args.self.now (record v { fits = c.still_fits-self-inside.result; level = c.stays_level-level.result }) c.in_ok-answer.answer)
+    (sym c.self.view_is)
+    (judged g.U.Carrier.kind g.D.Carrier.kind c.args.directive c.args.self.now c.carry_out.new.self c.in_ok-answer.answer _ _ c.in_ok-answer.ensures.directs c.carry_out.ensures.unjudged
+    c.still_fits-self-inside.ensures c.stays_level-level.ensures)

@@ -19,7 +19,7 @@ returns-clause-begins g c =
     let based = c.begin.ensures.log ∙ ap (λ (v : FopView). blank v.vs) c.view.ensures.view ∙ ap (λ (m : Machine). blank m.vs) (sym c.carry.ensures.machine) in
     let written = rw (c.replace-ended.ensures.after, based) at c.carry.ensures.log in
     rw (← c.self.view_is)
-    (begun g.U.Carrier.kind g.D.Carrier.kind _ _ _ _ _ _ _ _ _ _ (rw (c.reserve-2.ensures.machine, ← c.carry.ensures.machine) at c.directive_reserved-out.ensures.answers) c.reserve-2.ensures.readied c.carry.ensures.frames earlier written good (c.many.ensures ∙ rw c.in_ok-answer.ensures.answer.0 at c.carry.ensures.answer))
+    (begun g.U.Carrier.kind g.D.Carrier.kind _ _ _ _ _ _ _ _ _ _ (rw (c.reserve-2.ensures.machine, ← c.carry.ensures.machine) at c.directive_reserved-output.ensures.answers) c.reserve-2.ensures.readied c.carry.ensures.frames earlier written good (c.many.ensures ∙ rw c.in_ok-answer.ensures.answer.0 at c.carry.ensures.answer))
 
 pub invariant_of-self-2 : goal.invariant_of-self-2
 invariant_of-self-2 g c =
@@ -28,7 +28,7 @@ invariant_of-self-2 g c =
     let before = marks_same _ _ (rw (← c.reserve-2.ensures.log) at (c.reserve-2.ensures.marks _ c.self.invariant.3)) in
     let carried = c.carry.ensures.marks _ (rw (c.replace-ended.ensures.after, c.begin.ensures.log) before) in (
       c.self.invariant.0,
-      rw c.carry.ensures.machine c.directive_reserved-out.ensures.fop,
+      rw c.carry.ensures.machine c.directive_reserved-output.ensures.fop,
       c.self.invariant.2,
       rw queued (marks_begun c.self.inside.past.items c.reserve-2.new.self.newest _ _ carried),
     )

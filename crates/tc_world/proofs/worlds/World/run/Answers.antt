@@ -5,14 +5,16 @@ use Rattle.tc_world.proofs.RunLemmas.{runs_none, runs_more}
 use Rattle.tc_world.proofs.worlds.World.run.Goals as goal
 
 pub loop-done-init : goal.loop-done-init
-loop-done-init g c = (runs_none _ _ _, c.clean-clean.ensures.claims, c.clean-clean.ensures.flight)
+loop-done-init g c = (runs_none _ _ _, c.clean-clean.ensures.claims, c.clean-clean.ensures.flight, c.clean-clean.ensures.never_locked_out)
 
 pub loop-done-preserved : goal.loop-done-preserved
 loop-done-preserved g c = (
   runs_more _ _ c.args.events.now c.loop-done.done _ _ _ _ _ c.loop-done-test.true c.loop-done.invariant.0
-      (rw c.index-events-done.is at c.in_default.ensures.happens) c.in_default.ensures.was_clean c.in_default.ensures.window,
+      (rw c.index-events-done.is at c.in_default.ensures.happens) c.in_default.ensures.was_clean c.in_default.ensures.window
+      c.in_default.ensures.was_fitting c.in_default.ensures.fair,
   c.in_default.ensures.claims,
   c.in_default.ensures.flight,
+  c.in_default.ensures.never_locked_out,
 )
 
 pub returns-in-Err : goal.returns-in-Err
@@ -29,6 +31,7 @@ returns-in-Err g c = record {
     stands = c.in-Err.ensures.refused.1;
   };
   flight = c.in-Err.ensures.flight;
+  never_locked_out = c.in-Err.ensures.never_locked_out;
   claims = c.in-Err.ensures.claims;
 }
 
@@ -42,5 +45,6 @@ returns g c =
         stands = record { up = refl; down = refl; rest = refl };
       };
       flight = c.loop-done.invariant.2;
+      never_locked_out = c.loop-done.invariant.3;
       claims = c.loop-done.invariant.1;
     }

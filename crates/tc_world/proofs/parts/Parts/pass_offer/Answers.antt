@@ -1,11 +1,11 @@
 -- The offer was carried out.
-use Rattle.std.proofs.Common.{sym, ◌∙◌}
+use Rattle.std.proofs.Common.{◌∙◌}
 use Rattle.tc_world.proofs.CarryLemmas.{carried}
-use Rattle.tc_world.proofs.parts.Parts.offer.Goals as goal
+use Rattle.tc_world.proofs.parts.Parts.pass_offer.Goals as goal
 
 pub returns-clause-happens : goal.returns-clause-happens
 returns-clause-happens g c =
-    let fresh = rw (← c.self.view_is) at (sym c.knows.ensures ∙ c.if-knows.false) in
+    let fresh = rw (← c.self.view_is) at c.requires.unknown in
     rw (← c.self.view_is)
     (let done = carried g.U.Carrier.kind _ _ _ _ _ _ _ _ (rw (c.reserve.ensures.machine, ← c.carry.ensures.machine) at c.offer_reserved-out.ensures.answers) c.reserve.ensures.readied c.carry.ensures.frames (rw c.reserve.ensures.log at c.carry.ensures.log) (c.many.ensures ∙ rw c.in_ok-answer.ensures.answer.0 at c.carry.ensures.answer) in
     (done.0, fresh, done.1, done.2))
