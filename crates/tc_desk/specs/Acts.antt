@@ -35,7 +35,7 @@ use Rattle.tc_book.specs.Acts as on_book
 use Rattle.tc_book.specs.Logs.{step_tests, recorded, released_with}
 use Rattle.tc_desk.specs.declared.firsts.First.{First}
 use Rattle.tc_desk.specs.declared.firsts.First.TheVariants as first
-use Rattle.tc_desk.specs.State.{State}
+use Rattle.tc_desk.specs.State.{State, widest_k}
 use Rattle.tc_desk.specs.Commands.{activity_at, may_not_ride}
 use Rattle.tc_desk.specs.Effects.{followed}
 
@@ -49,21 +49,21 @@ has_bad_activity book n = may_not_ride book (activity_at book n)
 abbrev pub is_locked : Book → ℕ → Bool
 is_locked book n = is_interlocked book n || option_map_or (is_interlocked book) (activity_at book n) false
 
--- an initiation and a new V(S) are taken in S6 alone, and 0 is no setting
-abbrev pub is_bad_directive : FopState → Directive → Bool
-is_bad_directive state directive.InitiateNone = not (is_initial state)
-is_bad_directive state directive.InitiateCheck = not (is_initial state)
-is_bad_directive state directive.InitiateUnlock = not (is_initial state)
-is_bad_directive state (directive.InitiateSetVr v) = not (is_initial state)
-is_bad_directive state directive.Terminate = false
-is_bad_directive state (directive.SetVs v) = not (is_initial state)
-is_bad_directive state (directive.SetK k) = k == 0
-is_bad_directive state (directive.SetT1 t1) = t1 == 0
-is_bad_directive state (directive.SetLimit limit) = limit == 0
+-- an initiation and a new V(S) are taken in S6 alone, 0 is no setting, and K is at most the widest that fits
+abbrev pub is_bad_directive : FopState → ℕ → Directive → Bool
+is_bad_directive state widest directive.InitiateNone = not (is_initial state)
+is_bad_directive state widest directive.InitiateCheck = not (is_initial state)
+is_bad_directive state widest directive.InitiateUnlock = not (is_initial state)
+is_bad_directive state widest (directive.InitiateSetVr v) = not (is_initial state)
+is_bad_directive state widest directive.Terminate = false
+is_bad_directive state widest (directive.SetVs v) = not (is_initial state)
+is_bad_directive state widest (directive.SetK k) = (k == 0) || nat_lt widest k
+is_bad_directive state widest (directive.SetT1 t1) = t1 == 0
+is_bad_directive state widest (directive.SetLimit limit) = limit == 0
 
--- of a book, a FOP, and the spacecraft's time
-abbrev pub link_tests : Book → FopView → ℕ → LinkAct → List (Bool × Refusal)
-link_tests book fop now (link_act.Release n) =
+-- of a book, a FOP, the widest K that fits, and the spacecraft's time
+abbrev pub link_tests : Book → FopView → ℕ → ℕ → LinkAct → List (Bool × Refusal)
+link_tests book fop widest now (link_act.Release n) =
     (is_unknown book n, UnknownRequest)
     ∷ (stands book n (Entered ∷ []), NotApproved)
     ∷ (not (stands book n (Approved ∷ [])), WrongPlace)
@@ -73,25 +73,25 @@ link_tests book fop now (link_act.Release n) =
     ∷ (not (fop.waiting == 0), WaitQueueFull)
     ∷ (has_all_rows book, DeskFull)
     ∷ []
-link_tests book fop now (link_act.Direct given) = (is_bad_directive fop.state given, BadDirective) ∷ (is_terminate given && has_all_rows book, DeskFull) ∷ []
-link_tests book fop now link_act.Tick = (has_all_rows book, DeskFull) ∷ []
-link_tests book fop now link_act.Up = []
-link_tests book fop now (link_act.LoseUp place) = []
-link_tests book fop now (link_act.LoseDown place) = []
-link_tests book fop now link_act.Clcw = []
-link_tests book fop now link_act.Down = (has_all_rows book, DeskFull) ∷ []
-link_tests book fop now link_act.Work = []
-link_tests book fop now (link_act.Clock time) = (nat_lt time now, BadDirective) ∷ []
+link_tests book fop widest now (link_act.Direct given) = (is_bad_directive fop.state widest given, BadDirective) ∷ (is_terminate given && has_all_rows book, DeskFull) ∷ []
+link_tests book fop widest now link_act.Tick = (has_all_rows book, DeskFull) ∷ []
+link_tests book fop widest now link_act.Up = []
+link_tests book fop widest now (link_act.LoseUp place) = []
+link_tests book fop widest now (link_act.LoseDown place) = []
+link_tests book fop widest now link_act.Clcw = []
+link_tests book fop widest now link_act.Down = (has_all_rows book, DeskFull) ∷ []
+link_tests book fop widest now link_act.Work = []
+link_tests book fop widest now (link_act.Clock time) = (nat_lt time now, BadDirective) ∷ []
 
 -- what is tested behind a record: the release, where one comes with it
-abbrev pub tests_behind : Book → FopView → ℕ → Option ℕ → List (Bool × Refusal)
-tests_behind book fop now None = (has_all_rows book, DeskFull) ∷ []
-tests_behind book fop now (Some n) = link_tests book fop now (link_act.Release n)
+abbrev pub tests_behind : Book → FopView → ℕ → ℕ → Option ℕ → List (Bool × Refusal)
+tests_behind book fop widest now None = (has_all_rows book, DeskFull) ∷ []
+tests_behind book fop widest now (Some n) = link_tests book fop widest now (link_act.Release n)
 
 abbrev pub tests_of : {U D : Type 0} → Stamp → State U D → Act → List (Bool × Refusal)
 tests_of stamp at (act.Book given) = on_book.tests_of stamp at.book given
-tests_of stamp at (act.Link given) = link_tests at.book (view_of at.world.fop) at.board.time given
-tests_of stamp at (act.Step given) = step_tests stamp at.book given ++ tests_behind at.book (view_of at.world.fop) at.board.time (released_with at.book given)
+tests_of stamp at (act.Link given) = link_tests at.book (view_of at.world.fop) (widest_k at.world.farm.window) at.board.time given
+tests_of stamp at (act.Step given) = step_tests stamp at.book given ++ tests_behind at.book (view_of at.world.fop) (widest_k at.world.farm.window) at.board.time (released_with at.book given)
 tests_of stamp at (act.Ask asked) = on_book.query_tests at.book asked
 
 -- what the first test that holds says

@@ -22,6 +22,7 @@ use Rattle.tc_desk.specs.Replies.{Reply}
 use Rattle.tc_desk.specs.Rows.{transmit_rows, confirm_rows}
 use Rattle.tc_desk.specs.State.{State}
 use Rattle.tc_desk.specs.Parts.{event_asked}
+use Rattle.tc_desk.specs.Fair.{IsOpen}
 
 -- ---- what comes on board
 
@@ -72,13 +73,14 @@ pub record TakenOnce {U D : Type 0} (opened : ℕ) (at : State U D) : Type 0 whe
   pub in_order : IsSublist (all_accepted at.world) (transmit_rows opened at.book)
 
 -- What the rows since a desk was made tell of its link is true: each transmission has its row, in order, and each confirmation
--- that a row tells of happened, in order; and while every start was good the window's claims hold, and each request that a row
--- calls confirmed was taken on board once.
+-- that a row tells of happened, in order; and while every start was good the window's claims hold, each request that a row
+-- calls confirmed was taken on board once, and the FARM is not in Lockout.
 pub record TellsTrue {U D : Type 0} (opened : ℕ) (at : State U D) : Type 0 where
   pub transmitted : transmit_rows opened at.book ≡ all_sent at.world
   pub confirmed : IsSublist (confirm_rows opened at.book) (all_confirmed at.world)
   pub window : at.world.clean ≡ true → IsClaimed at.world
   pub once : at.world.clean ≡ true → TakenOnce opened at
+  pub open_farm : IsOpen at
 
 -- ---- runs of acts and loads
 

@@ -14,6 +14,7 @@ pub mod Places
 pub mod Riders
 pub mod Rows
 pub mod Tied
+pub mod Fair
 pub mod Headline
 pub mod Followed
 pub mod Standing

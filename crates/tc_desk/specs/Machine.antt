@@ -1,6 +1,7 @@
 -- The desk machine: what is answered to whom, and what becomes of the desk. It is a relation: what the link tells is not
 -- decided by the desk alone, nor where memory is refused.
-use Rattle.std.specs.Prelude.{◌≡◌, ◌⊎◌, ℕ, Option, Some, None, Ok, Err, Result, List, [], ◌∷◌, length, drop}
+use Rattle.std.specs.Prelude.{◌≡◌, ◌⊎◌, ℕ, true, false, Option, Some, None, Ok, Err, Result, List, [], ◌∷◌, length, drop}
+use Rattle.std.specs.List.{list_all}
 use Rattle.tc_types.specs.declared.frames.Frame.{Frame}
 use Rattle.tc_types.specs.declared.moves.Move.{Move}
 use Rattle.tc_types.specs.declared.refusals.Refusal.{Refusal}
@@ -12,12 +13,14 @@ use Rattle.tc_types.specs.declared.acts.LinkAct.TheVariants as link_act
 use Rattle.tc_types.specs.declared.acts.Act.{Act}
 use Rattle.tc_types.specs.declared.acts.Act.TheVariants as act
 use Rattle.tc_types.specs.declared.acts.Line.{Line}
+use Rattle.tc_farm.specs.Farm.{is_locked_out}
 use Rattle.tc_world.specs.declared.events.Event.{Event}
 use Rattle.tc_world.specs.declared.events.Event.TheVariants as event
 use Rattle.tc_world.specs.declared.events.Indication.{Indication}
 use Rattle.tc_world.specs.Links.{Kind}
 use Rattle.tc_world.specs.Telling.{TellsRequests}
-use Rattle.tc_world.specs.World.{Whole, Happens, IsAsBefore}
+use Rattle.tc_world.specs.Fair.{is_fair}
+use Rattle.tc_world.specs.World.{Whole, Happens, IsAsBefore, sets_fitting}
 use Rattle.tc_board.specs.Board.{work_reports, worked, ClockReports, clocked}
 use Rattle.tc_book.specs.declared.stamps.Stamp.{Stamp}
 use Rattle.tc_desk.specs.declared.firsts.First.{First}
@@ -30,11 +33,16 @@ use Rattle.tc_desk.specs.Replies.{Reply, Replies, act_reply, refusal_reply}
 
 -- ---- what an act makes of the link and the spacecraft
 
--- One event happened to the link, by the link's own relation. It is a record, so that what it is stays closed where an act
--- only hands it on.
+-- One event happened to the link, by the link's own relation; and while every start was good and K fitted, the FARM is not
+-- in Lockout, and no other alert came than those that may. It is a record, so that what it is stays closed where an act only
+-- hands it on.
 pub record Happened {U D : Type 0} (up : Kind U Frame) (down : Kind D Report) (given : Event) (old new : Whole U D) (all : List Indication) : Type 0 where
   pub happens : Happens up down given old new all
   pub tells : TellsRequests given old new all
+  -- K moves where it is set, and fits still where the new one does
+  pub keeps_fitting : old.fits ≡ true → sets_fitting given old.farm ≡ true → new.fits ≡ true
+  pub open_farm : new.clean ≡ true → new.fits ≡ true → is_locked_out new.farm.state ≡ false
+  pub fair : new.clean ≡ true → new.fits ≡ true → list_all (is_fair old.level old.fop.state) all ≡ true
 
 -- what is asked of the link, where something is asked; the spacecraft is not touched
 abbrev pub Passes : {U D : Type 0} → Kind U Frame → Kind D Report → Option Event → Whole U D → Whole U D → List Indication → Type 0

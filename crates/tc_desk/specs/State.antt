@@ -1,5 +1,5 @@
 -- What a desk is made of: its book, its link, the rehearsal spacecraft, and the mirror of its schedule.
-use Rattle.std.specs.Prelude.{ℕ, ◌≤◌, Bool, true, false, []}
+use Rattle.std.specs.Prelude.{ℕ, ◌≤◌, ◌/◌, nat_lt, Bool, true, false, if◌then◌else◌, Option, Some, None, []}
 use Rattle.tc_farm.specs.Farm.{IsWindowWidth, new_farm}
 use Rattle.tc_fop.specs.Calls.{new_machine}
 use Rattle.tc_world.specs.Logs.{blank}
@@ -9,9 +9,23 @@ use Rattle.tc_board.specs.Mirror.{MirrorState, no_mirror}
 use Rattle.tc_book.specs.Book.{Book, empty_book}
 use Rattle.tc_desk.specs.declared.configs.Config.{Config}
 
--- what may be chosen: W even, 2 to 254, and a channel of 6 bits
+-- links that are lists, or rings of 1 to 4,096 items
+abbrev pub IsRing : Option ℕ → Type 0
+IsRing None = Unit {0}
+IsRing (Some size) = (1 ≤ size) × (size ≤ 4096)
+
+-- what may be chosen: W even, 2 to 254, a channel of 6 bits, and the links
 abbrev pub IsConfig : Config → Type 0
-IsConfig config = IsWindowWidth config.window × (config.channel ≤ 63)
+IsConfig config = IsWindowWidth config.window × (config.channel ≤ 63) × IsRing config.ring
+
+-- The widest K that fits: half of the FARM's window. While K is at most that, the FARM meets no frame outside its window
+-- (CCSDS 232.1-B, 6.1.8).
+abbrev pub widest_k : ℕ → ℕ
+widest_k window = window / 2
+
+-- K as a desk is made: 10, or the widest that fits
+abbrev pub first_k : ℕ → ℕ
+first_k window = if nat_lt (widest_k window) 10 then widest_k window else 10
 
 pub record State (U D : Type 0) : Type 0 where
   pub book : Book
@@ -20,17 +34,17 @@ pub record State (U D : Type 0) : Type 0 where
   -- the on-board schedule, as the reports that were read tell it
   pub mirror : MirrorState
 
--- a link where nothing happened yet, over these carriers: K = 10, T1_Initial = 10 ticks, Transmission_Limit = 3
+-- a link where nothing happened yet, over these carriers: the first K, T1_Initial = 10 ticks, Transmission_Limit = 3
 abbrev pub new_world : {U D : Type 0} → Config → U → D → Whole U D
 new_world config up down = record {
-  fop = new_machine 10 10 3;
+  fop = new_machine (first_k config.window) 10 3;
   farm = new_farm config.window;
   up = up;
   down = down;
   past = [];
   newest = blank 0;
   clean = true;
-  fits = is_fitting (new_machine 10 10 3) (new_farm config.window);
+  fits = is_fitting (new_machine (first_k config.window) 10 3) (new_farm config.window);
   level = false;
   vc = config.channel;
 }

@@ -163,6 +163,31 @@ fits_by (event.Put telemetry) old new = old.fits
 fits_by event.Downlink old new = old.fits
 fits_by (event.LoseDown place) old new = old.fits
 
+-- a directive that sets no K, or one that fits
+abbrev pub is_fitting_setting : Directive → FarmView → Bool
+is_fitting_setting directive.InitiateNone farm = true
+is_fitting_setting directive.InitiateCheck farm = true
+is_fitting_setting directive.InitiateUnlock farm = true
+is_fitting_setting (directive.InitiateSetVr v) farm = true
+is_fitting_setting directive.Terminate farm = true
+is_fitting_setting (directive.SetVs v) farm = true
+is_fitting_setting (directive.SetK k) farm = nat_le k (farm.window / 2)
+is_fitting_setting (directive.SetT1 t1) farm = true
+is_fitting_setting (directive.SetLimit limit) farm = true
+
+-- the same of any event
+abbrev pub sets_fitting : Event → FarmView → Bool
+sets_fitting (event.Offer request body) farm = true
+sets_fitting (event.Directive given) farm = is_fitting_setting given farm
+sets_fitting event.Tick farm = true
+sets_fitting (event.Uplink free_buffer) farm = true
+sets_fitting (event.LoseUp place) farm = true
+sets_fitting event.Release farm = true
+sets_fitting event.Clcw farm = true
+sets_fitting (event.Put telemetry) farm = true
+sets_fitting event.Downlink farm = true
+sets_fitting (event.LoseDown place) farm = true
+
 -- whether the last start was level, after any event that happens
 abbrev pub level_by : {U D : Type 0} → Kind U Frame → Kind D Report → Event → Whole U D → Bool
 level_by uplink downlink (event.Offer request body) w = w.level

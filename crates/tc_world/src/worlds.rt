@@ -11,7 +11,7 @@ ghost use Rattle.tc_world.specs.Window.{Follows, IsClaimed};
 ghost use Rattle.tc_world.specs.Kept.{IsKept};
 ghost use Rattle.tc_world.specs.Fitting.{IsFit, IsNarrow};
 ghost use Rattle.tc_world.specs.Fair.{IsFairOn, is_fair};
-ghost use Rattle.tc_world.specs.World.{Whole, Happens, IsRefused, IsAsBefore, IsSpared, IsQuietAboard, sessions_of, is_fitting, clean_by, fits_by, level_by, puts_down, may_move, tells_move};
+ghost use Rattle.tc_world.specs.World.{Whole, Happens, IsRefused, IsAsBefore, IsSpared, IsQuietAboard, sessions_of, is_fitting, clean_by, fits_by, sets_fitting, level_by, puts_down, may_move, tells_move};
 ghost use Rattle.tc_world.specs.Runs.{IsRun};
 ghost use Rattle.tc_world.specs.Telling.{TellsRequests};
 ghost use Rattle.tc_world.specs.Flight.{FliesInOrder};
@@ -106,6 +106,8 @@ impl<U: Carrier<Frame> + Drop, D: Carrier<Report> + Drop, A: Allocator + Copy + 
         ensures never_locked_out { self.new.clean ≡ true → self.new.fits ≡ true → is_locked_out self.new.farm.state ≡ false }
         ensures fair { IfOk result (λ answer. self.new.clean ≡ true → self.new.fits ≡ true → list_all (is_fair self.old.level self.old.fop.state) answer ≡ true) }
         ensures was_fitting { self.new.fits ≡ true → self.old.fits ≡ true }
+        // K moves where it is set alone
+        ensures keeps_fitting { IfOk result (λ answer. self.old.fits ≡ true → sets_fitting event self.old.farm ≡ true → self.new.fits ≡ true) }
         // while every start was good, an event is a run of the session that is on, or another begins
         ensures window { IfOk result (λ answer. self.new.clean ≡ true → Follows (seen U.kind D.kind self.old) (seen U.kind D.kind self.new)) }
         ensures flight { self.new.clean ≡ true → FliesInOrder (seen U.kind D.kind self.new) }
