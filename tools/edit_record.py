@@ -30,6 +30,9 @@ from edit_files import text_of
 from edit_imports import PARTS, Imports, files_of
 
 RECORD = "tools/edits.tried"
+# How many lines a crate has at most. Machines may have two versions of the toolchain, of which each voids what the other tried:
+# so the line before the newest stays. A line never says more than of its own texts and version.
+MOST = 2
 # What tells a refusal from another answer.
 RULES = ("edits.py", "edit_checks.py", "edit_files.py")
 
@@ -55,22 +58,28 @@ def digest_of(crate, edits):
 
 
 class Record:
-    """The lines of tools/edits.tried, by crate."""
+    """The lines of tools/edits.tried, by crate, the newest first."""
 
     def __init__(self):
-        rows = text_of(RECORD).splitlines() if os.path.isfile(RECORD) else []
-        self.lines = {it.split(" ")[0]: it for it in rows if it}
+        # by crate; and those that were taken out
+        self.lines, self.dropped = {}, {}
+        for row in text_of(RECORD).splitlines() if os.path.isfile(RECORD) else []:
+            if row:
+                self.lines.setdefault(row.split(" ")[0], []).append(row)
 
     def holds(self, name, digest, count):
-        return self.lines.get(name) == f"{name} {digest} {count}"
+        return f"{name} {digest} {count}" in self.lines.get(name, [])
 
     def put(self, name, digest, count):
-        self.lines[name] = f"{name} {digest} {count}"
+        line = f"{name} {digest} {count}"
+        others = [it for it in [*self.lines.get(name, []), *self.dropped.get(name, [])] if it != line]
+        self.lines[name] = [line, *others][:MOST]
 
     def drop(self, name):
-        self.lines.pop(name, None)
+        """Takes the lines of a crate out, until one is put down."""
+        self.dropped[name] = self.lines.pop(name, [])
 
     def write(self, crates):
         """Writes the lines of these crates, in order of name."""
         with open(RECORD, "w", encoding="utf-8") as it:
-            it.writelines(f"{line}\n" for name, line in sorted(self.lines.items()) if name in crates)
+            it.writelines(f"{line}\n" for name, lines in sorted(self.lines.items()) if name in crates for line in lines)

@@ -333,6 +333,11 @@ def records():
             yield f"unless by {words[0]}", lines == [f"try  planted: 1 edits, digest {digest}"], lines
         lay(top, {"tools/edits.tried": f"planted {digest} 2\n"})
         yield "or by a line of other edits", ran(top, "--which")[1][0].startswith("try  planted"), recorded(top)
+        lay(top, {"tools/edits.tried": f"planted 0 1\nplanted {digest} 1\nplanted 1 1\n"})
+        yield "a second line of it counts too", ran(top, "--which")[1][0].startswith("same planted"), recorded(top)
+        lay(top, {"tools/edits.tried": "planted 0 1\nplanted 1 1\n"})
+        ran(top, "--record")
+        yield "the newest line stands first, with one more", recorded(top) == [["planted", digest, "1"], ["planted", "0", "1"]], recorded(top)
 
 
 def changed(top, file, added):
