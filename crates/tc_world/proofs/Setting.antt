@@ -1,5 +1,5 @@
 -- Where K fits and a directive sets none that does not, K fits after it.
-use Rattle.std.proofs.Common.{◌≡◌, ℕ, ◌/◌, ◌≤◌, Bool, true, false, inl, inr, Ok, List, sym, ◌∙◌, ap, subst, arith}
+use Rattle.std.proofs.Common.{◌≡◌, ℕ, ◌/◌, ◌≤◌, Bool, true, false, Ok, List, ◌∙◌, ap, arith}
 use Rattle.std.specs.Prelude.{MatchBool, nat_le, if◌then◌else◌}
 use Rattle.std.proofs.lemmas.Bool.Decides.{nat_tests}
 use Rattle.tc_types.specs.declared.frames.Frame.{Frame}
@@ -15,7 +15,7 @@ use Rattle.tc_world.specs.declared.events.Event.{Event}
 use Rattle.tc_world.specs.declared.events.Event.TheVariants as event
 use Rattle.tc_world.specs.declared.events.Indication.{Indication}
 use Rattle.tc_world.specs.Links.{Kind}
-use Rattle.tc_world.specs.World.{Whole, Happens, Begins, Carries, unjudged, is_fitting, is_fitting_setting, sets_fitting, fits_after}
+use Rattle.tc_world.specs.World.{Whole, Happens, Begins, Carries, unjudged, is_fitting, is_fitting_setting, sets_fitting}
 use Rattle.tc_world.proofs.Assembly.{answers_of}
 use Rattle.tc_world.proofs.Stills.{fits_is}
 
