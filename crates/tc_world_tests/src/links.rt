@@ -1,6 +1,8 @@
 //! A link as a test sees it.
 use std::alloc::Allocator;
 use tc_farm::farms::FarmView;
+use tc_fop::signals;
+use tc_fop::signals::AlertKind;
 use tc_fop::views::FopView;
 use tc_types::frames::Frame;
 use tc_types::numbers::RequestNumber;
@@ -22,6 +24,29 @@ pub struct Written<'a> {
     pub confirmed: &'a [RequestNumber],
 }
 
+/// The alert, where the FOP tells one.
+fn alert_of(told: &signals::Indication) -> Option<AlertKind> {
+    match *told {
+        signals::Indication::Alert(kind) => Some(kind),
+        signals::Indication::Sent(_)
+        | signals::Indication::Confirmed(_)
+        | signals::Indication::GivenBack(_)
+        | signals::Indication::InDoubt(_)
+        | signals::Indication::Started => None,
+    }
+}
+
+/// The last alert among what is told, where there is one.
+fn alert_in(told: &[Indication]) -> Option<AlertKind> {
+    let mut last = None;
+    for one in told {
+        if let Indication::Fop(told) = one {
+            last = alert_of(told).or(last);
+        }
+    }
+    last
+}
+
 /// A world, of which nothing is promised here: what a test does with it needs no proof but that of its own loops and
 /// indexes, whatever the links of the world are.
 pub trait Link {
@@ -31,6 +56,9 @@ pub trait Link {
     /// Makes an event happen, and says whether the link tells exactly this of it.
     fn tells(&mut self, event: Event, told: &[Indication]) -> Result<bool, Refusal>;
 
+    /// Makes an event happen, and says which alert the link tells of it, where it tells one.
+    fn alerts(&mut self, event: Event) -> Result<Option<AlertKind>, Refusal>;
+
     /// Makes events happen, up to the first that is refused.
     fn does_all(&mut self, events: &[Event]) -> RunEnd;
 
@@ -39,6 +67,12 @@ pub trait Link {
 
     /// Whether each start so far was good.
     fn is_clean(&self) -> bool;
+
+    /// Whether K was at most W / 2 at every moment so far.
+    fn has_fitted(&self) -> bool;
+
+    /// Whether the last start was level.
+    fn is_level(&self) -> bool;
 
     /// How many sessions there were.
     fn sessions(&self) -> usize;
@@ -72,6 +106,13 @@ impl<U: Carrier<Frame> + Drop, D: Carrier<Report> + Drop, A: Allocator + Copy + 
         }
     }
 
+    fn alerts(&mut self, event: Event) -> Result<Option<AlertKind>, Refusal> {
+        match self.step(event) {
+            Ok(answer) => Ok(alert_in(answer.as_slice())),
+            Err(refusal) => Err(refusal),
+        }
+    }
+
     fn does_all(&mut self, events: &[Event]) -> RunEnd {
         self.run(events)
     }
@@ -82,6 +123,14 @@ impl<U: Carrier<Frame> + Drop, D: Carrier<Report> + Drop, A: Allocator + Copy + 
 
     fn is_clean(&self) -> bool {
         self.clean()
+    }
+
+    fn has_fitted(&self) -> bool {
+        self.fits()
+    }
+
+    fn is_level(&self) -> bool {
+        self.level()
     }
 
     fn sessions(&self) -> usize {

@@ -25,12 +25,14 @@ use tc_world::list_carriers::ListCarrier;
 use tc_world::worlds::World;
 
 mod courses;
+mod fitting;
 mod lockouts;
 mod refusing;
 mod rings;
 mod rooms;
 mod rounds;
 mod starts;
+mod windows;
 
 /// More than any world on a heap takes here.
 const AMPLE: usize = 4_194_304;
@@ -65,6 +67,10 @@ enum Act {
     Directive(Directive),
     /// A frame comes up, and a buffer is free for it.
     Up,
+    /// A frame comes up, and no buffer is free for it.
+    Blocked,
+    /// One tick of the FOP's timer.
+    Tick,
     /// The frame at this place of the uplink is lost, from 0 for the oldest.
     LoseUp(usize),
     /// A buffer becomes free on board.
@@ -138,6 +144,8 @@ fn event(rt: &impl Abort, act: &Act) -> Event {
         Act::Offer(n) => offer(rt, n),
         Act::Directive(directive) => Event::Directive(directive),
         Act::Up => UP,
+        Act::Blocked => Event::Uplink { free_buffer: false },
+        Act::Tick => Event::Tick,
         Act::LoseUp(place) => Event::LoseUp(place),
         Act::Release => Event::Release,
         Act::Clcw => Event::Clcw,

@@ -15,10 +15,10 @@ use tc_world::ring_carriers::RingCarrier;
 use tc_world::worlds::World;
 
 /// The sizes that are tried.
-const SIZES: [u32; 5] = [1, 2, 3, 8, 300];
+pub const SIZES: [u32; 5] = [1, 2, 3, 8, 300];
 
 /// A world over links that are one of the two.
-type Chosen<A> = World<LinkCarrier<Frame, A>, LinkCarrier<Report, A>, A>;
+pub type Chosen<A> = World<LinkCarrier<Frame, A>, LinkCarrier<Report, A>, A>;
 
 /// A link of numbers as a test sees it: its methods promise nothing.
 trait Line {
@@ -164,7 +164,7 @@ fn holds_1_to_4096(rt: HostRuntime) {
 }
 
 /// A world over rings of this size.
-fn rings<A: Allocator + Copy + Drop>(
+pub fn rings<A: Allocator + Copy + Drop>(
     alloc: A,
     size: u32,
     k: u8,
