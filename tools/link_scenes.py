@@ -292,7 +292,9 @@ def unlevel(seed):
     it.said("set vs 0", "initiate check", "tick", "tick", "link", "initiate setvr 7", "loseup 0", "tick", "tick", "up", "clcw", "down", "link")
     for _ in range(6):
         it.flies()
-    it.said(*["up"] * 6, "terminate", f"set vs {it.desk.farm.vr}", "initiate check", "clcw", "down", "link", "initiate unlock", "up", "clcw", "down")
+    it.said(*["up"] * 6, "terminate")
+    for act in ("initiate check", "initiate unlock"):
+        it.said(f"set vs {it.desk.farm.vr}", act, "up", "clcw", "down", "link")
     it.said("terminate", "initiate check", "clcw", "down", "link")
     return it
 
