@@ -172,7 +172,7 @@ class Link:
     def __init__(self, window, channel):
         self.window, self.channel = window, channel
         self.state, self.vs, self.nn, self.sent, self.waiting = "S6", 0, 0, [], None
-        self.timer, self.k, self.t1, self.limit, self.vr = 0, 10, 10, 3, 0
+        self.timer, self.k, self.t1, self.limit, self.vr = 0, min(10, window // 2), 10, 3, 0
         self.up, self.down = [], []
 
     def is_still(self):

@@ -302,7 +302,7 @@ class Writer(Written):
 
     def direct(self):
         """The FOP is directed."""
-        self.give(self.dice.choice(["set k 1", "set k 2", "set k 255", "set t1 1", "set t1 65535", "set limit 1", "set limit 255", "set vs 0",
+        self.give(self.dice.choice(["set k 1", "set k 2", "set k 10", "set k 11", "set t1 1", "set t1 65535", "set limit 1", "set limit 255", "set vs 0",
                                     f"set vs {self.desk.link.vs}", "terminate"]))
 
     def cut(self):
@@ -311,7 +311,7 @@ class Writer(Written):
         for _ in range(2):
             self.release()
         self.give("terminate")
-        self.give(f"set k {self.dice.choice([3, 10, 255])}")
+        self.give(f"set k {self.dice.choice([3, 5, 10])}")
 
     # ---- questions, and lines that are none
 

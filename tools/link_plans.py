@@ -9,7 +9,7 @@ from link_writers import Style, Writer
 from plain_farm import read_word
 from plain_fop import Fop
 
-PLANNED = Style("planned", 4000, (4, 10, 20, 128, 254), (255,), starts="stale", t1s=(1, 2), commands=0, asks=0.1)
+PLANNED = Style("planned", 4000, (10, 20, 128, 254), (127,), starts="stale", t1s=(1, 2), commands=0, asks=0.1)
 FLOWN = "5 ---- no 8 1 - - ok"
 
 
@@ -36,7 +36,7 @@ class Planner(Writer):
 
     def write(self):
         """Stocks of control words, and a plan after each other as long as they last."""
-        self.say("set k 255")
+        self.say(f"set k {self.widest}")
         while len(self.lines) < self.style.turns:
             self.clear()
             self.stock()
@@ -141,7 +141,7 @@ class Planner(Writer):
 
     def begins(self, vs, frames, count):
         """A service from this number on, with so many frames, each sent so often."""
-        for act in (f"set vs {vs}", "set limit 9", "set t1 1", "set k 255", "initiate none"):
+        for act in (f"set vs {vs}", "set limit 9", "set t1 1", f"set k {self.widest}", "initiate none"):
             self.say(act)
         self.flies(frames)
         for _ in range(1, count):
@@ -176,14 +176,14 @@ class Planner(Writer):
         if waits == 1:
             self.waiting(frames)
         if row != "P17" and self.dice.random() < 0.5:
-            self.say("set k 255")
+            self.say(f"set k {self.widest}")
         if state != "S1":
             self.reads(first)
             second -= first + 1
             if waits == 2 and state == "S3":
                 self.flies(1)
         if waits == 1 and self.dice.random() < 0.7:
-            self.say("set k 255")
+            self.say(f"set k {self.widest}")
         if row in ("P17", "P18"):
             self.say(f"set limit {self.fop.count + (row == 'P17')}")
             for _ in range(self.fop.timer):

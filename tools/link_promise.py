@@ -1,11 +1,16 @@
 """What a desk promises, by what it prints alone: each request that was entered stands at one place, and the counts are those of the
-moves; while the premise is kept each request that was confirmed was accepted exactly once, in the order of transmission.
+moves; while the premise is kept each request that was confirmed was accepted exactly once, in the order of transmission. And of the
+windows: K is at most half of W; while the premise is kept the FARM is never in Lockout, and no alert comes but one that may come: T1 and
+TERM in each service, LIMIT in one that has started, NN(R) and SYNCH in S4 where the start was not level.
 Nothing is known here of how a desk comes to its answers.
 """
 from collections import Counter
 
 PLACES = ("Entered Approved Queued Sent Confirmed Riding Scheduled Accepted Started Completed Failed Doubtful Withdrawn"
           " Deleted Closed").split()
+# The alerts that may come while the premise is kept: in a service that has started, and before that in S4 and S5.
+ALWAYS = {"T1", "TERM"}
+STARTED, UNLEVEL = ALWAYS | {"LIMIT"}, ALWAYS | {"NN(R)", "SYNCH"}
 
 
 class Broken(Exception):
@@ -20,7 +25,9 @@ class Judge:
         self.places, self.counts, self.rows, self.skip, self.seen = [], Counter(), 0, 0, Counter()
         self.transmitted, self.accepted, self.confirmed = {}, Counter(), Counter()
         self.last_accepted = self.last_confirmed = 0
-        self.is_kept, self.broken = True, None
+        self.is_kept, self.is_started, self.fop, self.farm, self.alerts = True, False, {}, {}, Counter()
+        # what may come before a service has started: that is told by the first `link` behind its initiation
+        self.may_come = None
 
     def reads(self, lines):
         """All lines of a run. Answers what does not hold; none where all does."""
@@ -42,8 +49,17 @@ class Judge:
             self.moves(*rest.split(" "))
         elif word == "places":
             self.compares(rest)
+        elif word == "fop":
+            self.fop = named(f"state {rest}")
+        elif word == "farm":
+            self.farm = named(f"state {rest}")
         elif word == "link":
             self.hears(rest.split(" ")[-1] == "kept")
+            self.looks()
+        elif word == "started":
+            self.is_started = True
+        elif word == "alert":
+            self.ends(rest)
         elif line.startswith("ok accepted "):
             self.accepts(int(line.rsplit(" ", 1)[1]))
 
@@ -108,3 +124,29 @@ class Judge:
         self.need(self.is_kept or not is_kept, "the premise is kept again")
         self.is_kept = is_kept
         self.seen["kept" if is_kept else "broken"] += 1
+
+    # ---- windows that fit
+
+    def looks(self):
+        """What `link` tells of the windows, and of a start."""
+        fop, farm = self.fop, self.farm
+        self.need(2 * int(fop["k"]) <= int(farm["w"]), "K is more than half of W")
+        self.need(farm["state"] != "Lockout" or not self.is_kept, "Lockout while the premise is kept")
+        self.seen["Lockout where the premise is broken"] += farm["state"] == "Lockout"
+        if fop["state"] in ("S4", "S5") and self.may_come is None:
+            is_level = fop["vs"] == farm["vr"] and farm["flags"] == "---"
+            self.may_come = ALWAYS if fop["state"] == "S5" or is_level else UNLEVEL
+
+    def ends(self, kind):
+        """A service ends by an alert: by one that may come."""
+        may_come = STARTED if self.is_started else self.may_come or UNLEVEL
+        self.need(kind in may_come or not self.is_kept, "an alert that cannot come here while the premise is kept")
+        told = f"{'started' if self.is_started else 'unlevel' if may_come is UNLEVEL else 'beginning'} {'kept' if self.is_kept else 'broken'}"
+        self.alerts[told, kind] += 1
+        self.is_started, self.may_come = False, None
+
+
+def named(words):
+    """The values of a line that names each of them."""
+    names = words.split(" ")
+    return dict(zip(names[::2], names[1::2]))

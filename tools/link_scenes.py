@@ -1,5 +1,5 @@
-"""What random lines of tools/link_writers.py would hardly meet, written on purpose: each window K from 1 to 255 at its border,
-255 frames in flight, a schedule that is full, and offsets at the ends of time.
+"""What random lines of tools/link_writers.py would hardly meet, written on purpose: each window K from 1 to 127 at its border,
+127 frames in flight, rings that are full both ways, a schedule that is full, and offsets at the ends of time.
 """
 from link_writers import Style, Writer
 from plain_board import LAST_MOMENT
@@ -10,9 +10,9 @@ PLAIN, LISTED = "5 ---- no 8 1 - - ok", "7 a--c no 8 1 - - ok"
 class Scene(Writer):
     """Writes one scene, with a window of its own."""
 
-    def __init__(self, seed, w, asks=0.1):
+    def __init__(self, seed, w, asks=0.1, ring=None):
         """Begins with a new plain desk."""
-        super().__init__(seed, Style("scene", 0, (w,), (10,), asks=asks))
+        super().__init__(seed, Style("scene", 0, (w,), (10,), asks=asks, ring=ring))
 
     def said(self, *acts):
         """These acts, by one person."""
@@ -35,15 +35,16 @@ class Scene(Writer):
 
 
 def every_k(seed, w, least, most):
-    """Each K of these at its border: K frames are out, one waits, and goes as soon as one is confirmed."""
+    """Each K of these at its border: K frames are out, one waits, and goes as soon as one is confirmed. One more than half of W is
+    refused, whatever K is."""
     it = Scene(seed, w)
-    it.said("initiate none")
+    it.said("link", "initiate none")
     for k in range(least, most + 1):
         it.said(f"set k {k}")
         while it.fop.wait is None:
             it.flies()
         it.flies()
-        it.said("link")
+        it.said("link", f"set k {w // 2 + 1}")
         it.arrives()
         it.said("clcw", "down", "link")
     while it.desk.uplink:
@@ -53,25 +54,48 @@ def every_k(seed, w, least, most):
 
 
 def widest(seed):
-    """255 frames are out and a 256th waits; all come on board, and are confirmed by one word; then the numbers go round."""
+    """127 frames are out and a 128th waits; all come on board, and are confirmed by one word, three times over, so that the numbers
+    go round. Then a start behind the FARM: 140 of its frames are not out at once."""
     it = Scene(seed, 254)
-    it.said("set k 255", "initiate none")
-    for _ in range(257):
+    it.said("set k 128", "set k 127", "initiate none")
+    for _ in range(3):
+        while it.fop.wait is None:
+            it.flies()
         it.flies()
-    it.said("link")
-    for _ in range(255):
-        it.arrives()
-    it.said("clcw", "down", "link")
-    for _ in range(44):
-        it.flies()
-    for _ in range(45):
-        it.arrives()
-    it.said("clcw", "down", "link", "terminate", "set vs 10", "initiate none")
+        it.said("link")
+        for _ in range(127):
+            it.arrives()
+        it.said("clcw", "down", "link")
+    it.arrives()
+    it.said("clcw", "down", "link", "terminate", f"set vs {(it.desk.farm.vr - 34) % 256}", "initiate none")
     for _ in range(140):
         it.flies()
     for _ in range(12):
         it.said("up")
     it.said("clcw", "down", "terminate", "link", "places")
+    return it
+
+
+def overwritten(seed, size):
+    """More is put than rings of this size hold, both ways: frames, by the timer, until the oldest are overwritten; then reports and
+    words that nobody reads. A place past the end loses nothing."""
+    it = Scene(seed, 254, asks=0.01, ring=size)
+    it.said("set k 127", "set t1 1", "set limit 255", "link", "initiate none")
+    for _ in range(min(size + 1, 127)):
+        it.flies("5 aspc no 8 1 - - ok/2")
+    while it.desk.uplink.dropped < 3:
+        it.said("tick")
+    it.said("link", f"loseup {size}", f"loseup {size - 1}", "link", f"loseup {size // 2}", "up", "link", "tick", "clcw", "down", "link")
+    it.said("terminate", *["up"] * len(it.desk.uplink), "link")
+    while it.desk.downlink:
+        it.said("down")
+    it.said(f"initiate setvr {it.number()}", "up", "clcw", "down", "set t1 65535")
+    for _ in range(100):
+        it.flies("5 aspc no 8 1 - - ok/2")
+        it.arrives()
+        it.said(*["clcw"] * (1 + size // 100))
+    it.said("link", f"losedown {size}", f"losedown {size - 1}", "link", f"losedown {size // 2}", *["down"] * min(len(it.desk.downlink), 400))
+    it.said("link", "places")
     return it
 
 
@@ -234,6 +258,44 @@ def crowded(seed):
     it.flies()
     it.said("up", "clcw", "down", "initiate setvr 9", "up", "link", "work", "link", "clcw", "terminate", "initiate unlock", "up")
     it.said("clcw", *["down"] * 3, "link")
+    return it
+
+
+def locked_out(seed):
+    """A start whose number is far from the FARM's, which locks out: what it then does with each frame, and the way back."""
+    it = Scene(seed, 20)
+    it.said("initiate none")
+    it.flies()
+    it.said("up", "terminate", "set vs 129", "initiate none")
+    it.flies()
+    it.said("up", "link", "terminate")
+    for vs in (1, 0, 2, 140):
+        it.said(f"set vs {vs}", "initiate none")
+        it.flies()
+        it.said("up", "link", "terminate")
+    it.said("set vs 1", "initiate setvr 1", "up", "clcw", "down", "link", "terminate", "initiate unlock", "up", "clcw", "down", "link")
+    it.flies()
+    it.said("up", "clcw", "down", "link")
+    return it
+
+
+def unlevel(seed):
+    """Starts by a check that are good and not level: the numbers differ, or a flag stands. Nothing is in flight, so the premise is
+    kept; and starts that nothing answers."""
+    it = Scene(seed, 20)
+    it.said("set t1 2", "initiate none")
+    it.flies()
+    it.flies()
+    it.said("loseup 0", "up", "terminate", "link")
+    for act in ("set vs 0", "set vs 5", f"set vs {it.dice.randrange(1, 256)}"):
+        it.said(act, "initiate check", "clcw", "down", "link")
+    it.said("set vs 0", "initiate check", "tick", "tick", "link", "initiate setvr 7", "loseup 0", "tick", "tick", "up", "clcw", "down", "link")
+    for _ in range(6):
+        it.flies()
+    it.said(*["up"] * 6, "terminate")
+    for act in ("initiate check", "initiate unlock"):
+        it.said(f"set vs {it.desk.farm.vr}", act, "up", "clcw", "down", "link")
+    it.said("terminate", "initiate check", "clcw", "down", "link")
     return it
 
 

@@ -22,7 +22,8 @@ BAD_LINES = ("0 ann", "ann 0 up", "0 ann up ", "0 ann  up", "0 desk up", "410244
 
 @dataclass
 class Style:
-    """How a script is written: how many turns, which windows, starts, losses and kinds of requests, and how often is asked."""
+    """How a script is written: how many turns, which windows, starts, losses and kinds of requests, and how often is asked; and the
+    size of the link's two rings, where it is not two lists. A K that is wider than fits stands for the widest that does."""
     name: str
     turns: int
     windows: tuple
@@ -34,6 +35,7 @@ class Style:
     seeks: float = 0.0
     asks: float = 0.15
     every: tuple = ()
+    ring: int = None
     weights: dict = field(default_factory=dict)
 
 
@@ -48,7 +50,8 @@ class Writer:
         """Begins with a new plain desk, whose window and channel the seed chooses."""
         self.dice, self.style = random.Random(seed), style
         self.w, self.vc = self.dice.choice(style.windows), self.dice.choice((3, 3, 0, 63, 21))
-        self.desk, self.moment, self.lines, self.wanted = Desk(self.w, self.vc), self.dice.choice((0, 100, 86400)), [], []
+        self.desk, self.moment = Desk(self.w, self.vc, style.ring), self.dice.choice((0, 100, 86400))
+        self.lines, self.wanted = [], []
 
     def say(self, act, by=None):
         """One line, a little later than the one before; and, where the style says so, questions behind it."""
@@ -70,6 +73,17 @@ class Writer:
     def fop(self):
         """Its FOP."""
         return self.desk.fop
+
+    @property
+    def widest(self):
+        """The widest K that fits: half of the FARM's window."""
+        return self.w // 2
+
+    def some_k(self):
+        """A K by the style; now and then one that does not fit, which is refused."""
+        if self.dice.random() < 0.05:
+            return self.dice.choice((self.widest + 1, 128, 255))
+        return min(self.dice.choice(self.style.ks), self.widest)
 
     def standing(self, *places):
         """The last requests that stand at one of these places, the latest first."""
@@ -290,7 +304,7 @@ class Writer:
     def settle(self):
         """A setting of the FOP."""
         act = self.dice.choice(("k", "k", "k", "limit", "limit", "t1", "t1", "vs"))
-        value = {"k": self.dice.choice(self.style.ks), "limit": self.dice.choice(self.style.limits),
+        value = {"k": self.some_k(), "limit": self.dice.choice(self.style.limits),
                  "t1": self.dice.choice(self.style.t1s), "vs": self.number()}[act]
         self.say(f"set {act} {value}")
 
@@ -321,7 +335,7 @@ class Writer:
         """All turns."""
         weights = {**WEIGHTS, **self.style.weights}
         turns, counts = list(weights), list(weights.values())
-        self.say(f"set k {self.dice.choice(self.style.ks)}")
+        self.say(f"set k {min(self.dice.choice(self.style.ks), self.widest)}")
         while len(self.lines) < self.style.turns:
             if self.dice.random() < (0.7 if self.style.seeks and self.fop.state in ("S2", "S3") else self.style.seeks):
                 self.seek() if self.dice.random() < 0.85 else self.ring()

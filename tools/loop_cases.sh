@@ -59,13 +59,16 @@ same() {
 
 # but lines of nobody whose act is too long: a script's line is refused for its act, what is posted for its person
 for script in "$top"/tools/cases/*.tc "$top"/examples/*.tc; do
+    options=()
+    [[ ! -e ${script%.tc}.args ]] || mapfile -t options <"${script%.tc}.args"
     awk '{
         match($0, /^[^ ]* [^ ]* /); act = RSTART ? substr($0, RLENGTH + 1) : ""
         if (length(act) <= 200 || ($2 ~ /^[a-z0-9]+$/ && length($2) <= 16 && $2 != "desk")) print
     }' "$script" >lines
-    grep -qE '^[^ ]* [^ ]* (stack|procedure) ' lines || same "${script##*/}" lines
+    grep -qE '^[^ ]* [^ ]* (stack|procedure) ' lines || same "${script##*/}" lines "${options[@]}"
 done
 same "another window and channel" "$top/examples/first-pass.tc" --w 254 --vc 63
+same "a ring of 2" "$top/examples/lossy-pass.tc" --ring 2
 printf '# a comment\r\n\r\n\n7 ann enter 5 a--c no 8 1 - - ok\r\n7 ann places' >lines
 same "CR LF, a comment, empty lines and no last LF" lines
 printf '7 ann places\r' >lines

@@ -74,10 +74,10 @@ BESIDES = ([("P8", state, "confirms") for state in SENDING]
 class Fop:
     """FOP-1; `visits` counts the cells that were met, `said` and `frames` are what the last call put out."""
 
-    def __init__(self):
-        """In S6, as a desk begins."""
+    def __init__(self, k=10):
+        """In S6, as a desk begins, with this window."""
         self.state, self.vs, self.nn, self.wait, self.sent, self.flagged = INITIAL, 0, 0, None, [], set()
-        self.t1, self.timer, self.limit, self.count, self.k, self.copy = 10, 0, 3, 1, 10, None
+        self.t1, self.timer, self.limit, self.count, self.k, self.copy = 10, 0, 3, 1, k, None
         self.visits, self.said, self.frames, self.cell = Counter(), [], [], ()
 
     # ---- calls: each answers the number of a refusal, or none

@@ -276,13 +276,26 @@ word=$'ok\nok clcw 01'
 echo '0 ann link' >link
 printf '0 ann clcw\n0 ann down\n' >word
 check "a window" 0 "$fop"$'\nfarm Open vr 0 b 0 flags --- w 254\n'"$link"$'\n'"$none" "" run --w 254 link
-check "the smallest window, behind the script" 0 "$fop"$'\nfarm Open vr 0 b 0 flags --- w 2\n'"$link"$'\n'"$none" "" run link --w=2
+check "the smallest window, behind the script" 0 "${fop/k 10/k 1}"$'\nfarm Open vr 0 b 0 flags --- w 2\n'"$link"$'\n'"$none" "" run link --w=2
+check "the last window whose half is less than 10" 0 "${fop/k 10/k 9}"$'\nfarm Open vr 0 b 0 flags --- w 18\n'"$link"$'\n'"$none" "" run --w 18 link
+check "the smallest ring" 0 "$fop"$'\nfarm Open vr 0 b 0 flags --- w 20\n'"$link"$'\n'"$none" "" run --ring 1 link
+check "the largest ring, behind the script" 0 "$fop"$'\nfarm Open vr 0 b 0 flags --- w 20\n'"$link"$'\n'"$none" "" run link --ring=4096
 check "a channel" 0 "$word"$'fc0000\n'"$none" "" run --vc 63 word
 check "the first channel" 0 "$word"$'000000\n'"$none" "" run --vc 0 word
 check "the channel that nobody chose" 0 "$word"$'0c0000\n'"$none" "" run word
 # A word that is wrong is named.
 check "an odd window" 2 "" "tcdesk: --w must be even" run --w 21 link
 check "a window past its limit" 2 "" "invalid value '256' for '--w <N>': 256 is not in 2..=254" run --w 256 link
+for ring in 0 4097 4294967296 -1 x ''; do
+    check "a ring of '$ring'" 2 "" "invalid value '$ring' for '--ring <N>'" run --ring="$ring" link
+done
+check "a ring past its limit, and the limits" 2 "" "invalid value '4097' for '--ring <N>': 4097 is not in 1..=4096" run --ring 4097 link
+check "a ring of no number" 2 "" "a value is required for '--ring <N>' but none was supplied" run link --ring
+check "a ring twice" 2 "" "'--ring <N>' cannot be used multiple times" run --ring 2 --ring 2 link
+check "a ring of 0 to serve" 2 "" "invalid value '0' for '--ring <N>'" serve --ring 0 none.db 8080 1
+check "a ring of 4,097 in a loop" 2 "" "invalid value '4097' for '--ring <N>'" loop --ring 4097 none.db link
+check "a ring for a report" 2 "" "unexpected argument '--ring'" report --ring 2 none.db 0 1
+check "a ring for a check" 2 "" "unexpected argument '--ring'" check --ring 2 stack two.csv
 check "a channel past its limit" 2 "" "invalid value '64' for '--vc <N>': 64 is not in 0..=63" run --vc 64 link
 check "a moment past its limit" 2 "" "invalid value '4102444800' for '--at <MOMENT>'" run --db none.db --at 4102444800 link
 check "a port past its limit" 2 "" "invalid value '65536' for '<PORT>'" serve none.db 65536 1
@@ -389,13 +402,16 @@ else
     cat out err >&2
 fi
 
-# Each script of tools/cases, beside what it prints and, where that is not 0, its status. What it loads lies in tools/cases/data.
+# Each script of tools/cases, with the options of its .args where it has some, beside what it prints and, where that is not 0, its status. What
+# it loads lies in tools/cases/data.
 for script in "$top"/tools/cases/*.tc; do
     case=${script%.tc}
     status=0
+    options=()
     [[ ! -e $case.status ]] || status=$(<"$case.status")
+    [[ ! -e $case.args ]] || mapfile -t options <"$case.args"
     lines=$(cat "$case.stdout"; echo .)
-    check "${case##*/}" "$status" "${lines%.}" "" run "$script"
+    check "${case##*/}" "$status" "${lines%.}" "" run "${options[@]}" "$script"
 done
 
 echo "program cases: $passed passed, $failed failed"
