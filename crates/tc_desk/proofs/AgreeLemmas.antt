@@ -1,5 +1,6 @@
 -- With the tie, the link never refuses a request that may be released.
 use Rattle.std.proofs.Common.{◌≡◌, ℕ, ◌==◌, true, false, ◌⊎◌, inl, inr, is_some, Option, Some, None, [], ◌∷◌, length, refl, sym, ◌∙◌}
+use Rattle.std.specs.Prelude.{nat_lt}
 use Rattle.tc_types.specs.declared.places.Place.TheVariants as place
 use Rattle.tc_types.specs.declared.refusals.Refusal.{Refusal}
 use Rattle.tc_types.specs.declared.refusals.Refusal.TheVariants.{Memory}
@@ -22,7 +23,7 @@ use Rattle.tc_book.specs.declared.stamps.Stamp.{Stamp}
 use Rattle.tc_book.specs.Book.{Book, place_in, request_at}
 use Rattle.tc_book.specs.Acts.{first_refusal}
 use Rattle.tc_book.specs.Logs.{step_tests, released_with}
-use Rattle.tc_desk.specs.State.{State}
+use Rattle.tc_desk.specs.State.{State, widest_k}
 use Rattle.tc_desk.specs.Asks.{offer_at, event_of}
 use Rattle.tc_desk.specs.Acts.{link_tests, tests_behind, refusal_of}
 use Rattle.tc_desk.specs.Machine.{Refuses}
@@ -33,6 +34,7 @@ use Rattle.tc_book.proofs.PassingLemmas.{none_holds, not_false}
 use Rattle.tc_desk.proofs.TiedLemmas.{only}
 use Rattle.tc_desk.proofs.PlaceLemmas.{none_of, any_behind}
 use Rattle.tc_desk.proofs.StepLemmas.{none_behind}
+use Rattle.tc_desk.proofs.FairLemmas.{neither}
 
 unknown_to_link : {U D : Type 0} (o : ℕ) (at : State U D) (n : ℕ) → IsTied o at → StandsAt (place.Approved ∷ []) at.book n → is_known n at.world ≡ false
 unknown_to_link o at n tied here =
@@ -44,7 +46,7 @@ unknown_to_link o at n tied here =
 release_agrees : {U D : Type 0} (o : ℕ) (stamp : Stamp) (at : State U D) (n : ℕ) (request : Option Request) → IsTied o at → refusal_of stamp at (act.Link (link_act.Release n)) ≡ None → link_refuses (offer_at at.book n request) at.world ≡ None
 release_agrees o stamp at n None tied passes = refl
 release_agrees o stamp at n (Some request) tied passes =
-    let tests = none_holds (link_tests at.book (view_of at.world.fop) at.board.time (link_act.Release n)) passes in
+    let tests = none_holds (link_tests at.book (view_of at.world.fop) (widest_k at.world.farm.window) at.board.time (link_act.Release n)) passes in
     let unknown : is_known n at.world ≡ false = unknown_to_link o at n tied (not_false _ tests.1.1.0) in
     let taking : is_taking at.world.fop.state ≡ true = not_false _ tests.1.1.1.1.1.0 in
     let free : is_some at.world.fop.waiting ≡ false = none_there at.world.fop.waiting (not_false _ tests.1.1.1.1.1.1.0) in
@@ -55,21 +57,21 @@ release_agrees o stamp at n (Some request) tied passes =
     none_there (Some w) h = cc
 
 -- nor of a directive
-directive_agrees : (book : Book) (m : Machine) (now : ℕ) (given : Directive) → first_refusal (link_tests book (view_of m) now (link_act.Direct given)) ≡ None → refusal_in (directed m given) ≡ None
-directive_agrees book m now directive.InitiateNone e = let tests = none_holds (link_tests book (view_of m) now (link_act.Direct directive.InitiateNone)) e in let here : is_initial m.state ≡ true = not_false _ tests.0 in rw here refl
-directive_agrees book m now directive.InitiateCheck e = let tests = none_holds (link_tests book (view_of m) now (link_act.Direct directive.InitiateCheck)) e in let here : is_initial m.state ≡ true = not_false _ tests.0 in rw here refl
-directive_agrees book m now directive.InitiateUnlock e = let tests = none_holds (link_tests book (view_of m) now (link_act.Direct directive.InitiateUnlock)) e in let here : is_initial m.state ≡ true = not_false _ tests.0 in rw here refl
-directive_agrees book m now (directive.InitiateSetVr v) e = let tests = none_holds (link_tests book (view_of m) now (link_act.Direct (directive.InitiateSetVr v))) e in let here : is_initial m.state ≡ true = not_false _ tests.0 in rw here refl
-directive_agrees book m now directive.Terminate e = refl
-directive_agrees book m now (directive.SetVs v) e = let tests = none_holds (link_tests book (view_of m) now (link_act.Direct (directive.SetVs v))) e in let here : is_initial m.state ≡ true = not_false _ tests.0 in rw here refl
-directive_agrees book m now (directive.SetK k) e = let tests = none_holds (link_tests book (view_of m) now (link_act.Direct (directive.SetK k))) e in let here : (k == 0) ≡ false = tests.0 in rw here refl
-directive_agrees book m now (directive.SetT1 t1) e = let tests = none_holds (link_tests book (view_of m) now (link_act.Direct (directive.SetT1 t1))) e in let here : (t1 == 0) ≡ false = tests.0 in rw here refl
-directive_agrees book m now (directive.SetLimit limit) e = let tests = none_holds (link_tests book (view_of m) now (link_act.Direct (directive.SetLimit limit))) e in let here : (limit == 0) ≡ false = tests.0 in rw here refl
+directive_agrees : (book : Book) (m : Machine) (widest now : ℕ) (given : Directive) → first_refusal (link_tests book (view_of m) widest now (link_act.Direct given)) ≡ None → refusal_in (directed m given) ≡ None
+directive_agrees book m widest now directive.InitiateNone e = let tests = none_holds (link_tests book (view_of m) widest now (link_act.Direct directive.InitiateNone)) e in let here : is_initial m.state ≡ true = not_false _ tests.0 in rw here refl
+directive_agrees book m widest now directive.InitiateCheck e = let tests = none_holds (link_tests book (view_of m) widest now (link_act.Direct directive.InitiateCheck)) e in let here : is_initial m.state ≡ true = not_false _ tests.0 in rw here refl
+directive_agrees book m widest now directive.InitiateUnlock e = let tests = none_holds (link_tests book (view_of m) widest now (link_act.Direct directive.InitiateUnlock)) e in let here : is_initial m.state ≡ true = not_false _ tests.0 in rw here refl
+directive_agrees book m widest now (directive.InitiateSetVr v) e = let tests = none_holds (link_tests book (view_of m) widest now (link_act.Direct (directive.InitiateSetVr v))) e in let here : is_initial m.state ≡ true = not_false _ tests.0 in rw here refl
+directive_agrees book m widest now directive.Terminate e = refl
+directive_agrees book m widest now (directive.SetVs v) e = let tests = none_holds (link_tests book (view_of m) widest now (link_act.Direct (directive.SetVs v))) e in let here : is_initial m.state ≡ true = not_false _ tests.0 in rw here refl
+directive_agrees book m widest now (directive.SetK k) e = let tests = none_holds (link_tests book (view_of m) widest now (link_act.Direct (directive.SetK k))) e in let here : (k == 0) ≡ false = (neither (k == 0) (nat_lt widest k) tests.0).0 in rw here refl
+directive_agrees book m widest now (directive.SetT1 t1) e = let tests = none_holds (link_tests book (view_of m) widest now (link_act.Direct (directive.SetT1 t1))) e in let here : (t1 == 0) ≡ false = tests.0 in rw here refl
+directive_agrees book m widest now (directive.SetLimit limit) e = let tests = none_holds (link_tests book (view_of m) widest now (link_act.Direct (directive.SetLimit limit))) e in let here : (limit == 0) ≡ false = tests.0 in rw here refl
 
 -- where no test of an act on the link holds, the link refuses nothing
 flight_agrees : {U D : Type 0} (o : ℕ) (stamp : Stamp) (at : State U D) (given : LinkAct) → IsTied o at → refusal_of stamp at (act.Link given) ≡ None → link_refuses (event_of at given) at.world ≡ None
 flight_agrees o stamp at (link_act.Release n) tied passes = release_agrees o stamp at n (request_at at.book n) tied passes
-flight_agrees o stamp at (link_act.Direct given) tied passes = directive_agrees at.book at.world.fop at.board.time given passes
+flight_agrees o stamp at (link_act.Direct given) tied passes = directive_agrees at.book at.world.fop (widest_k at.world.farm.window) at.board.time given passes
 flight_agrees o stamp at link_act.Tick tied passes = refl
 flight_agrees o stamp at link_act.Up tied passes = refl
 flight_agrees o stamp at (link_act.LoseUp place) tied passes = refl
@@ -80,7 +82,7 @@ flight_agrees o stamp at link_act.Work tied passes = refl
 flight_agrees o stamp at (link_act.Clock time) tied passes = refl
 
 -- nor where the tests behind a record let pass
-beside_agrees : {U D : Type 0} (o : ℕ) (stamp : Stamp) (at : State U D) (beside : Option ℕ) → IsTied o at → first_refusal (tests_behind at.book (view_of at.world.fop) at.board.time beside) ≡ None
+beside_agrees : {U D : Type 0} (o : ℕ) (stamp : Stamp) (at : State U D) (beside : Option ℕ) → IsTied o at → first_refusal (tests_behind at.book (view_of at.world.fop) (widest_k at.world.farm.window) at.board.time beside) ≡ None
     → link_refuses (event_beside at beside) at.world ≡ None
 beside_agrees o stamp at None tied passes = refl
 beside_agrees o stamp at (Some n) tied passes = release_agrees o stamp at n (request_at at.book n) tied passes

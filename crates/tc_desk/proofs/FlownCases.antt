@@ -55,7 +55,7 @@ idle = record { content = []; covered = 0 }
 
 -- a desk with this book, over a link where nothing happened yet
 abbrev desk_of : Book → State (InFlight Frame) (InFlight Report)
-desk_of book = record (new_desk (record { window = 20; channel = 3 }) idle idle) { book = book }
+desk_of book = record (new_desk (record { window = 20; channel = 3; ring = None }) idle idle) { book = book }
 
 -- a book with so many requests, each by ann
 abbrev with_two : Book
@@ -137,7 +137,7 @@ abbrev inserting : Book
 inserting = approved 2 (with_entry ann (with_entry ann empty_book entry) (record entry { command = InsertActivity 1 100 }))
 
 abbrev refused : Book → FopView → ℕ → Option refusal.the_data
-refused book fop n = first_refusal (link_tests book fop 0 (link_act.Release n))
+refused book fop n = first_refusal (link_tests book fop 10 0 (link_act.Release n))
 
 pub release-refused :
     refused with_two (record view { state = Initial }) 3 ∷ refused with_two (record view { state = Initial }) 1

@@ -180,10 +180,10 @@ does_take {U} {D} up down stamp (act.Ask asked) old new all first does =
 happened_clean : {U D : Type 0} (up : Kind U Frame) (down : Kind D Report) (given : Event) (w v : Whole U D) (all : List Indication) → Happened up down given w v all → v.clean ≡ clean_asked up down (Some given) w
 happened_clean up down given w v all h = clean_is up down given w v all h.happens
 
-before_clean : {U D : Type 0} (up : Kind U Frame) (down : Kind D Report) (w v : Whole U D) → IsAsBefore up down w v → v.clean ≡ w.clean
+pub before_clean : {U D : Type 0} (up : Kind U Frame) (down : Kind D Report) (w v : Whole U D) → IsAsBefore up down w v → v.clean ≡ w.clean
 before_clean {U} {D} up down w v same = ap (λ (x : Whole U D). x.clean) same.rest
 
-puts_clean : {U D : Type 0} (up : Kind U Frame) (down : Kind D Report) (items : List Telemetry) (w v : Whole U D) → PutsDown up down items w v → v.clean ≡ w.clean
+pub puts_clean : {U D : Type 0} (up : Kind U Frame) (down : Kind D Report) (items : List Telemetry) (w v : Whole U D) → PutsDown up down items w v → v.clean ≡ w.clean
 puts_clean {U} {D} up down [] w v puts = ap (λ (x : Whole U D). x.clean) puts
 puts_clean up down (item ∷ items) w v puts = puts_clean up down items puts.0 v puts.2 ∙ happened_clean up down (event.Put item) w puts.0 [] puts.1
 

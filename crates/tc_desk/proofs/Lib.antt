@@ -19,6 +19,7 @@ pub mod AgreeLemmas
 pub mod DownLemmas
 pub mod WholeLemmas
 pub mod HeadlineLemmas
+pub mod FairLemmas
 pub mod FollowLaws
 pub mod RequestLemmas
 pub mod ArrivalLemmas
@@ -29,6 +30,7 @@ pub mod ReadActs
 pub mod FollowedActs
 pub mod LoadLemmas
 pub mod StandingLemmas
+pub mod FairRuns
 pub mod RunLemmas
 pub mod WorkedCases
 pub mod FlownCases

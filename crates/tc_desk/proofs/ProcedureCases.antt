@@ -64,9 +64,9 @@ abbrev idle : {T : Type 0} → InFlight T
 idle = record { content = []; covered = 0 }
 
 abbrev desk_of : Book → State (InFlight Frame) (InFlight Report)
-desk_of book = record (new_desk (record { window = 20; channel = 3 }) idle idle) {
+desk_of book = record (new_desk (record { window = 20; channel = 3; ring = None }) idle idle) {
   book = book;
-  world = record (new_world (record { window = 20; channel = 3 }) idle idle) { fop = record (new_machine 10 10 3) { state = Active } };
+  world = record (new_world (record { window = 20; channel = 3; ring = None }) idle idle) { fop = record (new_machine 10 10 3) { state = Active } };
 }
 
 -- the book after an act of ann at which the link told these, and the reply
@@ -120,9 +120,9 @@ steps-refused = refl
 
 -- the tests of the release come behind those of the record: over a link that takes no request
 pub release-refused :
-    refusal_of ann (record (desk_of looked) { world = new_world (record { window = 20; channel = 3 }) idle idle }) (step 2 None)
-    ∷ refusal_of ann (record (desk_of looked) { world = new_world (record { window = 20; channel = 3 }) idle idle }) (step 2 (Some (codes "bob")))
-    ∷ refusal_of ann (record (desk_of looked) { world = new_world (record { window = 20; channel = 3 }) idle idle }) (act.Step (record { execution = 1; step = 2; verdict = Skipped; second = Some (codes "bob") }))
+    refusal_of ann (record (desk_of looked) { world = new_world (record { window = 20; channel = 3; ring = None }) idle idle }) (step 2 None)
+    ∷ refusal_of ann (record (desk_of looked) { world = new_world (record { window = 20; channel = 3; ring = None }) idle idle }) (step 2 (Some (codes "bob")))
+    ∷ refusal_of ann (record (desk_of looked) { world = new_world (record { window = 20; channel = 3; ring = None }) idle idle }) (act.Step (record { execution = 1; step = 2; verdict = Skipped; second = Some (codes "bob") }))
     ∷ [] ≡
     Some refusal.Countersign ∷ Some refusal.ServiceNotActive ∷ None ∷ []
 release-refused = refl

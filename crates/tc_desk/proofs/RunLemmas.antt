@@ -22,12 +22,12 @@ use Rattle.tc_desk.specs.State.{State, new_desk, new_world}
 use Rattle.tc_desk.specs.Machine.{DeskStep, Serves, Carries}
 use Rattle.tc_desk.specs.Replies.{Reply}
 use Rattle.tc_desk.specs.Headline.{Deed, Acts, Loads, DeedOn, DeedsRun, TellsTrue}
-use Rattle.tc_desk.specs.Loads.{Loading, LoadStep}
 use Rattle.tc_desk.specs.Rows.{moved_for}
 use Rattle.tc_desk.specs.Tied.{AreTiedTo, IsTied}
 use Rattle.tc_desk.proofs.BookSteps.{steps_tied}
 use Rattle.tc_desk.proofs.TiedActs.{does_tied, same_tied}
 use Rattle.tc_desk.proofs.HeadlineLemmas.{taken_once}
+use Rattle.tc_desk.proofs.FairRuns.{load_world, over_fits}
 
 -- what stands after so many acts on a desk that was opened once so many rows stood
 record Stands {U D : Type 0} (opened : ℕ) (at : State U D) : Type 0 where
@@ -50,11 +50,6 @@ step_tied : {U D : Type 0} (o : ℕ) (up : Kind U Frame) (down : Kind D Report) 
     → DeskStep up down old stamp given reply new → IsTied o old → IsTied o new
 step_tied o up down old new stamp given reply good (inl serves) tied = serves_tied o up down old new stamp given reply good serves tied
 step_tied o up down old new stamp given reply good (inr refused) tied = same_tied o up down old new refused.1.same tied
-
--- a load leaves the link
-load_world : {U D : Type 0} (old new : State U D) (stamp : Stamp) (given : Loading) (reply : Reply) → LoadStep old stamp given reply new → new.world ≡ old.world
-load_world {U} {D} old new stamp given reply (inl carries) = ap (λ (at : State U D). at.world) carries.has.is
-load_world {U} {D} old new stamp given reply (inr refused) = ap (λ (at : State U D). at.world) refused.1.same
 
 deed_stands : {U D : Type 0} (o : ℕ) (up : Kind U Frame) (down : Kind D Report) (old new : State U D) (stamp : Stamp) (deed : Deed) → DeedOn up down old stamp deed new → Stands o old → Stands o new
 deed_stands o up down old new stamp (Acts given) done stands = record {
@@ -114,6 +109,7 @@ run_tells_since kind other config book up down deeds at good run =
       confirmed = stands.tied.rows.confirms;
       window = stands.claims;
       once = λ clean. taken_once (length book.history) at stands.tied (stands.claims clean);
+      open_farm = (over_fits kind other config book up down deeds at run).1;
     }
 
 -- all rows, where none stood before

@@ -63,7 +63,7 @@ abbrev idle : {T : Type 0} → InFlight T
 idle = record { content = []; covered = 0 }
 
 abbrev desk_of : Book → MirrorState → State (InFlight Frame) (InFlight Report)
-desk_of book mirror = record (new_desk (record { window = 20; channel = 3 }) idle idle) { book = book; mirror = mirror }
+desk_of book mirror = record (new_desk (record { window = 20; channel = 3; ring = None }) idle idle) { book = book; mirror = mirror }
 
 -- request 1 as the mirror shows it, and 5
 abbrev first_listed : ListedActivity

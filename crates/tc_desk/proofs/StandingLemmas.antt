@@ -32,6 +32,7 @@ use Rattle.tc_desk.proofs.ReadActs.{does_read}
 use Rattle.tc_desk.proofs.RunLemmas.{over_tied, new_claims}
 use Rattle.tc_desk.proofs.TiedActs.{does_tied, same_tied}
 use Rattle.tc_desk.proofs.HeadlineLemmas.{same_claims, taken_once}
+use Rattle.tc_desk.proofs.FairLemmas.{Fits, new_fits, before_fits, does_fit}
 
 -- an act that was carried out
 pub does_stand : {U D : Type 0} (up : Kind U Frame) (down : Kind D Report) (stamp : Stamp) (given : Act) (old new : DeskState U D) (all : List Indication) (first : First)
@@ -39,19 +40,25 @@ pub does_stand : {U D : Type 0} (up : Kind U Frame) (down : Kind D Report) (stam
     → refusal_of stamp old.parts given ≡ None → Does up down stamp given old.parts new.parts all first → new.opened ≡ old.opened
     → (new.parts.world.clean ≡ true → IsClaimed new.parts.world) → KeepsWhole down given old new all → IsStanding up down old → IsStanding up down new
 does_stand up down stamp given old new all first law ul dl good goes_on passes does opened claims whole stands =
+    let fits : Fits new.parts.world = does_fit up down stamp given old.parts new.parts all first passes does (stands.fits, stands.open_farm) in
     let tied : IsTied new.opened new.parts = subst (λ o. IsTied o new.parts) (sym opened) (does_tied old.opened up down stamp given old.parts new.parts all first good passes does stands.tied) in
     record {
       tied = tied;
       claims = claims;
+      fits = fits.0;
+      open_farm = fits.1;
       followed = does_followed up down stamp given old new all first law ul dl good goes_on passes does stands.tied tied whole (does_down up down ul dl stamp given old.parts new.parts all first does) stands.followed;
     }
 
 -- one that was refused
 pub same_stand : {U D : Type 0} (up : Kind U Frame) (down : Kind D Report) → OnlyLoses up → OnlyLoses down → (old new : DeskState U D) → StaysSame up down old.parts new.parts → new.opened ≡ old.opened → new.whole ≡ old.whole
     → IsStanding up down old → IsStanding up down new
-same_stand up down ul dl old new same opened whole stands = record {
+same_stand up down ul dl old new same opened whole stands =
+    let fits : Fits new.parts.world = before_fits up down old.parts.world new.parts.world same.world (stands.fits, stands.open_farm) in record {
   tied = subst (λ o. IsTied o new.parts) (sym opened) (same_tied old.opened up down old.parts new.parts same stands.tied);
   claims = same_claims up down old.parts.world new.parts.world same.world stands.claims;
+  fits = fits.0;
+  open_farm = fits.1;
   followed = same_followed up down ul dl old new same whole stands.followed;
 }
 
@@ -66,6 +73,7 @@ stands_true up down desk stands = record {
   confirmed = stands.tied.rows.confirms;
   window = stands.claims;
   once = stands_once up down desk stands;
+  open_farm = stands.open_farm;
 }
 
 -- of a desk that was just opened, over any book
@@ -74,6 +82,8 @@ over_stands : {U D : Type 0} (up : Kind U Frame) (down : Kind D Report) (config 
 over_stands up down config book u d empty_up empty_down = record {
   tied = over_tied config book u d;
   claims = λ clean. new_claims config u d;
+  fits = (new_fits config u d).0;
+  open_farm = (new_fits config u d).1;
   followed = over_followed up down config book (length book.history) u d empty_up empty_down;
 }
 

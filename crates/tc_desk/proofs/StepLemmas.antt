@@ -34,7 +34,7 @@ use Rattle.tc_desk.specs.Asks.{offer_at}
 use Rattle.tc_desk.specs.Effects.{heard_all}
 use Rattle.tc_desk.specs.Machine.{Happened, Passes, Flies, FliesBeside, Does, StaysSame}
 use Rattle.tc_desk.specs.Parts.{event_beside, link_refuses, IsRefused}
-use Rattle.tc_desk.specs.State.{State}
+use Rattle.tc_desk.specs.State.{State, widest_k}
 
 -- ---- tests, and others behind them
 
@@ -95,10 +95,10 @@ of_begun log r may = by_found (execution_at log r.execution) may
 
 -- ---- a release
 
--- the tests of a release ask nothing of the spacecraft's time
-pub release_says : {U D : Type 0} (stamp : Stamp) (at : State U D) (n : ℕ) (view : FopView) (says : Option Refusal) → view ≡ view_of at.world.fop → first_refusal (link_tests at.book view 0 (link_act.Release n)) ≡ says
+-- the tests of a release ask nothing of K and the spacecraft's time
+pub release_says : {U D : Type 0} (stamp : Stamp) (at : State U D) (n : ℕ) (view : FopView) (says : Option Refusal) → view ≡ view_of at.world.fop → first_refusal (link_tests at.book view 0 0 (link_act.Release n)) ≡ says
     → refusal_of stamp at (act.Link (link_act.Release n)) ≡ says
-release_says stamp at n view says same is = subst (λ (v : FopView). first_refusal (link_tests at.book v 0 (link_act.Release n)) ≡ says) same is
+release_says stamp at n view says same is = subst (λ (v : FopView). first_refusal (link_tests at.book v 0 0 (link_act.Release n)) ≡ says) same is
 
 -- the request was offered
 pub offered : {U D : Type 0} (up : Kind U Frame) (down : Kind D Report) (n : ℕ) (old new : State U D) (all : List Indication) (asked : Event) → offer_at old.book n (request_at old.book n) ≡ Some asked
@@ -129,10 +129,10 @@ step_refused stamp at given refused says = refused_first (step_tests stamp at.bo
 
 -- none does, and the tests behind say
 pub step_says : {U D : Type 0} (stamp : Stamp) (at : State U D) (given : StepAct) (beside : Option ℕ) (says : Option Refusal) → first_refusal (step_tests stamp at.book given) ≡ None
-    → released_with at.book given ≡ beside → first_refusal (tests_behind at.book (view_of at.world.fop) at.board.time beside) ≡ says → refusal_of stamp at (act.Step given) ≡ says
+    → released_with at.book given ≡ beside → first_refusal (tests_behind at.book (view_of at.world.fop) (widest_k at.world.farm.window) at.board.time beside) ≡ says → refusal_of stamp at (act.Step given) ≡ says
 step_says stamp at given beside says may is behind =
-    passed_on (step_tests stamp at.book given) (tests_behind at.book (view_of at.world.fop) at.board.time (released_with at.book given)) may
-    ∙ ap (λ (b : Option ℕ). first_refusal (tests_behind at.book (view_of at.world.fop) at.board.time b)) is ∙ behind
+    passed_on (step_tests stamp at.book given) (tests_behind at.book (view_of at.world.fop) (widest_k at.world.farm.window) at.board.time (released_with at.book given)) may
+    ∙ ap (λ (b : Option ℕ). first_refusal (tests_behind at.book (view_of at.world.fop) (widest_k at.world.farm.window) at.board.time b)) is ∙ behind
 
 -- a step that was carried out, with the release that comes with it, if one does
 pub stepped : {U D : Type 0} (up : Kind U Frame) (down : Kind D Report) (stamp : Stamp) (given : StepAct) (beside : Option ℕ) (old new : State U D) (all : List Indication) (first : First)

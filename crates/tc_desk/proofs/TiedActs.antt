@@ -28,7 +28,7 @@ use Rattle.tc_book.specs.Logs.{step_tests, recorded, released_with}
 use Rattle.tc_desk.specs.declared.firsts.First.{First}
 use Rattle.tc_board.specs.Mirror.{MirrorState, no_mirror}
 use Rattle.tc_desk.specs.Commands.{activity_at, payload_of}
-use Rattle.tc_desk.specs.State.{State}
+use Rattle.tc_desk.specs.State.{State, widest_k}
 use Rattle.tc_desk.specs.Asks.{offer_at, has_buffer, taken_in, reports_after}
 use Rattle.tc_desk.specs.Effects.{heard_all}
 use Rattle.tc_desk.specs.Acts.{link_tests, tests_behind, refusal_of, released, released_beside, acted}
@@ -125,10 +125,10 @@ release_tied o up down stamp n old v all (Some request) passes none tied =
 
 -- a release that no test refuses
 left_tied : {U D : Type 0} (o : ℕ) (up : Kind U Frame) (down : Kind D Report) (stamp : Stamp) (n : ℕ) (old new : State U D) (all : List Indication)
-    → ((m : ℕ) → activity_at old.book n ≡ Some m → m < n) → first_refusal (link_tests old.book (view_of old.world.fop) old.board.time (link_act.Release n)) ≡ None
+    → ((m : ℕ) → activity_at old.book n ≡ Some m → m < n) → first_refusal (link_tests old.book (view_of old.world.fop) (widest_k old.world.farm.window) old.board.time (link_act.Release n)) ≡ None
     → Flies up down (link_act.Release n) old new all → IsTied o old → AreTiedTo o (heard_all stamp old.mirror all (released stamp (link_act.Release n) old.book)) new.world
 left_tied o up down stamp n old new all before passes flies tied =
-    let tests = none_holds (link_tests old.book (view_of old.world.fop) old.board.time (link_act.Release n)) passes in
+    let tests = none_holds (link_tests old.book (view_of old.world.fop) (widest_k old.world.farm.window) old.board.time (link_act.Release n)) passes in
     let none = none_waits old.world.fop (not_false _ tests.1.1.1.1.1.1.0) in
     release_tied o up down stamp n old new.world all (request_at old.book n) flies.0 none
     (released_tied o stamp old.book n (all_sent old.world) (all_confirmed old.world) before (not_false _ tests.1.1.0) tests.1.1.1.1.0 (subst (λ l. AreTied o old.book l (all_sent old.world) (all_confirmed old.world)) none tied))
@@ -159,7 +159,7 @@ record_tied o stamp given at tied =
 
 -- a step, and the release that comes with it, if one does
 beside_tied : {U D : Type 0} (o : ℕ) (up : Kind U Frame) (down : Kind D Report) (stamp : Stamp) (given : StepAct) (beside : Option ℕ) (old new : State U D) (all : List Indication)
-    → IsGoodBook old.book → first_refusal (tests_behind old.book (view_of old.world.fop) old.board.time beside) ≡ None → FliesBeside up down beside old new all → IsTied o old
+    → IsGoodBook old.book → first_refusal (tests_behind old.book (view_of old.world.fop) (widest_k old.world.farm.window) old.board.time beside) ≡ None → FliesBeside up down beside old new all → IsTied o old
     → AreTiedTo o (heard_all stamp old.mirror all (released_beside stamp beside (recorded stamp given old.book))) new.world
 beside_tied o up down stamp given None old new all good passes stands tied = alone_tied o stamp old.mirror old.world new.world all (recorded stamp given old.book) (stands.0, stands.3) (record_tied o stamp given old tied)
 beside_tied {U} {D} o up down stamp given (Some n) old new all good passes flies tied =

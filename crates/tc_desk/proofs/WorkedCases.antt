@@ -57,7 +57,7 @@ idle = record { content = []; covered = 0 }
 
 -- a desk with this book, over a link where nothing happened yet
 abbrev desk_of : Book → State (InFlight Frame) (InFlight Report)
-desk_of book = record (new_desk (record { window = 20; channel = 3 }) idle idle) { book = book }
+desk_of book = record (new_desk (record { window = 20; channel = 3; ring = None }) idle idle) { book = book }
 
 -- the reply to a question, where it is neither of the schedule nor a report
 abbrev told : Book → Query → Reply

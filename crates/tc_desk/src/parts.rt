@@ -1,12 +1,12 @@
 //! The parts of the desk: its book, its link, the rehearsal spacecraft and the mirror of its schedule, and the acts on them.
-ghost use Rattle.std.specs.Prelude.{◌≡◌, ◌⊎◌, ◌+◌, ◌==◌, true, false, length, IfErr, IfOk, OnOk, []};
+ghost use Rattle.std.specs.Prelude.{◌≡◌, ◌⊎◌, ◌↔◌, ◌+◌, ◌==◌, ◌≤◌, IsTrue, true, false, length, IfErr, IfOk, OnOk, []};
 ghost use Rattle.tc_types.specs.declared.refusals.Refusal.TheVariants.{BadDirective, Memory};
 ghost use Rattle.tc_types.specs.declared.acts.Act.TheVariants as act;
 ghost use Rattle.tc_types.specs.Tables.{applied};
 ghost use Rattle.tc_book.specs.Good.{IsGoodBook};
 ghost use Rattle.tc_book.specs.Tables.{image_of};
 ghost use Rattle.tc_book.specs.Batch.{GoesOn, HoldsRoom};
-ghost use Rattle.tc_desk.specs.State.{IsConfig, new_desk};
+ghost use Rattle.tc_desk.specs.State.{IsConfig, IsRing, first_k, new_desk};
 ghost use Rattle.tc_desk.specs.Acts.{is_question};
 ghost use Rattle.tc_desk.specs.Machine.{rows_new};
 ghost use Rattle.tc_farm.specs.Farm.{new_farm};
@@ -35,7 +35,7 @@ use tc_world::carriers::Carrier;
 use tc_world::events::Indication;
 use tc_world::worlds::World;
 
-/// K, the FOP sliding window width, as a desk is made.
+/// K, the FOP sliding window width, as a desk is made, where the FARM's window lets it be so wide.
 const K: u8 = 10;
 
 /// T1_Initial, in ticks, as a desk is made.
@@ -46,6 +46,9 @@ const LIMIT: u8 = 3;
 
 /// The spacecraft's time, as a desk is made.
 const START: u32 = 0;
+
+/// The most items that a link may hold which is a ring.
+const GREATEST_RING: u32 = 4_096;
 
 /// The book, the link, the spacecraft, and the mirror of its schedule. What ties them is the desk's.
 #[derive(Drop)]
@@ -71,7 +74,30 @@ fn count_down(said: &[Indication]) -> usize
     }
 }
 
-/// The FARM of a desk that is made so. `BadDirective` unless the window is even and 2 to 254 and the channel 0 to 63.
+/// Whether the links may be so: lists, or rings of 1 to 4,096 items.
+fn is_ring(ring: Option<u32>) -> bool
+    ensures { IsTrue result ↔ IsRing ring }
+{
+    match ring {
+        None => true,
+        Some(size) => size >= 1 && size <= GREATEST_RING,
+    }
+}
+
+/// K as a desk is made over a FARM of this window: 10, or the widest that fits, which is half of the window.
+fn first_k(window: u16) -> u8
+    ensures k { result ≡ first_k window }
+    ensures some { 2 ≤ window → 1 ≤ result }
+{
+    let widest = window / 2;
+    if widest < K as u16 {
+        return widest as u8;
+    }
+    K
+}
+
+/// The FARM of a desk that is made so. `BadDirective` unless the window is even and 2 to 254, the channel 0 to 63, and the links
+/// are lists or rings of 1 to 4,096 items.
 pub(crate) fn farm_of(config: Config) -> Result<Farm, Refusal>
     ensures farm { IfOk result (λ farm. farm ≡ new_farm config.window) }
     ensures config { OnOk result (IsConfig config) }
@@ -80,7 +106,7 @@ pub(crate) fn farm_of(config: Config) -> Result<Farm, Refusal>
     let Some(farm) = Farm::new(config.window) else {
         return Err(Refusal::BadDirective);
     };
-    if config.channel > 63 {
+    if config.channel > 63 || !is_ring(config.ring) {
         return Err(Refusal::BadDirective);
     }
     Ok(farm)
@@ -108,7 +134,8 @@ impl<U: Carrier<Frame> + Drop, D: Carrier<Report> + Drop, A: Allocator + Copy + 
     A,
 > {
     /// The parts of a desk where nothing happened yet, over these carriers, which are empty. `BadDirective` unless the window
-    /// is even and 2 to 254 and the channel 0 to 63; else `Memory` where that is refused.
+    /// is even and 2 to 254, the channel 0 to 63, and the links are lists or rings of 1 to 4,096 items; else `Memory` where that
+    /// is refused.
     pub(crate) fn new(alloc: A, config: Config, up: U, down: D) -> Result<Self, Refusal>
         requires up { U.kind.content up ≡ [] }
         requires down { D.kind.content down ≡ [] }
@@ -138,7 +165,7 @@ impl<U: Carrier<Frame> + Drop, D: Carrier<Report> + Drop, A: Allocator + Copy + 
         ensures desk { IfOk result (λ parts. parts ≡ record (new_desk config up down) { book = records.book }) }
         ensures refused { IfErr result (λ refusal. refusal ≡ Memory) }
     {
-        let fop = Fop::new(alloc, K, T1, LIMIT)?;
+        let fop = Fop::new(alloc, first_k(config.window), T1, LIMIT)?;
         let board = Board::new(alloc, Moment::new(START).unwrap())?;
         Ok(Parts {
             alloc,

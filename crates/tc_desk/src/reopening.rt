@@ -41,8 +41,8 @@ impl<U: Carrier<Frame> + Drop, D: Carrier<Report> + Drop, A: Allocator + Copy + 
     A,
 > {
     /// The parts of a desk over the tables that were left, at a moment, over these carriers, which are empty. `BadDirective` unless the
-    /// window is even and 2 to 254 and the channel 0 to 63, whatever the tables are; else `Store` where no desk could have written
-    /// the tables, or `Memory` where that is refused.
+    /// window is even and 2 to 254, the channel 0 to 63, and the links are lists or rings of 1 to 4,096 items, whatever the tables
+    /// are; else `Store` where no desk could have written the tables, or `Memory` where that is refused.
     pub(crate) fn reopen(
         alloc: A,
         image: &Image,

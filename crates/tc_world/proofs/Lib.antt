@@ -6,6 +6,7 @@ pub mod WindowSteps
 pub mod Moving
 pub mod Fits
 pub mod Fitted
+pub mod Setting
 pub mod Marking
 pub mod Fairly
 pub mod FairEvents

@@ -115,6 +115,7 @@ impl<U: Carrier<Frame> + Drop, D: Carrier<Report> + Drop, A: Allocator + Copy + 
         ensures was_clean { self.new.clean ≡ true → self.old.clean ≡ true }
     {
         tc_fop::laws::keeps_order();
+        tc_fop::laws::directives_k();
         window_is_kept();
         self.parts.step(event)
     }

@@ -28,9 +28,9 @@ fn is_initial(state: FopState) -> bool
     matches!(state, FopState::Initial)
 }
 
-/// Whether a directive is refused in this state.
-fn is_bad_directive(state: FopState, given: &Directive) -> bool
-    ensures { result ≡ is_bad_directive state given.now }
+/// Whether a directive is refused in this state, where this is the widest K that fits.
+fn is_bad_directive(state: FopState, widest: u16, given: &Directive) -> bool
+    ensures { result ≡ is_bad_directive state widest given.now }
 {
     match given {
         Directive::InitiateNone
@@ -38,7 +38,7 @@ fn is_bad_directive(state: FopState, given: &Directive) -> bool
         | Directive::InitiateUnlock
         | Directive::InitiateSetVr(_)
         | Directive::SetVs(_) => !is_initial(state),
-        Directive::SetK(k) => *k == 0,
+        Directive::SetK(k) => *k == 0 || *k as u16 > widest,
         Directive::SetT1(t1) => *t1 == 0,
         Directive::SetLimit(limit) => *limit == 0,
         Directive::Terminate => false,
@@ -90,7 +90,8 @@ impl<U: Carrier<Frame> + Drop, D: Carrier<Report> + Drop, A: Allocator + Copy + 
         ensures put { IfOk result (λ flight. IsPutCount self.old (link_act.Direct given) flight.said flight.put) }
         ensures room { IfOk result (λ flight. HoldsRoom self.old.book self.new.book flight.draft.moves flight.draft.batch) }
     {
-        if is_bad_directive(self.world.fop_view().state, &given) {
+        let widest = self.world.farm_view().window / 2;
+        if is_bad_directive(self.world.fop_view().state, widest, &given) {
             return Err(Refusal::BadDirective);
         }
         let event = Event::Directive(given);

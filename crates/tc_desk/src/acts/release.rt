@@ -91,8 +91,8 @@ pub(crate) fn prepare<A: Allocator + Copy + Drop>(
     view: FopView,
     n: u32,
 ) -> Result<Departure, Refusal>
-    ensures refused { IfErr result (λ refusal. first_refusal (link_tests records.now.book view 0 (link_act.Release n)) ≡ Some refusal) }
-    ensures free { IfOk result (λ departure. first_refusal (link_tests records.now.book view 0 (link_act.Release n)) ≡ None) }
+    ensures refused { IfErr result (λ refusal. first_refusal (link_tests records.now.book view 0 0 (link_act.Release n)) ≡ Some refusal) }
+    ensures free { IfOk result (λ departure. first_refusal (link_tests records.now.book view 0 0 (link_act.Release n)) ≡ None) }
     ensures number { IfOk result (λ departure. departure.number ≡ n) }
     ensures event { IfOk result (λ departure. offer_at records.now.book n (request_at records.now.book n) ≡ Some departure.event) }
     ensures quiet { IfOk result (λ departure. brings_down departure.event ≡ false) }

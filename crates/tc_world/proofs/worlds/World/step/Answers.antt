@@ -3,6 +3,7 @@ use Rattle.tc_world.proofs.Bridge.{OnlyLoses}
 use Rattle.tc_world.proofs.Claims.{stays, stays_fit, stays_fair, stays_narrow, tells_fairly, follows, claimed, if_ok}
 use Rattle.tc_world.proofs.Tells.{tells_requests}
 use Rattle.tc_world.proofs.Fitted.{was_fitting}
+use Rattle.tc_world.proofs.Setting.{keeps_fitting}
 use Rattle.tc_world.proofs.Stills.{still, quiet_aboard, clean_is, fits_is, level_is, was_clean}
 use Rattle.tc_world.proofs.worlds.World.step.Given as given
 use Rattle.tc_world.proofs.worlds.World.step.Goals as goal
@@ -53,6 +54,14 @@ returns-clause-was_fitting g c =
     rw (← c.self.view_is)
     (was_fitting g.U.Carrier.kind g.D.Carrier.kind c.args.event c.self.inside.parts c.step.new.self c.step.result
     c.step.ensures.happens c.step.ensures.refused)
+
+pub returns-clause-keeps_fitting : goal.returns-clause-keeps_fitting
+returns-clause-keeps_fitting g c =
+    rw (← c.self.view_is)
+    (if_ok _ _ c.step.result
+    (λ answer h. keeps_fitting g.U.Carrier.kind g.D.Carrier.kind c.directives_k.ensures c.args.event c.self.inside.parts c.step.new.self answer
+    c.self.invariant.3 h)
+    c.step.ensures.happens)
 
 pub returns-clause-fits : goal.returns-clause-fits
 returns-clause-fits g c =
