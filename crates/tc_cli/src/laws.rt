@@ -10,8 +10,9 @@ ghost use Rattle.tc_book.specs.Tables.{image_of};
 ghost use Rattle.tc_book.specs.declared.stamps.Stamp.{Stamp};
 ghost use Rattle.tc_desk.specs.Loads.{Loading};
 ghost use Rattle.tc_room.specs.Crash.{Leaves, LeavesActs};
+ghost use Rattle.tc_room.specs.Joined.{LinkState};
 ghost use Rattle.tc_room.specs.Loads.{LoadsBook};
-ghost use Rattle.tc_room.specs.Room.{ListState, MakesBook};
+ghost use Rattle.tc_room.specs.Room.{MakesBook};
 ghost use Rattle.tc_cli.specs.Crash.{HoldsSome, IsReopened};
 
 use sqlite::Connection;
@@ -28,9 +29,9 @@ pub(crate) fn a_crash_loses_nothing<D: Disk + Drop, E: Disk + Drop>(
 ) -> FileStore<D>
     ensures book { IsClean (view result) → IsReopened last found.now → (book : Book) → Leaves over_files last (λ image. image ≡ image_of book)
         → HoldsSome (λ image. image ≡ image_of book) (file_state found.now).now }
-    ensures act { IsClean (view result) → IsReopened last found.now → (old : ListState) (stamp : Stamp) (given : Act) → LeavesActs over_files last old.book (MakesBook old stamp given)
+    ensures act { IsClean (view result) → IsReopened last found.now → (old : LinkState) (stamp : Stamp) (given : Act) → LeavesActs over_files last old.book (MakesBook old stamp given)
         → HoldsSome (λ image. (image ≡ image_of old.book) ⊎ ((after : Book) × MakesBook old stamp given after × (image ≡ image_of after))) (file_state found.now).now }
-    ensures load { IsClean (view result) → IsReopened last found.now → (old : ListState) (stamp : Stamp) (given : Loading) → LeavesActs over_files last old.book (LoadsBook old stamp given)
+    ensures load { IsClean (view result) → IsReopened last found.now → (old : LinkState) (stamp : Stamp) (given : Loading) → LeavesActs over_files last old.book (LoadsBook old stamp given)
         → HoldsSome (λ image. (image ≡ image_of old.book) ⊎ ((after : Book) × LoadsBook old stamp given after × (image ≡ image_of after))) (file_state found.now).now }
 {
     last.into_store()

@@ -13,9 +13,8 @@ use Rattle.tc_desk.specs.declared.firsts.First.{First}
 use Rattle.tc_desk.specs.Loads.{Loading, HasLoaded, RefusesLoad, LoadStep}
 use Rattle.tc_desk.specs.Machine.{rows_new}
 use Rattle.tc_desk.specs.Replies.{Reply, act_reply, refusal_reply}
-use Rattle.tc_room.specs.Joined.{HoldsBook, Standing}
+use Rattle.tc_room.specs.Joined.{HoldsBook, LinkState, Standing}
 use Rattle.tc_room.specs.Loads.{SpellsLoading, IsNotRead, LoadsRead, LoadsText, RoomLoad, AnswersRead, AnswersLoad}
-use Rattle.tc_room.specs.Room.{ListState}
 
 on_false : (b : Bool) (A B : Type 0) → b ≡ false → B → MatchBool b A B
 on_false false A B is h = h
@@ -40,11 +39,11 @@ load_answered lines g old new stamp kind name text given (Ok done) going spells 
 load_answered lines g old new stamp kind name text given (Err refusal) going spells loads = λ held clean. on_false old.stopped _ _ going (load_read g old new stamp kind name text given (refusal_reply refusal) spells (loads held clean))
 
 -- the desk refused
-pub load_refused : (old new : ListState) (stamp : Stamp) (given : Loading) (refusal : Refusal) → RefusesLoad stamp given old new refusal
+pub load_refused : (old new : LinkState) (stamp : Stamp) (given : Loading) (refusal : Refusal) → RefusesLoad stamp given old new refusal
     → LoadStep old stamp given (refusal_reply refusal) new
 load_refused old new stamp given refusal why = inr (refusal, why, refl)
 
 -- the desk loaded it
-pub load_carried : (old new : ListState) (stamp : Stamp) (given : Loading) (line : First) (said : List Indication) (moves : List Move)
+pub load_carried : (old new : LinkState) (stamp : Stamp) (given : Loading) (line : First) (said : List Indication) (moves : List Move)
     → HasLoaded stamp given old new said line → moves ≡ rows_new old new → LoadStep old stamp given (act_reply line said moves) new
 load_carried old new stamp given line said moves has are = inl (record { line = line; all = said; has = has; reply = ap (act_reply line said) are })

@@ -21,7 +21,7 @@ use Rattle.tc_types.specs.declared.requests.Request.{Request}
 use Rattle.tc_types.specs.RequestLine.{request_line}
 use Rattle.tc_types.specs.declared.moves.Move.{Move}
 use Rattle.tc_world.specs.declared.events.Indication.{Indication}
-use Rattle.tc_world.specs.InFlight.{listed}
+use Rattle.tc_world.specs.EitherLink.{either}
 use Rattle.tc_book.specs.declared.stamps.Stamp.{Stamp}
 use Rattle.tc_book.specs.Book.{Book, empty_book, is_unknown, place_in, request_at}
 use Rattle.tc_book.specs.Conserved.{IsConserved}
@@ -35,10 +35,10 @@ use Rattle.tc_desk.specs.Replies.{Reply, act_reply, history_lines, Replies, refu
 use Rattle.tc_store.specs.Schema.{Holds}
 use Rattle.tc_store.specs.Steps.{LeavesOnly}
 use Rattle.tc_room.specs.Crash.{LeavesActs}
-use Rattle.tc_room.specs.Joined.{HasImage, HoldsBook, IsKept, Standing}
+use Rattle.tc_room.specs.Joined.{HasImage, HoldsBook, IsKept, LinkState, Standing}
 use Rattle.tc_room.specs.Answers.{IsUnread}
 use Rattle.tc_room.proofs.TableLemmas.{only_image}
-use Rattle.tc_room.specs.Room.{IsNewDesk, ListState, MakesBook, RoomStep}
+use Rattle.tc_room.specs.Room.{IsNewDesk, MakesBook, RoomStep}
 
 -- a room goes on: its flag, as its view told it
 pub goes_on : {S : Type 0} (inside view : Standing S) (told : Bool) → inside ≡ view → told ≡ view.stopped → told ≡ false → inside.stopped ≡ false
@@ -46,13 +46,13 @@ goes_on {S} inside view told same is none = ap (λ (s : Standing S). s.stopped) 
 
 -- the desk machine's step, and the tables that hold its book
 pub steps : {S : Type 0} (g : Ghosts S) (old new : Standing S) (stamp : Stamp) (given : Act) (reply : Reply) → old.stopped ≡ false
-    → DeskStep listed listed old.desk stamp given reply new.desk → (HoldsBook g old → HasCleanDisk (state g new.tables) → HasImage g new.tables (image_of new.desk.book))
+    → DeskStep either either old.desk stamp given reply new.desk → (HoldsBook g old → HasCleanDisk (state g new.tables) → HasImage g new.tables (image_of new.desk.book))
     → new.stopped ≡ false → RoomStep g old stamp given reply new
 steps g old new stamp given reply going step holds goes = λ held clean. rw going (inl (record { desk = step; tables = holds held clean; going = goes }))
 
 -- so it is of what changes no table
 pub steps_same : {S : Type 0} (g : Ghosts S) (at : Standing S) (stamp : Stamp) (given : Act) (reply : Reply) → at.stopped ≡ false
-    → DeskStep listed listed at.desk stamp given reply at.desk → RoomStep g at stamp given reply at
+    → DeskStep either either at.desk stamp given reply at.desk → RoomStep g at stamp given reply at
 steps_same g at stamp given reply going step = steps g at at stamp given reply going step (λ held clean. held going clean) going
 
 -- the database failed
@@ -64,43 +64,43 @@ fails g old new stamp given going free stopped holds leaves = λ held clean.
     rw going (inr (record { free = free; reply = refl; stopped = stopped; tables = holds held clean; crash = leaves held clean }))
 
 -- the desk refused
-pub refused : (old new : ListState) (stamp : Stamp) (given : Act) (refusal : Refusal) → Refuses listed listed stamp given old new refusal
-    → DeskStep listed listed old stamp given (refusal_reply refusal) new
+pub refused : (old new : LinkState) (stamp : Stamp) (given : Act) (refusal : Refusal) → Refuses either either stamp given old new refusal
+    → DeskStep either either old stamp given (refusal_reply refusal) new
 refused old new stamp given refusal why = inr (refusal, why, refl)
 
 -- the desk carried an act out
-pub carried : (old new : ListState) (stamp : Stamp) (given : Act) (first : First) (said : List Indication) (rows : List Move) → is_question given ≡ false
-    → refusal_of stamp old given ≡ None → Does listed listed stamp given old new said first → rows ≡ rows_new old new
-    → DeskStep listed listed old stamp given (act_reply first said rows) new
+pub carried : (old new : LinkState) (stamp : Stamp) (given : Act) (first : First) (said : List Indication) (rows : List Move) → is_question given ≡ false
+    → refusal_of stamp old given ≡ None → Does either either stamp given old new said first → rows ≡ rows_new old new
+    → DeskStep either either old stamp given (act_reply first said rows) new
 carried old new stamp given first said rows acts free does are = inl (by_kind given acts (record { first = first; all = said; free = free; does = does; reply = ap (act_reply first said) are }))
   where
-    by_kind : (given : Act) → is_question given ≡ false → Carries listed listed old stamp given (act_reply first said rows) new
-        → Serves listed listed old stamp given (act_reply first said rows) new
+    by_kind : (given : Act) → is_question given ≡ false → Carries either either old stamp given (act_reply first said rows) new
+        → Serves either either old stamp given (act_reply first said rows) new
     by_kind (act.Book on_book) _ carries = carries
     by_kind (act.Link on_link) _ carries = carries
     by_kind (act.Step on_step) _ carries = carries
     by_kind (act.Ask asked) is carries = cc
 
 -- a question that the tables answered
-pub answered : (desk : ListState) (stamp : Stamp) (asked : Query) (reply : Reply) → refusal_of stamp desk (act.Ask asked) ≡ None
-    → Replies listed listed desk asked reply → DeskStep listed listed desk stamp (act.Ask asked) reply desk
+pub answered : (desk : LinkState) (stamp : Stamp) (asked : Query) (reply : Reply) → refusal_of stamp desk (act.Ask asked) ≡ None
+    → Replies either either desk asked reply → DeskStep either either desk stamp (act.Ask asked) reply desk
 answered desk stamp asked reply free same = inl (free, same, refl)
 
 -- a request that the desk found is told
-pub request_told : (desk : ListState) (stamp : Stamp) (n : ℕ) (found : Option Request) (request : Request) → found ≡ request_at desk.book n
-    → is_none found ≡ is_unknown desk.book n → found ≡ Some request → DeskStep listed listed desk stamp (act.Ask (query.Request n)) (request_line request (place_in desk.book n) ∷ []) desk
+pub request_told : (desk : LinkState) (stamp : Stamp) (n : ℕ) (found : Option Request) (request : Request) → found ≡ request_at desk.book n
+    → is_none found ≡ is_unknown desk.book n → found ≡ Some request → DeskStep either either desk stamp (act.Ask (query.Request n)) (request_line request (place_in desk.book n) ∷ []) desk
 request_told desk stamp n found request is unknown some = answered desk stamp (query.Request n) _ (rw known refl) (ap (λ at. request_lines at (place_in desk.book n)) (sym some ∙ is))
   where
     known : is_unknown desk.book n ≡ false
     known = sym unknown ∙ ap is_none some
 
 -- a question that is refused leaves all as it was
-pub stays : (desk : ListState) → StaysSame listed listed desk desk
+pub stays : (desk : LinkState) → StaysSame either either desk desk
 stays desk = record { book = refl; world = record { up = refl; down = refl; rest = refl }; board = refl; mirror = refl }
 
 -- a request that it did not find is unknown
-pub request_unknown : (desk : ListState) (stamp : Stamp) (n : ℕ) (found : Option Request) → is_none found ≡ is_unknown desk.book n → found ≡ None
-    → DeskStep listed listed desk stamp (act.Ask (query.Request n)) (refusal_reply UnknownRequest) desk
+pub request_unknown : (desk : LinkState) (stamp : Stamp) (n : ℕ) (found : Option Request) → is_none found ≡ is_unknown desk.book n → found ≡ None
+    → DeskStep either either desk stamp (act.Ask (query.Request n)) (refusal_reply UnknownRequest) desk
 request_unknown desk stamp n found unknown none = refused desk desk stamp (act.Ask (query.Request n)) UnknownRequest (record { why = inl (rw is refl); same = stays desk })
   where
     is : is_unknown desk.book n ≡ true
@@ -132,10 +132,10 @@ unread text read refusal was only long others = record {
 empty_tables : image_of empty_book ≡ empty_image
 empty_tables = refl
 
-pub new_held : {S : Type 0} (g : Ghosts S) (config : Config) (desk : ListState) (tables : Held S) → IsNewDesk config desk → Holds (state g tables).now empty_image
+pub new_held : {S : Type 0} (g : Ghosts S) (config : Config) (desk : LinkState) (tables : Held S) → IsNewDesk config desk → Holds (state g tables).now empty_image
     → LeavesOnly (state g tables) (state g tables).now.trees → HasImage g tables (image_of desk.book)
 new_held g config desk tables (up, down, _, _, new) made only =
-    subst (λ (book : Book). HasImage g tables (image_of book)) (sym (ap (λ (at : ListState). at.book) new)) (subst (HasImage g tables) (sym empty_tables) (only_image g tables empty_image made only))
+    subst (λ (book : Book). HasImage g tables (image_of book)) (sym (ap (λ (at : LinkState). at.book) new)) (subst (HasImage g tables) (sym empty_tables) (only_image g tables empty_image made only))
 
 -- the amounts of a book's tallies are its counts
 pub amounts_counted : (history : List Move) → map (λ (t : Tally). t.amount) (tallies_by (count_at history)) ≡ counts_of history

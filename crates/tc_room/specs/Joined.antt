@@ -1,12 +1,13 @@
 -- What joins a desk and its tables.
 use Rattle.std.specs.Prelude.{◌≡◌, ℕ, Bool, false}
+use Rattle.std.specs.declared.alloc.Global.{Global}
 use Rattle.sqlite_trees.specs.declared.store.Store.{Ghosts}
 use Rattle.sqlite.specs.Held.{Held, state}
 use Rattle.sqlite.specs.State.{HasCleanDisk}
 use Rattle.tc_types.specs.declared.frames.Frame.{Frame}
 use Rattle.tc_types.specs.declared.reports.Report.{Report}
 use Rattle.tc_types.specs.Tables.{Image}
-use Rattle.tc_world.specs.InFlight.{InFlight}
+use Rattle.tc_world.specs.declared.link_carriers.LinkCarrier.{LinkCarrier}
 use Rattle.tc_book.specs.Book.{Book}
 use Rattle.tc_book.specs.Conserved.{IsConserved}
 use Rattle.tc_book.specs.Good.{IsGoodBook}
@@ -15,9 +16,17 @@ use Rattle.tc_desk.specs.State.{State}
 use Rattle.tc_store.specs.Schema.{Holds}
 use Rattle.tc_room.specs.Crash.{Leaves}
 
+-- a direction of a room's link: a list or a ring
+abbrev pub Link : Type 0 → Type 0
+Link item = LinkCarrier item Global
+
+-- a desk over such links
+abbrev pub LinkState : Type 0
+LinkState = State (Link Frame) (Link Report)
+
 -- where a room over a store stands: its desk, its tables, and whether it has stopped
 pub record Standing (S : Type 0) : Type 0 where
-  pub desk : State (InFlight Frame) (InFlight Report)
+  pub desk : LinkState
   -- how many rows of the history stood once the desk was made
   pub opened : ℕ
   pub tables : Held S

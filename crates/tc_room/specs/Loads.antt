@@ -24,8 +24,7 @@ use Rattle.tc_room.specs.declared.loadings.Spelled.{Spelled}
 use Rattle.tc_room.specs.declared.loadings.Spelled.TheVariants as spelled
 use Rattle.tc_store.specs.Schema.{Holds}
 use Rattle.tc_room.specs.Crash.{LeavesActs}
-use Rattle.tc_room.specs.Joined.{HasImage, HoldsBook, Standing}
-use Rattle.tc_room.specs.Room.{ListState}
+use Rattle.tc_room.specs.Joined.{HasImage, HoldsBook, LinkState, Standing}
 
 -- what was read of a text, under a name
 abbrev pub loading_of : List ℕ → Spelled → Loading
@@ -57,8 +56,8 @@ pub record StepsLoad {S : Type 0} (g : Ghosts S) (old : Standing S) (stamp : Sta
   pub going : new.stopped ≡ false
 
 -- one load makes this book
-abbrev pub LoadsBook : ListState → Stamp → Loading → Book → Type 0
-LoadsBook old stamp given book = (reply : Reply) × (new : ListState) × LoadStep old stamp given reply new × (book ≡ new.book)
+abbrev pub LoadsBook : LinkState → Stamp → Loading → Book → Type 0
+LoadsBook old stamp given book = (reply : Reply) × (new : LinkState) × LoadStep old stamp given reply new × (book ≡ new.book)
 
 -- The database failed at a load that no test refused, and the room has stopped. Its tables hold the book as it was before, where the database is
 -- still open. After a crash they hold that, or the load is there as a whole.

@@ -11,7 +11,7 @@ use Rattle.tc_types.specs.declared.reports.Report.{Report}
 use Rattle.tc_types.specs.declared.moves.Move.{Move}
 use Rattle.tc_types.specs.declared.rows.Row.{Row}
 use Rattle.tc_types.specs.Tables.{Image, empty_image, applied}
-use Rattle.tc_world.specs.InFlight.{InFlight}
+use Rattle.tc_world.specs.EitherLink.{IsMade}
 use Rattle.tc_book.specs.Sound.{IsSound}
 use Rattle.tc_book.specs.Tables.{image_of}
 use Rattle.tc_desk.specs.declared.configs.Config.{Config}
@@ -19,16 +19,17 @@ use Rattle.tc_desk.specs.Opening.{reopened_parts}
 use Rattle.tc_store.specs.Schema.{Holds}
 use Rattle.tc_store.specs.Told.{IsTold}
 use Rattle.tc_room.specs.Crash.{HasRows, LeavesOr}
-use Rattle.tc_room.specs.Joined.{HasImage, Standing}
-use Rattle.tc_room.specs.Room.{IsJustOpened, ListState}
+use Rattle.tc_room.specs.Joined.{HasImage, Link, LinkState, Standing}
+use Rattle.tc_room.specs.Room.{IsJustOpened}
 
--- a desk as it is opened at a moment over these tables, with nothing in flight
-abbrev pub IsReopened : Config → ℕ → Image → ListState → Type 0
-IsReopened config moment image desk = (up : InFlight Frame) × (down : InFlight Report) × (up.content ≡ []) × (down.content ≡ []) × (desk ≡ reopened_parts config moment image up down)
+-- a desk as it is opened at a moment over these tables, over links of the kind that was chosen, with nothing in flight
+abbrev pub IsReopened : Config → ℕ → Image → LinkState → Type 0
+IsReopened config moment image desk =
+    (up : Link Frame) × (down : Link Report) × IsMade config.ring up × IsMade config.ring down × (desk ≡ reopened_parts config moment image up down)
 
 -- A desk that was opened at a moment over tables with these rows, which a desk could have written, the moves that this made, and the batch that
 -- turns the tables into those of its book.
-pub record ReadsLeft (config : Config) (moment : ℕ) (image : Image) (desk : ListState) (moves : List Move) (batch : List Row) : Type 0 where
+pub record ReadsLeft (config : Config) (moment : ℕ) (image : Image) (desk : LinkState) (moves : List Move) (batch : List Row) : Type 0 where
   pub sound : IsSound image
   pub reopened : IsReopened config moment image desk
   pub made : moves ≡ drop (length image.moves) desk.book.history
@@ -57,7 +58,7 @@ pub record KeepsTables (old new : Database) : Type 0 where
 
 -- the tables of the desk that is opened at a moment over tables with these rows
 abbrev pub OpensTo : Config → ℕ → Image → Trees → Type 0
-OpensTo config moment image trees = IsTold image → IsSound image × (desk : ListState) × IsReopened config moment image desk × HasRows trees (image_of desk.book)
+OpensTo config moment image trees = IsTold image → IsSound image × (desk : LinkState) × IsReopened config moment image desk × HasRows trees (image_of desk.book)
 
 -- What a crash leaves of an opening that was refused: what it left before, or the whole of what an opening makes of it.
 pub record LeavesOpening {S : Type 0} (g : Ghosts S) (config : Config) (moment : ℕ) (store left : Held S) : Type 0 where

@@ -8,26 +8,23 @@ use Rattle.tc_types.specs.declared.reports.Report.{Report}
 use Rattle.tc_types.specs.declared.refusals.Refusal.{Refusal}
 use Rattle.tc_types.specs.declared.refusals.Refusal.TheVariants.{Store, Stopped}
 use Rattle.tc_types.specs.declared.acts.Act.{Act}
-use Rattle.tc_world.specs.InFlight.{InFlight, listed}
+use Rattle.tc_world.specs.EitherLink.{IsMade, either}
 use Rattle.tc_book.specs.declared.stamps.Stamp.{Stamp}
 use Rattle.tc_book.specs.Book.{Book}
 use Rattle.tc_book.specs.Tables.{image_of}
 use Rattle.tc_desk.specs.declared.configs.Config.{Config}
-use Rattle.tc_desk.specs.State.{State, new_desk}
+use Rattle.tc_desk.specs.State.{new_desk}
 use Rattle.tc_desk.specs.Acts.{refusal_of}
 use Rattle.tc_desk.specs.Machine.{DeskStep}
 use Rattle.tc_desk.specs.Replies.{Reply, refusal_reply}
 use Rattle.tc_store.specs.Schema.{Holds}
 use Rattle.tc_room.specs.Crash.{LeavesActs}
-use Rattle.tc_room.specs.Joined.{HasImage, HoldsBook, Standing}
+use Rattle.tc_room.specs.Joined.{HasImage, HoldsBook, Link, LinkState, Standing}
 
--- a desk over links that lose only what they are told to lose
-abbrev pub ListState : Type 0
-ListState = State (InFlight Frame) (InFlight Report)
-
--- a desk where nothing happened yet, over links with nothing in flight
-abbrev pub IsNewDesk : Config → ListState → Type 0
-IsNewDesk config desk = (up : InFlight Frame) × (down : InFlight Report) × (up.content ≡ []) × (down.content ≡ []) × (desk ≡ new_desk config up down)
+-- a desk where nothing happened yet, over links of the kind that was chosen, with nothing in flight
+abbrev pub IsNewDesk : Config → LinkState → Type 0
+IsNewDesk config desk =
+    (up : Link Frame) × (down : Link Report) × IsMade config.ring up × IsMade config.ring down × (desk ≡ new_desk config up down)
 
 -- a room that was just opened over a database with no table: nothing happened on its desk yet, and its tables hold nothing
 pub record IsJustOpened {S : Type 0} (g : Ghosts S) (config : Config) (room : Standing S) : Type 0 where
@@ -38,13 +35,13 @@ pub record IsJustOpened {S : Type 0} (g : Ghosts S) (config : Config) (room : St
 
 -- the desk machine made a step, and the tables hold its book
 pub record StepsDesk {S : Type 0} (g : Ghosts S) (old : Standing S) (stamp : Stamp) (given : Act) (reply : Reply) (new : Standing S) : Type 0 where
-  pub desk : DeskStep listed listed old.desk stamp given reply new.desk
+  pub desk : DeskStep either either old.desk stamp given reply new.desk
   pub tables : HasImage g new.tables (image_of new.desk.book)
   pub going : new.stopped ≡ false
 
 -- one step of the desk machine makes this book
-abbrev pub MakesBook : ListState → Stamp → Act → Book → Type 0
-MakesBook old stamp given book = (reply : Reply) × (new : ListState) × DeskStep listed listed old stamp given reply new × (book ≡ new.book)
+abbrev pub MakesBook : LinkState → Stamp → Act → Book → Type 0
+MakesBook old stamp given book = (reply : Reply) × (new : LinkState) × DeskStep either either old stamp given reply new × (book ≡ new.book)
 
 -- The database failed at what no test refused, and the room has stopped. Its tables hold the book as it was before, where the database is still
 -- open. After a crash they hold that, or what was asked is there as a whole.

@@ -1,12 +1,13 @@
-//! The desk of a room: its links lose only what they are told to lose.
-ghost use Rattle.std.specs.Prelude.{◌≡◌, ◌⊎◌, IfErr, IfOk, OnOk, drop, length};
+//! The desk of a room: its links are lists or rings, as it was chosen.
+ghost use Rattle.std.specs.Prelude.{◌≡◌, ◌⊎◌, ◌↔◌, [], IfErr, IfOk, IsTrue, OnOk, drop, length};
 ghost use Rattle.tc_types.specs.declared.refusals.Refusal.TheVariants.{BadDirective, Memory, Store};
 ghost use Rattle.tc_types.specs.Tables.{applied};
 ghost use Rattle.tc_images.specs.Images.{rows_in};
 ghost use Rattle.tc_book.specs.Good.{IsGoodBook};
 ghost use Rattle.tc_book.specs.Sound.{IsSound};
 ghost use Rattle.tc_book.specs.Tables.{image_of};
-ghost use Rattle.tc_desk.specs.State.{IsConfig};
+ghost use Rattle.tc_desk.specs.State.{IsConfig, IsRing};
+ghost use Rattle.tc_world.specs.EitherLink.{IsMade, content_of};
 ghost use Rattle.tc_room.specs.Opening.{IsReopened};
 ghost use Rattle.tc_room.specs.Room.{IsNewDesk};
 
@@ -18,30 +19,87 @@ use tc_types::frames::Frame;
 use tc_types::numbers::Moment;
 use tc_types::refusals::Refusal;
 use tc_types::reports::Report;
-use tc_world::list_carriers::ListCarrier;
+use tc_world::link_carriers::LinkCarrier;
 
-/// A desk over lists.
-pub type ListDesk = Desk<ListCarrier<Frame, Global>, ListCarrier<Report, Global>, Global>;
+/// A desk over two lists or two rings.
+pub type LinkDesk = Desk<LinkCarrier<Frame, Global>, LinkCarrier<Report, Global>, Global>;
 
-/// A desk over lists that was opened over tables that were left, and what that made.
-pub type ReopenedDesk = Reopened<ListCarrier<Frame, Global>, ListCarrier<Report, Global>, Global>;
+/// Such a desk that was opened over tables that were left, and what that made.
+pub type ReopenedDesk = Reopened<LinkCarrier<Frame, Global>, LinkCarrier<Report, Global>, Global>;
 
-/// Makes a desk where nothing happened yet. Fails with `BadDirective` exactly where the window is not even and 2 to 254 or the
-/// channel is above 63; else with `Memory` where that is refused.
-pub fn make_desk(alloc: Global, config: Config) -> Result<ListDesk, Refusal>
+/// The most items that a ring holds.
+const GREATEST_RING: u32 = 4_096;
+
+/// Whether links may be made so: lists, or rings of 1 to 4,096 items.
+fn is_ring(ring: Option<u32>) -> bool
+    ensures { IsTrue result ↔ IsRing ring }
+{
+    match ring {
+        Some(size) => 1 <= size && size <= GREATEST_RING,
+        None => true,
+    }
+}
+
+/// Whether a desk may be made so: a window that is even and 2 to 254, a channel of 0 to 63, and lists, or rings of 1 to 4,096 items.
+pub(crate) fn is_fit(config: Config) -> bool
+    ensures { IsTrue result ↔ IsConfig config }
+{
+    2 <= config.window
+        && config.window <= 254
+        && config.window % 2 == 0
+        && config.channel <= 63
+        && is_ring(config.ring)
+}
+
+/// A link with nothing in flight: a ring of so many items, or a list where no size is given. `Memory` where that is refused.
+fn link_of<T: Drop>(alloc: Global, ring: Option<u32>) -> Result<LinkCarrier<T, Global>, Refusal>
+    requires { IsRing ring }
+    ensures made { IfOk result (λ link. IsMade ring link) }
+    ensures empty { IfOk result (λ link. content_of link ≡ []) }
+    ensures refused { IfErr result (λ refusal. refusal ≡ Memory) }
+{
+    LinkCarrier::new(alloc, ring)
+}
+
+/// The two directions of a link.
+#[derive(Drop)]
+struct Links {
+    up: LinkCarrier<Frame, Global>,
+    down: LinkCarrier<Report, Global>,
+}
+
+/// Makes the link of a desk, with nothing in flight, as it was chosen. Fails with `BadDirective` exactly where no desk may be made so; else
+/// with `Memory` where that is refused.
+fn make_links(alloc: Global, config: Config) -> Result<Links, Refusal>
+    ensures up { IfOk result (λ links. IsMade config.ring links.up × (content_of links.up ≡ [])) }
+    ensures down { IfOk result (λ links. IsMade config.ring links.down × (content_of links.down ≡ [])) }
+    ensures config { OnOk result (IsConfig config) }
+    ensures refused { IfErr result (λ refusal. ((refusal ≡ BadDirective) × (¬ IsConfig config)) ⊎ ((refusal ≡ Memory) × IsConfig config)) }
+{
+    if !is_fit(config) {
+        return Err(Refusal::BadDirective);
+    }
+    let up = link_of(alloc, config.ring)?;
+    let down = link_of(alloc, config.ring)?;
+    Ok(Links { up, down })
+}
+
+/// Makes a desk where nothing happened yet. Fails with `BadDirective` exactly where the window is not even and 2 to 254, the
+/// channel is above 63, or a ring is none of 1 to 4,096 items; else with `Memory` where that is refused.
+pub fn make_desk(alloc: Global, config: Config) -> Result<LinkDesk, Refusal>
     ensures made { IfOk result (λ desk. IsNewDesk config desk.parts) }
     ensures opened { IfOk result (λ desk. desk.opened ≡ 0) }
     ensures good { IfOk result (λ desk. IsGoodBook desk.parts.book) }
     ensures config { OnOk result (IsConfig config) }
     ensures refused { IfErr result (λ refusal. ((refusal ≡ BadDirective) × (¬ IsConfig config)) ⊎ ((refusal ≡ Memory) × IsConfig config)) }
 {
-    let up = ListCarrier::new(alloc);
-    let down = ListCarrier::new(alloc);
+    let Links { up, down } = make_links(alloc, config)?;
     Desk::new(alloc, config, up, down)
 }
 
-/// Opens a desk over the tables that were left, at a moment. Fails with `BadDirective` where the window is not even and 2 to 254 or the
-/// channel is above 63, with `Store` where no desk could have written the tables, and with `Memory` where that is refused.
+/// Opens a desk over the tables that were left, at a moment. Fails with `BadDirective` where the window is not even and 2 to 254, the
+/// channel is above 63, or a ring is none of 1 to 4,096 items, with `Store` where no desk could have written the tables, and with `Memory`
+/// where that is refused.
 pub fn reopen_desk(
     alloc: Global,
     image: &Image,
@@ -57,7 +115,6 @@ pub fn reopen_desk(
     ensures batch { IfOk result (λ opened. applied opened.done.batch.items (rows_in image.now) ≡ image_of opened.desk.parts.book) }
     ensures refused { IfErr result (λ refusal. ((refusal ≡ BadDirective) × (¬ IsConfig config)) ⊎ ((refusal ≡ Memory) × IsConfig config) ⊎ ((refusal ≡ Store) × IsConfig config × (¬ IsSound (rows_in image.now)))) }
 {
-    let up = ListCarrier::new(alloc);
-    let down = ListCarrier::new(alloc);
+    let Links { up, down } = make_links(alloc, config)?;
     Desk::reopen(alloc, image, config, moment, up, down)
 }

@@ -11,7 +11,7 @@ ghost use Rattle.tc_desk.specs.Loads.{LoadAnswers};
 ghost use Rattle.tc_desk.specs.Machine.{rows_new};
 ghost use Rattle.tc_room.specs.Loads.{IsNotRead, IsTextFault, IsTooLong, SpellsLoading, loading_of};
 
-use crate::desks::ListDesk;
+use crate::desks::LinkDesk;
 use std::alloc::Global;
 use tc_csv::faults::Fault;
 use tc_desk::dones::Done;
@@ -95,7 +95,7 @@ pub fn is_too_long(alloc: Global, kind: LoadKind, text: &[u8]) -> Result<bool, R
 
 /// Loads what was read into a desk, under a name, as a person does at a moment.
 pub(crate) fn load_into(
-    desk: &mut ListDesk,
+    desk: &mut LinkDesk,
     by: Name,
     moment: Moment,
     name: Name,

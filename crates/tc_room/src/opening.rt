@@ -15,7 +15,7 @@ ghost use Rattle.tc_room.specs.Crash.{HasRows, LeavesOr};
 ghost use Rattle.tc_room.specs.Opening.{KeepsTables, LeavesOpening, OpensAs, OpensLeft, OpensTo, ReadsLeft};
 ghost use Rattle.tc_room.specs.Room.{IsJustOpened};
 
-use crate::desks::{ReopenedDesk, make_desk, reopen_desk};
+use crate::desks::{ReopenedDesk, is_fit, make_desk, reopen_desk};
 use crate::rooms::Room;
 use sqlite::{Alter, Connection, MemStore};
 use std::alloc::Global;
@@ -58,13 +58,6 @@ fn reopen<S: Alter + Drop>(
         Ok(image) => reopen_desk(alloc, &image, config, moment),
         Err(_) => Err(Refusal::Store),
     }
-}
-
-/// Whether a desk may be made so: a window that is even and 2 to 254, and a channel of 0 to 63.
-fn is_fit(config: Config) -> bool
-    ensures { IsTrue result ↔ IsConfig config }
-{
-    2 <= config.window && config.window <= 254 && config.window % 2 == 0 && config.channel <= 63
 }
 
 /// Opens a room over tables that were left, and writes what that makes of them in one batch.
@@ -126,9 +119,9 @@ fn open_new<S: Alter + Drop>(
 impl<S: Alter + Drop> Room<S> {
     /// Opens a room over a database, at a moment. An empty database becomes the tables of a desk where nothing happened yet. Over the tables
     /// that were left in another the desk is opened again: it moves each request that was on its way, which is written in one batch.
-    /// Refused, and the connection handed back, with `BadDirective` exactly where the window is not even and 2 to 254 or the channel is
-    /// above 63; with `Memory` where that is refused; and with `Store` where the database fails, or its tables are no desk's or tell
-    /// what no desk could have written. Then the tables are as they were, as long as the database is open.
+    /// Refused, and the connection handed back, with `BadDirective` exactly where the window is not even and 2 to 254, the channel is
+    /// above 63, or a ring is none of 1 to 4,096 items; with `Memory` where that is refused; and with `Store` where the database fails, or its
+    /// tables are no desk's or tell what no desk could have written. Then the tables are as they were, as long as the database is open.
     pub fn open(
         alloc: Global,
         store: Connection<S>,
@@ -159,8 +152,8 @@ impl<S: Alter + Drop> Room<S> {
 
 impl Room<MemStore> {
     /// A room over a new database in memory, where nothing happened yet. Refused with `BadDirective` exactly where the window is not even
-    /// and 2 to 254 or the channel is above 63; else with `Memory` where that is refused, and with `Store` where the database could
-    /// not take the tables.
+    /// and 2 to 254, the channel is above 63, or a ring is none of 1 to 4,096 items; else with `Memory` where that is refused, and with
+    /// `Store` where the database could not take the tables.
     pub fn open_in_memory(alloc: Global, config: Config) -> Result<Room<MemStore>, Refusal>
         ensures opened { IfOk result (λ room. IsJustOpened over_memory config room) }
         ensures config { OnOk result (IsConfig config) }

@@ -9,16 +9,16 @@ use Rattle.clap.specs.declared.builder.value_parser.ValueParser.TheVariants as p
 use Rattle.tc_types.specs.Numbers.{IsMoment}
 use Rattle.tc_stack.specs.StackTexts.{IsInstant}
 
--- A command with what it was given. Where a desk is made or opened, its window and channel; where it is kept in a file, that file, and where it
--- is opened there the moment of the opening. A run has a script; a report what stands for FROM and TO; a server its port, how many
+-- A command with what it was given. Where a desk is made or opened, its window, its channel and how many items the rings of its links hold,
+-- where they are rings; where it is kept in a file, that file, and where it is opened there the moment of the opening. A run has a script; a report what stands for FROM and TO; a server its port, how many
 -- connections it serves and whether it says how each ended; a loop a script; a check what stands for KIND, and a file.
 pub data Asked : Type 0 where
-  run : (script : Text) (window channel : ℕ) → Asked
-  run_kept : (script : Text) (window channel : ℕ) (database : Text) (moment : ℕ) → Asked
+  run : (script : Text) (window channel : ℕ) (ring : Option ℕ) → Asked
+  run_kept : (script : Text) (window channel : ℕ) (ring : Option ℕ) (database : Text) (moment : ℕ) → Asked
   report : (database begins ends : Text) → Asked
   check : (kind file : Text) → Asked
-  serve : (database : Text) (port count window channel moment : ℕ) (verbose : Bool) → Asked
-  loop : (database script : Text) (window channel moment : ℕ) → Asked
+  serve : (database : Text) (port count window channel : ℕ) (ring : Option ℕ) (moment : ℕ) (verbose : Bool) → Asked
+  loop : (database script : Text) (window channel : ℕ) (ring : Option ℕ) (moment : ℕ) → Asked
 
 -- ---- what the arguments were given
 
@@ -26,12 +26,16 @@ pub data Asked : Type 0 where
 abbrev pub given : Text → List Row → Text
 given id rows = unwrap_or (first_of id rows) (codes "-")
 
--- The number that a text writes where that is one from least to most, and else another. The command's parser lets no
--- other text through.
+-- The number that a text writes where that is one from least to most, and else none. The command's parser lets no other text
+-- through.
+abbrev pub number_within : ℕ → ℕ → Option Text → Option ℕ
+number_within least most None = None
+number_within least most (Some text) =
+    if accepts false (parser.Unsigned least most) text then Some (digits_value 10 (without_leading_plus text)) else None
+
+-- the same, and where there is none another
 abbrev pub number_in : ℕ → ℕ → ℕ → Option Text → ℕ
-number_in least most other None = other
-number_in least most other (Some text) =
-    if accepts false (parser.Unsigned least most) text then digits_value 10 (without_leading_plus text) else other
+number_in least most other text = unwrap_or (number_within least most text) other
 
 -- the window that was given, or stands in the rows by default
 abbrev pub given_window : List Row → ℕ
@@ -40,6 +44,10 @@ given_window rows = number_in 2 254 20 (one_of (codes "w") rows)
 -- the channel that was given, or stands in the rows by default
 abbrev pub given_channel : List Row → ℕ
 given_channel rows = number_in 0 63 3 (one_of (codes "vc") rows)
+
+-- how many items the rings hold, where a number of them was given
+abbrev pub given_ring : List Row → Option ℕ
+given_ring rows = number_within 1 4096 (one_of (codes "ring") rows)
 
 -- the moment that was given, or stands in the rows by default
 abbrev pub given_moment : List Row → ℕ
@@ -61,8 +69,9 @@ given_verbose rows = nat_lt 0 (count_of (codes "verbose") rows)
 
 -- what a run was given, where a database file was, or none
 abbrev pub asked_with : Option Text → List Row → Asked
-asked_with None rows = run (given (codes "SCRIPT") rows) (given_window rows) (given_channel rows)
-asked_with (Some database) rows = run_kept (given (codes "SCRIPT") rows) (given_window rows) (given_channel rows) database (given_moment rows)
+asked_with None rows = run (given (codes "SCRIPT") rows) (given_window rows) (given_channel rows) (given_ring rows)
+asked_with (Some database) rows =
+    run_kept (given (codes "SCRIPT") rows) (given_window rows) (given_channel rows) (given_ring rows) database (given_moment rows)
 
 -- what a run was given
 abbrev pub asked_run : List Row → Asked
@@ -78,12 +87,13 @@ asked_check rows = check (given (codes "KIND") rows) (given (codes "FILE") rows)
 
 -- what a server was given
 abbrev pub asked_serve : List Row → Asked
-asked_serve rows = serve (given (codes "DB") rows) (given_port rows) (given_count rows) (given_window rows) (given_channel rows) (given_moment rows)
-    (given_verbose rows)
+asked_serve rows = serve (given (codes "DB") rows) (given_port rows) (given_count rows) (given_window rows) (given_channel rows) (given_ring rows)
+    (given_moment rows) (given_verbose rows)
 
 -- what a loop was given
 abbrev pub asked_loop : List Row → Asked
-asked_loop rows = loop (given (codes "DB") rows) (given (codes "SCRIPT") rows) (given_window rows) (given_channel rows) (given_moment rows)
+asked_loop rows =
+    loop (given (codes "DB") rows) (given (codes "SCRIPT") rows) (given_window rows) (given_channel rows) (given_ring rows) (given_moment rows)
 
 -- what the command of this name was given
 abbrev pub asked_of : Text → List Row → Asked
@@ -95,7 +105,7 @@ asked_of name rows =
 
 -- what the matches of a command ask for, where none is `run -`
 abbrev pub asked : Option (Text × List Row) → Asked
-asked None = run (codes "-") 20 3
+asked None = run (codes "-") 20 3 None
 asked (Some command) = asked_of command.0 command.1
 
 -- ---- the moments of a report

@@ -70,6 +70,14 @@ channel_rule = record (new_rule (codes "vc")) {
   parser = Some (parser.Unsigned 0 63);
 }
 
+-- --ring N: links that are rings of N items, 1 to 4,096, and lists where it is not given
+abbrev pub ring_rule : Rule
+ring_rule = record (new_rule (codes "ring")) {
+  long = Some (codes "ring");
+  value_names = 1;
+  parser = Some (parser.Unsigned 1 4096);
+}
+
 -- --db FILE: the database file that keeps the desk; a new desk where it is not given
 abbrev pub database_rule : Rule
 database_rule = record (new_rule (codes "db")) {
@@ -88,9 +96,13 @@ moment_rule = record (new_rule (codes "at")) {
 
 -- ---- the commands, each of whose options stands at most once
 
--- run SCRIPT [--w N] [--vc N]
+-- .. [--w N] [--vc N] [--ring N]
+abbrev pub with_link : App → App
+with_link app = with_rule (with_rule (with_rule app window_rule) channel_rule) ring_rule
+
+-- run SCRIPT [--w N] [--vc N] [--ring N]
 abbrev pub script_app : App
-script_app = with_rule (with_rule (with_rule (new_app (codes "run")) script_rule) window_rule) channel_rule
+script_app = with_link (with_rule (new_app (codes "run")) script_rule)
 
 -- .. [--db FILE] [--at MOMENT]
 abbrev pub with_database : App → App
@@ -107,19 +119,19 @@ report_app = with_rule (with_rule (with_rule (new_app (codes "report")) file_rul
 abbrev pub check_app : App
 check_app = with_rule (with_rule (new_app (codes "check")) kind_rule) checked_rule
 
--- .. [--w N] [--vc N] [--at MOMENT]
+-- .. [--w N] [--vc N] [--ring N] [--at MOMENT]
 abbrev pub with_desk : App → App
-with_desk app = with_rule (with_rule (with_rule app window_rule) channel_rule) moment_rule
+with_desk app = with_rule (with_link app) moment_rule
 
 -- serve DB PORT [COUNT]
 abbrev pub bare_serve_app : App
 bare_serve_app = with_rule (with_rule (with_rule (new_app (codes "serve")) file_rule) port_rule) count_rule
 
--- .. [--w N] [--vc N] [--at MOMENT] [--verbose]
+-- .. [--w N] [--vc N] [--ring N] [--at MOMENT] [--verbose]
 abbrev pub serve_app : App
 serve_app = with_rule (with_desk bare_serve_app) verbose_rule
 
--- loop DB SCRIPT [--w N] [--vc N] [--at MOMENT]
+-- loop DB SCRIPT [--w N] [--vc N] [--ring N] [--at MOMENT]
 abbrev pub loop_app : App
 loop_app = with_desk (with_rule (with_rule (new_app (codes "loop")) file_rule) script_rule)
 

@@ -13,14 +13,16 @@ use Rattle.tc_words.specs.declared.lines.UsageFault.TheVariants.{Memory, NoKind,
 
 -- A line asks for this. A report's FROM and TO are texts that spell its moments, and the KIND of a check is the word of its kind.
 abbrev pub AsksFor : Line → Asked → Type 0
-AsksFor (Run script config) asked = asked ≡ run script.now config.window config.channel
-AsksFor (RunKept script config database moment) asked = asked ≡ run_kept script.now config.window config.channel database.now moment
+AsksFor (Run script config) asked = asked ≡ run script.now config.window config.channel config.ring
+AsksFor (RunKept script config database moment) asked =
+    asked ≡ run_kept script.now config.window config.channel config.ring database.now moment
 AsksFor (Report database from to) asked =
     (begins ends : Text) × SpellsMoment from begins × SpellsMoment to ends × (asked ≡ report database.now begins ends)
 AsksFor (Check kind file) asked = asked ≡ check (kind_word kind) file.now
 AsksFor (Serve database port count config moment verbose) asked =
-    asked ≡ serve database.now port count config.window config.channel moment verbose
-AsksFor (Loop database script config moment) asked = asked ≡ loop database.now script.now config.window config.channel moment
+    asked ≡ serve database.now port count config.window config.channel config.ring moment verbose
+AsksFor (Loop database script config moment) asked =
+    asked ≡ loop database.now script.now config.window config.channel config.ring moment
 
 -- what the desk of a line is made or opened with
 abbrev pub config_of : Line → Option Config
@@ -33,12 +35,12 @@ config_of (Loop database script config moment) = Some config
 
 -- the window that is asked for is odd
 abbrev pub AsksOddWindow : Asked → Type 0
-AsksOddWindow (run script window channel) = window % 2 ≡ 1
-AsksOddWindow (run_kept script window channel database moment) = window % 2 ≡ 1
+AsksOddWindow (run script window channel ring) = window % 2 ≡ 1
+AsksOddWindow (run_kept script window channel ring database moment) = window % 2 ≡ 1
 AsksOddWindow (report database begins ends) = ⊥
 AsksOddWindow (check kind file) = ⊥
-AsksOddWindow (serve database port count window channel moment verbose) = window % 2 ≡ 1
-AsksOddWindow (loop database script window channel moment) = window % 2 ≡ 1
+AsksOddWindow (serve database port count window channel ring moment verbose) = window % 2 ≡ 1
+AsksOddWindow (loop database script window channel ring moment) = window % 2 ≡ 1
 
 -- a report is asked for, whose FROM or TO is this word, which spells no moment
 abbrev pub AsksNoMoment : Asked → Text → Type 0

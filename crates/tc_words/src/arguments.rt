@@ -1,7 +1,7 @@
 //! The arguments of the commands: which have to be given, which values pass, and what stands where none is given.
 ghost use Rattle.std.specs.Prelude.{◌≡◌, false};
 ghost use Rattle.clap.specs.Words.{rule_of};
-ghost use Rattle.tc_words.specs.Commands.{channel_rule, checked_rule, count_rule, database_rule, file_rule, from_rule, kind_rule, moment_rule, port_rule, required_rule};
+ghost use Rattle.tc_words.specs.Commands.{channel_rule, checked_rule, count_rule, database_rule, file_rule, from_rule, kind_rule, moment_rule, port_rule, required_rule, ring_rule};
 ghost use Rattle.tc_words.specs.Commands.{script_rule, to_rule, verbose_rule, window_rule};
 
 use clap::builder::ValueParser;
@@ -128,6 +128,19 @@ pub(crate) fn channel_arg<'a>(alloc: Global) -> Arg<'a>
         .value_parser(ValueParser::Unsigned(0, 63))
         .default_value("3")
         .help("The virtual channel: 0 to 63")
+}
+
+pub(crate) fn ring_arg<'a>(alloc: Global) -> Arg<'a>
+    ensures rule { rule_of result ≡ ring_rule }
+    ensures local { result.global ≡ false }
+{
+    Arg::new(alloc, "ring")
+        .long("ring")
+        .value_name("N")
+        .value_parser(ValueParser::Unsigned(1, 4_096))
+        .help(
+            "Links that hold N items and drop the oldest: 1 to 4096 [default: lists, which lose nothing by themselves]",
+        )
 }
 
 pub(crate) fn database_arg<'a>(alloc: Global) -> Arg<'a>

@@ -3,11 +3,11 @@ ghost use Rattle.std.specs.Prelude.{◌≡◌, [], IfErr, IfOk, OnOk, false, map
 ghost use Rattle.clap.specs.Words.{app_of, fault_of, kind_of, subcommand_of, subcommand_rows_of, takes};
 ghost use Rattle.clap.specs.declared.builder.command.Command.TheViews.{out-Command};
 ghost use Rattle.tc_words.specs.Commands.{bare_app, bare_serve_app, check_app, desk_app, loop_app, report_app, run_app, script_app, script_apps, serve_app};
-ghost use Rattle.tc_words.specs.Commands.{with_check, with_database, with_desk, with_http};
+ghost use Rattle.tc_words.specs.Commands.{with_check, with_database, with_desk, with_http, with_link};
 
 use crate::arguments::{
     channel_arg, checked_arg, count_arg, database_arg, file_arg, from_arg, kind_arg, moment_arg,
-    port_arg, script_arg, to_arg, verbose_arg, window_arg,
+    port_arg, ring_arg, script_arg, to_arg, verbose_arg, window_arg,
 };
 use clap::error::ErrorKind;
 use clap::{ArgMatches, Command};
@@ -99,11 +99,22 @@ fn script_command<'a>(alloc: Global) -> Result<Command<'a>, AllocError>
     ensures app { IfOk result (λ command. app_of command ≡ script_app) }
     ensures local { IfOk result (λ command. (out-Command command).has_globals ≡ false) }
 {
-    Command::new(alloc, "run")
+    let command = Command::new(alloc, "run")
         .about("Run the lines of a script on a desk: a new one, or one that is kept in a file")
-        .arg(script_arg(alloc))?
+        .arg(script_arg(alloc))?;
+    with_link(alloc, command)
+}
+
+/// With the options of a desk, wherever it is kept.
+fn with_link<'a>(alloc: Global, command: Command<'a>) -> Result<Command<'a>, AllocError>
+    requires local { (out-Command command).has_globals ≡ false }
+    ensures app { IfOk result (λ more. app_of more ≡ with_link (app_of command.entry)) }
+    ensures local { IfOk result (λ more. (out-Command more).has_globals ≡ false) }
+{
+    command
         .arg(window_arg(alloc))?
-        .arg(channel_arg(alloc))
+        .arg(channel_arg(alloc))?
+        .arg(ring_arg(alloc))
 }
 
 fn with_database<'a>(alloc: Global, command: Command<'a>) -> Result<Command<'a>, AllocError>
@@ -172,8 +183,5 @@ fn with_desk<'a>(alloc: Global, command: Command<'a>) -> Result<Command<'a>, All
     ensures app { IfOk result (λ more. app_of more ≡ with_desk (app_of command.entry)) }
     ensures local { IfOk result (λ more. (out-Command more).has_globals ≡ false) }
 {
-    command
-        .arg(window_arg(alloc))?
-        .arg(channel_arg(alloc))?
-        .arg(moment_arg(alloc))
+    with_link(alloc, command)?.arg(moment_arg(alloc))
 }

@@ -1,11 +1,11 @@
 //! What the arguments of a command were given.
-ghost use Rattle.std.specs.Prelude.{◌%◌, ◌≡◌, ◌↔◌, ◌≤◌, IfErr, IfOk, IsTrue, option_map};
+ghost use Rattle.std.specs.Prelude.{◌%◌, ◌≡◌, ◌↔◌, ◌≤◌, IfErr, IfOk, IfSome, IsTrue, option_map};
 ghost use Rattle.clap.specs.Words.{first_of, found_of, one_of, rows_of};
 ghost use Rattle.tc_types.specs.Loads.{kind_word};
 ghost use Rattle.tc_types.specs.Numbers.{IsMoment};
 ghost use Rattle.tc_types.specs.declared.loads.LoadKind.{LoadKind as SomeKind};
-ghost use Rattle.tc_desk.specs.State.{IsConfig};
-ghost use Rattle.tc_words.specs.Asked.{SpellsMoment, SpellsNoMoment, given, given_channel, given_count, given_moment, given_port, given_verbose, given_window, number_in};
+ghost use Rattle.tc_desk.specs.State.{IsConfig, IsRing};
+ghost use Rattle.tc_words.specs.Asked.{SpellsMoment, SpellsNoMoment, given, given_channel, given_count, given_moment, given_port, given_ring, given_verbose, given_window, number_in, number_within};
 
 use crate::lines::UsageFault;
 use clap::ArgMatches;
@@ -32,22 +32,42 @@ pub(crate) fn path_of<'a>(matches: &ArgMatches<'a>, id: &str) -> Option<&'a str>
     matches.get_str(id)
 }
 
+/// The number of an argument where it is one from least to most.
+fn number_within(matches: &ArgMatches<'_>, id: &str, least: u32, most: u32) -> Option<u32>
+    ensures value { result ≡ number_within least most (one_of id.now (rows_of (found_of matches.now))) }
+    ensures range { IfSome result (λ number. (least ≤ number) × (number ≤ most)) }
+{
+    match matches.get_one::<u32>(id) {
+        Some(number) if least <= number && number <= most => Some(number),
+        _ => None,
+    }
+}
+
 /// The number of an argument where it is one from least to most, and else another.
 fn number_of(matches: &ArgMatches<'_>, id: &str, least: u32, most: u32, other: u32) -> u32
     requires { (least ≤ other) × (other ≤ most) }
     ensures value { result ≡ number_in least most other (one_of id.now (rows_of (found_of matches.now))) }
     ensures range { (least ≤ result) × (result ≤ most) }
 {
-    match matches.get_one::<u32>(id) {
-        Some(number) if least <= number && number <= most => number,
-        _ => other,
+    match number_within(matches, id, least, most) {
+        Some(number) => number,
+        None => other,
     }
 }
 
-/// The window and the channel, where the window is even.
+/// How many items the rings of the links hold, where they are rings.
+fn ring_of(matches: &ArgMatches<'_>) -> Option<u32>
+    ensures ring { result ≡ given_ring (rows_of (found_of matches.now)) }
+    ensures size { IsRing result }
+{
+    number_within(matches, "ring", 1, 4_096)
+}
+
+/// The window, the channel and the links, where the window is even.
 pub(crate) fn config_of<'a>(matches: &ArgMatches<'_>) -> Result<Config, UsageFault<'a>>
     ensures window { IfOk result (λ config. config.window ≡ given_window (rows_of (found_of matches.now))) }
     ensures channel { IfOk result (λ config. config.channel ≡ given_channel (rows_of (found_of matches.now))) }
+    ensures ring { IfOk result (λ config. config.ring ≡ given_ring (rows_of (found_of matches.now))) }
     ensures config { IfOk result IsConfig }
     ensures odd { IfErr result (λ fault.
         (fault ≡ UsageFault.OddWindow) × (given_window (rows_of (found_of matches.now)) % 2 ≡ 1)) }
@@ -59,6 +79,7 @@ pub(crate) fn config_of<'a>(matches: &ArgMatches<'_>) -> Result<Config, UsageFau
     Ok(Config {
         window,
         channel: number_of(matches, "vc", 0, 63, 3) as u8,
+        ring: ring_of(matches),
     })
 }
 

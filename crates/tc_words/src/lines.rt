@@ -8,7 +8,7 @@ use thiserror::Error;
 /// What the words of a command line ask the program to do.
 #[derive(Clone, Copy, Debug, PartialEq, Eq)]
 pub enum Line<'a> {
-    /// Run the script at this path, or the standard input where it is `-`, on a new desk with this window and channel.
+    /// Run the script at this path, or the standard input where it is `-`, on a new desk with this window, channel and links.
     Run {
         script: &'a str,
         config: Config,

@@ -17,10 +17,11 @@ use clap::error::ErrorKind;
 use std::alloc::Global;
 use tc_desk::configs::Config;
 
-/// The window and the channel where none are given.
+/// The window, the channel and the links where none are given.
 const CONFIG: Config = Config {
     window: 20,
     channel: 3,
+    ring: None,
 };
 
 /// Reads the words of a command line, of which the first is the program's name.

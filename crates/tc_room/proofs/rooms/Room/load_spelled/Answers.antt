@@ -1,7 +1,6 @@
 use Rattle.std.proofs.Common.{arith, ◌≡◌, inl, inr, false, Err, refl, subst, sym, ap, ◌∙◌}
 use Rattle.tc_book.specs.Tables.{image_of}
-use Rattle.tc_room.specs.Joined.{HasImage, Standing}
-use Rattle.tc_room.specs.Room.{ListState}
+use Rattle.tc_room.specs.Joined.{HasImage, LinkState, Standing}
 use Rattle.tc_room.proofs.LoadLemmas.{load_carried, load_refused}
 use Rattle.tc_room.proofs.TableLemmas.{leaves_acts, not_written, written}
 use Rattle.tc_room.proofs.rooms.Room.load_spelled.Goals as goal
@@ -12,7 +11,7 @@ returns-in_err-loaded-clause-answered g c =
     let going : c.self.inside.stopped ≡ false = ap (λ (s : Standing _). s.stopped) c.self.view_is ∙ c.requires.going in
     let why = c.in_err-loaded.ensures.answers in
     rw (gone, ← c.self.view_is)
-    (λ held clean. inl (record { desk = load_refused _ _ _ _ _ why; tables = subst (λ (at : ListState). HasImage g.S.Store c.self.inside.tables (image_of at.book)) (sym why.same) (held going clean); going = going }))
+    (λ held clean. inl (record { desk = load_refused _ _ _ _ _ why; tables = subst (λ (at : LinkState). HasImage g.S.Store c.self.inside.tables (image_of at.book)) (sym why.same) (held going clean); going = going }))
 
 pub returns-in-Ok-clause-answered : goal.returns-in-Ok-clause-answered
 returns-in-Ok-clause-answered g c =
