@@ -180,7 +180,7 @@ fn the_claims_stand_over_rings(rt: HostRuntime) -> Result<(), Fail> {
     let mut confirmed = 0usize;
     for size in SIZES {
         let mut link = rings(rt.alloc(), size, 10, 20)?;
-        let counts = courses::courses(&rt, &mut link, u64::from(size), 10_000)?;
+        let counts = courses::courses(&rt, &mut link, u64::from(size), 20_000)?;
         confirmed = confirmed.saturating_add(counts.0);
     }
     assert!(rt; confirmed > 99, "{confirmed} confirmed");
