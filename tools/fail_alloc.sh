@@ -1,18 +1,21 @@
 #!/bin/bash
-# tools/fail_alloc.sh [PROGRAM [SCRIPT]] refuses the built program its requests for memory, one after the other, on a script, and checks how each
-# run ends; where none is given, on one that has acts of each kind. A run may end in these ways, and in no other:
+# tools/fail_alloc.sh [PROGRAM [SCRIPT [STEP OPTION..]]] refuses the built program its requests for memory, one after the other, on a script, and
+# checks how each run ends; where none is given, on one that has acts of each kind, and then on the same over rings of 8, where every 13th request
+# is refused. With a STEP every STEPth request is, of a run with these options. A run may end in these ways, and in no other:
 #   - all lines are right (the request was not needed);
 #   - the right lines, then `refused 30 Memory` for one line, and the others as if that line were not there;
 #   - the right lines, then `refused 31 Store` for one line, and `refused 32 Stopped` for each one after it;
 #   - the right lines, `tcdesk: cannot use memory` or, where the tables could not be made, `.. tables` on standard error, and
 #     status 2.
 # The number of the refused request goes up until a run asks for less memory than that. Status 1 where a run ended in
-# another way, or where some act that the script carries out was refused 30 in none.
+# another way, or where each request was refused and some act that the script carries out was refused 30 in none.
 set -u
 
 top=$(cd "$(dirname "${BASH_SOURCE[0]}")/.." && pwd) || exit 1
 program=${1:-$top/crates/tc_cli/out/tc_cli}
 script=${2:-$top/tools/cases/each-act.tc}
+step=${3:-1}
+options=("${@:4}")
 [[ -x $program ]] || { echo "fail_alloc: $program is not built" >&2; exit 1; }
 
 work=$(mktemp -d) || exit 1
@@ -27,7 +30,7 @@ count=${#lines[@]}
 
 # Prints what the program answers to these lines.
 answer() {
-    printf '%s\n' "$@" | "$program" run -
+    printf '%s\n' "$@" | "$program" run "${options[@]}" -
 }
 
 # The replies to the first k lines, without the last answer: what k lines print, less the reply to `places`.
@@ -81,7 +84,7 @@ bad=0
 try() {
     : >"$work/mark"
     FAIL_AT=$1 LD_PRELOAD="$work/fail_malloc.so" \
-        "$program" run "$script" >"$work/out" 2>"$work/err" 9>"$work/mark" </dev/null
+        "$program" run "${options[@]}" "$script" >"$work/out" 2>"$work/err" 9>"$work/mark" </dev/null
     local status=$?
     [[ -s $work/mark ]] || return 1
     runs=$((runs + 1))
@@ -106,11 +109,13 @@ try() {
 
 at=1
 while try "$at"; do
-    at=$((at + 1))
+    at=$((at + step))
 done
 
 echo "fail_alloc: $runs runs: ${seen[ended]} ended for memory, ${seen[memory]} refused 30, ${seen[store]} refused 31, ${seen[right]} unharmed, $bad bad"
+((step == 1)) || acts=()
 for act in "${acts[@]}"; do
     [[ -n ${refused[$act]:-} ]] || { bad=$((bad + 1)); echo "fail_alloc: ${lines[act - 1]} was never refused 30" >&2; }
 done
+[[ -n ${2:-} ]] || "${BASH_SOURCE[0]}" "$program" "$script" 13 --ring 8 || bad=$((bad + 1))
 ((bad == 0))

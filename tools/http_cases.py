@@ -287,6 +287,16 @@ def counts(cases):
                 cases.ended("the port, at once again", again)
 
 
+def ringed(cases):
+    """The link of a server is two rings, where it is told so: three control words are put where two have room. K is at most half of W."""
+    told = [*3 * [("clcw", b'["ok"]')], ("link", b"link up 0 down 2 premise kept"), ("set k 4", b"refused 12 BadDirective"),
+            ("set k 3", b'["ok"]'), ("link", b" k 3 t1 ")]
+    with cases.server(cases.folder(), len(told), "--ring", "2", "--w", "6") as server:
+        for text, want in told:
+            cases.tell(f"{text} over a ring of 2", True, want in server.exchange(act(text)))
+        cases.ended("a server over a ring", server)
+
+
 def killed(cases):
     """A server that is killed: what was answered stands."""
     folder = cases.folder()
@@ -324,6 +334,7 @@ def words(cases):
                  *(["{db}", it, "1"] for it in ("0", "65536", "-1", "x", "", "80.0", huge, "0x50")),
                  *(["{db}", port, it] for it in ("0", "1000001", "-1", "x", "", "1.0", huge)),
                  *(["{db}", port, "1", *it] for it in (["--w", "3"], ["--w", "0"], ["--w", "256"], ["--vc", "64"], ["--at", "4102444800"],
+                                                       ["--ring", "0"], ["--ring", "4097"], ["--ring", "x"], ["--ring"],
                                                        ["--at", "-1"], ["--colour"], ["--db", "x.db"]))):
         for db in ("new.db", "noise.db", "none/new.db"):
             asked = [it.format(db=db) for it in more]
@@ -405,7 +416,7 @@ def lists(cases):
 def main():
     """Tries all cases, or those of the groups that are named behind the program."""
     program, began_at = program_in(sys.argv[1:2]), time.monotonic()
-    groups = [lists, cut, pieces, slow, rude, stays, lost_answers, order, counts, killed, words, files_and_ports, filled]
+    groups = [lists, cut, pieces, slow, rude, stays, lost_answers, order, counts, ringed, killed, words, files_and_ports, filled]
     wanted_groups = [it for it in groups if it.__name__ in sys.argv[2:]] or groups
     with tempfile.TemporaryDirectory(prefix="http-", dir=quick_folder()) as work:
         cases = Cases(program, work)

@@ -105,6 +105,27 @@ for ((day = 3; day < 6; day++)); do
     check "nothing was on its way on day $day" 0 "$doubtful"$'\n' "" run --db desk.db --at $((day * 86400)) input
 done
 
+# ---- a window of an opening
+
+# W and K are an opening's: each begins with the lesser of 10 and W / 2, whatever was set before.
+none=$'places 0: 0 0 0 0 0 0 0 0 0 0 0 0 0 0 0\n'
+# stands K W: how a desk begins.
+stands() {
+    printf 'fop S6 vs 0 nn 0 sent 0 wait 0 count 1 timer 0 k %s t1 10 limit 3\nfarm Open vr 0 b 0 flags --- w %s\nlink up 0 down 0 premise kept\n' "$1" "$2"
+}
+printf '0 ann link\n0 ann set k 1\n' >input
+for window in 8 8 254 20 18 2 8; do
+    k=$((window / 2 < 10 ? window / 2 : 10))
+    check "a file opened with --w $window" 0 "$(stands $k $window)"$'\nok\n'"$none" "" run --db window.db --w $window input
+done
+# So is the ring: three words go down, and as many come as it holds.
+printf '0 ann clcw\n0 ann clcw\n0 ann clcw\n0 ann link\n' >input
+for ring in 2 3 1; do
+    lines=$(stands 10 20)
+    check "a file opened with --ring $ring" 0 $'ok\nok\nok\n'"${lines/down 0/down $ring}"$'\n'"$none" "" run --db window.db --ring $ring input
+done
+: >input
+
 # ---- faults, in their order: usage, script, file
 
 check "an odd window" 2 "" "tcdesk: --w must be even" run --db new.db --w 3 missing
