@@ -1,5 +1,5 @@
 -- Where K fits and no start was bad, an act leaves the FARM out of Lockout, and no other alert is told than those that may come.
-use Rattle.std.proofs.Common.{◌≡◌, ℕ, ◌/◌, ◌==◌, Bool, true, false, Option, Some, None, List, [], ◌∷◌, refl, sym, ◌∙◌, ap, subst, arith}
+use Rattle.std.proofs.Common.{◌≡◌, ℕ, ◌==◌, Bool, true, false, Option, Some, None, List, [], ◌∷◌, refl, sym, ◌∙◌, ap, subst, arith}
 use Rattle.std.specs.Prelude.{◌||◌, nat_lt, nat_le, if◌then◌else◌}
 use Rattle.std.specs.List.{list_all}
 use Rattle.std.proofs.lemmas.Bool.Decides.{nat_tests}
@@ -14,18 +14,16 @@ use Rattle.tc_types.specs.declared.acts.LinkAct.TheVariants as link_act
 use Rattle.tc_types.specs.declared.acts.Act.{Act}
 use Rattle.tc_types.specs.declared.acts.Act.TheVariants as act
 use Rattle.tc_farm.specs.declared.farms.FarmView.{FarmView}
-use Rattle.tc_farm.specs.Farm.{is_locked_out, new_farm}
+use Rattle.tc_farm.specs.Farm.{is_locked_out}
 use Rattle.tc_fop.specs.declared.signals.FopState.{FopState}
-use Rattle.tc_fop.specs.Calls.{new_machine}
 use Rattle.tc_fop.specs.Views.{view_of}
 use Rattle.tc_world.specs.declared.events.Event.{Event}
 use Rattle.tc_world.specs.declared.events.Event.TheVariants as event
 use Rattle.tc_world.specs.declared.events.Indication.{Indication}
 use Rattle.tc_world.specs.Fair.{is_fair}
 use Rattle.tc_world.specs.Links.{Kind}
-use Rattle.tc_world.specs.World.{Whole, IsAsBefore, is_fitting, is_fitting_setting, sets_fitting}
+use Rattle.tc_world.specs.World.{Whole, IsAsBefore, is_fitting_setting, sets_fitting}
 use Rattle.tc_book.specs.declared.stamps.Stamp.{Stamp}
-use Rattle.tc_book.specs.Acts.{first_refusal}
 use Rattle.tc_book.specs.Book.{Book, request_at}
 use Rattle.tc_book.specs.Logs.{released_with}
 use Rattle.tc_book.proofs.PassingLemmas.{none_holds}
@@ -35,9 +33,8 @@ use Rattle.tc_desk.specs.Acts.{is_bad_directive, link_tests, refusal_of}
 use Rattle.tc_desk.specs.Asks.{event_of, offer_at, has_buffer, taken_in, reports_after}
 use Rattle.tc_desk.specs.Fair.{IsFairlyTold}
 use Rattle.tc_desk.specs.Machine.{Happened, Passes, PutsDown, Reports, Flies, FliesBeside, Does}
-use Rattle.tc_desk.specs.Parts.{event_beside}
-use Rattle.tc_desk.specs.State.{State, widest_k, first_k, new_world}
-use Rattle.tc_desk.proofs.HeadlineLemmas.{before_clean, puts_clean}
+use Rattle.tc_desk.specs.State.{State, widest_k, new_world}
+use Rattle.tc_desk.proofs.HeadlineLemmas.{puts_clean}
 
 -- ---- what stands
 

@@ -9,7 +9,7 @@ use Rattle.tc_fop.specs.declared.signals.AlertKind.TheVariants as alert
 use Rattle.tc_fop.specs.declared.signals.FopState.{FopState}
 use Rattle.tc_fop.specs.declared.signals.FopState.TheVariants.{Active, RetransmitWithoutWait, RetransmitWithWait, InitialisingWithoutBc, InitialisingWithBc, Initial}
 use Rattle.tc_fop.specs.Calls.{is_taking}
-use Rattle.tc_fop.specs.Fair.{may_alert, is_checking}
+use Rattle.tc_fop.specs.Fair.{may_alert}
 use Rattle.tc_world.specs.Links.{Kind}
 use Rattle.tc_book.specs.declared.stamps.Stamp.{Stamp}
 use Rattle.tc_book.specs.Book.{Book}

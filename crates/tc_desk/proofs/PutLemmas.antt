@@ -22,14 +22,17 @@ IsOpenWhere w = w.clean ≡ true → w.fits ≡ true → is_locked_out w.farm.st
 pub put_down : {U D : Type 0} (up : Kind U Frame) (down : Kind D Report) (item : Telemetry) (old new : Whole U D) (all : List Indication)
     → Happens up down (event.Put item) old new all → TellsRequests (event.Put item) old new all → IsOpenWhere new → PutsDown up down (item ∷ []) old new
 put_down up down item old new all happens tells open_farm =
-    let none : all ≡ [] = happens.answered in
-    (new, record {
-      happens = subst (Happens up down (event.Put item) old new) none happens;
-      tells = subst (TellsRequests (event.Put item) old new) none tells;
-      keeps_fitting = λ fits sets. fits_is up down (event.Put item) old new all happens ∙ fits;
-      open_farm = open_farm;
-      fair = λ clean fits. refl;
-    }, refl)
+    let none : all ≡ [] = happens.answered in (
+      new,
+      record {
+        happens = subst (Happens up down (event.Put item) old new) none happens;
+        tells = subst (TellsRequests (event.Put item) old new) none tells;
+        keeps_fitting = λ fits sets. fits_is up down (event.Put item) old new all happens ∙ fits;
+        open_farm = open_farm;
+        fair = λ clean fits. refl;
+      },
+      refl,
+    )
 
 -- the same of an answer, which is there
 pub put_answered : {X U D : Type 0} (up : Kind U Frame) (down : Kind D Report) (item : Telemetry) (old new : Whole U D) (items : X → List Indication) (result : Result X Refusal)

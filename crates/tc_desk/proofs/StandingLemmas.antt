@@ -55,12 +55,12 @@ pub same_stand : {U D : Type 0} (up : Kind U Frame) (down : Kind D Report) → O
     → IsStanding up down old → IsStanding up down new
 same_stand up down ul dl old new same opened whole stands =
     let fits : Fits new.parts.world = before_fits up down old.parts.world new.parts.world same.world (stands.fits, stands.open_farm) in record {
-  tied = subst (λ o. IsTied o new.parts) (sym opened) (same_tied old.opened up down old.parts new.parts same stands.tied);
-  claims = same_claims up down old.parts.world new.parts.world same.world stands.claims;
-  fits = fits.0;
-  open_farm = fits.1;
-  followed = same_followed up down ul dl old new same whole stands.followed;
-}
+      tied = subst (λ o. IsTied o new.parts) (sym opened) (same_tied old.opened up down old.parts new.parts same stands.tied);
+      claims = same_claims up down old.parts.world new.parts.world same.world stands.claims;
+      fits = fits.0;
+      open_farm = fits.1;
+      followed = same_followed up down ul dl old new same whole stands.followed;
+    }
 
 -- while every start was good, what the rows call confirmed was taken on board once
 pub stands_once : {U D : Type 0} (up : Kind U Frame) (down : Kind D Report) (desk : DeskState U D) → IsStanding up down desk → desk.parts.world.clean ≡ true → TakenOnce desk.opened desk.parts

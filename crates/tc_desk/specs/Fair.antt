@@ -1,6 +1,6 @@
 -- Windows that fit: what a desk promises of its alerts, while every start was good. It needs no premise on K, since the desk
 -- sets none that does not fit.
-use Rattle.std.specs.Prelude.{◌≡◌, Bool, true, false, List}
+use Rattle.std.specs.Prelude.{◌≡◌, true, false, List}
 use Rattle.std.specs.List.{list_all}
 use Rattle.tc_types.specs.declared.moves.Move.{Move}
 use Rattle.tc_farm.specs.Farm.{is_locked_out}

@@ -29,7 +29,7 @@ fn is_initial(state: FopState) -> bool
 }
 
 /// Whether a directive is refused in this state, where this is the widest K that fits.
-fn is_bad_directive(state: FopState, widest: u16, given: &Directive) -> bool
+fn is_bad_directive(state: FopState, widest: u8, given: &Directive) -> bool
     ensures { result ≡ is_bad_directive state widest given.now }
 {
     match given {
@@ -38,7 +38,7 @@ fn is_bad_directive(state: FopState, widest: u16, given: &Directive) -> bool
         | Directive::InitiateUnlock
         | Directive::InitiateSetVr(_)
         | Directive::SetVs(_) => !is_initial(state),
-        Directive::SetK(k) => *k == 0 || *k as u16 > widest,
+        Directive::SetK(k) => *k == 0 || *k > widest,
         Directive::SetT1(t1) => *t1 == 0,
         Directive::SetLimit(limit) => *limit == 0,
         Directive::Terminate => false,
