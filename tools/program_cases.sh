@@ -402,8 +402,8 @@ else
     cat out err >&2
 fi
 
-# Each script of tools/cases, with the options of its .args where it has some, beside what it prints and, where that is not 0, its status. What
-# it loads lies in tools/cases/data.
+# Each script of tools/cases, with the options of its .args where it has some, beside what it prints and, where that is not 0, its status; those that
+# have none, over rings that never fill too, which print the same. What it loads lies in tools/cases/data.
 for script in "$top"/tools/cases/*.tc; do
     case=${script%.tc}
     status=0
@@ -412,6 +412,7 @@ for script in "$top"/tools/cases/*.tc; do
     [[ ! -e $case.args ]] || mapfile -t options <"$case.args"
     lines=$(cat "$case.stdout"; echo .)
     check "${case##*/}" "$status" "${lines%.}" "" run "${options[@]}" "$script"
+    [[ -e $case.args ]] || check "${case##*/}, over rings" "$status" "${lines%.}" "" run --ring 4096 "$script"
 done
 
 echo "program cases: $passed passed, $failed failed"

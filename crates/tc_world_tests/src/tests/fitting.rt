@@ -1,5 +1,6 @@
 //! Courses of one lost frame, of the limit, of the timer and of a full buffer, where K fits or not: after each act K has
 //! fitted or not, and the last start was level or not.
+use super::rings::rings_within;
 use super::{Act, CHECK, START, STOP, event, lists};
 use crate::links::Link;
 use std::alloc::Global;
@@ -12,7 +13,7 @@ use tc_types::directives::Directive;
 /// An act, and the alert that it tells, where it tells one.
 type Step = (Act, Option<AlertKind>);
 
-/// Acts over lists with this K and this W.
+/// Acts with this K and this W.
 #[derive(Clone, Copy)]
 struct Course {
     k: u8,
@@ -264,6 +265,20 @@ fn plays_over_lists(rt: &impl Abort, alloc: Global, course: &Course) -> Result<(
 fn says_whether_k_fitted_and_the_start_was_level(rt: HostRuntime) -> Result<(), Fail> {
     for course in COURSES {
         plays_over_lists(&rt, rt.alloc(), course)?;
+    }
+    Ok(())
+}
+
+/// Acts over rings that never fill.
+fn plays_over_rings(rt: &impl Abort, alloc: Global, course: &Course) -> Result<(), Fail> {
+    let mut link = rings_within(alloc, 4_096, course.k, 3, course.window)?;
+    plays(rt, &mut link, course)
+}
+
+#[test]
+fn says_the_same_over_rings_that_never_fill(rt: HostRuntime) -> Result<(), Fail> {
+    for course in COURSES {
+        plays_over_rings(&rt, rt.alloc(), course)?;
     }
     Ok(())
 }

@@ -163,16 +163,27 @@ fn holds_1_to_4096(rt: HostRuntime) {
     }
 }
 
-/// A world over rings of this size.
+/// A world over rings of this size, with as many transmissions as there may be.
 pub fn rings<A: Allocator + Copy + Drop>(
     alloc: A,
     size: u32,
     k: u8,
     window: u16,
 ) -> Result<Chosen<A>, Refusal> {
+    rings_within(alloc, size, k, 255, window)
+}
+
+/// The same with this limit of transmissions.
+pub fn rings_within<A: Allocator + Copy + Drop>(
+    alloc: A,
+    size: u32,
+    k: u8,
+    limit: u8,
+    window: u16,
+) -> Result<Chosen<A>, Refusal> {
     let up = LinkCarrier::Ring(RingCarrier::new(alloc, size)?);
     let down = LinkCarrier::Ring(RingCarrier::new(alloc, size)?);
-    world(alloc, up, down, k, 255, window, 0)
+    world(alloc, up, down, k, limit, window, 0)
 }
 
 #[test]

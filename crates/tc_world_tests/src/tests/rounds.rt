@@ -1,4 +1,5 @@
 //! 300 requests, over the end of the frames' numbers.
+use super::rings::rings;
 use super::{
     Act, START, Scenario, acts, add, add_offers, all_happen, answers, check_session, flies, offer,
     over_lists, repeats, skips,
@@ -84,6 +85,12 @@ pub fn confirms<L: Link>(rt: &impl Abort, alloc: Global, link: &mut L) -> Result
 #[test]
 fn confirms_300_requests_in_order(rt: HostRuntime) -> Result<(), Fail> {
     over_lists(&rt, rt.alloc(), Scenario::Round, 255, 254, 0)
+}
+
+#[test]
+fn confirms_300_requests_over_rings_that_never_fill(rt: HostRuntime) -> Result<(), Fail> {
+    let mut link = rings(rt.alloc(), 4_096, 255, 254)?;
+    confirms(&rt, rt.alloc(), &mut link)
 }
 
 /// Puts all events up to the last offer into one list.
