@@ -3,7 +3,7 @@ use Rattle.std.proofs.Common.{◌≡◌, ◌⊎◌, inl, inr, ℕ, nat_lt, Bool,
 use Rattle.tc_types.specs.Lines.{refusal_number}
 use Rattle.tc_types.specs.Tests.{first_refusal}
 use Rattle.tc_types.specs.declared.refusals.Refusal.{Refusal}
-use Rattle.tc_types.specs.declared.refusals.Refusal.TheVariants.{Memory, Store, Stopped}
+use Rattle.tc_types.specs.declared.refusals.Refusal.TheVariants.{DeskFull, Memory, Store, Stopped}
 use Rattle.tc_types.specs.declared.acts.Act.{Act}
 use Rattle.tc_types.specs.declared.acts.Act.TheVariants as act
 use Rattle.tc_types.specs.declared.acts.BookAct.{BookAct}
@@ -12,24 +12,20 @@ use Rattle.tc_types.specs.declared.acts.LinkAct.{LinkAct}
 use Rattle.tc_types.specs.declared.acts.LinkAct.TheVariants as link_act
 use Rattle.tc_types.specs.declared.acts.Query.{Query}
 use Rattle.tc_types.specs.declared.acts.Query.TheVariants as query
-use Rattle.tc_types.specs.declared.loads.LoadKind.{LoadKind}
 use Rattle.tc_types.specs.declared.rows.BegunExecution.{BegunExecution}
 use Rattle.tc_types.specs.declared.rows.StepRecord.{StepRecord}
-use Rattle.tc_csv.specs.declared.faults.Rule.{Rule}
-use Rattle.tc_csv.specs.declared.faults.Rule.TheVariants as rule
-use Rattle.tc_csv.specs.Faults.{rule_refusal}
 use Rattle.tc_stack.specs.Approvals.{ApprovalState}
-use Rattle.tc_proc.specs.Logs.{LogState, tests_at}
-use Rattle.tc_proc.specs.Logs as log
+use Rattle.tc_proc.specs.Logs.{LogState, execution_at, tests_at}
 use Rattle.tc_fop.specs.declared.views.FopView.{FopView}
 use Rattle.tc_book.specs.declared.stamps.Stamp.{Stamp}
 use Rattle.tc_book.specs.Acts as on_book
-use Rattle.tc_book.specs.Book.{Book}
-use Rattle.tc_book.specs.Logs.{released_with, step_tests}
+use Rattle.tc_book.specs.Book.{Book, approval_at, has_all_rows}
+use Rattle.tc_book.specs.Stacks.{stack_approval_at}
+use Rattle.tc_book.specs.Logs.{record_made, released_with, step_tests}
+use Rattle.tc_fop.specs.Views.{view_of}
+use Rattle.tc_desk.specs.State.{widest_k}
 use Rattle.tc_desk.specs.Acts.{link_tests, refusal_of, tests_behind, tests_of}
-use Rattle.tc_desk.specs.Loads.{Loading, Procedure, Stack, tests_of_load}
 use Rattle.tc_room.specs.Joined.{LinkState, Standing}
-use Rattle.tc_room.specs.Loads.{IsNotRead}
 use Rattle.tc_room.specs.Room.{Stops}
 
 -- ---- which refusals a test gives
@@ -55,7 +51,7 @@ first false b both = absurd (let e : false ≡ true = both in cc)
 
 joined : (tests others : List (Bool × Refusal)) → are_before_31 tests ≡ true → are_before_31 others ≡ true → are_before_31 (tests ++ others) ≡ true
 joined [] others _ are = are
-joined (test ∷ tests) others all are = with_second (is_before_31 test.1) (are_before_31 tests) _ all (joined tests others (second (is_before_31 test.1) _ all) are)
+joined (test ∷ tests) others all are = with_second (is_before_31 test.1) (are_before_31 tests) (are_before_31 (tests ++ others)) all (joined tests others (second (is_before_31 test.1) (are_before_31 tests) all) are)
 
 by_test : (holds : Bool) (given : Refusal) (others : Option Refusal) (refusal : Refusal) → is_before_31 given ≡ true → (others ≡ Some refusal → is_before_31 refusal ≡ true)
     → (if holds then Some given else others) ≡ Some refusal → is_before_31 refusal ≡ true
@@ -65,7 +61,7 @@ by_test false given others refusal low behind is = behind is
 by_first : (tests : List (Bool × Refusal)) (refusal : Refusal) → are_before_31 tests ≡ true → first_refusal tests ≡ Some refusal → is_before_31 refusal ≡ true
 by_first [] refusal all is = absurd (let none : Option Refusal = None in let e : none ≡ Some refusal = is in cc)
 by_first (test ∷ tests) refusal all is =
-    by_test test.0 test.1 (first_refusal tests) refusal (first (is_before_31 test.1) _ all) (by_first tests refusal (second (is_before_31 test.1) _ all)) is
+    by_test test.0 test.1 (first_refusal tests) refusal (first (is_before_31 test.1) (are_before_31 tests) all) (by_first tests refusal (second (is_before_31 test.1) (are_before_31 tests) all)) is
 
 approvals : (person : List ℕ) (state : Option ApprovalState) → are_before_31 (on_book.approval_tests person state) ≡ true
 approvals person None = refl
@@ -74,9 +70,11 @@ approvals person (Some state) = refl
 of_book : (stamp : Stamp) (book : Book) (given : BookAct) → are_before_31 (on_book.tests_of stamp book given) ≡ true
 of_book stamp book (book_act.Enter entry) = refl
 of_book stamp book (book_act.Withdraw n) = refl
-of_book stamp book (book_act.Approve n) = joined (on_book.approval_tests stamp.by (on_book.approval_at book n)) _ (approvals stamp.by _) refl
+of_book stamp book (book_act.Approve n) =
+    joined (on_book.approval_tests stamp.by (approval_at book n)) ((has_all_rows book, DeskFull) ∷ []) (approvals stamp.by (approval_at book n)) refl
 of_book stamp book (book_act.Close n) = refl
-of_book stamp book (book_act.ApproveStack name) = joined (on_book.approval_tests stamp.by (on_book.stack_approval_at book name)) _ (approvals stamp.by _) refl
+of_book stamp book (book_act.ApproveStack name) =
+    joined (on_book.approval_tests stamp.by (stack_approval_at book name)) ((has_all_rows book, DeskFull) ∷ []) (approvals stamp.by (stack_approval_at book name)) refl
 of_book stamp book (book_act.Begin name) = refl
 
 of_link : (book : Book) (fop : FopView) (widest now : ℕ) (given : LinkAct) → are_before_31 (link_tests book fop widest now given) ≡ true
@@ -110,35 +108,12 @@ of_question book (query.Report from to) = refl
 
 of_act : (stamp : Stamp) (at : LinkState) (given : Act) → are_before_31 (tests_of stamp at given) ≡ true
 of_act stamp at (act.Book given) = of_book stamp at.book given
-of_act stamp at (act.Link given) = of_link at.book _ _ _ given
-of_act stamp at (act.Step given) = joined (step_tests stamp at.book given) _ (of_record at.book.log _ _) (of_release at.book _ _ _ (released_with at.book given))
+of_act stamp at (act.Link given) = of_link at.book (view_of at.world.fop) (widest_k at.world.farm.window) at.board.time given
+of_act stamp at (act.Step given) =
+    joined (step_tests stamp at.book given) (tests_behind at.book (view_of at.world.fop) (widest_k at.world.farm.window) at.board.time (released_with at.book given))
+    (of_record at.book.log (execution_at at.book.log given.execution) (record_made stamp given))
+    (of_release at.book (view_of at.world.fop) (widest_k at.world.farm.window) at.board.time (released_with at.book given))
 of_act stamp at (act.Ask asked) = of_question at.book asked
-
-of_load : (stamp : Stamp) (book : Book) (given : Loading) → are_before_31 (tests_of_load stamp book given) ≡ true
-of_load stamp book (Stack name rows) = refl
-of_load stamp book (Procedure name steps) = refl
-
-of_rule : (broken : Rule) → is_before_31 (rule_refusal broken) ≡ true
-of_rule rule.TextLength = refl
-of_rule rule.RowCount = refl
-of_rule rule.Header = refl
-of_rule rule.SomeRow = refl
-of_rule rule.FieldCount = refl
-of_rule rule.Line = refl
-of_rule rule.Apid = refl
-of_rule rule.Service = refl
-of_rule rule.Subtype = refl
-of_rule rule.Target = refl
-of_rule rule.Time = refl
-of_rule rule.Ack = refl
-of_rule rule.Critical = refl
-of_rule rule.After = refl
-of_rule rule.Outcome = refl
-of_rule rule.TargetRow = refl
-of_rule rule.StepNumber = refl
-of_rule rule.StepText = refl
-of_rule rule.Second = refl
-of_rule rule.StepRequest = refl
 
 is_memory : (refusal : Refusal) → refusal ≡ Memory → is_before_31 refusal ≡ true
 is_memory refusal is = subst (λ (r : Refusal). is_before_31 r ≡ true) (sym is) refl
@@ -152,23 +127,14 @@ pub act_told : (stamp : Stamp) (at : LinkState) (given : Act) (refusal : Refusal
     → (refusal_of stamp at given ≡ Some refusal) ⊎ ((refusal_of stamp at given ≡ None) × (refusal ≡ Memory)) → is_before_31 refusal ≡ true
 act_told stamp at given refusal why = told_by (tests_of stamp at given) refusal (of_act stamp at given) why
 
-pub load_told : (stamp : Stamp) (book : Book) (given : Loading) (refusal : Refusal)
-    → (first_refusal (tests_of_load stamp book given) ≡ Some refusal) ⊎ ((first_refusal (tests_of_load stamp book given) ≡ None) × (refusal ≡ Memory))
-    → is_before_31 refusal ≡ true
-load_told stamp book given refusal why = told_by (tests_of_load stamp book given) refusal (of_load stamp book given) why
-
-pub text_told : (kind : LoadKind) (text : List ℕ) (refusal : Refusal) → IsNotRead kind text refusal → is_before_31 refusal ≡ true
-text_told kind text refusal (inl is) = is_memory refusal is
-text_told kind text refusal (inr (fault, _, is)) = subst (λ (r : Refusal). is_before_31 r ≡ true) (sym is) (of_rule fault.rule)
-
 -- ---- what stops a room
 
 true_false : true ≡ false → ⊥
 true_false e = cc
 
-goes_on : {X S : Type 0} (old new : Standing S) (result : Result X Refusal) → old.stopped ≡ false → new.stopped ≡ false → (result ≡ Err Store → ⊥) → (result ≡ Err Stopped → ⊥)
+keeps_going : {X S : Type 0} (old new : Standing S) (result : Result X Refusal) → old.stopped ≡ false → new.stopped ≡ false → (result ≡ Err Store → ⊥) → (result ≡ Err Stopped → ⊥)
     → Stops old result new
-goes_on {X} old new result was is no_31 no_32 = record {
+keeps_going old new result was is no_31 no_32 = record {
   stopped = ((λ now. absurd (true_false (sym now ∙ is))), by_cause);
   same = λ told. absurd (no_32 told);
 }
@@ -188,24 +154,10 @@ not_late refusal late low high is = true_false (sym (subst (λ (r : Refusal). is
 
 -- what is answered leaves it going, and so does a refusal of a test
 pub stops_ok : {X S : Type 0} (old new : Standing S) (answer : X) → old.stopped ≡ false → new.stopped ≡ false → Stops old (Ok answer) new
-stops_ok old new answer was is = goes_on old new (Ok answer) was is (ok_err answer Store) (ok_err answer Stopped)
+stops_ok old new answer was is = keeps_going old new (Ok answer) was is (ok_err answer Store) (ok_err answer Stopped)
 
 pub stops_refused : {X S : Type 0} (old new : Standing S) (result : Result X Refusal) (refusal : Refusal) → result ≡ Err refusal → old.stopped ≡ false → new.stopped ≡ false
     → is_before_31 refusal ≡ true → Stops old result new
 stops_refused {X} old new result refusal gone was is low =
-    goes_on old new result was is (λ told. not_late refusal Store low refl (err_same {X} refusal Store (sym gone ∙ told)))
-    (λ told. not_late refusal Stopped low refl (err_same {X} refusal Stopped (sym gone ∙ told)))
-
--- an answer 31 stops it
-pub stops_failed : {X S : Type 0} (old new : Standing S) → new.stopped ≡ true → Stops {X} old (Err Store) new
-stops_failed {X} old new stopped = record {
-  stopped = ((λ _. inr refl), (λ _. stopped));
-  same = λ told. absurd (not_stopped (err_same {X} Store Stopped told));
-}
-  where
-    not_stopped : Store ≡ Stopped → ⊥
-    not_stopped e = cc
-
--- and from then on it answers 32
-pub stops_stopped : {X S : Type 0} (at : Standing S) → at.stopped ≡ true → Stops {X} at (Err Stopped) at
-stops_stopped at stopped = record { stopped = ((λ _. inl stopped), (λ _. stopped)); same = λ _. (stopped, refl) }
+    keeps_going old new result was is (λ told. not_late refusal Store low refl (err_same {X = X} refusal Store (sym gone ∙ told)))
+    (λ told. not_late refusal Stopped low refl (err_same {X = X} refusal Stopped (sym gone ∙ told)))
