@@ -3,4 +3,5 @@ mod TableLemmas
 mod OpeningLemmas
 pub mod LoadLemmas
 mod LogLemmas
+mod StopLemmas
 pub mod ReportLemmas

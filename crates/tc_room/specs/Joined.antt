@@ -1,5 +1,5 @@
 -- What joins a desk and its tables.
-use Rattle.std.specs.Prelude.{◌≡◌, ℕ, Bool, false}
+use Rattle.std.specs.Prelude.{◌≡◌, ℕ, Bool, true, false}
 use Rattle.std.specs.declared.alloc.Global.{Global}
 use Rattle.sqlite_trees.specs.declared.store.Store.{Ghosts}
 use Rattle.sqlite.specs.Held.{Held, state}
@@ -8,11 +8,14 @@ use Rattle.tc_types.specs.declared.frames.Frame.{Frame}
 use Rattle.tc_types.specs.declared.reports.Report.{Report}
 use Rattle.tc_types.specs.Tables.{Image}
 use Rattle.tc_world.specs.declared.link_carriers.LinkCarrier.{LinkCarrier}
+use Rattle.tc_world.specs.EitherLink.{content_of}
+use Rattle.tc_board.specs.Mirror.{mirror_of}
 use Rattle.tc_book.specs.Book.{Book}
 use Rattle.tc_book.specs.Conserved.{IsConserved}
 use Rattle.tc_book.specs.Good.{IsGoodBook}
 use Rattle.tc_book.specs.Tables.{image_of}
-use Rattle.tc_desk.specs.State.{State}
+use Rattle.tc_desk.specs.Followed.{mirror_through}
+use Rattle.tc_desk.specs.State.{DeskState, State}
 use Rattle.tc_store.specs.Schema.{Holds}
 use Rattle.tc_room.specs.Crash.{Leaves}
 
@@ -29,8 +32,19 @@ pub record Standing (S : Type 0) : Type 0 where
   pub desk : LinkState
   -- how many rows of the history stood once the desk was made
   pub opened : ℕ
+  -- whether all that was put on the downlink since was read, or flies
+  pub whole : Bool
   pub tables : Held S
   pub stopped : Bool
+
+-- the desk of a room
+abbrev pub desk_in : {S : Type 0} → Standing S → DeskState (Link Frame) (Link Report)
+desk_in room = record { parts = room.desk; opened = room.opened; whole = room.whole }
+
+-- while nothing of the downlink was lost, the mirror becomes the on-board schedule once what flies is read
+abbrev pub FollowsBoard : {S : Type 0} → Standing S → Type 0
+FollowsBoard room =
+    room.whole ≡ true → mirror_through room.desk.book (content_of room.desk.world.down) room.desk.mirror ≡ mirror_of room.desk.board.schedule
 
 -- tables that hold these rows and no other, also after a crash
 pub record HasImage {S : Type 0} (g : Ghosts S) (tables : Held S) (image : Image) : Type 0 where

@@ -1,5 +1,5 @@
 -- What opens a room over tables that were left.
-use Rattle.std.specs.Prelude.{◌≡◌, ℕ, false, List, [], drop, length}
+use Rattle.std.specs.Prelude.{◌≡◌, ℕ, true, false, List, [], drop, length}
 use Rattle.sqlite_trees.specs.Tree.{Trees}
 use Rattle.sqlite_trees.specs.declared.store.Store.{Ghosts}
 use Rattle.sqlite.specs.Effect.{Database}
@@ -41,6 +41,7 @@ pub record OpensLeft {S : Type 0} (g : Ghosts S) (config : Config) (moment : ℕ
   pub sound : IsSound image
   pub reopened : IsReopened config moment image room.desk
   pub opened : room.opened ≡ length room.desk.book.history
+  pub whole : room.whole ≡ true
   pub made : moves ≡ drop (length image.moves) room.desk.book.history
   pub tables : HasImage g room.tables (image_of room.desk.book)
   pub going : room.stopped ≡ false

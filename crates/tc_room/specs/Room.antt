@@ -1,5 +1,5 @@
 -- The room: a desk whose book stands in tables too, until the tables fail.
-use Rattle.std.specs.Prelude.{◌≡◌, ◌⊎◌, true, false, None, MatchBool, IsTrue, Result, Ok, Err}
+use Rattle.std.specs.Prelude.{◌≡◌, ◌↔◌, ◌⊎◌, true, false, None, MatchBool, IsTrue, Result, Ok, Err}
 use Rattle.sqlite_trees.specs.declared.store.Store.{Ghosts}
 use Rattle.sqlite.specs.Held.{state}
 use Rattle.sqlite.specs.State.{HasCleanDisk}
@@ -30,6 +30,7 @@ IsNewDesk config desk =
 pub record IsJustOpened {S : Type 0} (g : Ghosts S) (config : Config) (room : Standing S) : Type 0 where
   pub desk : IsNewDesk config room.desk
   pub opened : room.opened ≡ 0
+  pub whole : room.whole ≡ true
   pub tables : HoldsBook g room
   pub going : room.stopped ≡ false
 
@@ -63,3 +64,9 @@ RoomStep g old stamp given reply new = HoldsBook g old → HasCleanDisk (state g
 abbrev pub AnswersStep : {X S : Type 0} → (X → Reply) → Ghosts S → Standing S → Stamp → Act → Standing S → Result X Refusal → Type 0
 AnswersStep lines g old stamp given new (Ok answer) = RoomStep g old stamp given (lines answer) new
 AnswersStep lines g old stamp given new (Err refusal) = RoomStep g old stamp given (refusal_reply refusal) new
+
+-- Whatever the tables hold and the disk gave back: a room stops exactly with an answer 31, for good, and 32 is answered only by one that has
+-- stopped, which stays as it was.
+pub record Stops {X S : Type 0} (old : Standing S) (result : Result X Refusal) (new : Standing S) : Type 0 where
+  pub stopped : (new.stopped ≡ true) ↔ ((old.stopped ≡ true) ⊎ (result ≡ Err Store))
+  pub same : result ≡ Err Stopped → (old.stopped ≡ true) × (new ≡ old)

@@ -1,5 +1,5 @@
 //! The desk of a room: its links are lists or rings, as it was chosen.
-ghost use Rattle.std.specs.Prelude.{◌≡◌, ◌⊎◌, ◌↔◌, [], IfErr, IfOk, IsTrue, OnOk, drop, length};
+ghost use Rattle.std.specs.Prelude.{◌≡◌, ◌⊎◌, ◌↔◌, [], true, IfErr, IfOk, IsTrue, OnOk, drop, length};
 ghost use Rattle.tc_types.specs.declared.refusals.Refusal.TheVariants.{BadDirective, Memory, Store};
 ghost use Rattle.tc_types.specs.Tables.{applied};
 ghost use Rattle.tc_images.specs.Images.{rows_in};
@@ -89,6 +89,7 @@ fn make_links(alloc: Global, config: Config) -> Result<Links, Refusal>
 pub fn make_desk(alloc: Global, config: Config) -> Result<LinkDesk, Refusal>
     ensures made { IfOk result (λ desk. IsNewDesk config desk.parts) }
     ensures opened { IfOk result (λ desk. desk.opened ≡ 0) }
+    ensures whole { IfOk result (λ desk. desk.whole ≡ true) }
     ensures good { IfOk result (λ desk. IsGoodBook desk.parts.book) }
     ensures config { OnOk result (IsConfig config) }
     ensures refused { IfErr result (λ refusal. ((refusal ≡ BadDirective) × (¬ IsConfig config)) ⊎ ((refusal ≡ Memory) × IsConfig config)) }
@@ -108,6 +109,7 @@ pub fn reopen_desk(
 ) -> Result<ReopenedDesk, Refusal>
     ensures desk { IfOk result (λ opened. IsReopened config moment (rows_in image.now) opened.desk.parts) }
     ensures opened { IfOk result (λ opened. opened.desk.opened ≡ length opened.desk.parts.book.history) }
+    ensures whole { IfOk result (λ opened. opened.desk.whole ≡ true) }
     ensures good { IfOk result (λ opened. IsGoodBook opened.desk.parts.book) }
     ensures config { OnOk result (IsConfig config) }
     ensures sound { OnOk result (IsSound (rows_in image.now)) }

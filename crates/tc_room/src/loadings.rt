@@ -106,6 +106,7 @@ pub(crate) fn load_into(
     ensures batch { IfOk result (λ done. applied done.batch.items (image_of desk.old.parts.book) ≡ image_of desk.new.parts.book) }
     ensures good { IsGoodBook desk.new.parts.book }
     ensures opened { desk.new.opened ≡ desk.old.opened }
+    ensures whole { desk.new.whole ≡ desk.old.whole }
     // what the rows tell of the link is true
     ensures told { TellsTrue desk.new.opened desk.new.parts }
 {

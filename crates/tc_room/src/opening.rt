@@ -1,6 +1,6 @@
 //! How a room is opened over a database: an empty one becomes the tables of a desk where nothing happened yet, and over the tables that
 //! were left in another the desk is opened again.
-ghost use Rattle.std.specs.Prelude.{◌≡◌, ◌≢◌, ◌⊎◌, ◌↔◌, false, [], drop, length, IsTrue, IfErr, IfOk, OnOk};
+ghost use Rattle.std.specs.Prelude.{◌≡◌, ◌≢◌, ◌⊎◌, ◌↔◌, true, false, [], drop, length, IsTrue, IfErr, IfOk, OnOk};
 ghost use Rattle.sqlite.specs.Held.{state};
 ghost use Rattle.sqlite.specs.State.{HasCleanDisk};
 ghost use Rattle.sqlite.specs.Steps.{over_memory};
@@ -47,6 +47,7 @@ fn reopen<S: Alter + Drop>(
     requires fit { IsConfig config }
     ensures read { HasCleanDisk (state S.Store tables.new) → IfOk result (λ opened. (image : Rows) → IsTold image → Holds (state S.Store tables.old).now image → ReadsLeft config moment image opened.desk.parts opened.done.moves.items opened.done.batch.items) }
     ensures opened { IfOk result (λ opened. opened.desk.opened ≡ length opened.desk.parts.book.history) }
+    ensures whole { IfOk result (λ opened. opened.desk.whole ≡ true) }
     ensures good { IfOk result (λ opened. IsGoodBook opened.desk.parts.book) }
     ensures same { HasCleanDisk (state S.Store tables.new) → OnOk result ((image : Rows) → Holds (state S.Store tables.old).now image → Holds (state S.Store tables.new).now image) }
     ensures kept { HasCleanDisk (state S.Store tables.new) → IsTrue (state S.Store tables.new).is_open → (image : Rows) → Holds (state S.Store tables.old).now image → Holds (state S.Store tables.new).now image }

@@ -14,6 +14,7 @@ returns-in-Ok-write-clause-left g c = rw c.over.ensures (λ clean image told hel
       sound = left.sound;
       reopened = left.reopened;
       opened = c.in-Ok.ensures.opened;
+      whole = c.in-Ok.ensures.whole;
       made = left.made;
       tables = written g.S.Store c.reopen.new.tables c.write.new.self image c.in-Ok.left.done.batch.items _ left.writes c.write.ensures.crash clean (λ _. c.in-Ok.ensures.same before image held) (rw c.deref.ensures.value at (c.in-Ok-write.ensures.written clean)) (c.in-Ok-write.ensures.durable clean);
       going = refl;

@@ -2,6 +2,7 @@ use Rattle.std.proofs.Common.{arith, ◌≡◌, inl, inr, false, Err, refl, subs
 use Rattle.tc_book.specs.Tables.{image_of}
 use Rattle.tc_room.specs.Joined.{HasImage, LinkState, Standing}
 use Rattle.tc_room.proofs.LoadLemmas.{load_carried, load_refused}
+use Rattle.tc_room.proofs.StopLemmas.{stops_ok}
 use Rattle.tc_room.proofs.TableLemmas.{leaves_acts, not_written, written}
 use Rattle.tc_room.proofs.rooms.Room.load_spelled.Goals as goal
 
@@ -35,3 +36,8 @@ returns-in-Err-clause-answered g c =
       crash = leaves_acts g.S.Store c.self.inside.tables c.write.new.self c.self.inside.desk.parts.book _ c.in_ok-loaded.loaded.batch.items _ (rw c.deref.ensures.value at c.write.ensures.crash) clean (held going) c.in_ok-loaded.ensures.batch
           (_, _, load_carried _ _ _ _ _ _ _ c.in_ok-loaded.ensures.answers c.in_ok-loaded.ensures.moves, refl);
     }))
+
+pub returns-in-Ok-clause-stops : goal.returns-in-Ok-clause-stops
+returns-in-Ok-clause-stops g c =
+    let going : c.self.inside.stopped ≡ false = ap (λ (s : Standing _). s.stopped) c.self.view_is ∙ c.requires.going in
+    rw (← c.self.view_is) (stops_ok _ _ _ going going)
