@@ -1,6 +1,6 @@
 """Which crates need not have their edits tried again: tools/edits.tried.
 
-Each line names a crate, a digest and how many edits it has. It says that a prover of this very logic refused all of
+Each line names a crate, a digest and how many edits it has. It says that the prover of this very version refused all of
 them for these very texts: the crate's own code, definitions, proofs and edits, the rules by which tools/edits.py judges,
 what each crate below stands on, and of the crates below the files that the crate's own texts reach by imports, in code,
 in definitions, in lemmas and in edits, from file to file (tools/edit_imports.py). Of the other files nothing is taken,
@@ -30,8 +30,8 @@ from edit_files import text_of
 from edit_imports import PARTS, Imports, files_of
 
 RECORD = "tools/edits.tried"
-# How many lines a crate has at most. Machines may have two toolchains of two logics, of which each voids what the other tried:
-# so the line before the newest stays. A line never says more than of its own texts and logic.
+# How many lines a crate has at most. Machines may have two versions of the toolchain, of which each voids what the other tried:
+# so the line before the newest stays. A line never says more than of its own texts and version.
 MOST = 2
 # What tells a refusal from another answer.
 RULES = ("edits.py", "edit_checks.py", "edit_files.py")
@@ -42,12 +42,6 @@ def bytes_of(path):
         return it.read()
 
 
-def logic_of(version):
-    """The logic in which a toolchain proves, as its version names it; where it names none, the whole version."""
-    _, named, logic = version.partition(" logic ")
-    return logic if named else version
-
-
 def digest_of(crate, edits):
     """A sum of all that the verdicts on this crate's edits, in its folder of this name, are made from."""
     home = os.path.dirname(os.path.realpath(__file__))
@@ -56,7 +50,7 @@ def digest_of(crate, edits):
     own = [it for part in (*PARTS, edits) for it in files_of(f"{crate.folder}/{part}")]
     reached = imports.reached((crate.name, os.path.relpath(it, crate.folder)) for it in own)
     above = {it for file in reached for it in imports.above(file)} - reached
-    parts = [("logic", logic_of(crate.kit.version)), *((it, bytes_of(f"{home}/{it}")) for it in RULES)]
+    parts = [("toolchain", crate.kit.version), *((it, bytes_of(f"{home}/{it}")) for it in RULES)]
     parts += [(it, crate.crates[it]) for it in names]
     parts += [(*it, bytes_of("/".join([folder, *it]))) for it in sorted(reached)]
     parts += [(*it, imports.beside_modules(it)) for it in sorted(above)]
