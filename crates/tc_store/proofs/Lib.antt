@@ -14,6 +14,7 @@ pub mod RecordLemmas
 pub mod ReadLemmas
 pub mod LoadLemmas
 pub mod TextLemmas
+pub mod ShowLemmas
 pub mod PageLemmas
 pub mod ShiftLemmas
 pub mod ToldLemmas

@@ -75,7 +75,7 @@ module _ {S : Type 0} (g : Ghosts S) where
 
 -- ---- the rows of a table
 
-filter_true : {X : Type 0} (xs : List X) → filter (λ _. true) xs ≡ xs
+pub filter_true : {X : Type 0} (xs : List X) → filter (λ _. true) xs ≡ xs
 filter_true [] = refl
 filter_true (x ∷ xs) = ap (λ l. x ∷ l) (filter_true xs)
 
@@ -108,7 +108,7 @@ rows_numbered tree columns values text lists xs image old new rows named is show
     ∙ shown_numbered columns values showed 1 xs
 
 -- one row more was read
-all_at : {X : Type 0} (P : X → Type 0) (xs : List X) (k : ℕ) (d : X) → k < length xs → AllByRecursion P xs → P (get_or xs k d)
+pub all_at : {X : Type 0} (P : X → Type 0) (xs : List X) (k : ℕ) (d : X) → k < length xs → AllByRecursion P xs → P (get_or xs k d)
 all_at P [] k d within all = absurd (omega (arith, within))
 all_at P (x ∷ xs) zero d within all = all.0
 all_at P (x ∷ xs) (suc k) d within all = all_at P xs k d (omega (arith, within)) all.1
