@@ -16,6 +16,7 @@ pub mod LoadLemmas
 pub mod TextLemmas
 pub mod ShowLemmas
 pub mod PageLemmas
+pub mod NumberLemmas
 pub mod ShiftLemmas
 pub mod ToldLemmas
 pub mod HistoryLemmas

@@ -7,6 +7,7 @@ use Rattle.sqlite_value.specs.Order.{Row}
 use Rattle.sqlite_trees.specs.Tree.{IsTable}
 use Rattle.sqlite_trees.specs.declared.store.Store.{Ghosts}
 use Rattle.sqlite_sql.specs.Term.{Term, eval_all}
+use Rattle.sqlite.specs.Effect.{Database}
 use Rattle.sqlite.specs.Given.{IsPlain}
 use Rattle.sqlite.specs.Listing.{understood}
 use Rattle.sqlite.specs.State.{State, Shown, FailsToQuery, HasCleanDisk, Survives, CommitsShowing}
@@ -19,7 +20,7 @@ use Rattle.tc_sql.specs.Contents.{has_tree, rows_in}
 use Rattle.tc_sql.specs.Numbered.{numbered_from, numbered}
 use Rattle.tc_sql.specs.Lists.{passes, no_limit, ListsFrom}
 use Rattle.tc_sql.proofs.Changes.{matches_at}
-use Rattle.tc_sql.proofs.Selects.{listed, listed_as}
+use Rattle.tc_sql.proofs.Selects.{listed, listed_as, unchanged}
 use Rattle.tc_store.specs.Schema.{schema_1, contents, Holds}
 use Rattle.tc_store.specs.Reads.{Stays, Spares}
 use Rattle.tc_store.proofs.ReadLemmas.{rising, still_holds, fails_holding}
@@ -28,13 +29,14 @@ use Rattle.tc_store.proofs.ReadLemmas.{rising, still_holds, fails_holding}
 
 module _ {S : Type 0} (g : Ghosts S) where
   pub stays_same : (held : Held S) → Stays g held held
-  stays_same held = record { holds = λ image h. h }
+  stays_same held = record { same = λ has. refl; holds = λ image h. h }
 
   pub spares_same : (held : Held S) → Spares g held held
   spares_same held = record { kept = λ clean is_open image h. h; crash = search rules; outside = λ h. h }
 
   pub stays_then : (old mid new : Held S) → Stays g old mid → Stays g mid new → Stays g old new
-  stays_then old mid new one two = record { holds = λ image h. two.holds image (one.holds image h) }
+  stays_then old mid new one two =
+      record { same = λ has. two.same (ap (λ (db : Database). db.schema) (one.same has) ∙ has) ∙ one.same has; holds = λ image h. two.holds image (one.holds image h) }
 
   pub spares_then : (old mid new : Held S) → (HasCleanDisk (state g mid) → Stays g old mid) → Spares g old mid → Spares g mid new → Spares g old new
   spares_then old mid new stays one two = record {
@@ -55,7 +57,10 @@ module _ {S : Type 0} (g : Ghosts S) where
         (λ _ db commits image held. never_commits text params (state g old) db (subst (λ s. IsPlain (understood s text)) (sym held.schema) plain) commits)
 
     pub stays_after : (rows : List Row) → Shown text params (state g old) (state g new) rows → Stays g old new
-    stays_after rows h = record { holds = λ image held. still_holds text plain params image (state g old) (state g new) held rows h }
+    stays_after rows h = record {
+      same = λ has. unchanged text params (state g old) (state g new) schema_1 has plain rows h;
+      holds = λ image held. still_holds text plain params image (state g old) (state g new) held rows h;
+    }
 
     pub spares_after : (rows : List Row) → (HasCleanDisk (state g new) → Shown text params (state g old) (state g new) rows) → Survives (state g old) (state g new) (CommitsShowing text params (state g old))
         → (old.in_transaction ≡ false → new.in_transaction ≡ false) → Spares g old new

@@ -3,12 +3,13 @@ use Rattle.std.proofs.Common.{◌≡◌, ℕ, ◌+◌, ◌<◌, zero, suc, arith
 use Rattle.std.specs.List.{AllByRecursion}
 use Rattle.std.specs.List.Sorted.{IsPermutation}
 use Rattle.std.proofs.lemmas.List.{map-append, length-map, take_more}
-use Rattle.std.proofs.lemmas.List.Sorted.{IsPermutation-map}
+use Rattle.std.proofs.lemmas.List.Sorted.{IsPermutation-map, All-permutation}
+use Rattle.std.proofs.lemmas.List.Elements.{All-from_recursion, recursion_from_All}
 use Rattle.sqlite_value.specs.declared.value.Value.{Value}
 use Rattle.sqlite_value.specs.declared.value.Value.TheVariants.{Null}
 use Rattle.sqlite_value.specs.Order.{Row, column}
 use Rattle.sqlite_trees.specs.Tree.{Trees, IsTable}
-use Rattle.sqlite_sql.specs.Term.{Term, Env}
+use Rattle.sqlite_sql.specs.Term.{Term, Env, eval}
 use Rattle.sqlite_sql.specs.Query.{Query, IsAnswer, Output, output}
 use Rattle.sqlite_sql.specs.Program.{overlay}
 use Rattle.sqlite_keyed.proofs.ListLemmas.{all-append, map-map}
@@ -75,6 +76,20 @@ module _ (tree : ℕ) (columns : List Term) where
         order = λ table. listed tree [] columns no_limit [] schema_1 text old new has it rows table h ∙ ap (map (shown_of columns)) (filter_true (old.now.trees tree));
       }
 
+-- so what is read of them are the rows of the table
 map_all : {X Y : Type 0} (f : X → Y) (P : Y → Type 0) → ((x : X) → P (f x)) → (xs : List X) → AllByRecursion P (map f xs)
 map_all f P each [] = tt
 map_all f P each (x ∷ xs) = (each x, map_all f P each xs)
+
+-- what columns show has as many values as there are columns
+pub shown_wide : {X : Type 0} (columns : List Term) (shown : X → Row) → ((x : X) → length (shown x) ≡ length columns) → (rows : List Row) → AreWide shown (map (shown_of columns) rows)
+shown_wide columns shown wide rows = map_all (shown_of columns) _ (λ row x. length-map columns (λ t. eval t ([] ∷ row ∷ [])) ∙ sym (wide x)) rows
+
+pub table_shown : {X : Type 0} (tree : ℕ) (columns : List Term) (shown : X → Row) → ((x : X) → length (shown x) ≡ length columns) → (text : List ℕ) → ListsFrom schema_1 tree text [] columns no_limit
+    → (old new : State) (rows seen : List Row) (items : List X) → seen ≡ rows → (AreWide shown seen → seen ≡ map shown items) → Shown text [] old new rows → old.now.schema ≡ schema_1
+    → ShowsRows (old.now.trees tree) columns (map shown items)
+table_shown {X} tree columns shown wide text it old new rows seen items same reads h has =
+    let all = all_shown tree columns text old new has it rows h in
+    let P : Row → Type 0 = λ row. (x : X) → length row ≡ length (shown x) in
+    let fits : AreWide shown rows = recursion_from_All P rows (All-permutation P (map (shown_of columns) (old.now.trees tree)) rows all.all (All-from_recursion P _ (shown_wide columns shown wide (old.now.trees tree)))) in
+    subst (ShowsRows (old.now.trees tree) columns) (sym same ∙ reads (subst (AreWide shown) (sym same) fits)) all

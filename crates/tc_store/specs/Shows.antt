@@ -1,6 +1,7 @@
 -- What the tables show: all rows of each table, as the texts that read them show the columns.
-use Rattle.std.specs.Prelude.{◌≡◌, ℕ, ℤ, pos, true, int_le, List, [], ◌∷◌, map, None, IsPermutation}
+use Rattle.std.specs.Prelude.{◌≡◌, ℕ, ℤ, pos, true, int_le, List, [], ◌∷◌, filter, map, None, IsPermutation}
 use Rattle.std.specs.List.{AllByRecursion}
+use Rattle.sqlite_value.specs.declared.value.Value.{Value}
 use Rattle.sqlite_value.specs.declared.value.Value.TheVariants.{Int, Text}
 use Rattle.sqlite_value.specs.Order.{Row, column}
 use Rattle.sqlite_trees.specs.Tree.{rowid, IsTable}
@@ -31,10 +32,27 @@ pub record ShowsRows (rows : List Row) (columns : List Term) (shown : List Row) 
   pub all : IsPermutation (map (shown_of columns) rows) shown
   pub order : IsTable rows → shown ≡ map (shown_of columns) rows
 
--- The rows stand under whole numbers that rise, the first not below the least that a table may have.
+-- the whole number that a value is, and 0 where it is none
+abbrev pub as_number : Value → ℤ
+as_number (Int n) = n
+as_number _ = pos 0
+
+-- the number under which a row stands
+abbrev pub number_of : Row → ℤ
+number_of row = as_number (rowid row)
+
+-- under a whole number, not below the least that a table may have
+abbrev pub IsNumbered : Row → Type 0
+IsNumbered row = (rowid row ≡ Int (number_of row)) × (int_le (first_behind None) (number_of row) ≡ true)
+
+-- so the rows stand, and their numbers rise
 pub record AreNumbered (rows : List Row) : Type 0 where
   pub rise : IsTable rows
-  pub whole : AllByRecursion (λ row. (n : ℤ) × (rowid row ≡ Int n) × (int_le (first_behind None) n ≡ true)) rows
+  pub whole : AllByRecursion IsNumbered rows
+
+-- those from this number on
+abbrev pub rows_from : ℤ → List Row → List Row
+rows_from first rows = filter (λ row. int_le first (number_of row)) rows
 
 -- All rows of all tables are those of the image, and the one row of `meta` names version 1. The moves are read page by page, so that is
 -- said of moves that stand under numbers.
