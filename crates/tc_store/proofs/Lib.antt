@@ -17,6 +17,7 @@ pub mod TextLemmas
 pub mod ShowLemmas
 pub mod PageLemmas
 pub mod NumberLemmas
+pub mod ContentLemmas
 pub mod ShiftLemmas
 pub mod ToldLemmas
 pub mod HistoryLemmas

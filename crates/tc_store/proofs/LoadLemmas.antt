@@ -47,6 +47,24 @@ module _ {S : Type 0} (g : Ghosts S) where
     outside = λ h. two.outside (one.outside h);
   }
 
+  -- one call after another, each of which reads on after an Ok
+  abbrev pub Went : Held S → Held S → Type 0
+  Went old new = Spares g old new × (HasCleanDisk (state g new) → Stays g old new)
+
+  pub went_then : (old mid new : Held S) → Went old mid → Spares g mid new → (HasCleanDisk (state g new) → Stays g mid new) → Went old new
+  went_then old mid new went left stays =
+      (spares_then old mid new went.1 went.0 left, λ clean. stays_then old mid new (went.1 (omega (arith, clean, left.crash.clean))) (stays clean))
+
+  pub went_left : (old mid new : Held S) → Went old mid → Spares g mid new → Spares g old new
+  went_left old mid new went left = spares_then old mid new went.1 went.0 left
+
+  pub clean_before : (mid new : Held S) → Spares g mid new → HasCleanDisk (state g new) → HasCleanDisk (state g mid)
+  clean_before mid new left clean = omega (arith, clean, left.crash.clean)
+
+  -- what a later call shows of the database, the first found
+  pub seen_before : (P : Database → Type 0) (old mid : Held S) → Stays g old mid → (state g old).now.schema ≡ schema_1 → ((state g mid).now.schema ≡ schema_1 → P (state g mid).now) → P (state g old).now
+  seen_before P old mid stays has shows = let there = stays.same has in subst P there (shows (ap (λ (db : Database). db.schema) there ∙ has))
+
   pub spares_in_crash : (old new : Held S) (image : Image) → Holds (state g old).now image → Spares g old new → Survives (state g old) (state g new) (λ _. ⊥)
   spares_in_crash old new image h it = survives_weaker (state g old) (state g new) _ _ (λ clean db none. none image h) it.crash
 

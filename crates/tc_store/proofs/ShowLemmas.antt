@@ -1,26 +1,29 @@
 -- What is read of rows is what they show, and what a text that reads all rows of a table answers.
-use Rattle.std.proofs.Common.{◌≡◌, ℕ, ◌+◌, ◌<◌, zero, suc, arith, pos, List, [], ◌∷◌, ◌++◌, map, take, flat_map, cond, length, get_or, refl, sym, ap, ap₂, subst, ◌∙◌}
+use Rattle.std.proofs.Common.{◌≡◌, ℕ, ◌+◌, ◌<◌, zero, suc, arith, pos, codes, List, [], ◌∷◌, ◌++◌, map, take, flat_map, cond, length, get_or, refl, sym, ap, ap₂, subst, ◌∙◌}
 use Rattle.std.specs.List.{AllByRecursion}
 use Rattle.std.specs.List.Sorted.{IsPermutation}
 use Rattle.std.proofs.lemmas.List.{map-append, length-map, take_more}
 use Rattle.std.proofs.lemmas.List.Sorted.{IsPermutation-map, All-permutation}
 use Rattle.std.proofs.lemmas.List.Elements.{All-from_recursion, recursion_from_All}
 use Rattle.sqlite_value.specs.declared.value.Value.{Value}
-use Rattle.sqlite_value.specs.declared.value.Value.TheVariants.{Null}
+use Rattle.sqlite_value.specs.declared.value.Value.TheVariants.{Null, Int, Text}
 use Rattle.sqlite_value.specs.Order.{Row, column}
 use Rattle.sqlite_trees.specs.Tree.{Trees, IsTable}
 use Rattle.sqlite_sql.specs.Term.{Term, Env, eval}
 use Rattle.sqlite_sql.specs.Query.{Query, IsAnswer, Output, output}
 use Rattle.sqlite_sql.specs.Program.{overlay}
-use Rattle.sqlite_keyed.proofs.ListLemmas.{all-append, map-map}
+use Rattle.sqlite_keyed.proofs.ListLemmas.{all-append, all_weaker, map-map}
 use Rattle.sqlite.specs.Command.TheVariants.{Select}
 use Rattle.sqlite.specs.State.{State, Shown}
 use Rattle.sqlite.proofs.Callers.{reads_as}
 use Rattle.tc_sql.specs.Lists.{listing, passes, no_limit, ListsFrom}
 use Rattle.tc_sql.proofs.Selects.{listed, kept_rows, overlay_none}
 use Rattle.tc_store.specs.Schema.{schema_1}
+use Rattle.tc_store.specs.Meta.{meta_tree, version_shown}
+use Rattle.tc_store.specs.Loads.{all_version_text, all_version_columns}
 use Rattle.tc_store.specs.Shows.{shown_of, ShowsRows}
 use Rattle.tc_store.proofs.LoadLemmas.{all_at, filter_true}
+use Rattle.tc_store.proofs.TextLemmas.{all_version_is}
 
 -- ---- a row is its columns
 
@@ -77,7 +80,7 @@ module _ (tree : ℕ) (columns : List Term) where
       }
 
 -- so what is read of them are the rows of the table
-map_all : {X Y : Type 0} (f : X → Y) (P : Y → Type 0) → ((x : X) → P (f x)) → (xs : List X) → AllByRecursion P (map f xs)
+pub map_all : {X Y : Type 0} (f : X → Y) (P : Y → Type 0) → ((x : X) → P (f x)) → (xs : List X) → AllByRecursion P (map f xs)
 map_all f P each [] = tt
 map_all f P each (x ∷ xs) = (each x, map_all f P each xs)
 
@@ -93,3 +96,16 @@ table_shown {X} tree columns shown wide text it old new rows seen items same rea
     let P : Row → Type 0 = λ row. (x : X) → length row ≡ length (shown x) in
     let fits : AreWide shown rows = recursion_from_All P rows (All-permutation P (map (shown_of columns) (old.now.trees tree)) rows all.all (All-from_recursion P _ (shown_wide columns shown wide (old.now.trees tree)))) in
     subst (ShowsRows (old.now.trees tree) columns) (sym same ∙ reads (subst (AreWide shown) (sym same) fits)) all
+
+-- the one row of `meta`
+pub one_version : (rows : List Row) (d : Row) → length rows ≡ 1 → (column (get_or rows 0 d) 0 ≡ Text (codes "schema")) × (column (get_or rows 0 d) 1 ≡ Int (pos 1)) → AllByRecursion (λ (row : Row). length row ≡ 2) rows
+    → rows ≡ version_shown ∷ []
+one_version [] d long named wide = absurd (omega (arith, long))
+one_version (row ∷ []) d long named wide = ap (λ r. r ∷ []) (whole_row row version_shown wide.0 (named.0, (named.1, tt)))
+one_version (row ∷ other ∷ rows) d long named wide = absurd (omega (arith, long))
+
+pub version_is : (old new : State) (rows seen : List Row) → seen ≡ rows → (AllByRecursion (λ (row : Row). length row ≡ 2) seen → seen ≡ version_shown ∷ []) → Shown all_version_text [] old new rows → old.now.schema ≡ schema_1
+    → ShowsRows (old.now.trees meta_tree) all_version_columns (version_shown ∷ [])
+version_is old new rows seen same told h has =
+    table_shown meta_tree all_version_columns (λ (_ : ℕ). version_shown) (λ _. refl) all_version_text all_version_is old new rows seen (0 ∷ []) same
+    (λ wide. told (all_weaker _ (λ (row : Row). length row ≡ 2) (λ row w. w 0) seen wide)) h has

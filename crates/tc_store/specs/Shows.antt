@@ -8,6 +8,16 @@ use Rattle.sqlite_trees.specs.Tree.{rowid, IsTable}
 use Rattle.sqlite_sql.specs.Term.{Term, eval_all}
 use Rattle.sqlite.specs.Effect.{Database}
 use Rattle.tc_types.specs.declared.requests.Body.{Body}
+use Rattle.tc_types.specs.declared.moves.Move.{Move}
+use Rattle.tc_types.specs.declared.rows.PlacedRequest.{PlacedRequest}
+use Rattle.tc_types.specs.declared.rows.Tally.{Tally}
+use Rattle.tc_types.specs.declared.rows.Approval.{Approval}
+use Rattle.tc_types.specs.declared.rows.LoadedStack.{LoadedStack}
+use Rattle.tc_types.specs.declared.rows.StackApproval.{StackApproval}
+use Rattle.tc_types.specs.declared.rows.LoadedProcedure.{LoadedProcedure}
+use Rattle.tc_types.specs.declared.rows.ProcedureStep.{ProcedureStep}
+use Rattle.tc_types.specs.declared.rows.BegunExecution.{BegunExecution}
+use Rattle.tc_types.specs.declared.rows.StepRecord.{StepRecord}
 use Rattle.tc_types.specs.Grammar.{outcome_word}
 use Rattle.tc_types.specs.Tables.{Image}
 use Rattle.tc_store.specs.Meta.{meta_tree, version_shown}
@@ -54,20 +64,31 @@ pub record AreNumbered (rows : List Row) : Type 0 where
 abbrev pub rows_from : ℤ → List Row → List Row
 rows_from first rows = filter (λ row. int_le first (number_of row)) rows
 
--- All rows of all tables are those of the image, and the one row of `meta` names version 1. The moves are read page by page, so that is
--- said of moves that stand under numbers.
+-- The tables of requests have these rows and no other. The moves are read page by page, so that is said of moves that stand under numbers.
+pub record ShowsRequests (db : Database) (requests : List PlacedRequest) (moves : List Move) (tallies : List Tally) (approvals : List Approval) : Type 0 where
+  pub requests_are : ShowsRows (db.trees request_tree) all_request_columns (map request_given requests)
+  pub moves_are : AreNumbered (db.trees move_tree) → ShowsRows (db.trees move_tree) move_columns (map move_shown moves)
+  pub tallies_are : ShowsRows (db.trees tally_tree) all_tally_columns (map tally_given tallies)
+  pub approvals_are : ShowsRows (db.trees approval_tree) all_approval_columns (map approval_values approvals)
+
+-- so it is of those of stacks
+pub record ShowsStacks (db : Database) (stacks : List LoadedStack) (approvals : List StackApproval) : Type 0 where
+  pub stacks_are : ShowsRows (db.trees stack_tree) all_stack_columns (map stack_values stacks)
+  pub approvals_are : ShowsRows (db.trees stack_approval_tree) all_stack_approval_columns (map stack_approval_values approvals)
+
+-- and of those of procedures
+pub record ShowsProcedures (db : Database) (procedures : List LoadedProcedure) (steps : List ProcedureStep) (executions : List BegunExecution) (records : List StepRecord) : Type 0 where
+  pub procedures_are : ShowsRows (db.trees procedure_tree) all_procedure_columns (map procedure_values procedures)
+  pub steps_are : ShowsRows (db.trees step_tree) all_step_columns (map step_values steps)
+  pub executions_are : ShowsRows (db.trees execution_tree) all_execution_columns (map execution_given executions)
+  pub records_are : ShowsRows (db.trees record_tree) all_record_columns (map record_values records)
+
+-- the one row of `meta` names version 1, and all rows of all other tables are those of the image
 pub record ShowsAll (db : Database) (image : Image) : Type 0 where
   pub version : ShowsRows (db.trees meta_tree) all_version_columns (version_shown ∷ [])
-  pub requests : ShowsRows (db.trees request_tree) all_request_columns (map request_given image.requests)
-  pub moves : AreNumbered (db.trees move_tree) → ShowsRows (db.trees move_tree) move_columns (map move_shown image.moves)
-  pub tallies : ShowsRows (db.trees tally_tree) all_tally_columns (map tally_given image.tallies)
-  pub approvals : ShowsRows (db.trees approval_tree) all_approval_columns (map approval_values image.approvals)
-  pub stacks : ShowsRows (db.trees stack_tree) all_stack_columns (map stack_values image.stacks)
-  pub stack_approvals : ShowsRows (db.trees stack_approval_tree) all_stack_approval_columns (map stack_approval_values image.stack_approvals)
-  pub procedures : ShowsRows (db.trees procedure_tree) all_procedure_columns (map procedure_values image.procedures)
-  pub steps : ShowsRows (db.trees step_tree) all_step_columns (map step_values image.steps)
-  pub executions : ShowsRows (db.trees execution_tree) all_execution_columns (map execution_given image.executions)
-  pub records : ShowsRows (db.trees record_tree) all_record_columns (map record_values image.records)
+  pub requests : ShowsRequests db image.requests image.moves image.tallies image.approvals
+  pub stacks : ShowsStacks db image.stacks image.stack_approvals
+  pub procedures : ShowsProcedures db image.procedures image.steps image.executions image.records
 
 -- a row of requests shows this body in its columns
 pub record ShowsBody (row : Row) (b : Body) : Type 0 where
