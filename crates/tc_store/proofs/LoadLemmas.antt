@@ -22,6 +22,10 @@ use Rattle.tc_sql.specs.Lists.{passes, no_limit, ListsFrom}
 use Rattle.tc_sql.proofs.Changes.{matches_at}
 use Rattle.tc_sql.proofs.Selects.{listed, listed_as, unchanged}
 use Rattle.tc_store.specs.Schema.{schema_1, contents, Holds}
+use Rattle.tc_store.specs.Meta.{meta_tree, version_shown}
+use Rattle.tc_store.specs.Loads.{all_version_columns}
+use Rattle.tc_store.specs.Told.{IsTold, IsToldRequest, IsToldStep, IsToldRecord}
+use Rattle.tc_store.specs.Shows.{ShowsRows, ShowsRequests, ShowsStacks, ShowsProcedures, ShowsAll}
 use Rattle.tc_store.specs.Reads.{Stays, Spares}
 use Rattle.tc_store.proofs.ReadLemmas.{rising, still_holds, fails_holding}
 
@@ -151,3 +155,24 @@ all_told (x ∷ xs) = (tt, all_told xs)
 pub on_ok : {T E : Type 0} (r : Result T E) (P Q : Type 0) → OnOk r P → (P → Q) → OnOk r Q
 on_ok (Ok x) P Q h f = f h
 on_ok (Err e) P Q h f = tt
+
+-- what was read of requests, of stacks and of procedures is one image
+pub joined : (db : Database) → ShowsRows (db.trees meta_tree) all_version_columns (version_shown ∷ [])
+    → ((a : Image) × ShowsRequests db a.requests a.moves a.tallies a.approvals × AllByRecursion IsToldRequest a.requests) → ((b : Image) × ShowsStacks db b.stacks b.stack_approvals)
+    → ((c : Image) × ShowsProcedures db c.procedures c.steps c.executions c.records × AllByRecursion IsToldStep c.steps × AllByRecursion IsToldRecord c.records) → (image : Image) × ShowsAll db image × IsTold image
+joined db version a b c =
+    let image : Image = record {
+      requests = a.0.requests;
+      moves = a.0.moves;
+      tallies = a.0.tallies;
+      approvals = a.0.approvals;
+      stacks = b.0.stacks;
+      stack_approvals = b.0.stack_approvals;
+      procedures = c.0.procedures;
+      steps = c.0.steps;
+      executions = c.0.executions;
+      records = c.0.records;
+    } in
+    let shows : ShowsAll db image = record { version = version; requests = a.1; stacks = b.1; procedures = c.1 } in
+    let told : IsTold image = record { requests = a.2; steps = c.2; records = c.3 } in
+    (image, shows, told)

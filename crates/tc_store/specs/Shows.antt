@@ -1,5 +1,5 @@
 -- What the tables show: all rows of each table, as the texts that read them show the columns.
-use Rattle.std.specs.Prelude.{◌≡◌, ℕ, ℤ, pos, true, int_le, List, [], ◌∷◌, filter, map, None, IsPermutation}
+use Rattle.std.specs.Prelude.{◌≡◌, ℤ, pos, true, int_le, List, [], ◌∷◌, filter, map, None, IsPermutation}
 use Rattle.std.specs.List.{AllByRecursion}
 use Rattle.sqlite_value.specs.declared.value.Value.{Value}
 use Rattle.sqlite_value.specs.declared.value.Value.TheVariants.{Int, Text}

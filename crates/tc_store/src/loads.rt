@@ -15,6 +15,7 @@ mod approvals;
 mod bodies;
 mod commands;
 mod executions;
+pub(crate) mod judges;
 mod moves;
 mod procedures;
 mod records;

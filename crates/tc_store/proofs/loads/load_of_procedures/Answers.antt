@@ -1,11 +1,10 @@
 use Rattle.tc_store.proofs.LoadLemmas.{Went, went_then, went_left, clean_before, seen_before}
 use Rattle.std.proofs.Common.{map}
 use Rattle.sqlite.specs.Effect.{Database}
-use Rattle.tc_store.specs.Procedures.{procedure_tree, procedure_values}
 use Rattle.tc_store.specs.ProcedureSteps.{step_tree, step_values}
 use Rattle.tc_store.specs.Executions.{execution_tree, execution_given}
 use Rattle.tc_store.specs.Records.{record_tree, record_values}
-use Rattle.tc_store.specs.Loads.{all_procedure_columns, all_step_columns, all_execution_columns, all_record_columns}
+use Rattle.tc_store.specs.Loads.{all_step_columns, all_execution_columns, all_record_columns}
 use Rattle.tc_store.specs.Shows.{ShowsRows}
 use Rattle.tc_store.proofs.loads.load_of_procedures.Goals as goal
 

@@ -1,11 +1,10 @@
 use Rattle.tc_store.proofs.LoadLemmas.{Went, went_then, went_left, clean_before, seen_before}
 use Rattle.std.proofs.Common.{map}
 use Rattle.sqlite.specs.Effect.{Database}
-use Rattle.tc_store.specs.Requests.{request_tree, request_given}
 use Rattle.tc_store.specs.Moves.{move_tree, move_columns, move_shown}
 use Rattle.tc_store.specs.Tallies.{tally_tree, tally_given}
 use Rattle.tc_store.specs.Approvals.{approval_tree, approval_values}
-use Rattle.tc_store.specs.Loads.{all_request_columns, all_tally_columns, all_approval_columns}
+use Rattle.tc_store.specs.Loads.{all_tally_columns, all_approval_columns}
 use Rattle.tc_store.specs.Shows.{ShowsRows, AreNumbered}
 use Rattle.tc_store.proofs.loads.load_of_requests.Goals as goal
 

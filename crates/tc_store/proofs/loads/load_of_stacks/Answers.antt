@@ -1,9 +1,8 @@
 use Rattle.tc_store.proofs.LoadLemmas.{Went, went_then, went_left, clean_before, seen_before}
 use Rattle.std.proofs.Common.{map}
 use Rattle.sqlite.specs.Effect.{Database}
-use Rattle.tc_store.specs.Stacks.{stack_tree, stack_values}
 use Rattle.tc_store.specs.StackApprovals.{stack_approval_tree, stack_approval_values}
-use Rattle.tc_store.specs.Loads.{all_stack_columns, all_stack_approval_columns}
+use Rattle.tc_store.specs.Loads.{all_stack_approval_columns}
 use Rattle.tc_store.specs.Shows.{ShowsRows}
 use Rattle.tc_store.proofs.loads.load_of_stacks.Goals as goal
 

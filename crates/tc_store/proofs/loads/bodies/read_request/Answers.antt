@@ -7,5 +7,5 @@ returns-clause-reads c long =
     let o = c.in_ok-origin.ensures.reads in
     whole_row c.args.row.now _ long (
       c.in_ok-number.ensures.reads,
-      (b.apid, (b.count, (b.ack, (c.in_ok-critical.ensures.reads, (b.service, (b.subtype, (b.target, (b.time, (b.outcome, (c.in_ok-author.ensures.reads, (o.0, (o.1, (o.2, (c.in_ok-place.ensures.reads, tt))))))))))))))
+      (b.apid, (b.count, (b.ack, (c.in_ok-critical.ensures.reads, (b.service, (b.subtype, (b.target, (b.time, (b.outcome, (c.in_ok-author.ensures.reads, (o.0, (o.1, (o.2, (c.in_ok-place.ensures.reads, tt)))))))))))))),
     )
