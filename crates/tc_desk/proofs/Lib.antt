@@ -31,6 +31,7 @@ pub mod FollowedActs
 pub mod LoadLemmas
 pub mod StandingLemmas
 pub mod FairRuns
+pub mod WindowRuns
 pub mod RunLemmas
 pub mod WorkedCases
 pub mod FlownCases
