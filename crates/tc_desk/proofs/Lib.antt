@@ -33,6 +33,8 @@ pub mod StandingLemmas
 pub mod FairRuns
 pub mod WindowRuns
 pub mod RunLemmas
+pub mod LinkOnce
+pub mod StepOnce
 pub mod WorkedCases
 pub mod FlownCases
 pub mod ProcedureCases

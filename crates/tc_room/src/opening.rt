@@ -54,7 +54,7 @@ fn reopen(
 {
     match loaded {
         Ok(image) => reopen_desk(alloc, &image, config, moment),
-        Err(_) => Err(Refusal::Store),
+        Err(_fault) => Err(Refusal::Store),
     }
 }
 
