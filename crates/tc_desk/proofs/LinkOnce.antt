@@ -65,10 +65,10 @@ ok_same a b e = cc
 same_given : (call : Machine → Given) (m n : Machine) (a b : List Action) → m ≡ n → call m ≡ Ok a → call n ≡ Ok b → a ≡ b
 same_given call m n a b same one two = ok_same a b (sym one ∙ ap call same ∙ two)
 
-carried_on : List Action → Bare → Bare
+abbrev carried_on : List Action → Bare → Bare
 carried_on acts b = record b { fop = after acts b.fop; up = b.up ++ (output acts b.fop).frames; newest = noted (output acts b.fop) b.newest }
 
-begun_on : Directive → List Action → Bare → Bare
+abbrev begun_on : Directive → List Action → Bare → Bare
 begun_on given acts b = record b {
   fop = after acts b.fop;
   up = b.up ++ (output acts b.fop).frames;
@@ -77,7 +77,6 @@ begun_on given acts b = record b {
   clean = clean_after lossy lossy given b;
 }
 
-unfolding carried_on
 
 carries_is : (acts : List Action) (w v : Listed) (a : List Indication) → Carries listed acts w v a → bare v ≡ carried_on acts (bare w)
 carries_is acts w v a h =
@@ -86,7 +85,6 @@ carries_is acts w v a h =
     ap (λ (x : Listed). bare x) h.whole
     ∙ ap (λ (l : List Frame). record (bare w) { fop = after acts w.fop; up = l; newest = noted (output acts w.fop) w.newest }) up
 
-unfolding begun_on
 
 begins_is : (given : Directive) (acts : List Action) (w v : Listed) (a : List Indication) → Begins listed listed given acts w v a → bare v ≡ begun_on given acts (bare w)
 begins_is given acts w v a h =
@@ -180,10 +178,9 @@ descends_once i1 i2 w1 w2 v1 v2 a1 a2 same item h1 h2 =
     record { world = down i1 w1 v1 a1 h1 ∙ ap₂ on item same ∙ sym (down i2 w2 v2 a2 h2); told = h1.answered ∙ sym h2.answered }
 
 -- the FARM has one control word on a channel
-word_with : ℕ → FarmView → ℕ
+abbrev word_with : ℕ → FarmView → ℕ
 word_with vc farm = 1 * 2 ^ 24 + vc * 2 ^ 18 + from_bool farm.lockout * 2 ^ 13 + from_bool farm.wait * 2 ^ 12 + from_bool farm.retransmit * 2 ^ 11 + farm.farm_b * 2 ^ 9 + farm.vr
 
-unfolding word_with
 
 word_is : (farm : FarmView) (vc : ℕ) (clcw : Clcw) → IsWordOf farm vc clcw → word_of clcw ≡ word_with vc farm
 word_is farm vc clcw h = rw (h.channel, h.lockout, h.wait, h.retransmit, h.farm_b, h.report_value) refl
