@@ -1,6 +1,6 @@
 -- Over links that are lists an event makes one thing of a link, but for the room of its lists.
 use Rattle.std.proofs.Common.{◌≡◌, ℕ, inl, inr, Bool, true, false, Ok, Err, Result, List, [], ◌∷◌, ◌++◌, length, map, refl, sym, ◌∙◌, ap, ap₂, subst}
-use Rattle.std.specs.Prelude.{MatchBool, if◌then◌else◌, Option, Some, None, nat_lt, remove, ◌+◌, ◌*◌, ◌^◌}
+use Rattle.std.specs.Prelude.{MatchBool, if◌then◌else◌, Option, Some, None, nat_lt, remove, ◌+◌, ◌*◌, ◌^◌, ◌<◌}
 use Rattle.std.specs.Int.{from_bool}
 use Rattle.std.proofs.lemmas.List.{append_assoc, append-nil}
 use Rattle.tc_types.specs.declared.directives.Directive.{Directive}
