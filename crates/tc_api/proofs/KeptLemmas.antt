@@ -2,9 +2,8 @@
 use Rattle.std.proofs.Common.{◌≡◌, ◌∙◌, ◌⊎◌, inl, inr, ap, subst, refl, sym, ℕ, Bool, true, false, MatchBool, List, [], ◌∷◌, Option, Some, None, Result, Ok, Err}
 use Rattle.std.proofs.lemmas.Bool.{false≢true}
 use Rattle.sqlite_trees.specs.declared.store.Store.{Ghosts}
-use Rattle.sqlite.specs.Held.{Held, state}
+use Rattle.sqlite.specs.Held.{state}
 use Rattle.sqlite.specs.State.{HasCleanDisk}
-use Rattle.tc_types.specs.Tables.{Image}
 use Rattle.tc_types.specs.declared.acts.Act.{Act}
 use Rattle.tc_types.specs.declared.acts.Act.TheVariants as act
 use Rattle.tc_types.specs.declared.acts.Line.{Line}
@@ -16,17 +15,14 @@ use Rattle.tc_routes.specs.declared.paths.Post.{Post}
 use Rattle.tc_routes.specs.declared.paths.Post.TheVariants as paths
 use Rattle.tc_front.specs.Front.{Asked, asks, posts, refuses}
 use Rattle.tc_book.specs.declared.stamps.Stamp.{Stamp}
-use Rattle.tc_book.specs.Book.{Book}
 use Rattle.tc_book.specs.Tables.{image_of}
 use Rattle.tc_desk.specs.Headline.{TellsTrue}
-use Rattle.tc_desk.specs.Loads.{Loading}
 use Rattle.tc_desk.specs.Machine.{stamp_of}
 use Rattle.tc_desk.specs.Replies.{Reply, refusal_reply}
-use Rattle.tc_room.specs.Crash.{LeavesActs}
-use Rattle.tc_room.specs.Joined.{HasImage, HoldsBook, LinkState, Standing}
-use Rattle.tc_room.specs.Loads.{LoadsBook, LoadsText, RoomLoad}
-use Rattle.tc_room.specs.Room.{FailsStore, MakesBook, RoomStep, StepsDesk}
-use Rattle.tc_api.specs.Kept.{FailedAt, FailsTables, KeepsPromise, KeepsTables, MakesSome, ServesAll, ServesOne, ServesRead}
+use Rattle.tc_room.specs.Joined.{HasImage, HoldsBook, Standing}
+use Rattle.tc_room.specs.Loads.{LoadsText, RoomLoad}
+use Rattle.tc_room.specs.Room.{FailsStore, RoomStep, StepsDesk}
+use Rattle.tc_api.specs.Kept.{FailedAt, FailsTables, KeepsPromise, KeepsTables, ServesAll, ServesOne, ServesRead}
 use Rattle.tc_api.specs.Loads.{Load}
 use Rattle.tc_api.specs.Serving.{Outcome, Serves, ServesAct, ServesLine, ServesLoad, ServesPost, ServesText}
 
@@ -51,14 +47,14 @@ module _ {S : Type 0} (g : Ghosts S) (old new : Standing S) where
   held_by false (inr (inr fails)) held = λ going clean. absurd (false≢true (sym going ∙ fails.0))
 
   failed_by : (b : Bool) → b ≡ false → old.stopped ≡ false → MatchBool b (new ≡ old) (Comes g old new) → new.stopped ≡ true → FailsTables g old new
-  failed_by true no was m now = absurd (false≢true (sym no))
-  failed_by false no was (inl same) now = absurd (false≢true (sym was ∙ (ap (λ (s : Standing S). s.stopped) (sym same) ∙ now)))
-  failed_by false no was (inr (inl image)) now = absurd (false≢true (sym image.1 ∙ now))
-  failed_by false no was (inr (inr fails)) now = fails.1
+  failed_by true flag was m now = absurd (false≢true (sym flag))
+  failed_by false flag was (inl same) now = absurd (false≢true (sym was ∙ (ap (λ (s : Standing S). s.stopped) (sym same) ∙ now)))
+  failed_by false flag was (inr (inl image)) now = absurd (false≢true (sym image.1 ∙ now))
+  failed_by false flag was (inr (inr fails)) now = fails.1
 
   stays_by : (b : Bool) → b ≡ true → MatchBool b (new ≡ old) (Comes g old new) → new ≡ old
-  stays_by true yes same = same
-  stays_by false yes m = absurd (false≢true yes)
+  stays_by true flag same = same
+  stays_by false flag m = absurd (false≢true flag)
 
   keeps_by : (HoldsBook g old → HasCleanDisk (state g new.tables) → MatchBool old.stopped (new ≡ old) (Comes g old new)) → KeepsTables g old new
   keeps_by comes = record {
@@ -72,14 +68,6 @@ weaker_by : (b : Bool) (A B C D : Type 0) → (A → C) → (B → D) → MatchB
 weaker_by true A B C D first second m = first m
 weaker_by false A B C D first second m = second m
 
--- the same of more books
-leaves_more : {S : Type 0} (g : Ghosts S) (tables : Held S) (before : Book) (Makes More : Book → Type 0) → ((book : Book) → Makes book → More book) → LeavesActs g tables before Makes → LeavesActs g tables before More
-leaves_more g tables before Makes More more leaves = λ trees may. let (image, is, rows) = leaves trees may in (image, which image is, rows)
-  where
-    which : (image : Image) → (image ≡ image_of before) ⊎ ((after : Book) × Makes after × (image ≡ image_of after)) → (image ≡ image_of before) ⊎ ((after : Book) × More after × (image ≡ image_of after))
-    which image (inl was) = inl was
-    which image (inr (after, makes, is)) = inr (after, more after makes, is)
-
 -- ---- one step
 
 step_keeps : {S : Type 0} (g : Ghosts S) (old new : Standing S) (stamp : Stamp) (given : Act) (reply : Reply) → RoomStep g old stamp given reply new → KeepsTables g old new
@@ -89,10 +77,7 @@ step_keeps g old new stamp given reply step =
   where
     came : StepsDesk g old stamp given reply new ⊎ FailsStore g old stamp given reply new → Comes g old new
     came (inl steps) = inr (inl (steps.tables, steps.going))
-    came (inr fails) = inr (inr (fails.stopped, record {
-      tables = fails.tables;
-      crash = leaves_more g new.tables old.desk.book (MakesBook old.desk stamp given) (MakesSome old.desk) (λ book makes. inl (stamp, given, makes)) fails.crash;
-    }))
+    came (inr fails) = inr (inr (fails.stopped, inl (stamp, given, reply, fails)))
 
 load_keeps : {S : Type 0} (g : Ghosts S) (old new : Standing S) (stamp : Stamp) (kind : LoadKind) (name text : List ℕ) (reply : Reply) → RoomLoad g old stamp kind name text reply new → KeepsTables g old new
 load_keeps g old new stamp kind name text reply load =
@@ -102,10 +87,7 @@ load_keeps g old new stamp kind name text reply load =
     came : LoadsText g old stamp kind name text reply new → Comes g old new
     came (inl (_, _, _, same)) = inl same
     came (inr (given, _, inl steps)) = inr (inl (steps.tables, steps.going))
-    came (inr (given, _, inr fails)) = inr (inr (fails.stopped, record {
-      tables = fails.tables;
-      crash = leaves_more g new.tables old.desk.book (LoadsBook old.desk stamp given) (MakesSome old.desk) (λ book makes. inr (stamp, given, makes)) fails.crash;
-    }))
+    came (inr (given, _, inr fails)) = inr (inr (fails.stopped, inr (stamp, given, reply, fails)))
 
 -- ---- what is served
 
@@ -184,8 +166,8 @@ failed_later g start next same at = record {
 }
 
 at_flag : (b : Bool) (P : Type 0) → (b ≡ true → P) → (b ≡ false → P) → P
-at_flag true P yes no = yes refl
-at_flag false P yes no = no refl
+at_flag true P on off = on refl
+at_flag false P on off = off refl
 
 all_failed : {S : Type 0} (g : Ghosts S) (start end : Standing S) (read : List (Option Asked)) → TellsTrue start.opened start.desk → ServesAll g start read end
     → HoldsBook g start → start.stopped ≡ false → end.stopped ≡ true → FailedAt g start

@@ -1,37 +1,30 @@
 -- What exchanges leave of a room, one after the other.
-use Rattle.std.specs.Prelude.{◌≡◌, ◌⊎◌, true, false, IsTrue, Option, Some, None, List, [], ◌∷◌}
+use Rattle.std.specs.Prelude.{◌≡◌, ◌⊎◌, true, false, Option, Some, None, List, [], ◌∷◌}
 use Rattle.sqlite_trees.specs.declared.store.Store.{Ghosts}
 use Rattle.sqlite.specs.Held.{state}
 use Rattle.sqlite.specs.State.{HasCleanDisk}
 use Rattle.tc_types.specs.declared.acts.Act.{Act}
 use Rattle.tc_book.specs.declared.stamps.Stamp.{Stamp}
-use Rattle.tc_book.specs.Book.{Book}
-use Rattle.tc_book.specs.Tables.{image_of}
 use Rattle.tc_desk.specs.Headline.{TellsTrue}
 use Rattle.tc_desk.specs.Loads.{Loading}
+use Rattle.tc_desk.specs.Replies.{Reply}
 use Rattle.tc_front.specs.Front.{Asked}
-use Rattle.tc_store.specs.Schema.{Holds}
-use Rattle.tc_room.specs.Crash.{LeavesActs}
-use Rattle.tc_room.specs.Joined.{HoldsBook, LinkState, Standing}
-use Rattle.tc_room.specs.Loads.{LoadsBook}
-use Rattle.tc_room.specs.Room.{MakesBook}
+use Rattle.tc_room.specs.Joined.{HoldsBook, Standing}
+use Rattle.tc_room.specs.Loads.{FailsLoad}
+use Rattle.tc_room.specs.Room.{FailsStore}
 use Rattle.tc_api.specs.Serving.{Outcome, Serves}
 
--- one act, or one load, makes this book
-abbrev pub MakesSome : LinkState → Book → Type 0
-MakesSome old book = ((stamp : Stamp) × (given : Act) × MakesBook old stamp given book) ⊎ ((stamp : Stamp) × (given : Loading) × LoadsBook old stamp given book)
+-- The database failed at what was asked, be it an act, a question or a load: the tables hold the book as it was before, where the database is still
+-- open, and after a crash they hold that, or what was asked is there as a whole.
+abbrev pub FailsTables : {S : Type 0} → Ghosts S → Standing S → Standing S → Type 0
+FailsTables g old new =
+    ((stamp : Stamp) × (given : Act) × (reply : Reply) × FailsStore g old stamp given reply new)
+    ⊎ ((stamp : Stamp) × (given : Loading) × (reply : Reply) × FailsLoad g old stamp given reply new)
 
--- The database failed at what was asked: the tables hold the book as it was before, where the database is still open. After a crash they hold that,
--- or what was asked is there as a whole.
-pub record FailsTables {S : Type 0} (g : Ghosts S) (old new : Standing S) : Type 0 where
-  pub tables : IsTrue (state g new.tables).is_open → Holds (state g new.tables).now (image_of old.desk.book)
-  pub crash : LeavesActs g new.tables old.desk.book (MakesSome old.desk)
-
--- The tables of a room that held its book: they hold its book, or the database failed.
+-- What an exchange leaves of the tables of a room: those that held its book hold it, or the database failed; and a room that had stopped is as it was.
 pub record KeepsTables {S : Type 0} (g : Ghosts S) (old new : Standing S) : Type 0 where
   pub held : HoldsBook g old → HoldsBook g new
   pub failed : HoldsBook g old → HasCleanDisk (state g new.tables) → old.stopped ≡ false → new.stopped ≡ true → FailsTables g old new
-  -- for good
   pub stays : HasCleanDisk (state g new.tables) → old.stopped ≡ true → new ≡ old
 
 -- what was read of a connection is served, and where nothing was read the room is as it was
