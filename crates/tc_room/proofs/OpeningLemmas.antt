@@ -24,10 +24,10 @@ all_ok F (Ok t) make a b c p = make t a b c p
 all_ok F (Err e) make a b c p = tt
 
 -- what a desk is refused for that is opened over links that were chosen well
-pub why_unopened : {Fit Sound : Type 0} (why : Refusal) → ((why ≡ BadDirective) × (Fit → ⊥)) ⊎ ((why ≡ Memory) × Fit) ⊎ ((why ≡ Store) × Fit × (Sound → ⊥)) → Fit → (why ≡ Memory) ⊎ ((why ≡ Store) × (Sound → ⊥))
-why_unopened why (inl (_, unfit)) fit = absurd (unfit fit)
-why_unopened why (inr (inl (is, _))) fit = inl is
-why_unopened why (inr (inr (is, _, unsound))) fit = inr (is, unsound)
+pub why_unopened : (Fit Sound : Type 0) (why : Refusal) → ((why ≡ BadDirective) × (Fit → ⊥)) ⊎ ((why ≡ Memory) × Fit) ⊎ ((why ≡ Store) × Fit × (Sound → ⊥)) → Fit → (why ≡ Memory) ⊎ ((why ≡ Store) × (Sound → ⊥))
+why_unopened Fit Sound why (inl (_, unfit)) fit = absurd (unfit fit)
+why_unopened Fit Sound why (inr (inl (is, _))) fit = inl is
+why_unopened Fit Sound why (inr (inr (is, _, unsound))) fit = inr (is, unsound)
 
 pub unopened_kind : (loaded : Result Loaded StoreFault) (why : Refusal) → IsWhyUnopened loaded why → (why ≡ Memory) ⊎ (why ≡ Store)
 unopened_kind (Ok image) why (inl is) = inl is

@@ -33,8 +33,8 @@ returns-in-Err-write-clause-crash g c = rw c.into_connection-in-Err-write.ensure
     (left.sound, _, left.reopened, subst (λ (rows : Image). HasRows trees rows) left.writes (batch image holds))))
 
 pub returns-in-Err-clause-crash : goal.returns-in-Err-clause-crash
-returns-in-Err-clause-crash g c = rw c.into_connection-in-Err.ensures (λ clean image held.
-    leaves_more g.S.Store c.args.tables c.load-loaded.new.self (c.load-loaded.ensures.crash image held) clean)
+returns-in-Err-clause-crash g c = rw c.into_connection.ensures (λ clean image held.
+    leaves_more g.S.Store c.args.tables c.load-loaded.new.self _ (c.load-loaded.ensures.crash image held) clean)
 
 pub returns-in-Err-clause-kind : goal.returns-in-Err-clause-kind
 returns-in-Err-clause-kind g c = unopened_kind c.load-loaded.result c.in-Err.refusal c.in-Err.ensures.refused
