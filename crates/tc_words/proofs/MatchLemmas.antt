@@ -1,14 +1,9 @@
 -- What a parse says of a command whose meaning is known.
-use Rattle.std.proofs.Common.{◌≡◌, ◌∙◌, List, [], OnOk, Result, Ok, Err, ◌⊎◌, inl, inr, subst, sym, true}
-use Rattle.std.specs.Prelude.{◌↔◌, IfErr}
-use Rattle.clap.specs.Words.{App, FailsBy, HasKind, HasMatchesOf, Kinds, Text, fault_of, is_simple, is_simple_and_free, kind_of, subcommand_of, subcommand_rows_of}
+use Rattle.std.proofs.Common.{◌≡◌, List, [], OnOk, Result, Ok, Err, subst, true}
+use Rattle.std.specs.Prelude.{IfErr}
+use Rattle.clap.specs.Words.{App, FailsBy, HasKind, HasMatchesOf, Kinds, Text, fault_of, is_simple, is_simple_and_free, subcommand_of, subcommand_rows_of}
 use Rattle.clap.specs.declared.error.Error.{Error}
-use Rattle.clap.specs.declared.error.kind.ErrorKind.TheVariants as kind
 use Rattle.clap.specs.declared.parser.matches.ArgMatches.{ArgMatches}
-use Rattle.tc_words.specs.declared.lines.UsageFault.{UsageFault}
-use Rattle.tc_words.specs.declared.lines.UsageFault.TheVariants.{Memory, Words}
-use Rattle.tc_words.specs.Asked.{Asked}
-use Rattle.tc_words.specs.Lines.{IsTold}
 
 pub matches_of : (given app : App) (words : List Text) (found : ArgMatches) → given ≡ app → is_simple app ≡ true
     → HasMatchesOf given words found → subcommand_rows_of found ≡ subcommand_of app words
@@ -35,10 +30,3 @@ fails_of given app words r same simple fails = no_fault (fault_of app words) r (
 pub kind_of_fault : {T : Type 0} (given app : App) (words : List Text) (r : Result T Error) → given ≡ app → is_simple_and_free app ≡ true
     → (is_simple_and_free given ≡ true → FailsBy (fault_of given words) r) → IfErr r (HasKind (fault_of app words))
 kind_of_fault given app words r same simple fails = some_fault (fault_of app words) r (fails_by given app words r same simple fails)
-
--- what an error of `clap` is told as is so
-pub told_so : (faults : Kinds) (asked : Asked) (error : Error) (result : UsageFault) → HasKind faults error
-    → ((kind_of error ≡ kind.OutOfMemory) ↔ (result ≡ Memory)) → (result ≡ Memory) ⊎ (result ≡ Words error) → IsTold faults asked result
-told_so faults asked error result has memory (inl is) = subst (IsTold faults asked) (sym is) tt
-told_so faults asked error result (inr among) memory (inr is) = subst (IsTold faults asked) (sym is) among
-told_so faults asked error result (inl refused) memory (inr is) = let no : Memory ≡ Words error = sym (memory.0 refused) ∙ is in cc
