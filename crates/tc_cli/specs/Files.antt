@@ -1,16 +1,22 @@
--- The texts that a source of files gave, where a contract can name them.
-use Rattle.std.specs.Prelude.{◌≡◌, ℕ, Option, Some, None, List, ◌++◌, ⊤}
+-- What a source of files answered, where a contract can name it.
+use Rattle.std.specs.Prelude.{◌≡◌, ℕ, Option, Some, None, Result, Ok, Err, List, ◌++◌, ⊤}
+use Rattle.tc_cli.specs.declared.paths.PathFault.{PathFault}
 
--- a text, and the path at which it was found
-pub record FileText : Type 0 where
+-- what was answered at a path: the text that was found there, or why there was none
+pub record FileAnswer : Type 0 where
   pub path : List ℕ
-  pub text : List ℕ
+  pub found : Result (List ℕ) PathFault
 
-abbrev pub file_at : List ℕ → List ℕ → FileText
-file_at path text = record { path = path; text = text }
+-- this text was found at a path
+abbrev pub file_at : List ℕ → List ℕ → FileAnswer
+file_at path text = record { path = path; found = Ok text }
 
--- the known texts grow by these
-abbrev pub Gives : Option (List FileText) → Option (List FileText) → List FileText → Type 0
+-- there was no text at a path, for this reason
+abbrev pub none_at : List ℕ → PathFault → FileAnswer
+none_at path why = record { path = path; found = Err why }
+
+-- the known answers grow by these
+abbrev pub Gives : Option (List FileAnswer) → Option (List FileAnswer) → List FileAnswer → Type 0
 Gives None new more = ⊤
 Gives (Some all) None more = ⊥
 Gives (Some all) (Some after) more = after ≡ all ++ more

@@ -1,16 +1,20 @@
 -- The run of a script on a desk that is kept in a database.
-use Rattle.std.specs.Prelude.{◌≡◌, ◌⊎◌, ℕ, Option, List, [], map}
+use Rattle.std.specs.Prelude.{◌≡◌, ◌≢◌, ◌⊎◌, ℕ, IsTrue, Option, List, [], map}
 use Rattle.std.specs.Io.KnownBytes.{Appends}
 use Rattle.sqlite_trees.specs.declared.store.Store.{Ghosts}
-use Rattle.sqlite.specs.Held.{Held}
+use Rattle.sqlite.specs.Held.{Held, state}
+use Rattle.sqlite.specs.State.{HasCleanDisk}
+use Rattle.tc_sql.specs.Builds.{no_schema}
 use Rattle.tc_types.specs.Lines.{move_line}
 use Rattle.tc_types.specs.declared.moves.Move.{Move}
 use Rattle.tc_desk.specs.declared.configs.Config as configs
+use Rattle.tc_store.specs.Schema.{schema_1}
 use Rattle.tc_room.specs.Joined.{Standing}
-use Rattle.tc_room.specs.Opening.{OpensAs}
+use Rattle.tc_room.specs.Opening.{KeepsTables, LeavesOpening, OpensAs}
 use Rattle.tc_room.specs.Replies.{ended}
-use Rattle.tc_cli.specs.Files.{FileText, Gives}
-use Rattle.tc_cli.specs.Run.{IsCutShort, RunsLines, StopsAfter, StopsAtOnce}
+use Rattle.tc_cli.specs.Files.{FileAnswer, Gives}
+use Rattle.tc_cli.specs.Run.{RunsLines}
+use Rattle.tc_cli.specs.Stops.{IsCutShort, IsUnopened, IsUntouched, StopsAfter}
 use Rattle.tc_cli.specs.declared.script.ScriptFault.{ScriptFault}
 use Rattle.tc_cli.specs.declared.script.ScriptFault.TheVariants.{Output, Memory}
 
@@ -24,25 +28,42 @@ CutsOpening Output moves part = IsCutShort (opening_text moves) part
 CutsOpening Memory moves part = part ≡ []
 CutsOpening _ moves part = ⊥
 
+-- What an opening that was refused leaves of a database: the tables that stood, where it is still open; after a crash these, or the whole of the
+-- opening; and where they are no desk's, the connection as it was.
+pub record StaysUnopened {S : Type 0} (g : Ghosts S) (config : configs.Config) (moment : ℕ) (store left : Held S) : Type 0 where
+  pub kept : HasCleanDisk (state g left) → IsTrue (state g left).is_open → KeepsTables (state g store).now (state g left).now
+  pub crash : HasCleanDisk (state g left) → LeavesOpening g config moment store left
+  pub foreign : (state g store).now.schema ≢ no_schema → (state g store).now.schema ≢ schema_1 → left ≡ store
+
 module _ {S : Type 0} (g : Ghosts S) where
   -- In a room that was opened, the moves of the opening are written, and then what the lines are answered.
-  abbrev pub RunsOpened : Standing S → List Move → List ℕ → ℕ → Option (List FileText) → Option (List FileText) → Option (List ℕ) → Option (List ℕ) → Standing S → Type 0
+  abbrev pub RunsOpened : Standing S → List Move → List ℕ → ℕ → Option (List FileAnswer) → Option (List FileAnswer) → Option (List ℕ) → Option (List ℕ) → Standing S → Type 0
   RunsOpened room moves input status gave gives old new after = (mid : Option (List ℕ)) × Appends old mid (opening_text moves) × RunsLines g room input status gave gives mid new after
 
-  -- it stopped at the moves of the opening, or after some of the lines
-  abbrev pub StopsOpened : Standing S → List Move → ScriptFault → List (List ℕ) → Option (List FileText) → Option (List FileText) → Option (List ℕ) → Option (List ℕ) → Type 0
-  StopsOpened room moves fault lines gave gives old new =
-      ((part : List ℕ) × CutsOpening fault moves part × Gives gave gives [] × Appends old new part)
-      ⊎ ((mid : Option (List ℕ)) × Appends old mid (opening_text moves) × StopsAfter g fault room lines gave gives mid new)
+  -- it stopped at the moves of the opening, and the room is as it was opened; or after some of the lines
+  abbrev pub StopsOpened : Standing S → List Move → ScriptFault → List (List ℕ) → Option (List FileAnswer) → Option (List FileAnswer) → Option (List ℕ) → Option (List ℕ) → Standing S → Type 0
+  StopsOpened room moves fault lines gave gives old new after =
+      ((part : List ℕ) × CutsOpening fault moves part × Gives gave gives [] × Appends old new part × (after ≡ room))
+      ⊎ ((mid : Option (List ℕ)) × Appends old mid (opening_text moves) × StopsAfter g fault room lines gave gives mid new after)
 
   -- The lines were run in a room that was opened at a moment over a database, and the connection is the one that this room has in the end.
-  abbrev pub RunsKept : configs.Config → ℕ → Held S → List ℕ → ℕ → Option (List FileText) → Option (List FileText) → Option (List ℕ) → Option (List ℕ) → Held S → Type 0
+  abbrev pub RunsKept : configs.Config → ℕ → Held S → List ℕ → ℕ → Option (List FileAnswer) → Option (List FileAnswer) → Option (List ℕ) → Option (List ℕ) → Held S → Type 0
   RunsKept config moment store input status gave gives old new left =
       (room : Standing S) × (moves : List Move) × (after : Standing S) × OpensAs g config moment store moves room
       × RunsOpened room moves input status gave gives old new after × (left ≡ after.tables)
 
-  -- the run stopped before its first line, or in a room that was opened so
-  abbrev pub StopsKept : configs.Config → ℕ → Held S → ScriptFault → List (List ℕ) → Option (List FileText) → Option (List FileText) → Option (List ℕ) → Option (List ℕ) → Type 0
-  StopsKept config moment store fault lines gave gives old new =
-      StopsAtOnce fault gave gives old new
-      ⊎ ((room : Standing S) × (moves : List Move) × OpensAs g config moment store moves room × StopsOpened room moves fault lines gave gives old new)
+  -- The desk was not opened, nothing was written, and the database is as that leaves it; or the run stopped in a room that was opened so, and the
+  -- connection is the one that this room has in the end.
+  abbrev pub StopsKept : configs.Config → ℕ → Held S → ScriptFault → List (List ℕ) → Option (List FileAnswer) → Option (List FileAnswer) → Option (List ℕ) → Option (List ℕ) → Held S → Type 0
+  StopsKept config moment store fault lines gave gives old new left =
+      (IsUnopened config fault × IsUntouched gave gives old new × StaysUnopened g config moment store left)
+      ⊎ ((room : Standing S) × (moves : List Move) × (after : Standing S) × OpensAs g config moment store moves room
+      × StopsOpened room moves fault lines gave gives old new after × (left ≡ after.tables))
+
+  -- The desk was not opened, nothing was written, and the database is as that leaves it; or the moves of its opening could not be written, and the
+  -- connection is the one of the room that was opened.
+  abbrev pub StopsTold : configs.Config → ℕ → Held S → ScriptFault → Option (List ℕ) → Option (List ℕ) → Held S → Type 0
+  StopsTold config moment store fault old new left =
+      (IsUnopened config fault × Appends old new [] × StaysUnopened g config moment store left)
+      ⊎ ((room : Standing S) × (moves : List Move) × (part : List ℕ) × OpensAs g config moment store moves room
+      × CutsOpening fault moves part × Appends old new part × (left ≡ room.tables))

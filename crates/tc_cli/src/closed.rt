@@ -1,5 +1,5 @@
 //! The shift report of a desk that nobody has open, written from its tables.
-ghost use Rattle.std.specs.Prelude.{◌≡◌, ◌⊎◌, ℕ, List, [], IfErr, OnOk};
+ghost use Rattle.std.specs.Prelude.{◌≡◌, ◌⊎◌, ℕ, List, [], IfErr, IsTrue, OnErr, OnOk};
 ghost use Rattle.std.specs.Io.KnownBytes.{Appends};
 ghost use Rattle.sqlite.specs.Held.{state};
 ghost use Rattle.sqlite.specs.State.{HasCleanDisk};
@@ -9,6 +9,7 @@ ghost use Rattle.tc_types.specs.Tables.{Image};
 ghost use Rattle.tc_report.specs.ShiftReport.{AreAdded};
 ghost use Rattle.tc_store.specs.Schema.{Holds};
 ghost use Rattle.tc_room.specs.Closed.{IsClosedReport, OnlyReads};
+ghost use Rattle.tc_cli.specs.Closed.{CutsReport, CutsRows};
 ghost use Rattle.tc_cli.specs.Script.{written_counts};
 
 use crate::run::put;
@@ -33,7 +34,11 @@ fn write_pages<S: Alter + Drop, W: Write>(
     requires { counts_of writer.old ≡ no_counts }
     ensures told { HasCleanDisk (state S.Store tables.new) → OnOk result ((image : Image) → Holds (state S.Store tables.old).now image
         → (text : List ℕ) × AreAdded (shift_rows from to image.moves) [] text × Appends (W.contents (inner_of writer.old)) (W.contents (inner_of writer.new)) text) }
+    ensures cut { HasCleanDisk (state S.Store tables.new) → OnErr result ((image : Image) → Holds (state S.Store tables.old).now image
+        → (part : List ℕ) × CutsRows image from to part × Appends (W.contents (inner_of writer.old)) (W.contents (inner_of writer.new)) part) }
     ensures reads { OnOk result (OnlyReads S.Store tables.old tables.new) }
+    ensures kept { HasCleanDisk (state S.Store tables.new) → IsTrue (state S.Store tables.new).is_open → (image : Image) → Holds (state S.Store tables.old).now image → Holds (state S.Store tables.new).now image }
+    ensures clean { HasCleanDisk (state S.Store tables.new) → HasCleanDisk (state S.Store tables.old) }
     ensures fault { IfErr result (λ fault. (fault ≡ ScriptFault.Output) ⊎ (fault ≡ ScriptFault.Memory) ⊎ (fault ≡ ScriptFault.Tables)) }
     ensures counted { counts_of writer.new ≡ written_counts result }
 {
@@ -52,7 +57,8 @@ fn write_pages<S: Alter + Drop, W: Write>(
 
 /// Writes the shift report of these tables: the moves of `from` and later, and before `to`, in order of number, and where the requests stand.
 /// No more than a page of the moves is held at a time, and the tables are only read. Fails with `Tables` where they cannot be read, `Memory`
-/// where that is refused, and `Output` where a write fails.
+/// where that is refused, and `Output` where a write fails. The tables stay then, too, as long as the database is open, and what was written is nothing, or
+/// a front of a report without its last line.
 pub fn closed_report<S: Alter + Drop, W: Write>(
     alloc: Global,
     tables: &mut Tables<S>,
@@ -63,7 +69,12 @@ pub fn closed_report<S: Alter + Drop, W: Write>(
     requires { counts_of writer.old ≡ no_counts }
     ensures told { HasCleanDisk (state S.Store tables.new) → OnOk result ((image : Image) → Holds (state S.Store tables.old).now image
         → (text : List ℕ) × IsClosedReport image from to text × Appends (W.contents (inner_of writer.old)) (W.contents (inner_of writer.new)) text) }
+    // so what a report that fails has written does not look whole
+    ensures cut { HasCleanDisk (state S.Store tables.new) → OnErr result ((image : Image) → Holds (state S.Store tables.old).now image
+        → (part : List ℕ) × CutsReport image from to part × Appends (W.contents (inner_of writer.old)) (W.contents (inner_of writer.new)) part) }
     ensures reads { OnOk result (OnlyReads S.Store tables.old tables.new) }
+    ensures kept { HasCleanDisk (state S.Store tables.new) → IsTrue (state S.Store tables.new).is_open → (image : Image) → Holds (state S.Store tables.old).now image → Holds (state S.Store tables.new).now image }
+    ensures clean { HasCleanDisk (state S.Store tables.new) → HasCleanDisk (state S.Store tables.old) }
     ensures fault { IfErr result (λ fault. (fault ≡ ScriptFault.Output) ⊎ (fault ≡ ScriptFault.Memory) ⊎ (fault ≡ ScriptFault.Tables)) }
     ensures counted { counts_of writer.new ≡ written_counts result }
 {

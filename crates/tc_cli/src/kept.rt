@@ -22,7 +22,8 @@ use tc_types::counted::Counted;
 use tc_types::moves::Move;
 use tc_types::numbers::Moment;
 
-/// Writes the moves that an opening made, and runs the lines of a script in the room that it opened.
+/// Writes the moves that an opening made, and runs the lines of a script in the room that it opened. Where the moves are not written, the room
+/// stays as it was opened.
 fn run_opened<S: Alter + Drop, P: Paths, W: Write>(
     alloc: Global,
     room: &mut Room<S>,
@@ -33,7 +34,7 @@ fn run_opened<S: Alter + Drop, P: Paths, W: Write>(
 ) -> Result<u8, ScriptFault>
     requires { counts_of writer.old ≡ no_counts }
     ensures answered { IfOk result (λ status. RunsOpened S.Store room.old moves.now text.now status (P.given paths.old) (P.given paths.new) (W.contents (inner_of writer.old)) (W.contents (inner_of writer.new)) room.new) }
-    ensures stopped { IfErr result (λ fault. StopsOpened S.Store room.old moves.now fault (script_lines text.now) (P.given paths.old) (P.given paths.new) (W.contents (inner_of writer.old)) (W.contents (inner_of writer.new))) }
+    ensures stopped { IfErr result (λ fault. StopsOpened S.Store room.old moves.now fault (script_lines text.now) (P.given paths.old) (P.given paths.new) (W.contents (inner_of writer.old)) (W.contents (inner_of writer.new)) room.new) }
     ensures fault { IfErr result (λ fault. fault ≢ ScriptFault.Script) }
     ensures counted { counts_of writer.new ≡ written_counts result }
 {
@@ -43,8 +44,9 @@ fn run_opened<S: Alter + Drop, P: Paths, W: Write>(
 
 /// Runs the lines of a script, that was read, on the desk that is kept in a database, opened at a moment: writes the moves that the
 /// opening made, what the lines are answered, and at the end what `places` is answered. Gives the exit status, as
-/// `run_script` does, and the connection. Where the desk could not be opened the fault is `Tables`, or `Config` or `Memory`, no line was run,
-/// and the tables are as they were.
+/// `run_script` does, and the connection, also with a fault. Where the desk could not be opened the fault is `Tables`, `Memory`, or, exactly where
+/// there is no such desk, `Config`; nothing was written, and the tables are as they were. Where the run stopped in the room, the tables are those
+/// that the lines before made, and no such fault comes any more.
 pub fn run_kept<S: Alter + Drop, P: Paths, W: Write>(
     alloc: Global,
     store: Connection<S>,
@@ -56,7 +58,7 @@ pub fn run_kept<S: Alter + Drop, P: Paths, W: Write>(
 ) -> (Result<u8, ScriptFault>, Connection<S>)
     requires { counts_of writer.old ≡ no_counts }
     ensures answered { IfOk result.0 (λ status. RunsKept S.Store config moment store text.now status (P.given paths.old) (P.given paths.new) (W.contents (inner_of writer.old)) (W.contents (inner_of writer.new)) result.1) }
-    ensures stopped { IfErr result.0 (λ fault. StopsKept S.Store config moment store fault (script_lines text.now) (P.given paths.old) (P.given paths.new) (W.contents (inner_of writer.old)) (W.contents (inner_of writer.new))) }
+    ensures stopped { IfErr result.0 (λ fault. StopsKept S.Store config moment store fault (script_lines text.now) (P.given paths.old) (P.given paths.new) (W.contents (inner_of writer.old)) (W.contents (inner_of writer.new)) result.1) }
     ensures fault { IfErr result.0 (λ fault. fault ≢ ScriptFault.Script) }
     ensures counted { counts_of writer.new ≡ written_counts result.0 }
 {

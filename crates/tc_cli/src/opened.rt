@@ -4,7 +4,7 @@ ghost use Rattle.std.specs.Io.KnownBytes.{Appends};
 ghost use Rattle.tc_types.specs.Counts.{counts_of, inner_of, no_counts};
 ghost use Rattle.tc_types.specs.declared.moves.Move.{Move};
 ghost use Rattle.tc_room.specs.Opening.{OpensAs};
-ghost use Rattle.tc_cli.specs.Kept.{CutsOpening, opening_text};
+ghost use Rattle.tc_cli.specs.Kept.{CutsOpening, StopsTold, opening_text};
 ghost use Rattle.tc_cli.specs.Script.{written_counts};
 
 use crate::run::put;
@@ -45,8 +45,8 @@ pub(crate) fn tell_moves<W: Write>(
 }
 
 /// Opens the desk that is kept in a database at a moment, and writes the moves that the opening made, as the run of a script does. Where it
-/// could not be opened the fault is `Tables`, or `Config` or `Memory`, and nothing was written; where its moves could not be written, `Output`
-/// or `Memory`, and they stand in the tables.
+/// could not be opened the fault is `Tables`, `Memory`, or, exactly where there is no such desk, `Config`; nothing was written, and the tables are
+/// as they were. Where its moves could not be written it is `Output` or `Memory`, and they stand in the tables.
 pub fn open_told<S: Alter + Drop, W: Write>(
     alloc: Global,
     store: Connection<S>,
@@ -58,6 +58,7 @@ pub fn open_told<S: Alter + Drop, W: Write>(
     ensures told { IfOk result (λ room. (moves : List Move) × OpensAs S.Store config moment store moves room
         × Appends (W.contents (inner_of writer.old)) (W.contents (inner_of writer.new)) (opening_text moves)) }
     ensures unwritten { OnOk result (counts_of writer.new ≡ no_counts) }
+    ensures stopped { IfErr result (λ left. StopsTold S.Store config moment store left.fault (W.contents (inner_of writer.old)) (W.contents (inner_of writer.new)) left.store) }
     ensures fault { IfErr result (λ left. (left.fault ≢ ScriptFault.Script) × (counts_of writer.new ≡ written_counts {X = ⊤} (Err left.fault))) }
 {
     match Room::open(alloc, store, config, moment) {

@@ -1,6 +1,6 @@
 //! Where the texts come from that a script loads.
-ghost use Rattle.std.specs.Prelude.{◌∷◌, [], IfOk, List, None, OnErr, Option};
-ghost use Rattle.tc_cli.specs.Files.{FileText, Gives, file_at};
+ghost use Rattle.std.specs.Prelude.{◌∷◌, [], IfErr, IfOk, List, None, Option};
+ghost use Rattle.tc_cli.specs.Files.{FileAnswer, Gives, file_at, none_at};
 
 use std::alloc::Global;
 use std::fs;
@@ -16,15 +16,15 @@ pub enum PathFault {
     Memory,
 }
 
-/// A source of files. Its content is the list of the texts that it gave.
+/// A source of files. Its content is the list of the answers that it gave.
 pub trait Paths {
-    /// The texts that it gave, each with its path, in order, where a contract can name them.
-    ghost given: { Self → Option (List FileText) };
+    /// The answers that it gave, each with its path: a text, or why there was none; in order, where a contract can name them.
+    ghost given: { Self → Option (List FileAnswer) };
 
     /// The text at a path, of which no more than `limit` bytes are wanted.
     fn load(&mut self, alloc: Global, path: &str, limit: usize) -> Result<Vec<u8>, PathFault>
         ensures gave { IfOk result (λ text. Gives (given self.old) (given self.new) (file_at path.now text.items ∷ [])) }
-        ensures none { OnErr result (Gives (given self.old) (given self.new) []) };
+        ensures none { IfErr result (λ why. Gives (given self.old) (given self.new) (none_at path.now why ∷ [])) };
 }
 
 /// The files of the machine, by their paths. Its content is not told.

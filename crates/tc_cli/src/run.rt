@@ -9,11 +9,12 @@ ghost use Rattle.tc_desk.specs.Replies.{Reply};
 ghost use Rattle.tc_room.specs.Replies.{ended, is_refused};
 ghost use Rattle.tc_cli.specs.Script.{IsUnreadable, written_counts};
 ghost use Rattle.std.specs.String.{string_bytes};
-ghost use Rattle.tc_types.specs.Loads.{LoadLine, line_of};
+ghost use Rattle.tc_types.specs.Loads.{line_of};
 ghost use Rattle.tc_room.specs.Loads.{RoomLoad, loader_of};
-ghost use Rattle.tc_cli.specs.Files.{FileText, Gives, file_at};
-ghost use Rattle.tc_cli.specs.Run.{AnswersScriptLine, IsAnswered, IsCutShort, IsLoadLine, LeavesPart, RunsLines, Stops, StopsAfter, TakesLine, TakesLines};
-ghost use Rattle.tc_cli.specs.Run.{is_skipped, script_lines};
+ghost use Rattle.tc_cli.specs.Files.{FileAnswer, Gives, file_at, none_at};
+ghost use Rattle.tc_cli.specs.Run.{AnswersScriptLine, IsAnswered, RunsLines, TakesLine, TakesLines, is_skipped, script_lines};
+ghost use Rattle.tc_cli.specs.Stops.{IsCutShort, IsUnanswered, LeavesPart, Stops, StopsAfter};
+ghost use Rattle.tc_cli.specs.declared.paths.PathFault.TheVariants as path_fault;
 
 use crate::paths::{PathFault, Paths};
 use crate::script::{ScriptFault, read_script};
@@ -38,6 +39,10 @@ pub(crate) const MOST_FILE_BYTES: usize = 65_537;
 ///
 /// The script is read whole before a line is run: where that fails, the writer is as it was. The reader and the writer
 /// begin to count here, so that a caller sees which of them failed. What the writer holds back is the caller's to flush.
+///
+/// Before its first line a run ends with `Script` or `Memory`, where the script is not read, or with `Config`, `Memory` or `Tables`, where
+/// the desk is not opened; behind it with `Output` where a write fails, `Path` where the path of the next line gives no text, and `Memory` where
+/// that text or that of a reply finds none.
 pub fn run_script<R: Read, P: Paths, W: Write>(
     alloc: Global,
     config: Config,
@@ -93,7 +98,7 @@ pub(crate) fn run_room<S: Alter + Drop, P: Paths, W: Write>(
     ensures answered { IfOk result (λ status.
         RunsLines S.Store room.old text.now status (P.given paths.old) (P.given paths.new) (W.contents (inner_of writer.old)) (W.contents (inner_of writer.new)) room.new) }
     ensures stopped { IfErr result (λ fault. StopsAfter S.Store fault room.old (script_lines text.now)
-        (P.given paths.old) (P.given paths.new) (W.contents (inner_of writer.old)) (W.contents (inner_of writer.new))) }
+        (P.given paths.old) (P.given paths.new) (W.contents (inner_of writer.old)) (W.contents (inner_of writer.new)) room.new) }
     ensures fault { IfErr result (λ fault. fault ≢ ScriptFault.Script) }
     ensures counted { counts_of writer.new ≡ written_counts result }
 {
@@ -145,7 +150,13 @@ fn answer_file<S: Alter + Drop, P: Paths>(
         × Gives (P.given paths.old) (P.given paths.new) (file_at load.now.path.now text ∷ [])
         × (string_bytes answer.text ≡ ended reply) × RefusesWith reply answer.refusal) }
     ensures fault { IfErr result (λ fault. (fault ≡ ScriptFault.Memory) ⊎ (fault ≡ ScriptFault.Path)) }
-    ensures gave { OnErr result ((more : List FileText) × Gives (P.given paths.old) (P.given paths.new) more) }
+    // its path gave no text, and nothing happened
+    ensures unread { result ≡ Err ScriptFault.Path → Gives (P.given paths.old) (P.given paths.new) (none_at load.now.path.now path_fault.Unreadable ∷ []) × (room.new ≡ room.old) }
+    // it was answered, and there was no memory for the text of its reply; or there was none for the text at its path, and nothing happened
+    ensures memory { result ≡ Err ScriptFault.Memory →
+        ((reply : Reply) × (text : List ℕ) × RoomLoad S.Store room.old (loader_of (line_of load.now)) load.now.kind load.now.name text reply room.new
+        × Gives (P.given paths.old) (P.given paths.new) (file_at load.now.path.now text ∷ []))
+        ⊎ (Gives (P.given paths.old) (P.given paths.new) (none_at load.now.path.now path_fault.Memory ∷ []) × (room.new ≡ room.old)) }
 {
     match paths.load(alloc, load.path, MOST_FILE_BYTES) {
         Ok(text) => {
@@ -164,11 +175,11 @@ fn answer<S: Alter + Drop, P: Paths>(
     line: &[u8],
     paths: &mut P,
 ) -> Result<Answer, ScriptFault>
-    ensures answered { IfOk result (λ answer. (reply : Reply) × (files : List FileText) × AnswersScriptLine S.Store room.old line.now files reply room.new
+    ensures answered { IfOk result (λ answer. (reply : Reply) × (files : List FileAnswer) × AnswersScriptLine S.Store room.old line.now files reply room.new
         × Gives (P.given paths.old) (P.given paths.new) files
         × (string_bytes answer.text ≡ ended reply) × RefusesWith reply answer.refusal) }
-    ensures fault { IfErr result (λ fault. (fault ≡ ScriptFault.Memory) ⊎ ((fault ≡ ScriptFault.Path) × ((load : LoadLine) × IsLoadLine line.now load))) }
-    ensures gave { OnErr result ((more : List FileText) × Gives (P.given paths.old) (P.given paths.new) more) }
+    ensures unanswered { IfErr result (λ fault. (files : List FileAnswer) × IsUnanswered S.Store fault room.old line.now files room.new
+        × Gives (P.given paths.old) (P.given paths.new) files) }
 {
     match read_load(line) {
         Ok(load) => answer_file(alloc, room, &load, paths),
@@ -188,12 +199,12 @@ fn run_line<S: Alter + Drop, P: Paths, W: Write>(
     writer: &mut Counted<W>,
 ) -> Result<bool, ScriptFault>
     requires { counts_of writer.old ≡ no_counts }
-    ensures taken { IfOk result (λ refused. (replies : List Reply) × (files : List FileText) × TakesLine S.Store room.old line.now files replies room.new
+    ensures taken { IfOk result (λ refused. (replies : List Reply) × (files : List FileAnswer) × TakesLine S.Store room.old line.now files replies room.new
         × Gives (P.given paths.old) (P.given paths.new) files
         × Appends (W.contents (inner_of writer.old)) (W.contents (inner_of writer.new)) (flat_map ended replies)
         × (refused ≡ list_any is_refused replies)) }
-    ensures stopped { IfErr result (λ fault. (part : List ℕ) × (more : List FileText) × LeavesPart S.Store fault room.old (line.now ∷ []) part
-        × Gives (P.given paths.old) (P.given paths.new) more
+    ensures stopped { IfErr result (λ fault. (files : List FileAnswer) × (part : List ℕ) × LeavesPart S.Store fault room.old (line.now ∷ []) files part room.new
+        × Gives (P.given paths.old) (P.given paths.new) files
         × Appends (W.contents (inner_of writer.old)) (W.contents (inner_of writer.new)) part) }
     ensures fault { IfErr result (λ fault. fault ≢ ScriptFault.Script) }
     ensures counted { counts_of writer.new ≡ written_counts result }
@@ -215,12 +226,12 @@ fn run_lines<S: Alter + Drop, P: Paths, W: Write>(
     writer: &mut Counted<W>,
 ) -> Result<bool, ScriptFault>
     requires { counts_of writer.old ≡ no_counts }
-    ensures taken { IfOk result (λ refused. (replies : List Reply) × (files : List FileText) × TakesLines S.Store room.old (script_lines text.now) files replies room.new
+    ensures taken { IfOk result (λ refused. (replies : List Reply) × (files : List FileAnswer) × TakesLines S.Store room.old (script_lines text.now) files replies room.new
         × Gives (P.given paths.old) (P.given paths.new) files
         × Appends (W.contents (inner_of writer.old)) (W.contents (inner_of writer.new)) (flat_map ended replies)
         × (refused ≡ list_any is_refused replies)) }
     ensures stopped { IfErr result (λ fault. StopsAfter S.Store fault room.old (script_lines text.now)
-        (P.given paths.old) (P.given paths.new) (W.contents (inner_of writer.old)) (W.contents (inner_of writer.new))) }
+        (P.given paths.old) (P.given paths.new) (W.contents (inner_of writer.old)) (W.contents (inner_of writer.new)) room.new) }
     ensures fault { IfErr result (λ fault. fault ≢ ScriptFault.Script) }
     ensures counted { counts_of writer.new ≡ written_counts result }
 {
@@ -241,7 +252,7 @@ fn run_places<S: Alter + Drop, W: Write>(
     ensures taken { IfOk result (λ refused. (reply : Reply) × AsksPlaces S.Store room.old reply room.new
         × Appends (W.contents (inner_of writer.old)) (W.contents (inner_of writer.new)) (ended reply)
         × (refused ≡ is_refused reply)) }
-    ensures stopped { IfErr result (λ fault. (part : List ℕ) × LeavesPart S.Store fault room.old [] part
+    ensures stopped { IfErr result (λ fault. (part : List ℕ) × LeavesPart S.Store fault room.old [] [] part room.new
         × Appends (W.contents (inner_of writer.old)) (W.contents (inner_of writer.new)) part) }
     ensures fault { IfErr result (λ fault. fault ≢ ScriptFault.Script) }
     ensures kept { IsKept room.old.desk.book }

@@ -3,6 +3,7 @@ ghost use Rattle.std.specs.Prelude.{◌≡◌, ◌≢◌, ◌≤◌, Err, IfErr,
 ghost use Rattle.std.specs.Io.KnownBytes.{Consumes, IsAtEnd};
 ghost use Rattle.tc_types.specs.Counts.{counts_of, inner_of, no_counts};
 ghost use Rattle.tc_cli.specs.Script.{IsUnreadable, fault_of};
+ghost use Rattle.tc_cli.specs.Stops.{IsUnread};
 ghost use Rattle.tc_cli.specs.declared.script.ScriptFault.TheVariants.{Memory};
 
 use std::alloc::{AllocError, Global};
@@ -28,7 +29,8 @@ pub enum ScriptFault {
     /// A reply could not be written. The acts that were acknowledged stand.
     #[error("output")]
     Output,
-    /// There was no memory to go on. What was written are the replies to the lines before.
+    /// There was no memory to go on: for the script, to open the desk, for a text that a line loads, or for that of a reply, of which the act
+    /// stands then. What was written are the replies to the lines before.
     #[error("memory")]
     Memory,
     /// The tables of the desk could not be made, and no line was run; or those of a report could not be read.
@@ -78,8 +80,7 @@ pub fn read_script<R: Read>(alloc: Global, reader: &mut Counted<R>) -> Result<Ve
     ensures whole { OnOk result (IsAtEnd (R.remaining (inner_of reader.new))) }
     ensures short { IfOk result (λ text. vec_len text ≤ LARGEST_SCRIPT) }
     ensures ended { OnOk result ((counts_of reader.new).ends ≡ 1) }
-    ensures fault { IfErr result (λ fault. fault ≢ ScriptFault.Output) }
-    ensures no_path { IfErr result (λ fault. fault ≢ ScriptFault.Path) }
+    ensures fault { IfErr result IsUnread }
     ensures script { result ≡ Err ScriptFault.Script →
         IsUnreadable (counts_of reader.new) (R.remaining (inner_of reader.old)) (R.remaining (inner_of reader.new)) }
     ensures failed { (counts_of reader.new).faults ≢ 0 → result ≡ Err ScriptFault.Script }

@@ -1,7 +1,6 @@
 -- What a line of the program is of what its words ask for, and why they ask for nothing.
 use Rattle.std.specs.Prelude.{◌%◌, ◌≡◌, ◌⊎◌, ⊤, List, [], Option, None, Some}
-use Rattle.clap.specs.Words.{Text}
-use Rattle.clap.specs.declared.error.kind.ErrorKind.{ErrorKind}
+use Rattle.clap.specs.Words.{IsAmong, Kinds, Text, kind_of}
 use Rattle.tc_types.specs.Loads.{kind_word}
 use Rattle.tc_types.specs.declared.loads.LoadKind.{LoadKind}
 use Rattle.tc_desk.specs.declared.configs.Config.{Config}
@@ -59,12 +58,9 @@ IsFaultOf asked (NoMoment word) = AsksNoMoment asked word.now
 IsFaultOf asked (NoKind word) = AsksNoKind asked word.now
 IsFaultOf asked other = ⊥
 
--- a fault that is told of a word here, and not by `clap`, and is no want of memory
-abbrev pub IsOwn : UsageFault → Type 0
-IsOwn (Words error) = ⊥
-IsOwn Memory = ⊥
-IsOwn own = ⊤
-
--- such a fault is told of words in which `clap` finds none, and is one
-abbrev pub IsTold : List ErrorKind → Asked → UsageFault → Type 0
-IsTold faults asked fault = IsOwn fault → (faults ≡ []) × IsFaultOf asked fault
+-- A fault is told only where it is so: an error of `clap` where `clap` finds such a fault in the words; and what is wrong with a word where
+-- `clap` finds none, and the word is.
+abbrev pub IsTold : Kinds → Asked → UsageFault → Type 0
+IsTold faults asked (Words error) = IsAmong (kind_of error) faults
+IsTold faults asked Memory = ⊤
+IsTold faults asked own = (faults ≡ []) × IsFaultOf asked own

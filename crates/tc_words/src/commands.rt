@@ -1,6 +1,6 @@
 //! The program's commands, and the matches of words that name one.
 ghost use Rattle.std.specs.Prelude.{◌≡◌, [], IfErr, IfOk, OnOk, false, map, true};
-ghost use Rattle.clap.specs.Words.{app_of, fault_of, kind_of, subcommand_of, subcommand_rows_of, takes};
+ghost use Rattle.clap.specs.Words.{HasKind, app_of, fault_of, kind_of, subcommand_of, subcommand_rows_of, takes};
 ghost use Rattle.clap.specs.declared.builder.command.Command.TheViews.{out-Command};
 ghost use Rattle.tc_words.specs.Commands.{bare_app, bare_serve_app, check_app, desk_app, loop_app, report_app, run_app, script_app, script_apps, serve_app};
 ghost use Rattle.tc_words.specs.Commands.{with_check, with_database, with_desk, with_http, with_link};
@@ -35,6 +35,8 @@ pub(crate) fn matches<'a>(
     ensures fault { IfErr result (λ error.
         takes desk_app (map (λ word. word.now) words.entry.now) ≡ true
         → kind_of error ≡ ErrorKind.OutOfMemory) }
+    // an error is want of memory, or a fault that `clap` finds in the words
+    ensures kind { IfErr result (HasKind (fault_of desk_app (map (λ word. word.now) words.entry.now))) }
 {
     desk_command(alloc)?.try_get_matches_from(words)
 }

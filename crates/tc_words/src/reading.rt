@@ -1,10 +1,10 @@
 //! The reading of a command line's words.
-ghost use Rattle.std.specs.Prelude.{◌≡◌, ◌⊎◌, [], IfErr, IfOk, IfSome, None, OnOk, map, true};
+ghost use Rattle.std.specs.Prelude.{◌≡◌, ◌⊎◌, ◌↔◌, [], IfErr, IfOk, IfSome, None, OnOk, map, true};
 ghost use Rattle.clap.specs.Words.{fault_of, found_of, kind_of, rows_of, subcommand_of, subcommand_rows_of, takes};
 ghost use Rattle.tc_desk.specs.State.{IsConfig};
 ghost use Rattle.tc_words.specs.Asked.{asked, asked_check, asked_loop, asked_of, asked_report, asked_run, asked_serve};
 ghost use Rattle.tc_words.specs.Commands.{desk_app};
-ghost use Rattle.tc_words.specs.Lines.{AsksFor, IsFaultOf, IsOwn, IsTold, config_of};
+ghost use Rattle.tc_words.specs.Lines.{AsksFor, IsFaultOf, IsTold, config_of};
 
 use crate::commands::matches;
 use crate::given::{
@@ -42,9 +42,10 @@ pub fn read_words<'a>(alloc: Global, words: &'a [&'a str]) -> Result<Line<'a>, U
     }
 }
 
+/// What an error of `clap` is told as: refused memory, and nothing else, as such; any other as it is.
 fn usage_fault<'a>(error: clap::Error) -> UsageFault<'a>
-    ensures memory { kind_of error ≡ ErrorKind.OutOfMemory → result ≡ UsageFault.Memory }
-    ensures other { ¬ IsOwn result }
+    ensures memory { (kind_of error ≡ ErrorKind.OutOfMemory) ↔ (result ≡ UsageFault.Memory) }
+    ensures other { (result ≡ UsageFault.Memory) ⊎ (result ≡ UsageFault.Words error) }
 {
     if error.kind() == ErrorKind::OutOfMemory {
         UsageFault::Memory

@@ -1,12 +1,13 @@
 -- The head, the rows and the last line were written.
-use Rattle.std.proofs.Common.{◌++◌, subst}
+use Rattle.std.proofs.Common.{◌++◌, [], inl, refl, subst}
 use Rattle.std.proofs.lemmas.Result.{IfOk-weaker}
 use Rattle.std.specs.Prelude.{codes}
 use Rattle.std.specs.Io.KnownBytes.{Appends}
 use Rattle.std.specs.String.{string_bytes}
-use Rattle.std.proofs.KnownBytes.{Appends-trans}
+use Rattle.std.proofs.KnownBytes.{Appends-nil, Appends-trans}
 use Rattle.tc_types.specs.Counts.{inner_of}
-use Rattle.tc_cli.proofs.ClosedLemmas.{whole}
+use Rattle.tc_front.specs.Write.{IsCutShort}
+use Rattle.tc_cli.proofs.ClosedLemmas.{end_cut, head_cut, on_err, on_err_then, rows_cut, whole}
 use Rattle.tc_cli.proofs.closed.closed_report.Goals as goal
 
 pub returns-clause-told : goal.returns-clause-told
@@ -21,3 +22,32 @@ returns-clause-told g c clean =
       whole image c.args.from c.args.to (string_bytes c.in_ok-head.head) rows.0 head rows.1,
       Appends-trans _ _ _ (string_bytes c.in_ok-head.head ++ rows.0) (codes "END\n") (Appends-trans _ _ _ (string_bytes c.in_ok-head.head) rows.0 first rows.2) last,
     )) c.put-2.ensures.written
+
+-- ---- where it fails
+
+pub returns-in_err-head-clause-cut : goal.returns-in_err-head-clause-cut
+returns-in_err-head-clause-cut g c clean = on_err c.from_residual.result _ (λ image held. ([], inl refl, Appends-nil _))
+
+pub returns-in_err-put-clause-cut : goal.returns-in_err-put-clause-cut
+returns-in_err-put-clause-cut g c clean = on_err c.from_residual-in_err-put.result _ (λ image held.
+    let cut = c.in_err-put.ensures.cut in
+    (cut.0, head_cut image c.args.from c.args.to (string_bytes c.in_ok-head.head) cut.0 (c.in_ok-head.ensures.head clean image held) (subst (λ bytes. IsCutShort bytes cut.0) c.as_bytes.ensures.value cut.1), cut.2))
+
+pub returns-in_err-write_pages-clause-cut : goal.returns-in_err-write_pages-clause-cut
+returns-in_err-write_pages-clause-cut g c clean = on_err c.from_residual-in_err-write_pages.result _ (λ image held.
+    let mid = c.in_err-write_pages.ensures.clean clean in
+    let head = string_bytes c.in_ok-head.head in
+    let rows = c.in_err-write_pages.ensures.cut clean image (c.in_ok-head.ensures.reads.holds mid image held) in
+    let first = subst (λ bytes. Appends (g.W.Write.contents (inner_of c.args.writer.now)) (g.W.Write.contents (inner_of c.put.new.writer)) bytes) c.as_bytes.ensures.value c.in_ok-put.ensures.written in
+    (head ++ rows.0, rows_cut image c.args.from c.args.to head rows.0 (c.in_ok-head.ensures.head mid image held) rows.1, Appends-trans _ _ _ head rows.0 first rows.2))
+
+pub returns-clause-cut : goal.returns-clause-cut
+returns-clause-cut g c clean = on_err_then c.put-2.result _ _ c.put-2.ensures.cut (λ last image held.
+    let mid = c.in_ok-write_pages.ensures.reads.clean clean in
+    let head = string_bytes c.in_ok-head.head in
+    let rows = c.in_ok-write_pages.ensures.told clean image (c.in_ok-head.ensures.reads.holds mid image held) in
+    let first = subst (λ bytes. Appends (g.W.Write.contents (inner_of c.args.writer.now)) (g.W.Write.contents (inner_of c.put.new.writer)) bytes) c.as_bytes.ensures.value c.in_ok-put.ensures.written in (
+      (head ++ rows.0) ++ last.0,
+      end_cut image c.args.from c.args.to head rows.0 last.0 (c.in_ok-head.ensures.head mid image held) rows.1 (subst (λ bytes. IsCutShort bytes last.0) c.as_bytes-2.ensures.value last.1),
+      Appends-trans _ _ _ (head ++ rows.0) last.0 (Appends-trans _ _ _ head rows.0 first rows.2) last.2,
+    ))

@@ -9,7 +9,8 @@ use Rattle.tc_types.specs.History.{shift_rows}
 use Rattle.tc_report.specs.ShiftReport.{AreAdded}
 use Rattle.tc_report.proofs.RowLemmas.{none_added}
 use Rattle.tc_room.proofs.ReportLemmas.{left_behind, left_none, reads_same, reads_then}
-use Rattle.tc_cli.proofs.ClosedLemmas.{ends_unread, page_added}
+use Rattle.tc_front.specs.Write.{IsCutShort}
+use Rattle.tc_cli.proofs.ClosedLemmas.{ends_unread, on_err, page_added, page_cut, rows_written}
 use Rattle.tc_cli.proofs.closed.write_pages.Goals as goal
 
 pub pages-init : goal.pages-init
@@ -51,3 +52,34 @@ returns-then-is_none-clause-told g c clean image held =
 
 pub returns-in_err-page-clause-fault : goal.returns-in_err-page-clause-fault
 returns-in_err-page-clause-fault g c = ends_unread _ _ c.in_err-page.ensures.kind c.from_residual.ensures.1
+
+-- ---- where it fails
+
+pub returns-in_err-page-clause-cut : goal.returns-in_err-page-clause-cut
+returns-in_err-page-clause-cut g c clean = on_err c.from_residual.result _ (λ image held.
+    let was = c.pages.invariant.1 (c.in_err-page.ensures.clean clean) image held in
+    (was.1, rows_written image c.args.from c.args.to was.0 _ was.1 was.2 was.3, was.4))
+
+pub returns-in_err-page-clause-kept : goal.returns-in_err-page-clause-kept
+returns-in_err-page-clause-kept g c clean open_ image held =
+    c.in_err-page.ensures.kept clean open_ image (c.pages.invariant.0.holds (c.in_err-page.ensures.clean clean) image held)
+
+pub returns-in_err-page-clause-clean : goal.returns-in_err-page-clause-clean
+returns-in_err-page-clause-clean g c clean = c.pages.invariant.0.clean (c.in_err-page.ensures.clean clean)
+
+pub returns-in_err-put-clause-cut : goal.returns-in_err-put-clause-cut
+returns-in_err-put-clause-cut g c clean = on_err c.from_residual-in_err-put.result _ (λ image held.
+    let reads = c.in_ok-page.ensures.reads in
+    let was = c.pages.invariant.1 (reads.clean clean) image held in
+    let page = c.in_ok-page.ensures.page clean image (c.pages.invariant.0.holds (reads.clean clean) image held) in
+    let text : List ℕ = string_bytes c.in_ok-page.page.text in
+    let cut = c.in_err-put.ensures.cut in (
+      was.1 ++ cut.0,
+      page_cut image c.args.from c.args.to was.0 page.rows _ was.1 text cut.0 (page.goes_on was.0 was.2) was.3 page.added (subst (λ bytes. IsCutShort bytes cut.0) c.as_bytes.ensures.value cut.1),
+      Appends-trans _ _ _ was.1 cut.0 was.4 cut.2,
+    ))
+
+pub returns-clause-cut : goal.returns-clause-cut
+returns-clause-cut g c clean image held =
+    let was = c.pages.invariant.1 clean image held in
+    (was.1, rows_written image c.args.from c.args.to was.0 _ was.1 was.2 was.3, was.4)

@@ -1,14 +1,14 @@
-use Rattle.std.proofs.Common.{◌≡◌, Err, arith, inl, inr}
+use Rattle.std.proofs.Common.{◌≡◌, Err, arith, inl, inr, refl}
 use Rattle.std.proofs.lemmas.Result.{IfErr-weaker, IfOk-weaker}
 use Rattle.tc_types.specs.Counts.{inner_of}
-use Rattle.tc_cli.proofs.RunLemmas.{gives_none}
+use Rattle.tc_cli.proofs.TakeLemmas.{gives_none}
 use Rattle.tc_cli.proofs.kept.run_opened.Goals as goal
 
 pub returns-in_err-tell_moves-clause-stopped : goal.returns-in_err-tell_moves-clause-stopped
 returns-in_err-tell_moves-clause-stopped g c =
     let gone : c.from_residual.result ≡ Err c.in_err-tell_moves.field-0.0 = grind arith in
     let cut = c.in_err-tell_moves.ensures.cut in
-    rw gone (inl (cut.0, cut.1, gives_none _, cut.2))
+    rw gone (inl (cut.0, cut.1, gives_none _, cut.2, refl))
 
 pub returns-in_err-tell_moves-clause-fault : goal.returns-in_err-tell_moves-clause-fault
 returns-in_err-tell_moves-clause-fault g c =

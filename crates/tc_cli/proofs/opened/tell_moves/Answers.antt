@@ -5,7 +5,7 @@ use Rattle.std.specs.Io.KnownBytes.{Appends}
 use Rattle.tc_types.specs.Counts.{inner_of}
 use Rattle.tc_cli.specs.declared.script.ScriptFault.TheVariants.{Memory}
 use Rattle.tc_cli.proofs.KeptLemmas.{opening_cut}
-use Rattle.tc_cli.proofs.RunLemmas.{is_fault, memory_is_other, output_is_other}
+use Rattle.tc_cli.proofs.StopLemmas.{is_fault, memory_is_other, output_is_other}
 use Rattle.tc_cli.proofs.opened.tell_moves.Goals as goal
 
 pub returns-in_err-told-clause-cut : goal.returns-in_err-told-clause-cut

@@ -1,9 +1,12 @@
-use Rattle.std.proofs.Common.{inl, inr, ◌∷◌, [], refl}
-use Rattle.std.proofs.lemmas.Result.{IfErr-weaker, IfOk-weaker}
+use Rattle.std.proofs.Common.{◌≡◌, Err, inl, inr, ◌∷◌, [], refl}
+use Rattle.std.proofs.lemmas.Result.{IfOk-weaker}
 use Rattle.tc_types.specs.ActGrammar.{HasLongAct}
 use Rattle.tc_types.specs.Loads.{line_of}
 use Rattle.tc_cli.specs.Files.{file_at}
-use Rattle.tc_cli.proofs.RunLemmas.{file_fault, gives_none, loads_nothing, loads_short}
+use Rattle.tc_cli.specs.declared.script.ScriptFault.TheVariants.{Memory}
+use Rattle.tc_cli.proofs.RunLemmas.{loads_nothing, loads_short}
+use Rattle.tc_cli.proofs.StopLemmas.{file_unanswered, is_fault}
+use Rattle.tc_cli.proofs.TakeLemmas.{gives_none}
 use Rattle.tc_cli.proofs.run.answer.Goals as goal
 
 pub returns-in-Ok-clause-answered : goal.returns-in-Ok-clause-answered
@@ -11,10 +14,17 @@ returns-in-Ok-clause-answered g c =
     let short : HasLongAct c.args.line.now → ⊥ = loads_short c.args.line.now c.read_load.result c.in-Ok.load c.in-Ok.is c.read_load.ensures.too_long in
     IfOk-weaker c.answer_file.result _ _ (λ answer h. (h.0, file_at c.in-Ok.load.path.now h.1 ∷ [], inl (line_of c.in-Ok.load, h.1, (c.in-Ok.ensures.found, short), refl, h.2), h.3, h.4, h.5)) c.answer_file.ensures.answered
 
-pub returns-in-Ok-clause-fault : goal.returns-in-Ok-clause-fault
-returns-in-Ok-clause-fault g c =
+pub returns-in-Ok-clause-unanswered : goal.returns-in-Ok-clause-unanswered
+returns-in-Ok-clause-unanswered g c =
     let short : HasLongAct c.args.line.now → ⊥ = loads_short c.args.line.now c.read_load.result c.in-Ok.load c.in-Ok.is c.read_load.ensures.too_long in
-    IfErr-weaker c.answer_file.result _ _ (λ fault h. file_fault c.args.line.now (line_of c.in-Ok.load) fault (c.in-Ok.ensures.found, short) h) c.answer_file.ensures.fault
+    file_unanswered g.S.Store _ _ c.args.line.now (line_of c.in-Ok.load) _ _ c.answer_file.result (c.in-Ok.ensures.found, short)
+    c.answer_file.ensures.fault c.answer_file.ensures.unread c.answer_file.ensures.memory
+
+pub returns-in_err-answer-in-Err-clause-unanswered : goal.returns-in_err-answer-in-Err-clause-unanswered
+returns-in_err-answer-in-Err-clause-unanswered g c =
+    let gone : c.from_residual.result ≡ Err Memory = is_fault _ _ c.from_residual.ensures.1 in
+    let h = c.in_err-answer-in-Err.ensures in
+    rw gone ([], inl (h.0, inr (refl, loads_nothing c.args.line.now c.read_load.result _ c.in-Err.is c.read_load.ensures.only, h.1)), gives_none _)
 
 pub returns-in_ok-answer-in-Err-clause-answered : goal.returns-in_ok-answer-in-Err-clause-answered
 returns-in_ok-answer-in-Err-clause-answered g c =

@@ -1,6 +1,7 @@
 use Rattle.std.proofs.Common.{rules, ◌≡◌, Err, arith}
 use Rattle.tc_cli.specs.Run.{script_lines}
-use Rattle.tc_cli.proofs.RunLemmas.{has_run-start, has_run-step, has_run-end, stopped_in_line}
+use Rattle.tc_cli.proofs.RunLemmas.{has_run-start, has_run-step, has_run-end}
+use Rattle.tc_cli.proofs.StopLemmas.{stopped_in_line}
 use Rattle.tc_cli.proofs.run.run_lines.Goals as goal
 
 pub loop-line-init : goal.loop-line-init
@@ -20,4 +21,4 @@ loop-line-preserved g c = record {
 pub returns-in_err-refused-clause-stopped : goal.returns-in_err-refused-clause-stopped
 returns-in_err-refused-clause-stopped g c =
     let gone : c.from_residual.result ≡ Err c.in_err-refused.field-0.0 = grind arith in
-    rw gone (stopped_in_line g.S.Store _ _ _ _ _ _ _ _ _ _ _ _ _ _ c.loop-line.invariant.run c.in-Some.ensures.steps c.in_err-refused.ensures.stopped)
+    rw gone (stopped_in_line g.S.Store _ _ _ _ _ _ _ _ _ _ _ _ _ _ _ c.loop-line.invariant.run c.in-Some.ensures.steps c.in_err-refused.ensures.stopped)

@@ -1,15 +1,15 @@
-use Rattle.std.proofs.Common.{◌≡◌, ◌∙◌, [], Err, List, ℕ, arith, refl, subst}
+use Rattle.std.proofs.Common.{◌≡◌, ◌∙◌, Err, List, ℕ, arith, subst}
 use Rattle.std.specs.Io.KnownBytes.{Appends}
-use Rattle.std.proofs.KnownBytes.{Appends-nil}
 use Rattle.tc_types.specs.Counts.{inner_of}
 use Rattle.tc_cli.specs.declared.script.ScriptFault.TheVariants.{Memory}
-use Rattle.tc_cli.proofs.RunLemmas.{is_fault, memory_is_other, output_is_other, stopped_in_question}
+use Rattle.tc_cli.proofs.StopLemmas.{is_fault, memory_is_other, output_is_other, question_unanswered, stopped_in_question}
 use Rattle.tc_cli.proofs.run.run_places.Goals as goal
 
 pub returns-in_err-last-clause-stopped : goal.returns-in_err-last-clause-stopped
 returns-in_err-last-clause-stopped g c =
     let gone : c.from_residual.result ≡ Err Memory = is_fault _ _ c.from_residual.ensures.1 in
-    rw gone ([], refl, Appends-nil _)
+    let h = c.in_err-last.ensures.answered in
+    rw gone (question_unanswered g.S.Store _ _ h.0 _ h.1)
 
 pub returns-in_err-last-clause-fault : goal.returns-in_err-last-clause-fault
 returns-in_err-last-clause-fault g c =

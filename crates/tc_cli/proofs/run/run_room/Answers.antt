@@ -1,5 +1,6 @@
 use Rattle.std.proofs.Common.{◌≡◌, Err}
-use Rattle.tc_cli.proofs.RunLemmas.{is_fault, lines_run, lines_stopped}
+use Rattle.tc_cli.proofs.RunLemmas.{lines_run}
+use Rattle.tc_cli.proofs.StopLemmas.{is_fault, lines_stopped}
 use Rattle.tc_cli.proofs.run.run_room.Goals as goal
 
 pub returns-in_err-refused-clause-stopped : goal.returns-in_err-refused-clause-stopped
@@ -10,7 +11,7 @@ returns-in_err-refused-clause-stopped g c =
 pub returns-in_err-last-clause-stopped : goal.returns-in_err-last-clause-stopped
 returns-in_err-last-clause-stopped g c =
     let gone : c.from_residual-in_err-last.result ≡ Err c.in_err-last.field-0.0 = is_fault _ _ c.from_residual-in_err-last.ensures.1 in
-    rw gone (lines_stopped g.S.Store _ _ _ _ _ _ _ _ _ _ c.in_ok-refused.ensures.taken c.in_err-last.ensures.stopped)
+    rw gone (lines_stopped g.S.Store _ _ _ _ _ _ _ _ _ _ _ c.in_ok-refused.ensures.taken c.in_err-last.ensures.stopped)
 
 pub returns-clause-answered : goal.returns-clause-answered
 returns-clause-answered g c = rw c.status_of.ensures (lines_run g.S.Store _ _ _ _ _ _ _ _ _ _ _ c.in_ok-refused.ensures.taken c.in_ok-last.ensures.taken c.in_ok-last.ensures.kept)

@@ -1,7 +1,7 @@
 use Rattle.std.proofs.Common.{map, ap, ◌∙◌, refl}
 use Rattle.std.proofs.lemmas.Result.{IfErr-weaker, IfOk-weaker}
 use Rattle.clap.specs.Words.{App, takes}
-use Rattle.tc_words.proofs.MatchLemmas.{fails_of, matches_of}
+use Rattle.tc_words.proofs.MatchLemmas.{fails_of, kind_of_fault, matches_of}
 use Rattle.tc_words.proofs.commands.matches.Goals as goal
 
 pub returns-clause-rows : goal.returns-clause-rows
@@ -13,6 +13,11 @@ pub returns-clause-taken : goal.returns-clause-taken
 returns-clause-taken c =
     let parse = c.try_get_matches_from in
     fails_of _ _ _ parse.result c.in_ok-desk_command.ensures.app refl parse.ensures.kinds
+
+pub returns-clause-kind : goal.returns-clause-kind
+returns-clause-kind c =
+    let parse = c.try_get_matches_from in
+    kind_of_fault _ _ _ parse.result c.in_ok-desk_command.ensures.app refl parse.ensures.kinds
 
 pub returns-clause-fault : goal.returns-clause-fault
 returns-clause-fault c =

@@ -1,0 +1,96 @@
+-- The run of a script that stops: with which fault, what is written then, and how it leaves the room.
+use Rattle.std.specs.Prelude.{◌≡◌, ◌⊎◌, ◌↔◌, ℕ, true, false, Option, List, [], ◌∷◌, ◌++◌}
+use Rattle.std.specs.List.{flat_map}
+use Rattle.std.specs.Io.KnownBytes.{Appends}
+use Rattle.sqlite_trees.specs.declared.memory.MemStore.{MemStore}
+use Rattle.sqlite_trees.specs.declared.store.Store.{Ghosts}
+use Rattle.sqlite.specs.Held.{state}
+use Rattle.sqlite.specs.State.{HasCleanDisk}
+use Rattle.sqlite.specs.Steps.{over_memory}
+use Rattle.tc_types.specs.Loads.{LoadLine}
+use Rattle.tc_desk.specs.Replies.{Reply}
+use Rattle.tc_desk.specs.State.{IsConfig}
+pub use Rattle.tc_front.specs.Write.{IsCutShort}
+use Rattle.tc_desk.specs.declared.configs.Config as configs
+use Rattle.tc_room.specs.Answers.{AsksPlaces}
+use Rattle.tc_room.specs.Joined.{HoldsBook, Standing}
+use Rattle.tc_room.specs.Replies.{ended}
+use Rattle.tc_room.specs.Room.{IsJustOpened}
+use Rattle.tc_cli.specs.Files.{FileAnswer, Gives, none_at}
+use Rattle.tc_cli.specs.Run.{AnswersScriptLine, HasFailed, IsLoadLine, TakesFront, is_skipped}
+use Rattle.tc_cli.specs.declared.paths.PathFault.{PathFault}
+use Rattle.tc_cli.specs.declared.paths.PathFault.TheVariants as path_fault
+use Rattle.tc_cli.specs.declared.script.ScriptFault.{ScriptFault}
+use Rattle.tc_cli.specs.declared.script.ScriptFault.TheVariants.{Script, Output, Memory, Tables, Config, Path}
+
+-- ---- at a line
+
+-- a line loads what is at a path, and this is why there was no text
+abbrev pub MissesFile : PathFault → List ℕ → List FileAnswer → Type 0
+MissesFile why line files = (load : LoadLine) × IsLoadLine line load × (files ≡ none_at load.path why ∷ [])
+
+module _ {S : Type 0} (g : Ghosts S) where
+  -- Why there is no text of the reply to a line, and how that leaves the room. `Memory`: the line was answered, and the text of its reply found
+  -- no memory; or memory was refused to the text at its path, and nothing happened. `Path`: its path gave no text, and nothing happened.
+  abbrev pub IsUnanswered : ScriptFault → Standing S → List ℕ → List FileAnswer → Standing S → Type 0
+  IsUnanswered Memory old line files after =
+      ((reply : Reply) × AnswersScriptLine g old line files reply after) ⊎ (MissesFile path_fault.Memory line files × (after ≡ old))
+  IsUnanswered Path old line files after = MissesFile path_fault.Unreadable line files × (after ≡ old)
+  IsUnanswered other old line files after = ⊥
+
+  -- what comes next is answered: the next line, or, where none is left, the question `places`
+  abbrev pub AnswersNext : Standing S → List (List ℕ) → List FileAnswer → Reply → Standing S → Type 0
+  AnswersNext old [] files reply after = (files ≡ []) × AsksPlaces g old reply after
+  AnswersNext old (line ∷ lines) files reply after = (is_skipped line ≡ false) × AnswersScriptLine g old line files reply after
+
+  -- why there is no text of that reply
+  abbrev pub UnansweredNext : ScriptFault → Standing S → List (List ℕ) → List FileAnswer → Standing S → Type 0
+  UnansweredNext fault old [] files after = (fault ≡ Memory) × (reply : Reply) × AnswersNext old [] files reply after
+  UnansweredNext fault old (line ∷ lines) files after = (is_skipped line ≡ false) × IsUnanswered fault old line files after
+
+  -- What a fault leaves of the next reply: a front of it, where a write failed; and nothing, where there is no text of it. No other fault ends a
+  -- run behind its opening.
+  abbrev pub LeavesPart : ScriptFault → Standing S → List (List ℕ) → List FileAnswer → List ℕ → Standing S → Type 0
+  LeavesPart Output old left files part after = (next : Reply) × AnswersNext old left files next after × IsCutShort (ended next) part
+  LeavesPart fault old left files part after = (part ≡ []) × UnansweredNext fault old left files after
+
+-- The run of these lines stopped after some of them, which left the room so: their replies are written, and of the next what the fault leaves.
+pub record StopsAfter {S : Type 0} (g : Ghosts S) (fault : ScriptFault) (start : Standing S) (lines : List (List ℕ)) (gave gives : Option (List FileAnswer)) (old new : Option (List ℕ)) (after : Standing S) : Type 0 where
+  pub files : List FileAnswer
+  pub replies : List Reply
+  pub reached : Standing S
+  pub left : List (List ℕ)
+  pub more : List FileAnswer
+  pub part : List ℕ
+  pub taken : TakesFront g start lines files replies reached left
+  pub leaves : LeavesPart g fault reached left more part after
+  pub given : Gives gave gives (files ++ more)
+  pub written : Appends old new (flat_map ended replies ++ part)
+  -- the tables hold the book of the room, while it goes on; else what the failure of the database left
+  pub held : HoldsBook g start → HoldsBook g after
+  pub failed : HoldsBook g start → start.stopped ≡ false → after.stopped ≡ true → HasCleanDisk (state g after.tables)
+      → (told : List Reply) × HasFailed g start lines (replies ++ told) after
+
+-- ---- before the first line
+
+-- nothing was written, and no file was asked for
+abbrev pub IsUntouched : Option (List FileAnswer) → Option (List FileAnswer) → Option (List ℕ) → Option (List ℕ) → Type 0
+IsUntouched gave gives old new = Gives gave gives [] × Appends old new []
+
+-- the script was not read, or memory was refused to it
+abbrev pub IsUnread : ScriptFault → Type 0
+IsUnread fault = (fault ≡ Script) ⊎ (fault ≡ Memory)
+
+-- the desk was not opened: with `Config` exactly where there is no such desk, else for want of memory, or of its tables
+pub record IsUnopened (config : configs.Config) (fault : ScriptFault) : Type 0 where
+  pub unfit : (fault ≡ Config) ↔ (¬ IsConfig config)
+  pub kind : (fault ≡ Config) ⊎ (fault ≡ Memory) ⊎ (fault ≡ Tables)
+
+-- ---- in memory
+
+-- The run of these lines stopped before the first, or after some of them, in a room that was just opened over a new database in memory.
+abbrev pub Stops : configs.Config → ScriptFault → List (List ℕ) → Option (List FileAnswer) → Option (List FileAnswer) → Option (List ℕ) → Option (List ℕ) → Type 0
+Stops config fault lines gave gives old new =
+    ((IsUnread fault ⊎ IsUnopened config fault) × IsUntouched gave gives old new)
+    ⊎ ((start : Standing MemStore) × (after : Standing MemStore) × IsJustOpened over_memory config start
+    × StopsAfter over_memory fault start lines gave gives old new after)
