@@ -1,4 +1,4 @@
-use Rattle.std.proofs.Common.{arith, refl, subst}
+use Rattle.std.proofs.Common.{arith, refl, subst, sym}
 use Rattle.sqlite.specs.Held.{state}
 use Rattle.sqlite.specs.State.{HasCleanDisk}
 use Rattle.tc_types.specs.Tables.{Image}
@@ -38,3 +38,9 @@ returns-in-Err-clause-crash g c = rw c.into_connection.ensures (λ clean image h
 
 pub returns-in-Err-clause-kind : goal.returns-in-Err-clause-kind
 returns-in-Err-clause-kind g c = unopened_kind c.load-loaded.result c.in-Err.refusal c.in-Err.ensures.refused
+
+pub returns-in-Err-write-clause-kept : goal.returns-in-Err-write-clause-kept
+returns-in-Err-write-clause-kept g c = rw c.into_connection-in-Err-write.ensures (λ clean is_open image held.
+    let before : HasCleanDisk (state g.S.Store c.load-loaded.new.self) = omega (arith, clean, c.write.ensures.crash.clean) in
+    let holds : Holds (state g.S.Store c.load-loaded.new.self).now image = held_read c.args.config c.args.moment c.load-loaded.result _ _ _ (c.load-loaded.ensures.same before image held) c.in-Ok.ensures.read in
+    subst (λ now. Holds now image) (sym (c.in-Err-write.ensures.kept clean is_open)) holds)

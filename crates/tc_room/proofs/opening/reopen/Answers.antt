@@ -13,7 +13,7 @@ returns-in-Ok-clause-read c = rw c.in-Ok.is (all_ok _ c.reopen_desk.result
 
 pub returns-in-Ok-clause-refused : goal.returns-in-Ok-clause-refused
 returns-in-Ok-clause-refused c = rw c.in-Ok.is (IfErr-weaker c.reopen_desk.result _ _
-    (λ why refused. why_unopened (IsConfig c.args.config) (IsSound (rows_in c.in-Ok.image)) why refused c.requires)
+    (λ why refused. why_unopened (IsConfig c.args.config) (IsSound (rows_in c.in-Ok.image)) why refused c.requires.fit)
     c.reopen_desk.ensures.refused)
 
 pub returns-in-Err-clause-refused : goal.returns-in-Err-clause-refused
