@@ -13,4 +13,4 @@ returns-clause-kept g c =
 pub returns-clause-step : goal.returns-clause-step
 returns-clause-step g c =
     let read = exchange_read g.S.Store c.serve_first-served.result _ _ _ _ _ _ _ _ c.serve_first-served.ensures.answered c.serve_first-served.ensures.failed in
-    (read.0, record { served = read.1; opened = c.serve_first-served.ensures.opened; told = c.opened-_opened.ensures.told })
+    (read.0, record { served = read.1; opened = c.serve_first-served.ensures.opened; told = c.opened-opened.ensures.told })
