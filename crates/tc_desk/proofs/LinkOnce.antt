@@ -77,14 +77,12 @@ begun_on given acts b = record b {
   clean = clean_after lossy lossy given b;
 }
 
-
 carries_is : (acts : List Action) (w v : Listed) (a : List Indication) → Carries listed acts w v a → bare v ≡ carried_on acts (bare w)
 carries_is acts w v a h =
     let frames : List Frame = (output acts w.fop).frames in
     let up : v.up.content ≡ w.up.content ++ frames = puts_all_is h.ready frames v.up h.frames ∙ ap (λ (l : List Frame). l ++ frames) (readied_is w.up h.ready h.readied) in
     ap (λ (x : Listed). bare x) h.whole
     ∙ ap (λ (l : List Frame). record (bare w) { fop = after acts w.fop; up = l; newest = noted (output acts w.fop) w.newest }) up
-
 
 begins_is : (given : Directive) (acts : List Action) (w v : Listed) (a : List Indication) → Begins listed listed given acts w v a → bare v ≡ begun_on given acts (bare w)
 begins_is given acts w v a h =
@@ -180,7 +178,6 @@ descends_once i1 i2 w1 w2 v1 v2 a1 a2 same item h1 h2 =
 -- the FARM has one control word on a channel
 abbrev word_with : ℕ → FarmView → ℕ
 word_with vc farm = 1 * 2 ^ 24 + vc * 2 ^ 18 + from_bool farm.lockout * 2 ^ 13 + from_bool farm.wait * 2 ^ 12 + from_bool farm.retransmit * 2 ^ 11 + farm.farm_b * 2 ^ 9 + farm.vr
-
 
 word_is : (farm : FarmView) (vc : ℕ) (clcw : Clcw) → IsWordOf farm vc clcw → word_of clcw ≡ word_with vc farm
 word_is farm vc clcw h = rw (h.channel, h.lockout, h.wait, h.retransmit, h.farm_b, h.report_value) refl
