@@ -22,7 +22,7 @@ use Rattle.tc_desk.specs.Replies.{Reply, refusal_reply}
 use Rattle.tc_room.specs.Joined.{HasImage, HoldsBook, Standing}
 use Rattle.tc_room.specs.Loads.{LoadsText, RoomLoad}
 use Rattle.tc_room.specs.Room.{FailsStore, RoomStep, StepsDesk}
-use Rattle.tc_api.specs.Kept.{FailedAt, FailsTables, KeepsPromise, KeepsTables, ServesAll, ServesOne, ServesRead}
+use Rattle.tc_api.specs.Kept.{FailedAt, FailsTables, KeepsPromise, KeepsTables, ServesAll, ServesRead}
 use Rattle.tc_api.specs.Loads.{Load}
 use Rattle.tc_api.specs.Serving.{Outcome, Serves, ServesAct, ServesLine, ServesLoad, ServesPost, ServesText}
 
