@@ -1,5 +1,5 @@
 -- What is opened over tables.
-use Rattle.std.proofs.Common.{◌≡◌, ◌⊎◌, inl, inr, ℕ, Bool, true, false, List, [], ◌∷◌, Result, Ok, Err, ap, subst, sym}
+use Rattle.std.proofs.Common.{◌≡◌, ◌∙◌, ◌⊎◌, inl, inr, ℕ, Bool, true, false, List, [], ◌∷◌, Result, Ok, Err, ap, subst, sym}
 use Rattle.std.specs.Prelude.{IfOk, OnOk}
 use Rattle.sqlite_schema.specs.declared.schema.Schema.{Schema}
 use Rattle.sqlite.specs.Effect.{Database}
@@ -14,9 +14,10 @@ use Rattle.tc_images.specs.Images.{rows_in}
 use Rattle.tc_desk.specs.declared.configs.Config.{Config}
 use Rattle.tc_store.specs.declared.faults.StoreFault.{StoreFault}
 use Rattle.tc_store.specs.Schema.{schema_1, Holds}
+use Rattle.tc_store.specs.Shows.{ShowsAll}
 use Rattle.tc_store.specs.Told.{IsTold}
 use Rattle.tc_room.specs.Joined.{LinkState}
-use Rattle.tc_room.specs.Opening.{IsWhyUnopened, KeepsTables, ReadsFrom, ReadsLeft}
+use Rattle.tc_room.specs.Opening.{IsWhyUnopened, KeepsTables, ReadsFrom, ReadsLeft, ShowsDesk}
 
 -- what the clauses of one answer make together
 pub all_ok : {T E : Type 0} {A B C : T → Type 0} {P : Type 0} (F : T → Type 0) (r : Result T E) → ((t : T) → A t → B t → C t → P → F t) → IfOk r A → IfOk r B → IfOk r C → OnOk r P → IfOk r F
@@ -33,6 +34,15 @@ pub unopened_kind : (loaded : Result Loaded StoreFault) (why : Refusal) → IsWh
 unopened_kind (Ok image) why (inl is) = inl is
 unopened_kind (Ok image) why (inr (is, unsound)) = inr is
 unopened_kind (Err fault) why is = inr is
+
+store_memory : (let e : Refusal = Store in e) ≡ Memory → ⊥
+store_memory e = cc
+
+-- want of memory is told only where the tables were read
+pub memory_read : (Clean : Type 0) (db : Database) (loaded : Result Loaded StoreFault) (why : Refusal) → IsWhyUnopened loaded why → why ≡ Memory
+    → IfOk loaded (λ (l : Loaded). IsTold (rows_in l)) → IfOk loaded (λ (l : Loaded). Clean → ShowsAll db (rows_in l)) → Clean → ShowsDesk db
+memory_read Clean db (Ok l) why is memory told shown clean = (rows_in l, told, shown clean)
+memory_read Clean db (Err fault) why is memory told shown clean = absurd (store_memory (sym is ∙ memory))
 
 -- what was read of tables that hold an image is that image, and so is what is opened over it
 pub left_read : (config : Config) (moment : ℕ) (db : Database) (loaded : Result Loaded StoreFault) (image : Image) (desk : LinkState) (moves : List Move) (batch : List Row)

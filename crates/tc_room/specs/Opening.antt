@@ -22,6 +22,7 @@ use Rattle.tc_desk.specs.declared.configs.Config.{Config}
 use Rattle.tc_desk.specs.Opening.{reopened_parts}
 use Rattle.tc_store.specs.declared.faults.StoreFault.{StoreFault}
 use Rattle.tc_store.specs.Schema.{Holds}
+use Rattle.tc_store.specs.Shows.{ShowsAll}
 use Rattle.tc_store.specs.Told.{IsTold}
 use Rattle.tc_room.specs.Crash.{HasRows, LeavesOr}
 use Rattle.tc_room.specs.Joined.{HasImage, Link, LinkState, Standing}
@@ -50,6 +51,10 @@ ReadsFrom config moment (Err fault) desk moves batch = ⊥
 abbrev pub IsWhyUnopened : Result Loaded StoreFault → Refusal → Type 0
 IsWhyUnopened (Ok image) why = (why ≡ Memory) ⊎ ((why ≡ Store) × ¬ IsSound (rows_in image))
 IsWhyUnopened (Err fault) why = why ≡ Store
+
+-- tables that show rows as a desk writes them, and no others
+abbrev pub ShowsDesk : Database → Type 0
+ShowsDesk db = (rows : Image) × IsTold rows × ShowsAll db rows
 
 -- A room that was opened at a moment over tables with these rows, which a desk could have written, and the moves that this made: its desk is what
 -- the opening makes of them, and its tables hold its book.

@@ -12,7 +12,7 @@ ghost use Rattle.tc_desk.specs.State.{IsConfig};
 ghost use Rattle.tc_store.specs.Schema.{schema_1, Holds};
 ghost use Rattle.tc_store.specs.Told.{IsTold};
 ghost use Rattle.tc_room.specs.Crash.{HasRows, LeavesOr};
-ghost use Rattle.tc_room.specs.Opening.{IsWhyUnopened, KeepsTables, LeavesOpening, OpensAs, OpensLeft, OpensTo, ReadsFrom};
+ghost use Rattle.tc_room.specs.Opening.{IsWhyUnopened, KeepsTables, LeavesOpening, OpensAs, OpensLeft, OpensTo, ReadsFrom, ShowsDesk};
 ghost use Rattle.tc_room.specs.Room.{IsJustOpened};
 
 use crate::desks::{ReopenedDesk, is_fit, make_desk, reopen_desk};
@@ -71,6 +71,7 @@ fn open_left<S: Alter + Drop>(
     ensures kept { IfErr result (λ e. HasCleanDisk (state S.Store e.1) → IsTrue (state S.Store e.1).is_open → (image : Rows) → Holds (state S.Store tables).now image → Holds (state S.Store e.1).now image) }
     ensures crash { IfErr result (λ e. HasCleanDisk (state S.Store e.1) → (image : Rows) → Holds (state S.Store tables).now image → LeavesOr S.Store tables e.1 (OpensTo config moment image)) }
     ensures kind { IfErr result (λ e. (e.0 ≡ Memory) ⊎ (e.0 ≡ Store)) }
+    ensures memory { IfErr result (λ e. e.0 ≡ Memory → HasCleanDisk (state S.Store e.1) → (state S.Store tables).now.schema ≡ schema_1 → ShowsDesk (state S.Store tables).now) }
 {
     let mut tables = tables;
     let loaded = tables.load();
@@ -133,6 +134,8 @@ impl<S: Alter + Drop> Room<S> {
         ensures config { OnOk result (IsConfig config) }
         ensures refused { IfErr result (λ e. (e.0 ≡ BadDirective) ↔ (¬ IsConfig config)) }
         ensures kind { IfErr result (λ e. (e.0 ≡ BadDirective) ⊎ (e.0 ≡ Memory) ⊎ (e.0 ≡ Store)) }
+        // tables that show no rows as a desk writes them are refused with `Store`, and never with `Memory`
+        ensures memory { IfErr result (λ e. e.0 ≡ Memory → HasCleanDisk (state S.Store e.1) → (state S.Store store).now.schema ≡ schema_1 → ShowsDesk (state S.Store store).now) }
         ensures kept { IfErr result (λ e. HasCleanDisk (state S.Store e.1) → IsTrue (state S.Store e.1).is_open → KeepsTables (state S.Store store).now (state S.Store e.1).now) }
         // also after a crash they are as they were, or all of the opening is there
         ensures crash { IfErr result (λ e. HasCleanDisk (state S.Store e.1) → LeavesOpening S.Store config moment store e.1) }

@@ -4,7 +4,7 @@ use Rattle.sqlite.specs.State.{HasCleanDisk}
 use Rattle.tc_types.specs.Tables.{Image}
 use Rattle.tc_store.specs.Schema.{Holds}
 use Rattle.tc_room.specs.Crash.{HasRows}
-use Rattle.tc_room.proofs.OpeningLemmas.{held_read, left_read, unopened_kind}
+use Rattle.tc_room.proofs.OpeningLemmas.{held_read, left_read, memory_read, unopened_kind}
 use Rattle.tc_room.proofs.TableLemmas.{leaves_more, leaves_none, leaves_over, written}
 use Rattle.tc_room.proofs.opening.open_left.Goals as goal
 
@@ -44,3 +44,7 @@ returns-in-Err-write-clause-kept g c = rw c.into_connection-in-Err-write.ensures
     let before : HasCleanDisk (state g.S.Store c.load-loaded.new.self) = omega (arith, clean, c.write.ensures.crash.clean) in
     let holds : Holds (state g.S.Store c.load-loaded.new.self).now image = held_read c.args.config c.args.moment c.load-loaded.result _ _ _ (c.load-loaded.ensures.same before image held) c.in-Ok.ensures.read in
     subst (λ now. Holds now image) (sym (c.in-Err-write.ensures.kept clean is_open)) holds)
+
+pub returns-in-Err-clause-memory : goal.returns-in-Err-clause-memory
+returns-in-Err-clause-memory g c = rw c.into_connection.ensures (λ memory clean ours.
+    memory_read _ _ c.load-loaded.result c.in-Err.refusal c.in-Err.ensures.refused memory c.load-loaded.ensures.told (c.load-loaded.ensures.shown clean) ours)

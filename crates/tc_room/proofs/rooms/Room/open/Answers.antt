@@ -4,7 +4,7 @@ use Rattle.sqlite.specs.Held.{Held, state}
 use Rattle.tc_types.specs.Tables.{empty_image}
 use Rattle.tc_store.specs.Schema.{Holds}
 use Rattle.tc_room.specs.Crash.{HasRows}
-use Rattle.tc_room.specs.Opening.{OpensTo}
+use Rattle.tc_room.specs.Opening.{OpensTo, ShowsDesk}
 use Rattle.tc_room.proofs.OpeningLemmas.{keeps_same, not_empty}
 use Rattle.tc_room.proofs.rooms.Room.open.Goals as goal
 
@@ -45,3 +45,15 @@ returns-in-Err-Foreign-default-clause-crash g c = IfErr-weaker c.open_new.result
       held = λ image held. absurd (c.in-Err-Foreign-default.ensures.foreign c.in-Err-Foreign-default.field-0-0-is held.schema);
     })
     c.open_new.ensures.crash
+
+pub returns-in-Ok-clause-memory : goal.returns-in-Ok-clause-memory
+returns-in-Ok-clause-memory g c = IfErr-weaker c.open_left.result _ _
+    (λ e shows memory clean ours.
+    subst (λ (t : Held _). ShowsDesk (state g.S.Store t).now) c.in-Ok.ensures.same
+    (shows memory clean (ap (λ (t : Held _). (state g.S.Store t).now.schema) c.in-Ok.ensures.same ∙ ours)))
+    c.open_left.ensures.memory
+
+pub returns-in-Err-Foreign-default-clause-memory : goal.returns-in-Err-Foreign-default-clause-memory
+returns-in-Err-Foreign-default-clause-memory g c = IfErr-weaker c.open_new.result _ _
+    (λ e kind memory clean ours. absurd (c.in-Err-Foreign-default.ensures.foreign c.in-Err-Foreign-default.field-0-0-is ours))
+    c.open_new.ensures.kind
