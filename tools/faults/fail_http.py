@@ -1,32 +1,29 @@
-#!/usr/bin/env python3
-"""Fails the reads and writes of the program's server, refuses it memory, and takes its disk away: tools/faults/fail_http.py [PROGRAM [GROUP..]], at any
-place.
+"""The server's reads and writes failed, its memory refused, its disk taken away.
 
-By tools/faults/fail_io.c the read of each number of a connection fails: nothing is written and no act is made; the write of each number fails, or
+By fail_io.c the read of each number of a connection fails: nothing is written and no act is made; the write of each number fails, or
 takes nothing: a front of the response went out, and the act stands once; all come in short pieces: the response is the same. By
-tools/faults/fail_malloc.c each request for memory from the first connection on is refused, one a run: the response is right, or tells that there was
+fail_malloc.c each request for memory from the first connection on is refused, one a run: the response is right, or tells that there was
 no memory (30, or 31 where the database had none), or is not there; an act that was answered stands, one that was refused 30 does not, and none
 stands twice. By a limit on the size of files the database fails: 31, and from then on 32. After each run the file is opened and asked. There is
-a line for each run that failed. The last line is 'fail http: S stream runs, M memory runs (..), D of the disk, B bad'; the status is 1 where
-one was bad.
+a line for each run that failed.
 """
 import os
 import resource
 import shutil
 import signal
-import subprocess
-import sys
 import tempfile
 import time
+import unittest
 from collections import Counter
 from typing import NamedTuple
 
-sys.path.insert(0, os.path.dirname(os.path.dirname(os.path.realpath(__file__))))
 import http_posts as posts
 import http_requests as requests
-from tests.http_peer import PATIENCE, Case, Ended, Expected, Fault, Server, get, post, program_in, quick_folder, run
 from http_requests import BODY, ENTRY, PLACES, act
 from plain_http import LARGE, NO_PATH, OTHER_METHOD, reply_response
+from tests.asked import ASKED
+from tests.http_peer import PATIENCE, Case, Ended, Expected, Fault, Server, get, post, run
+from tests.runs import made_shim, quick_folder
 
 MOST_BAD = 10
 MOST_BEHIND = 1000  # reads behind an answer
@@ -39,16 +36,14 @@ class Runs:
 
     def __init__(self, program, folder):
         self.program, self.folder, self.counts, self.seen = program, folder, Counter(), Counter()
-        top = os.path.dirname(os.path.realpath(__file__))
         for name in ("fail_io", "fail_malloc"):
-            if subprocess.run([f"{top}/make_shim.sh", name, folder], check=False).returncode:
-                sys.exit(f"fail_http: {name} cannot be made")
+            made_shim(name, folder)
         run(program, folder, [], "--db", "left.db")
 
     def bad(self, name, *what):
         """Tells of a run that was bad."""
         self.counts["bad"] += 1
-        print(f"fail_http: {name}: {', '.join(f'{it!r:.300}' for it in what)}", flush=True)
+        print(f"{name}: {', '.join(f'{it!r:.300}' for it in what)}", flush=True)
         if self.counts["bad"] >= MOST_BAD:
             raise Fault("too many runs were bad")
 
@@ -250,23 +245,30 @@ def disk(runs):
             runs.bad(f"files of {size} bytes", ended, stands)
 
 
-def main():
-    """Tries all runs."""
-    program = program_in(sys.argv[1:])
-    groups = [it for it in (streams, memory, disk) if it.__name__ in sys.argv[2:]] or [streams, memory, disk]
-    with tempfile.TemporaryDirectory(prefix="fail-http-", dir=quick_folder()) as folder:
-        runs = Runs(program, folder)
-        for group in groups:
-            try:
-                group(runs)
-            except (Fault, OSError, ValueError, LookupError, subprocess.SubprocessError) as fault:
-                runs.counts["bad"] += 1
-                print(f"fail_http: {group.__name__} goes no further: {fault!r}", flush=True)
-    seen = ", ".join(f"{count} {name}" for name, count in sorted(runs.seen.items()))
-    counts = runs.counts
-    print(f"fail http: {counts['streams']} stream runs, {counts['memory']} memory runs ({seen}), {counts['disk']} of the disk, {counts['bad']} bad")
-    return int(runs.counts["bad"] > 0)
+class HttpFaults(unittest.TestCase):
+    """Faults of a server."""
 
+    def setUp(self) -> None:
+        """A folder to work in, and no run yet."""
+        folder = tempfile.TemporaryDirectory(prefix="fail-http-", dir=quick_folder())
+        self.addCleanup(folder.cleanup)
+        self.runs = Runs(ASKED.program, folder.name)
 
-if __name__ == "__main__":
-    sys.exit(main())
+    def tearDown(self) -> None:
+        """How many runs there were; none may have been bad."""
+        counts = self.runs.counts
+        seen = ", ".join(f"{count} {name}" for name, count in sorted(self.runs.seen.items()))
+        print(f"fail http: {counts['streams']} stream runs, {counts['memory']} memory runs ({seen}), {counts['disk']} of the disk, {counts['bad']} bad")
+        self.assertEqual(0, counts["bad"], "runs were bad")
+
+    def test_streams(self) -> None:
+        """Reads and writes that fail, or take little."""
+        streams(self.runs)
+
+    def test_memory(self) -> None:
+        """Memory that is refused."""
+        memory(self.runs)
+
+    def test_disk(self) -> None:
+        """A disk that is full."""
+        disk(self.runs)

@@ -1,5 +1,4 @@
-#!/usr/bin/env python3
-"""Stops the built program at each of its calls on the files that keep a desk: tools/faults/stop_kept.py [PROGRAM].
+"""The built program stopped at each of its calls on the files that keep a desk.
 
 A run of a script on a desk in a file is stopped dead (tools/faults/stop_io.c) at call 1, 2, 3 and so on of those that change or sync the file or its
 log, up to the last that it makes where it is not stopped. Each stop is tried in four ways: before the call or when half of it is made; and with
@@ -11,21 +10,20 @@ those that the same opening makes of a desk that was never stopped, after the ac
 and the one act in progress: no answered act is missing, and none is there by half. What the program itself tells of them has to be the same too.
 
 For each disagreement there is a line, and for each run one with how many stops left the state before the act in progress, how many that
-after it, and how many either, where both are the same. The status is 1 where one disagreed.
+after it, and how many either, where both are the same.
 """
 import os
 import shutil
 import subprocess
-import sys
 import tempfile
+import unittest
 from concurrent.futures import ThreadPoolExecutor
 from contextlib import closing
 from dataclasses import dataclass
 
-sys.path.insert(0, os.path.dirname(os.path.dirname(os.path.realpath(__file__))))
 from desk_tables import sqlite3
-
-TOP = os.path.dirname(os.path.dirname(os.path.dirname(os.path.abspath(__file__))))
+from tests.asked import ASKED
+from tests.runs import made_shim
 
 # When the desk is left, when the run that is stopped opens it, and when it is opened again.
 LEFT, OPENED, AGAIN = 100, 1000, 9000
@@ -176,7 +174,11 @@ class Desks:
     """The folder in which desks are made, run and stopped, and the program that does it."""
 
     def __init__(self, work, program):
-        self.work, self.program, self.shim = work, program, f"{work}/stop_io.so"
+        """The library that stops the program is made in this folder, and the files that its lines load are put there."""
+        self.work, self.program, self.shim = work, program, made_shim("stop_io", work)
+        write(f"{work}/some.csv", stack_of(12))
+        write(f"{work}/many.csv", stack_of(200))
+        write(f"{work}/warm.csv", PROCEDURE)
 
     def run(self, folder, script, moment, **settings):
         """Runs a script on the desk of a folder, and gives how it ended, what it printed, and what it said of faults."""
@@ -190,14 +192,14 @@ class Desks:
         """What a run prints that is not stopped, and has to end well."""
         status, out, err = self.run(folder, script, moment)
         if status or err:
-            sys.exit(f"stop_kept: a run that was not stopped ended with status {status}: {err.decode(errors='replace')}")
+            raise AssertionError(f"a run that was not stopped ended with status {status}: {err.decode(errors='replace')}")
         return out
 
     def calls(self, folder, script, moment):
         """How many calls a run makes that is not stopped."""
         told = self.run(folder, script, moment, STOP_AT="0")[2].strip()
         if not told.isdigit() or told == b"0":
-            sys.exit(f"stop_kept: the program's calls on its files are not seen: {told.decode(errors='replace')}")
+            raise AssertionError(f"the program's calls on its files are not seen: {told.decode(errors='replace')}")
         return int(told)
 
 
@@ -313,23 +315,14 @@ class Trial:
         return stops, bad
 
 
-def main():
-    program = os.path.abspath(sys.argv[1] if len(sys.argv) > 1 else f"{TOP}/crates/tc_cli/out/tc_cli")
-    if not os.access(program, os.X_OK):
-        sys.exit(f"stop_kept: {program} is not built")
-    with tempfile.TemporaryDirectory() as work:
-        if subprocess.run([f"{TOP}/tools/faults/make_shim.sh", "stop_io", work], check=False).returncode:
-            return 1
-        write(f"{work}/some.csv", stack_of(12))
-        write(f"{work}/many.csv", stack_of(200))
-        write(f"{work}/warm.csv", PROCEDURE)
-        desks = Desks(work, program)
-        with ThreadPoolExecutor(4) as pool:
+class Stops(unittest.TestCase):
+    """Stops at each call on the files."""
+
+    def test_runs(self) -> None:
+        """All stops of all runs, four at a time."""
+        with tempfile.TemporaryDirectory() as work, ThreadPoolExecutor(4) as pool:
+            desks = Desks(work, ASKED.program)
             told = [Trial(desks, run, pool).tell() for run in RUNS]
-    stops, bad = (sum(column) for column in zip(*told))
-    print(f"stop_kept: {stops} stops, {bad} bad")
-    return 1 if bad else 0
-
-
-if __name__ == "__main__":
-    sys.exit(main())
+        stops, bad = (sum(column) for column in zip(*told))
+        print(f"stop_kept: {stops} stops, {bad} bad")
+        self.assertEqual(0, bad, "stops that left what they may not")

@@ -1,9 +1,8 @@
-#!/usr/bin/env python3
-"""The proxy that docs/OPERATORS.md prints for nginx, before a served desk: tools/pages/proxy_cases.py [PROGRAM], at any place.
+"""The proxy that docs/OPERATORS.md prints for nginx, before a served desk.
 
 The text is taken from the manual as it stands, but for its ports and the paths of its files. Asked are a login, the desk's own answers through the proxy, a
 body that is too long, many posts at the same moment, each of which has to be answered and to stand, and a peer that says nothing, which holds nobody. Where
-nginx or openssl is not installed it says that this was not tried. The last line is 'proxy cases: N passed, M failed'; the status is 1 where one failed.
+nginx or openssl is not installed it says that this was not tried.
 """
 import base64
 import os
@@ -12,17 +11,14 @@ import shutil
 import socket
 import ssl
 import subprocess
-import sys
-import tempfile
 import time
 from concurrent.futures import ThreadPoolExecutor
 from http.client import HTTPSConnection
 
-sys.path.insert(0, os.path.dirname(os.path.dirname(os.path.realpath(__file__))))
-from tests.test_http import Cases
-from tests.http_peer import HERE, Fault, Server, free_port, program_in
+from tests.asked import TOP
+from tests.http_cases import Served
+from tests.http_peer import HERE, Fault, Server, free_port
 
-TOP = os.path.dirname(os.path.dirname(os.path.dirname(os.path.realpath(__file__))))
 POSTS, AT_ONCE = 300, 60
 PLACES = '{{"lines":["places {0}: {0} 0 0 0 0 0 0 0 0 0 0 0 0 0 0"],"more":0,"refusal":0}}'
 BODY = '{{"by":"ann","moment":0,"act":"enter {} a--c no 8 1 - - ok"}}'
@@ -107,25 +103,21 @@ def look(cases, proxy):
         cases.tell("and at once", True, time.monotonic() - began < 4)
 
 
-def main():
-    """Tries all cases."""
-    program = program_in(sys.argv[1:])
-    for name in ("nginx", "openssl"):
-        if not shutil.which(name, path=f"{os.environ['PATH']}:/usr/sbin"):
-            print(f"not tried: {name} is not installed")
-            return 0
-    os.environ["PATH"] += ":/usr/sbin"
-    with tempfile.TemporaryDirectory(prefix="proxy-cases-") as folder, Server(program, folder, "desk.db", None) as server:
-        server.connect().close()
-        cases, proxy = Cases(program, folder), begin(folder, own := free_port(), server.port)
-        try:
-            look(cases, Proxy(own))
-        finally:
-            proxy.terminate()
-            proxy.wait()
-    print(f"proxy cases: {cases.passed} passed, {cases.failed} failed")
-    return 1 if cases.failed or not cases.passed else 0
+class Behind(Served):
+    """The desk behind the proxy."""
 
-
-if __name__ == "__main__":
-    sys.exit(main())
+    def test_proxy(self) -> None:
+        """All cases."""
+        for name in ("nginx", "openssl"):
+            if not shutil.which(name, path=f"{os.environ['PATH']}:/usr/sbin"):
+                self.skipTest(f"{name} is not installed")
+        os.environ["PATH"] += ":/usr/sbin"
+        cases, folder = self.cases, self.cases.folder()
+        with Server(cases.program, folder, "desk.db", None) as server:
+            server.connect().close()
+            proxy = begin(folder, own := free_port(), server.port)
+            try:
+                look(cases, Proxy(own))
+            finally:
+                proxy.terminate()
+                proxy.wait()

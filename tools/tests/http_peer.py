@@ -7,7 +7,6 @@ import re
 import socket
 import struct
 import subprocess
-import sys
 import time
 from typing import NamedTuple
 
@@ -173,11 +172,6 @@ def reset(peer):
     peer.close()
 
 
-def quick_folder():
-    """A folder in memory, where the system has one, for files of which nobody asks whether they come to a disk; else none."""
-    return "/dev/shm" if os.access("/dev/shm", os.W_OK) else None
-
-
 # ---- what has to be answered
 
 def run(program, folder, lines, *words):
@@ -261,12 +255,3 @@ def post(path, body, *lines, length=None, end="\r\n"):
     length = len(body) if length is None else length
     head = (f"POST {path} HTTP/1.1", "Host: desk", "Content-Type: application/json", f"Content-Length: {length}", *lines, "")
     return "".join(f"{it}{end}" for it in head).encode() + body
-
-
-def program_in(words):
-    """The program that is to be run: the first word, or the one that is built in the repository."""
-    top = os.path.dirname(os.path.dirname(os.path.dirname(os.path.realpath(__file__))))
-    program = os.path.abspath(words[0]) if words else f"{top}/crates/tc_cli/out/tc_cli"
-    if not os.access(program, os.X_OK):
-        sys.exit(f"{os.path.basename(sys.argv[0])}: {program} is not built")
-    return program

@@ -1,27 +1,24 @@
-#!/usr/bin/env python3
-"""Changes one value of a desk's file, and looks whether the program refuses what no desk could have written:
-tools/tests/test_broken.py [PROGRAM], at any place.
+"""One value of a desk's file is changed: what no desk could have written is refused.
 
 Desks are made by scripts, so that every table has several rows and a request stands at every place. Then each column of each
 table, as the schema has them, is changed in several rows to several values, and rows are deleted, doubled and moved behind
-the others. What has to happen is told by tools/desk_tables.py, from the definitions: what no desk could have written is
-refused and left byte for byte; all else is opened, and has the rows of the opening then. There is a line for each file of
-which the program thinks otherwise. The last line is 'broken cases: N refused, M taken, K skipped, D disagreed' (skipped: a
-change that the schema itself refuses); the status is 1 where one disagreed.
+the others. What has to happen is told from the definitions: what no desk could have written is refused and left byte for byte; all
+else is opened, and has the rows of the opening then. Some changes are skipped, since the schema itself refuses them.
 """
 import os
 import random
 import shutil
-import sys
 import tempfile
+import unittest
 from concurrent.futures import ProcessPoolExecutor
 from dataclasses import dataclass
 from functools import partial
 
-sys.path.insert(0, os.path.dirname(os.path.dirname(os.path.realpath(__file__))))
 import desk_tables
-from desk_tables import (ROWS, LAST_MOMENT, columns_of, connect, move_line, opened_moves, opened_tables, places_line,
-                         program_in, read_tables, run, sqlite3, tables_of, why_unsound, write_lines)
+from desk_tables import LAST_MOMENT, ROWS, columns_of, connect, read_tables, tables_of, why_unsound
+from tests.asked import ASKED
+from tests.changes import Change, change_file, why_not_opened, why_not_refused
+from tests.runs import bytes_of, run_kept, write_lines
 
 SEED = 20311125
 LEAST_JUDGED = 200
@@ -180,14 +177,6 @@ class Desk:
 
 
 @dataclass
-class Change:
-    """What is done to a desk's file: in words, and the statements."""
-    desk: Desk
-    text: str
-    statements: list
-
-
-@dataclass
 class Found:
     """What became of a change: skipped, refused or taken; and where the program thinks otherwise, how."""
     kind: str
@@ -212,12 +201,12 @@ def make_desks(program, folder):
     write_lines(f"{folder}/day.tc", DAY)
     write_lines(f"{folder}/next.tc", NEXT)
     write_lines(f"{folder}/empty.tc", [])
-    made = run(program, folder, "day.db", 0, "day.tc")
+    made = run_kept(program, folder, "day.db", 0, "day.tc")
     shutil.copy(f"{folder}/day.db", f"{folder}/next.db")
-    more = run(program, folder, "next.db", 86400, "next.tc")
+    more = run_kept(program, folder, "next.db", 86400, "next.tc")
     refused = [line for it in (made, more) for line in it.lines if line.startswith("refused")]
     if made.status or more.status or refused:
-        sys.exit(f"broken_cases: the desks could not be made: {made.status} {more.status} {refused} {made.errors}{more.errors}")
+        raise AssertionError(f"the desks could not be made: {made.status} {more.status} {refused} {made.errors}{more.errors}")
     return [left_desk(f"{folder}/day.db", 86400), left_desk(f"{folder}/next.db", 172800)]
 
 
@@ -283,13 +272,13 @@ def set_value(desk, name, column, row, value):
     """One value of one row, changed. Rows are counted from 0, in order."""
     where = f"rowid = (SELECT rowid FROM {name} ORDER BY rowid LIMIT 1 OFFSET {row})"
     sql = f"UPDATE {name} SET {column} = {mark_of(value)} WHERE {where}"
-    return Change(desk, f"{name}.{column} of row {row + 1} is {value!r:.40}", [(sql, [bound(value)])])
+    return Change(f"{name}.{column} of row {row + 1} is {value!r:.40}", [(sql, [bound(value)])])
 
 
 def without_row(desk, name, row):
     """One row less."""
     where = f"rowid = (SELECT rowid FROM {name} ORDER BY rowid LIMIT 1 OFFSET {row})"
-    return Change(desk, f"{name} without row {row + 1}", [(f"DELETE FROM {name} WHERE {where}", [])])
+    return Change(f"{name} without row {row + 1}", [(f"DELETE FROM {name} WHERE {where}", [])])
 
 
 def with_copy(desk, name, row, at, value):
@@ -298,7 +287,7 @@ def with_copy(desk, name, row, at, value):
     values[at] = value
     marks = ", ".join(mark_of(it) for it in values)
     text = f"{name} with row {row + 1} again, its {desk.columns[name][at]} {value!r:.40}"
-    return Change(desk, text, [(f"INSERT INTO {name} VALUES ({marks})", [bound(it) for it in values])])
+    return Change(text, [(f"INSERT INTO {name} VALUES ({marks})", [bound(it) for it in values])])
 
 
 def some_rows(desk, name, dice):
@@ -327,118 +316,46 @@ def changes_of(desk, dice):
 
 # ---- what becomes of a change
 
-def change_file(path, change):
-    """Makes the change, so that the file alone holds everything; false where the schema refuses it."""
-    connection = connect(path)
+def judge(program, work, job):
+    """Makes a change on a copy of a desk, and opens it."""
+    (desk, change), folder = job, tempfile.mkdtemp(dir=work)
     try:
-        connection.execute("PRAGMA synchronous = OFF")
-        for sql, values in change.statements:
-            connection.execute(sql, values)
-        connection.execute("PRAGMA wal_checkpoint(TRUNCATE)")
-    except sqlite3.IntegrityError:
-        return False
-    finally:
-        connection.close()
-    for end in ("-wal", "-shm"):
-        if os.path.exists(path + end):
-            os.remove(path + end)
-    return True
-
-
-def bytes_of(path):
-    """All bytes of a file."""
-    with open(path, "rb") as file:
-        return file.read()
-
-
-def fresh_tables(folder):
-    """What a reader sees who takes the file with all that lies beside it."""
-    os.mkdir(f"{folder}/fresh")
-    for end in ("", "-wal", "-journal"):
-        if os.path.exists(f"{folder}/desk.db{end}"):
-            shutil.copy(f"{folder}/desk.db{end}", f"{folder}/fresh/desk.db{end}")
-    connection = connect(f"{folder}/fresh/desk.db")
-    try:
-        return tables_of(connection)
-    finally:
-        connection.close()
-
-
-def left_beside(folder):
-    """What a run left beside the file that it should not: only a log may stay there, whose header has no row behind it."""
-    names = [it for it in os.listdir(folder) if it not in ("desk.db", "fresh")]
-    return [it for it in names if it != "desk.db-wal" or os.path.getsize(f"{folder}/{it}") >= 100]
-
-
-def why_not_refused(ran, folder, before, tables):
-    """How a run differs from one that refuses a file and leaves it; nothing where it does not."""
-    if ran.status != 2 or ran.lines or ran.errors != "tcdesk: cannot use desk.db\n":
-        return f"status {ran.status}, {ran.lines[:3]}, {ran.errors!r:.100}"
-    if bytes_of(f"{folder}/desk.db") != before:
-        return "the file was changed"
-    if left_beside(folder):
-        return f"beside it stay {left_beside(folder)}"
-    return "" if fresh_tables(folder) == tables else "a reader sees other tables"
-
-
-def why_not_opened(ran, folder, moment, tables):
-    """How a run differs from one that opens the desk and does nothing more; nothing where it does not."""
-    after = opened_tables(tables, moment)
-    lines = [move_line(it) for it in opened_moves(tables, moment)] + [places_line(after)]
-    if ran.status or ran.errors or ran.lines != lines:
-        return f"status {ran.status}, {ran.lines[:3]}, {ran.errors!r:.100}"
-    if read_tables(f"{folder}/desk.db") != after:
-        return "the file has other tables"
-    if left_beside(folder):
-        return f"beside it stay {left_beside(folder)}"
-    return "" if fresh_tables(folder) == after else "a reader sees other tables"
-
-
-def judge(program, work, change):
-    """Makes a change on a copy, and opens it."""
-    folder = tempfile.mkdtemp(dir=work)
-    try:
-        shutil.copy(change.desk.path, f"{folder}/desk.db")
+        shutil.copy(desk.path, f"{folder}/desk.db")
         if not change_file(f"{folder}/desk.db", change):
             return Found("skipped")
         tables, before = read_tables(f"{folder}/desk.db"), bytes_of(f"{folder}/desk.db")
         why = why_unsound(tables)
-        ran = run(program, folder, "desk.db", change.desk.moment, "/dev/null")
+        ran = run_kept(program, folder, "desk.db", desk.moment, "/dev/null")
         if why:
             fault = why_not_refused(ran, folder, before, tables)
             return Found("refused", fault and f"should be refused ({why}): {fault}")
-        fault = why_not_opened(ran, folder, change.desk.moment, tables)
+        fault = why_not_opened(ran, folder, desk.moment, tables)
         return Found("taken", fault and f"should be taken: {fault}")
     finally:
         shutil.rmtree(folder)
 
 
-def judge_all(program, work, changes):
-    """What became of each change, four at a time; a line for each of which the program thinks otherwise."""
+def judge_all(program, work, jobs):
+    """What became of each change of a desk, four at a time."""
     with ProcessPoolExecutor(4) as pool:
-        found = list(pool.map(partial(judge, program, work), changes, chunksize=8))
-    for change, it in zip(changes, found):
-        if it.fault:
-            print(f"broken_cases: {os.path.basename(change.desk.path)}: {change.text}: {it.fault}")
-    return found
+        return list(pool.map(partial(judge, program, work), jobs, chunksize=8))
 
 
-def main():
-    """Makes the desks, changes them, and tells what became of the changes."""
-    program = program_in(sys.argv[1:])
-    with tempfile.TemporaryDirectory(prefix="broken-") as work:
-        desks = make_desks(program, work)
-        for lack in lacks(desks):
-            sys.exit(f"broken_cases: the desks are not as they should be: {lack}")
-        dice = random.Random(SEED)
-        changes = [change for desk in desks for change in changes_of(desk, dice)]
-        found = judge_all(program, work, changes)
-    counts = {kind: sum(it.kind == kind for it in found) for kind in ("refused", "taken", "skipped")}
-    faults = sum(bool(it.fault) for it in found)
-    told = ", ".join(f"{count} {kind}" for kind, count in counts.items())
-    print(f"broken cases: {told}, {faults} disagreed")
-    return int(faults > 0 or counts["refused"] + counts["taken"] < LEAST_JUDGED)
+class Broken(unittest.TestCase):
+    """Files of which a value or a row is another."""
 
-
-if __name__ == "__main__":
-    sys.exit(main())
+    def test_changes(self) -> None:
+        """Each change is refused, or opened, as the definitions tell; with a number, so many of them."""
+        with tempfile.TemporaryDirectory(prefix="broken-") as work:
+            desks = make_desks(ASKED.program, work)
+            self.assertFalse(lacks(desks), "the desks are not as they should be")
+            dice = random.Random(ASKED.seed_or(SEED))
+            jobs = [(desk, change) for desk in desks for change in changes_of(desk, dice)]
+            jobs = jobs if ASKED.count is None else dice.sample(jobs, min(len(jobs), ASKED.count))
+            found = judge_all(ASKED.program, work, jobs)
+        counts = {kind: sum(it.kind == kind for it in found) for kind in ("refused", "taken", "skipped")}
+        faults = [f"{os.path.basename(desk.path)}: {change.text}: {it.fault}" for (desk, change), it in zip(jobs, found) if it.fault]
+        print(f"broken cases: {', '.join(f'{count} {kind}' for kind, count in counts.items())}, {len(faults)} disagreed")
+        self.assertFalse(faults, "\n".join(faults))
+        if ASKED.count is None:
+            self.assertGreaterEqual(counts["refused"] + counts["taken"], LEAST_JUDGED, "too few were judged")

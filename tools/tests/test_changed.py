@@ -1,23 +1,21 @@
-#!/usr/bin/env python3
-"""Opens the file of a desk again, as it was left and changed: tools/tests/test_changed.py [PROGRAM], at any place.
+"""The file of a desk opened again, as it was left and changed.
 
-What each opening answers is written out in tools/left_desks.py, by hand: desks on which requests were on their way, opened a second time and
+What each opening answers is written out in left_desks.py, by hand: desks on which requests were on their way, opened a second time and
 a third; one whose approvals, stacks and executions go on; and one whose history lacks one row, and then is full. Then single values, rows, tables
 and indexes of files are changed by SQLite, and it stands there which of these a desk could have written: that is opened, and has the rows of the
-opening then; all else is refused, and its file left byte for byte. There is a line for each file of which the program thinks otherwise. The last
-line is 'changed cases: D days, L lines answered, T changes taken, R refused, F faults'; the status is 1 where there was one.
+opening then; all else is refused, and its file left byte for byte.
 """
-import os
 import shutil
-import sys
 import tempfile
+import unittest
 from concurrent.futures import ThreadPoolExecutor
 from itertools import zip_longest
 
-sys.path.insert(0, os.path.dirname(os.path.dirname(os.path.realpath(__file__))))
-from tests.test_broken import Change, bytes_of, change_file, left_beside, why_not_opened
-from desk_tables import program_in, read_tables, run, write_lines
+from desk_tables import read_tables
 from left_desks import EVERYWHERE, FILES, FIVE, FULL, GOING, MOST_ROWS, OF_FIVE, OF_WHOLE, OTHERS, RIDERS, WHOLE, Day, fill
+from tests.asked import ASKED
+from tests.changes import change_file, changed_by, left_beside, why_not_opened
+from tests.runs import bytes_of, run_kept, write_lines
 
 
 class Told:
@@ -38,7 +36,7 @@ def made(program, work, left, told):
     for name, text in FILES.items():
         write_lines(f"{folder}/{name}", text.splitlines())
     write_lines(f"{folder}/first.tc", left.lines.splitlines())
-    ran = run(program, folder, "desk.db", 0, "first.tc")
+    ran = run_kept(program, folder, "desk.db", 0, "first.tc")
     if ran.status == 0 and not ran.errors:
         return folder
     refused = [it for it in ran.lines if it.startswith("refused")]
@@ -49,7 +47,7 @@ def made(program, work, left, told):
 def open_day(program, folder, day):
     """A day on a desk: what of it is not as it is written out."""
     write_lines(f"{folder}/day.tc", day.lines())
-    ran = run(program, folder, "desk.db", day.moment, "day.tc")
+    ran = run_kept(program, folder, "desk.db", day.moment, "day.tc")
     for number, (want, got) in enumerate(zip_longest(day.answers(), ran.lines), 1):
         if want != got:
             return f"line {number} is {got!r}, and not {want!r} {ran.errors}"
@@ -63,7 +61,7 @@ def open_left(program, work, left, told, filling=None):
     if not folder:
         return
     if filling:
-        change_file(f"{folder}/desk.db", Change(None, filling, [(filling, [])]))
+        change_file(f"{folder}/desk.db", changed_by(filling))
     for day in left.days:
         told.tell(f"{left.name}, opened at {day.moment}", open_day(program, folder, day))
         told.days, told.lines = told.days + 1, told.lines + len(day.lines())
@@ -89,8 +87,8 @@ def open_pages(program, work, told):
         write_lines(f"{folder}/day.tc", day.lines())
         for more, is_sound in (([], True), ([f"UPDATE move SET person = '' WHERE seq = {size}"], False)):
             shutil.copy(f"{folder}/desk.db", f"{folder}/page.db")
-            change_file(f"{folder}/page.db", Change(None, "", [(it, []) for it in statements + more]))
-            ran = run(program, folder, "page.db", 8, "day.tc" if is_sound else "/dev/null")
+            change_file(f"{folder}/page.db", changed_by(*statements, *more))
+            ran = run_kept(program, folder, "page.db", 8, "day.tc" if is_sound else "/dev/null")
             wanted = (0, day.answers(), "") if is_sound else (2, [], "tcdesk: cannot use page.db\n")
             told.tell(f"a history of {size} rows{'' if is_sound else ', changed'}",
                       "" if (ran.status, ran.lines, ran.errors) == wanted else f"status {ran.status}, {ran.lines[:4]}, {ran.errors!r}")
@@ -103,9 +101,9 @@ def open_changed(program, work, path, left, change):
     folder, day = tempfile.mkdtemp(dir=work), left.days[0]
     file = f"{folder}/desk.db"
     shutil.copy(path, file)
-    change_file(file, Change(None, statement, [(statement, [])]))
+    change_file(file, changed_by(statement))
     before, tables = bytes_of(file), read_tables(file) if is_sound else None
-    ran = run(program, folder, "desk.db", day.moment, "/dev/null")
+    ran = run_kept(program, folder, "desk.db", day.moment, "/dev/null")
     if is_sound:
         return why_not_opened(ran, folder, day.moment, tables) or ("" if ran.lines == day.answers() else f"it printed {ran.lines}")
     if (ran.status, ran.lines, ran.errors) != (2, [], "tcdesk: cannot use desk.db\n"):
@@ -125,22 +123,36 @@ def change_left(program, work, left, changes, told):
             told.taken, told.refused = told.taken + is_sound, told.refused + (not is_sound)
 
 
-def main():
-    """Opens all desks."""
-    program, told = program_in(sys.argv[1:]), Told()
-    with tempfile.TemporaryDirectory(prefix="changed-") as work:
+class Changed(unittest.TestCase):
+    """Desks that were left, and what their openings answer."""
+
+    def setUp(self) -> None:
+        """A folder to work in."""
+        folder = tempfile.TemporaryDirectory(prefix="changed-")
+        self.addCleanup(folder.cleanup)
+        self.work, self.told = folder.name, Told()
+
+    def settle(self) -> None:
+        """Tells what was found."""
+        told = self.told
+        print(f"changed cases: {told.days} days, {told.lines} lines answered, {told.taken} changes taken, {told.refused} refused,"
+              f" {len(told.faults)} faults")
+        self.assertFalse(told.faults, "\n".join(told.faults))
+
+    def test_days(self) -> None:
+        """Desks that are opened again and again, and one whose history is full."""
         for left in (FIVE, RIDERS, OTHERS, EVERYWHERE, GOING, WHOLE):
-            open_left(program, work, left, told)
+            open_left(ASKED.program, self.work, left, self.told)
+        open_left(ASKED.program, self.work, FULL, self.told, fill(MOST_ROWS - 1))
+        self.settle()
+
+    def test_changes(self) -> None:
+        """Single values, rows, tables and indexes that are others."""
         for left, changes in ((FIVE, OF_FIVE), (WHOLE, OF_WHOLE)):
-            change_left(program, work, left, changes, told)
-        open_pages(program, work, told)
-        open_left(program, work, FULL, told, fill(MOST_ROWS - 1))
-    for it in told.faults:
-        print(f"changed_cases: {it}")
-    print(f"changed cases: {told.days} days, {told.lines} lines answered, {told.taken} changes taken, {told.refused} refused,"
-          f" {len(told.faults)} faults")
-    return int(bool(told.faults))
+            change_left(ASKED.program, self.work, left, changes, self.told)
+        self.settle()
 
-
-if __name__ == "__main__":
-    sys.exit(main())
+    def test_pages(self) -> None:
+        """Histories at the end of a page of 1,000 rows."""
+        open_pages(ASKED.program, self.work, self.told)
+        self.settle()

@@ -1,16 +1,13 @@
-#!/usr/bin/env python3
-"""Has texts of stacks and of procedures checked by `tcdesk check`: tools/tests/test_check.py [PROGRAM [TEXTS]], at any place.
+"""Texts of stacks and of procedures, checked by `tcdesk check`.
 
-Each line that the program prints is compared with one that was written by hand beside its text (tools/check_texts.py, tools/cases/checks/), or, of
-random texts by their numbers (tools/check_random.py), with what tools/check_reading.py tells, a reading of the rules that asks the program
+Each line that the program prints is compared with one that was written by hand beside its text (check_texts.py, tools/cases/checks/), or, of
+random texts by their numbers (check_random.py), with what check_reading.py tells, a reading of the rules that asks the program
 nothing; that reading has to tell of the others what was written. Its status has to be 0 or 1, standard error empty, and the file as before. A
 share of the texts comes by the standard input too, and of a share the load is tried, by a script: it has to be refused where the check finds a
-fault, as the rule says, and else not. Then the words of the command line, files that give no text, and outputs that take none.
+fault, as the rule says, and else not. Then the words of the command line, files that give no text, and outputs that take none. Where all are
+run, each line has to be told of some random texts.
 
 Not known to the reading, and not tried, is what may stand in brackets behind an instant (RFC 9557).
-
-There is a line for each text or case that differs. The last line is 'check cases: T texts, W written, O ok, L loads, S by standard input, C cases
-of words, D differ'; the status is 1 where one differed, or where some line was hardly told of the random ones.
 """
 import os
 import random
@@ -18,21 +15,20 @@ import re
 import shutil
 import signal
 import subprocess
-import sys
 import tempfile
+import unittest
 from collections import Counter
 from concurrent.futures import ProcessPoolExecutor
 from functools import partial
 from subprocess import PIPE
 from typing import NamedTuple
 
-sys.path.insert(0, os.path.dirname(os.path.dirname(os.path.realpath(__file__))))
 import book_lines
 from book_lines import NAMES, UNKNOWN_REQUEST, Refused
 from check_random import random_text
 from check_reading import told_of
 from check_texts import NO_STACK, ROW, STACK, Text, all_texts
-from desk_tables import program_in
+from tests.asked import ASKED
 
 TEXTS, LEAST, LONGEST = 6000, 20, 60
 LOAD_EACH, INPUT_EACH = 3, 7
@@ -254,24 +250,25 @@ def lacks(written, others, least):
     return hardly + [f"no line that may be told: {it}" for it in sorted((by_hand.keys() | told.keys()) - set(LINES))]
 
 
-def main():
-    """Tries all texts, and then the words."""
-    words = sys.argv[1:]
-    program, texts = program_in(words), int(words[1]) if len(words) > 1 else TEXTS
-    written = all_texts()
-    with tempfile.TemporaryDirectory(prefix="check-") as work:
-        found = try_all(program, work, [*written, *range(1, texts + 1)])
-        word_faults = try_words(program, work)
-    faults = [fault for it in found for fault in it.faults] + word_faults
-    lacking = lacks(found[:len(written)], found[len(written):], LEAST if len(words) < 2 else 0)
-    for it in faults + lacking:
-        print(f"check_cases: {it}")
-    differ = sum(bool(it.faults) for it in found) + len(word_faults)
-    fine = sum(it.line.endswith(" ok") for it in found)
-    print(f"check cases: {len(found)} texts, {len(written)} written, {fine} ok, {sum(it.is_loaded for it in found)} loads,"
-          f" {sum(it.is_input for it in found)} by standard input, {len(CASES)} cases of words, {differ} differ")
-    return int(bool(differ or lacking))
+class Check(unittest.TestCase):
+    """The command `check`."""
 
+    def test_texts(self) -> None:
+        """Each text, those by hand and the random ones, is told as it is judged, and loaded where it is good; with a seed or a number, those random
+        ones alone."""
+        written, first = all_texts() if ASKED.is_whole else [], ASKED.seed_or(1)
+        with tempfile.TemporaryDirectory(prefix="check-") as work:
+            found = try_all(ASKED.program, work, [*written, *range(first, first + ASKED.count_or(TEXTS))])
+        faults = [fault for it in found for fault in it.faults]
+        lacking = lacks(found[:len(written)], found[len(written):], LEAST) if ASKED.is_whole else []
+        print(f"check cases: {len(found)} texts, {len(written)} written, {sum(it.line.endswith(' ok') for it in found)} ok,"
+              f" {sum(it.is_loaded for it in found)} loads, {sum(it.is_input for it in found)} by standard input,"
+              f" {sum(bool(it.faults) for it in found)} differ")
+        self.assertFalse(faults + lacking, "\n".join(faults + lacking))
 
-if __name__ == "__main__":
-    sys.exit(main())
+    def test_words(self) -> None:
+        """Words, files and outputs of the command."""
+        with tempfile.TemporaryDirectory(prefix="check-") as work:
+            faults = try_words(ASKED.program, work)
+        print(f"check cases: {len(CASES)} cases of words, {len(faults)} differ")
+        self.assertFalse(faults, "\n".join(faults))

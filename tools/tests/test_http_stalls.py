@@ -1,24 +1,20 @@
-#!/usr/bin/env python3
 """What could stop a server, over real sockets: peers that say nothing, drip, send what is no request or take nothing, no file handle left, a COUNT that is
-not given, and how a server says that it listens and why it ended: tools/tests/test_http_stalls.py [PROGRAM [GROUP..]], at any place.
+not given, and how a server says that it listens and why it ended.
 
 Behind each bad peer a good one has to be answered, and within the time that the bad one may take; nothing that was not asked whole is done. The groups
-run side by side, each on a server of its own. There is a line for each case that failed. The last line is
-'http stalls: N passed, M failed, in S s'; the status is 1 where one failed.
+run side by side, each on a server of its own. There is a line for each case that failed.
 """
 import errno
 import os
 import resource
 import socket
-import sys
-import tempfile
 import time
 from concurrent.futures import ThreadPoolExecutor
+from functools import partial
 
-sys.path.insert(0, os.path.dirname(os.path.dirname(os.path.realpath(__file__))))
-from tests import test_http as http_cases
-from tests.http_peer import Case, Ended, Fault, get, program_in, quick_folder, received, reset, run, send
 from http_requests import ENTRY, PLACES, act
+from tests import http_cases
+from tests.http_peer import Case, Ended, Fault, get, received, reset, run, send
 
 SILENCE, WHOLE, FAREWELL = 5.0, 30.0, 2.0  # seconds: without a byte, for a request, behind an answer
 EARLY, SLACK = 0.5, 4.0  # seconds by which a peer's clock may begin later than the server's, and that a busy machine may add
@@ -223,16 +219,14 @@ def tried(program, work, group):
     return cases
 
 
-def main():
-    """Tries all groups."""
-    program, began = program_in(sys.argv[1:]), time.monotonic()
-    groups = [it for it in GROUPS if it.__name__ in sys.argv[2:]] or GROUPS
-    with tempfile.TemporaryDirectory(prefix="http-stalls-", dir=quick_folder()) as work, ThreadPoolExecutor(len(groups)) as pool:
-        done = list(pool.map(lambda group: tried(program, work, group), groups))
-    passed, failed = sum(it.passed for it in done), sum(it.failed for it in done)
-    print(f"http stalls: {passed} passed, {failed} failed, in {time.monotonic() - began:.0f} s")
-    return 1 if failed or not passed else 0
+class Stalls(http_cases.Served):
+    """What could stop a server."""
 
-
-if __name__ == "__main__":
-    sys.exit(main())
+    def test_groups(self) -> None:
+        """All groups, at the same time."""
+        cases = self.cases
+        with ThreadPoolExecutor(len(GROUPS)) as pool:
+            done = list(pool.map(partial(tried, cases.program, cases.work), GROUPS))
+        for group, it in zip(GROUPS, done):
+            cases.passed, cases.failed = cases.passed + it.passed, cases.failed + it.failed
+            self.assertGreater(it.passed, 0, f"cases of {group.__name__} that passed")

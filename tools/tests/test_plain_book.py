@@ -1,37 +1,34 @@
-#!/usr/bin/env python3
-"""Runs long scripts beside a plain desk: tools/tests/test_plain_book.py [PROGRAM [SEEDS [LINES]]], at any place.
+"""Long scripts beside a plain desk.
 
-The plain desk (tools/book_desk.py, with book_lines.py and book_flights.py) answers each line by itself, from the requirements. First it has to
-answer the scripts of tools/cases that load something as they are written there (tools/tests/test_plain_link.py has the others). The scripts that are run are
-those of tools/book_scripts.py, random ones by their seeds, and of tools/book_plans.py. Every line that the program prints has to be the plain
-desk's, and so has the status; some scripts are run on a desk that is kept, whose tables have to be the plain desk's too. The first line that
-differs is printed for each script. The last line is 'plain book: W written scripts, S others, L lines answered, R refused, P lines printed, M
-moves of K kinds, D differ'; the status is 1 where one differed, or where some refusal or some lawful move was hardly met.
+The plain desk answers each line by itself, from the requirements. First it has to answer the scripts of tools/cases that load something as they are
+written there (test_plain_link.py has the others). The scripts that are run are random ones by their seeds, and those of plans. Every line that
+the program prints has to be the plain desk's, and so has the status; some scripts are run on a desk that is kept, whose tables have to be
+the plain desk's too. The first line that differs is told for each script. Where all are run, each refusal and each lawful move has to be met.
 """
 import os
 import random
 import shutil
 import subprocess
-import sys
 import tempfile
+import unittest
 from collections import Counter
 from concurrent.futures import ProcessPoolExecutor
 from dataclasses import dataclass
 from functools import partial
 from itertools import zip_longest
 
-sys.path.insert(0, os.path.dirname(os.path.dirname(os.path.realpath(__file__))))
 import desk_tables
-from desk_tables import CAUSES, LAWFUL, OPEN, place_word, program_in, read_tables
+from desk_tables import CAUSES, LAWFUL, OPEN, place_word, read_tables
 from book_desk import PLACES, answers
 from book_plans import PLANS
 from book_scripts import Writer
+from tests.asked import ASKED, TOOLS
 
 SEEDS, LINES = 24, 2800
 KEPT_EACH = 4
 LONGEST = 600
 LEAST_REFUSALS, FEW = 50, {8: 9, 18: 9}
-# What comes only where a report was lost, which is for tools/tests/test_plain_link.py; the last never, since a control word flies behind the report.
+# What comes only where a report was lost, which is for test_plain_link.py; the last never, since a control word flies behind the report.
 LOST = {("Riding", "Accepted"), ("Riding", "Started"), ("Riding", "Completed"), ("Riding", "Failed"), ("Riding", "Deleted"),
         ("Doubtful", "Deleted"), ("Scheduled", "Started"), ("Scheduled", "Completed"), ("Confirmed", "Accepted")}
 
@@ -165,7 +162,7 @@ def text_of(path, default=None):
 
 def written_faults():
     """Which of the written scripts that load something the plain desk answers otherwise than they say, and how many there are."""
-    folder, faults, count = f"{os.path.dirname(os.path.dirname(os.path.realpath(__file__)))}/cases", [], 0
+    folder, faults, count = f"{TOOLS}/cases", [], 0
     files = {name: text_of(f"{folder}/data/{name}").encode("latin-1") for name in os.listdir(f"{folder}/data")}
     for case in sorted(f"{folder}/{it[:-3]}" for it in os.listdir(folder) if it.endswith(".tc")):
         script = text_of(f"{case}.tc")
@@ -189,24 +186,24 @@ def lacks(refused, moves):
     return few + [" ".join(it) for it in sorted(lawful_moves() - moves.keys())]
 
 
-def main():
-    """Tries all scripts, four at a time."""
-    words = sys.argv[1:]
-    program, seeds, lines = program_in(words), *([int(it) for it in words[1:3]] + [SEEDS, LINES][len(words[1:3]):])
-    jobs = [*PLANS, *range(1, seeds + 1)]
-    faults, written = written_faults()
-    with tempfile.TemporaryDirectory(prefix="book-") as work, ProcessPoolExecutor(4) as pool:
-        found = list(pool.map(partial(try_script, program, work, lines), jobs))
-    faults += [it.fault for it in found if it.fault]
-    refused, moves = sum((it.refused for it in found), Counter()), sum((it.moves for it in found), Counter())
-    lacking = lacks(refused, moves) if len(words) < 2 else []
-    for it in faults + [f"hardly met: {it}" for it in lacking]:
-        print(f"plain_book: {it}")
-    print(f"plain book: {written} written scripts, {len(jobs)} others, {sum(it.lines for it in found)} lines answered,"
-          f" {sum(refused.values())} refused, {sum(it.printed for it in found)} lines printed, {sum(moves.values())} moves of"
-          f" {len(moves)} kinds, {len(faults)} differ")
-    return int(bool(faults or lacking))
+class PlainBook(unittest.TestCase):
+    """Acts on the book."""
 
+    def test_written_scripts(self) -> None:
+        """The plain desk answers the scripts that persons wrote as they are written."""
+        faults, count = written_faults()
+        print(f"plain book: {count} written scripts, {len(faults)} differ")
+        self.assertFalse(faults, "\n".join(faults))
 
-if __name__ == "__main__":
-    sys.exit(main())
+    def test_scripts(self) -> None:
+        """The program answers plans and random scripts as the plain desk does; with a seed or a number, those random ones alone."""
+        first, count = ASKED.seed_or(1), ASKED.count_or(SEEDS)
+        jobs = [*(PLANS if ASKED.is_whole else []), *range(first, first + count)]
+        with tempfile.TemporaryDirectory(prefix="book-") as work, ProcessPoolExecutor(4) as pool:
+            found = list(pool.map(partial(try_script, ASKED.program, work, LINES), jobs))
+        faults = [it.fault for it in found if it.fault]
+        refused, moves = sum((it.refused for it in found), Counter()), sum((it.moves for it in found), Counter())
+        print(f"plain book: {len(jobs)} scripts, {sum(it.lines for it in found)} lines answered, {sum(refused.values())} refused,"
+              f" {sum(it.printed for it in found)} lines printed, {sum(moves.values())} moves of {len(moves)} kinds, {len(faults)} differ")
+        lacking = lacks(refused, moves) if ASKED.is_whole else []
+        self.assertFalse(faults + lacking, "\n".join(faults + [f"hardly met: {it}" for it in lacking]))

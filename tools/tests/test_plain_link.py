@@ -1,42 +1,37 @@
-#!/usr/bin/env python3
-"""The desk over a link beside a plain desk, which asks the program nothing: tools/tests/test_plain_link.py [--cells] [PROGRAM] [SEED], at any
-place.
+"""The desk over a link beside a plain desk, which asks the program nothing.
 
-plain_flight.py answers each line of a script from the requirements: FOP-1 and FARM-1 as literal tables, two carriers that are
-lists or rings, the spacecraft, its schedule and the mirror, and where each request stands. First it has to answer the scripts of
-tools/cases that load nothing as they are written there. Then the program runs long scripts that fit how the link stands, with losses,
-starts of every kind, windows K from 1 to 127 and W from 2 to 254, rings of 1 to 4,096, lockout and the way back; every line that it
-prints, and its status, are those of the plain desk. Each cell of the two tables that a desk can reach has to be met, and each ring has
-to be full both ways.
+The plain desk answers each line of a script from the requirements: FOP-1 and FARM-1 as literal tables, two carriers that are lists or
+rings, the spacecraft, its schedule and the mirror, and where each request stands. First it has to answer the scripts of tools/cases
+that load nothing as they are written there. Then the program runs long scripts that fit how the link stands, with losses, starts of
+every kind, windows K from 1 to 127 and W from 2 to 254, rings of 1 to 4,096, lockout and the way back; every line that it prints, and
+its status, are those of the plain desk. Each cell of the two tables that a desk can reach has to be met, and each ring has to be full both ways.
 
 Then longer scripts, in which after each act is asked where the requests stand. Of what is printed alone (link_promise.py, without the
 plain desk), in all of the scripts: each request stands at one place, the counts are those of the moves, and while the premise is kept
 each request that was confirmed was accepted once, in the order of transmission, no FARM locks out, and a service ends by no alert but
-those that may come.
-
-There is a line for each fault, the first in each script; --cells prints how often each cell was met. The last line counts what was
-done; the status is 1 where there was a fault.
+those that may come. The first fault of each script is told.
 """
 import os
 import subprocess
-import sys
 import tempfile
+import unittest
 from collections import Counter
 from concurrent.futures import ProcessPoolExecutor
+from functools import partial
+from itertools import cycle
 from typing import NamedTuple
 
-sys.path.insert(0, os.path.dirname(os.path.dirname(os.path.realpath(__file__))))
 import link_scenes
 import plain_farm
 import plain_fop
 from link_plans import PLANNED, Planner
-from tests.link_promise import Judge
 from link_writers import Style, Writer
 from plain_board import MIRRORED, ON_BOARD
 from plain_flight import MOVES, REFUSED, Desk
+from tests.asked import ASKED, TOOLS
+from tests.link_promise import Judge
 
 SEED = 20311126
-HERE = os.path.dirname(os.path.dirname(os.path.realpath(__file__)))
 SMALL, ALL = (2, 4, 6, 10, 20), (2, 4, 10, 20, 60, 128, 200, 254)
 RINGS = (1, 2, 3, 8, 300, 4096)
 
@@ -163,6 +158,11 @@ def play(program, job):
 
 # ---- all of them
 
+def some_jobs(seed, count):
+    """So many random scripts, with seeds from this one on, one of each kind in turn."""
+    return [(kind, number) for kind, number in zip(cycle(COUNTS), range(seed, seed + count))]
+
+
 def jobs_of(seed):
     """All scripts, the longest first."""
     jobs = [(kind, seed + number) for kind, count in COUNTS.items() for number in range(count)]
@@ -175,15 +175,15 @@ def worked_faults():
     """Which of the written scripts that load nothing the plain desk answers otherwise than they say, and how many there are. The words
     of a script's options stand in its .args, where it has some."""
     faults, count = [], 0
-    for name in sorted(os.listdir(f"{HERE}/cases")):
-        text = open(f"{HERE}/cases/{name}", encoding="latin-1", newline="").read() if name.endswith(".tc") else " stack "
+    for name in sorted(os.listdir(f"{TOOLS}/cases")):
+        text = open(f"{TOOLS}/cases/{name}", encoding="latin-1", newline="").read() if name.endswith(".tc") else " stack "
         if " stack " in text or " procedure " in text:
             continue
-        words = open(f"{HERE}/cases/{name[:-3]}.args", encoding="ascii").read().split() if os.path.exists(f"{HERE}/cases/{name[:-3]}.args") else []
+        words = open(f"{TOOLS}/cases/{name[:-3]}.args", encoding="ascii").read().split() if os.path.exists(f"{TOOLS}/cases/{name[:-3]}.args") else []
         options = {word[2:]: int(value) for word, value in zip(words[::2], words[1::2])}
         desk, count = Desk(**options), count + 1
         printed = [told for line in text.split("\n") for told in desk.line(line.removesuffix("\r"))] + [desk.places()]
-        wanted = open(f"{HERE}/cases/{name[:-3]}.stdout", encoding="latin-1").read().split("\n")[:-1]
+        wanted = open(f"{TOOLS}/cases/{name[:-3]}.stdout", encoding="latin-1").read().split("\n")[:-1]
         if printed != wanted:
             faults.append(f"{name}: the plain desk answers otherwise")
     return faults, count
@@ -226,32 +226,35 @@ def told_alerts(alerts, premise):
     return ", ".join(f"{kind} {count}" for (told, kind), count in sorted(alerts.items()) if told == f"started {premise}")
 
 
-def main():
-    """Plays all scripts, four at a time."""
-    words = [it for it in sys.argv[1:] if it != "--cells"]
-    seed = int(words.pop()) if words and words[-1].isdigit() else SEED
-    program = os.path.abspath(words[0]) if words else f"{os.path.dirname(HERE)}/crates/tc_cli/out/tc_cli"
-    if not os.access(program, os.X_OK):
-        sys.exit(f"plain_link.py: {program} is not built")
-    faults, worked = worked_faults()
-    with ProcessPoolExecutor(4) as pool:
-        told = list(pool.map(play, [program] * 999, jobs_of(seed)))
-    met, seen, alerts = (sum((getattr(it, name) for it in told), Counter()) for name in ("met", "seen", "alerts"))
-    faults += [it.fault for it in told if it.fault] + unmet(met)
-    faults += [f"only {counts[what]} {what}" for counts, all_least in ((seen, LEAST), (alerts, LEAST_ALERTS))
-               for what, least in all_least.items() if counts[what] < least]
-    if "--cells" in sys.argv:
-        print_cells(met)
-    for fault in faults:
-        print(f"plain_link: {fault}")
-    print(f"plain link: {worked} written scripts, {len(told)} random ones, {sum(it.acts for it in told)} lines of which"
-          f" {sum(it.refused for it in told)} refused, {sum(it.printed for it in told)} printed; {len(plain_fop.CELLS)} cells of FOP-1,"
-          f" {len(plain_farm.CELLS)} of FARM-1 and {len(TO_MEET) - len(plain_fop.CELLS) - len(plain_farm.CELLS)} others, each at least"
-          f" {min(met[it] for it in TO_MEET)} times; {seen['confirmed while kept']} confirmed while the premise was kept,"
-          f" {seen['places']} counts of places; alerts of services that had started: {told_alerts(alerts, 'kept')} while the premise was"
-          f" kept, {told_alerts(alerts, 'broken')} where it was broken; {len(faults)} faults")
-    return int(bool(faults))
+def hardly(told, met):
+    """What was not met, or hardly seen, of all that these scripts have to meet."""
+    seen, alerts = (sum((getattr(it, name) for it in told), Counter()) for name in ("seen", "alerts"))
+    return unmet(met) + [f"only {counts[what]} {what}" for counts, all_least in ((seen, LEAST), (alerts, LEAST_ALERTS))
+                         for what, least in all_least.items() if counts[what] < least]
 
 
-if __name__ == "__main__":
-    sys.exit(main())
+class PlainLink(unittest.TestCase):
+    """The link, and the spacecraft behind it."""
+
+    def test_written_scripts(self) -> None:
+        """The plain desk answers the scripts that persons wrote as they are written."""
+        faults, count = worked_faults()
+        print(f"plain link: {count} written scripts, {len(faults)} faults")
+        self.assertFalse(faults, "\n".join(faults))
+
+    def test_scripts(self) -> None:
+        """The program answers all scripts as the plain desk does, and keeps its promise; with a number, so many random ones alone."""
+        jobs = jobs_of(ASKED.seed_or(SEED)) if ASKED.count is None else some_jobs(ASKED.seed_or(SEED), ASKED.count)
+        with ProcessPoolExecutor(4) as pool:
+            told = list(pool.map(partial(play, ASKED.program), jobs))
+        met, seen, alerts = (sum((getattr(it, name) for it in told), Counter()) for name in ("met", "seen", "alerts"))
+        faults = [it.fault for it in told if it.fault] + (hardly(told, met) if ASKED.count is None else [])
+        if ASKED.cells:
+            print_cells(met)
+        print(f"plain link: {len(told)} scripts, {sum(it.acts for it in told)} lines of which {sum(it.refused for it in told)} refused,"
+              f" {sum(it.printed for it in told)} printed; {len(plain_fop.CELLS)} cells of FOP-1, {len(plain_farm.CELLS)} of FARM-1 and"
+              f" {len(TO_MEET) - len(plain_fop.CELLS) - len(plain_farm.CELLS)} others, each at least {min(met[it] for it in TO_MEET)}"
+              f" times; {seen['confirmed while kept']} confirmed while the premise was kept, {seen['places']} counts of places; alerts of"
+              f" services that had started: {told_alerts(alerts, 'kept')} while the premise was kept, {told_alerts(alerts, 'broken')} where"
+              f" it was broken; {len(faults)} faults")
+        self.assertFalse(faults, "\n".join(faults))

@@ -1,19 +1,17 @@
-#!/usr/bin/env python3
-"""Looks at what lies in the columns of a desk's tables: tools/tests/test_written.py [PROGRAM], at any place.
+"""What lies in the columns of a desk's tables.
 
 Scripts are run on desks that are kept, and each file is read by Python's SQLite. What has to lie in each column of each row of every table is
-written out below, by hand, beside the lines that put it there; nothing of it is computed. The statements that make the tables are written out
-too. There is a line for each table that differs. The last line is 'written cases: N desks, R rows, V values, S statements, D differ'; the status
-is 1 where one differed.
+written out below, by hand, beside the lines that put it there; nothing of it is computed. The statements that make the tables are written out too.
 """
 import os
-import sys
 import tempfile
+import unittest
 from dataclasses import dataclass, field
 from itertools import zip_longest
 
-sys.path.insert(0, os.path.dirname(os.path.dirname(os.path.realpath(__file__))))
-from desk_tables import ROWS, connect, program_in, run, sqlite3, write_lines
+from desk_tables import ROWS, connect, sqlite3
+from tests.asked import ASKED
+from tests.runs import run_kept, write_lines
 
 SCHEMA = """\
 CREATE TABLE meta (name TEXT PRIMARY KEY, value INTEGER NOT NULL) STRICT
@@ -401,7 +399,7 @@ def desk_faults(program, case, folder):
     refused, faults = 0, []
     for at, (moment, lines) in enumerate(case.days):
         write_lines(f"{folder}/day{at}.tc", lines.splitlines())
-        ran = run(program, folder, "desk.db", moment, f"day{at}.tc")
+        ran = run_kept(program, folder, "desk.db", moment, f"day{at}.tc")
         refused += sum(it.startswith("refused ") for it in ran.lines)
         faults += [f"status {ran.status}: {ran.errors}"] if ran.status not in (0, 1) or ran.errors else []
     return faults + ([f"{refused} lines were refused, and not {case.refused}"] if refused != case.refused else [])
@@ -427,18 +425,14 @@ def try_case(program, case, work):
     return [f"{case.name}: {it}" for it in faults + of_schema], rows, values, statements
 
 
-def main():
-    """Tries all desks."""
-    program = program_in(sys.argv[1:])
-    with tempfile.TemporaryDirectory(prefix="written-") as work:
-        told = [try_case(program, case, work) for case in CASES]
-    faults = [it for found, *_ in told for it in found]
-    for it in faults:
-        print(f"written_cases: {it}")
-    rows, values, statements = (sum(it[at] for it in told) for at in (1, 2, 3))
-    print(f"written cases: {len(CASES)} desks, {rows} rows, {values} values, {statements} statements, {len(faults)} differ")
-    return int(bool(faults))
+class Written(unittest.TestCase):
+    """The tables, column by column."""
 
-
-if __name__ == "__main__":
-    sys.exit(main())
+    def test_desks(self) -> None:
+        """Each desk has the rows that are written out, and is made by these statements."""
+        with tempfile.TemporaryDirectory(prefix="written-") as work:
+            told = [try_case(ASKED.program, case, work) for case in CASES]
+        faults = [it for found, *_ in told for it in found]
+        rows, values, statements = (sum(it[at] for it in told) for at in (1, 2, 3))
+        print(f"written cases: {len(CASES)} desks, {rows} rows, {values} values, {statements} statements, {len(faults)} differ")
+        self.assertFalse(faults, "\n".join(faults))
