@@ -22,7 +22,7 @@ from tests.full_desks import lacks, make_desks
 from tests.runs import bytes_of, run_kept
 
 SEED = 20311125
-LEAST_JUDGED = 200
+LEAST_JUDGED = 1000
 ROWS_A_COLUMN = 3
 VALUES_A_ROW = 3
 
