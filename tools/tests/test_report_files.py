@@ -1,9 +1,15 @@
-"""Reports of files that are no desk's, or of which a row does not read: they are refused, and nothing is printed."""
+"""Reports of files that are no desk's, or of which a row does not read: they are refused, and nothing is printed. Where all rows read the report is
+printed, though no desk wrote them.
+"""
+import os
 import random
 from pathlib import Path
 
-from tests.report_cases import LAST, WORKED, Reported, change, changed, digests, unlike
-from tests.report_printer import places_of, report_of
+from desk_tables import move_line, read_tables
+from tests.full_desks import make_desks
+from tests.report_cases import LAST, WORKED, Reported, change
+from tests.report_printer import moves_in, places_of, report_of
+from tests.report_rows import READABLE, UNREADABLE
 
 SEED = 20311127
 
@@ -32,7 +38,7 @@ class Files(Reported):
     def test_broken(self) -> None:
         """Desks with a value, a table or an index that none wrote."""
         cases = self.cases
-        desk, moves = cases.made(WORKED)
+        desk, _ = cases.made(WORKED)
         sets = ["to_place = 99", "to_place = 0", "from_place = 16", "from_place = -1", "cause = 0", "cause = 15", "person = ''", "person = 'Ann'",
                 "person = 'seventeenletters1'", "request = 0", "request = 65536", "seq = -5", "seq = 4294967296"]
         statements = [f"UPDATE move SET {it} WHERE seq = 2" for it in sets] + [
@@ -42,12 +48,36 @@ class Files(Reported):
             folder = cases.copy(desk)
             change(folder, statement)
             cases.unusable(statement, folder)
-        # What lies in no shift need not be read: there is the report without it, or none.
-        rest = moves[:1] + moves[2:]
-        for statement, end in (("moment = -5", LAST), ("moment = 4102444800", LAST), ("to_place = 99", 105)):
-            folder = cases.copy(desk)
-            change(folder, f"UPDATE move SET {statement} WHERE seq = 2")
-            before, ran = digests(folder), cases.call(folder, ["report", "desk.db", "0", str(end)])
-            told = unlike(ran, report_of(rest, "closed", 0, end).replace(places_of(rest), places_of(moves)), "", 0)
-            is_refused = not any(unlike(ran, "", "tcdesk: cannot use desk.db\n", 2))
-            cases.tell(f"in no shift: {statement}", *([] if is_refused else told), changed(before, folder))
+
+    def test_rows_that_do_not_read(self) -> None:
+        """A row that does not read, in any table, of any shift: nothing is printed."""
+        desk = self.full_desk()
+        statements = [f"UPDATE {table.replace(' WHERE', f' SET {it} WHERE')}" if " WHERE" in table else f"UPDATE {table} SET {it}"
+                      for table, sets in UNREADABLE.items() for it in sets]
+        for statement in [*statements, "DELETE FROM meta", "INSERT INTO meta VALUES ('more', 1)"]:
+            folder = self.cases.copy(desk)
+            change(folder, statement)
+            # the row lies in the shift, or behind it: all moves are made before the moment 4000
+            for begin, end in ((0, LAST), (4000, LAST), (0, 0)):
+                self.cases.ask(statement, folder, ["desk.db", str(begin), str(end)], "", "tcdesk: cannot use desk.db\n", 2)
+
+    def test_rows_that_read(self) -> None:
+        """Rows that no desk wrote, and that read all the same: soundness is not judged, and the report is printed."""
+        desk = self.full_desk()
+        for statement in READABLE:
+            folder = self.cases.copy(desk)
+            change(folder, statement)
+            tables = read_tables(f"{folder}/desk.db")
+            moves, amounts = moves_in("\n".join(move_line(it) for it in tables.move)), [it.amount for it in tables.tally]
+            stand = f"places {sum(amounts)}: {' '.join(str(it) for it in amounts)}"
+            for begin, end in ((0, LAST), (100, 130)):
+                report = report_of(moves, "closed", begin, end).replace(places_of(moves), stand)
+                self.cases.ask(statement, folder, ["desk.db", str(begin), str(end)], report)
+
+    def full_desk(self) -> str:
+        """A folder with a desk every table of which has rows."""
+        work = self.cases.folder()
+        left, _ = make_desks(self.cases.program, work)
+        folder = self.cases.folder()
+        os.rename(left.path, f"{folder}/desk.db")
+        return folder
