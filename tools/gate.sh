@@ -68,8 +68,8 @@ rm -rf crates/*/out
 part "the layout of files" layout
 part "rt ci" rt ci
 part "the program that is kept" tools/kept_program.sh "${keep[@]}"
-part "the test of the tool for edits" tools/edits_test.py
-part "edits of wrong/, many in a check" tools/edits.py "${asked[@]}"
+part "the test of the tool for edits" tools/edits/edits_test.py
+part "edits of wrong/, many in a check" tools/edits/edits.py "${asked[@]}"
 part "where nothing is" tools/bare_cases.sh
 part "which program is run" tools/first_run_cases.sh
 part "program cases" tools/program_cases.sh
