@@ -1,6 +1,6 @@
 """What lies beyond the book, as far as a book needs it: a link that loses nothing, under a FARM that always has a buffer; the
 spacecraft with its schedule; and the mirror. It is written from the requirements, and asks the program nothing. What else may happen on a
-link is tools/plain_link.py's.
+link is tools/tests/test_plain_link.py's.
 """
 from typing import NamedTuple
 

@@ -1,4 +1,4 @@
-"""Random texts of stacks and of procedures, good ones and damaged ones, for tools/check_cases.py. No field has a bracket: what an instant may have
+"""Random texts of stacks and of procedures, good ones and damaged ones, for tools/tests/test_check.py. No field has a bracket: what an instant may have
 behind it in brackets tools/book_lines.py does not know.
 """
 from book_lines import LAST_MOMENT, LONGEST_TEXT, MARK, STACK_HEADER, STEP_HEADER

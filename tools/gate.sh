@@ -70,33 +70,33 @@ part "rt ci" rt ci
 part "the program that is kept" tools/kept_program.sh "${keep[@]}"
 part "the test of the tool for edits" tools/edits/edits_test.py
 part "edits of wrong/, many in a check" tools/edits/edits.py "${asked[@]}"
-part "where nothing is" tools/bare_cases.sh
-part "which program is run" tools/first_run_cases.sh
-part "program cases" tools/program_cases.sh
-part "what cannot be read or written" tools/status_cases.sh
-part "the manual and the rehearsals" tools/manual.sh
-part "the page of the manual" tools/man_cases.sh
-part "check" tools/check_cases.py
-part "desks that are kept" tools/kept_cases.sh
-part "the shift report" tools/report_cases.py
-part "a plain desk: acts on the book" tools/plain_book.py
-part "a plain desk: the link" tools/plain_link.py
-part "what lies in the tables" tools/written_cases.py
-part "what was left, and changed" tools/changed_cases.py
-part "tables that no desk wrote" tools/broken_cases.py
-part "desks opened again and again" tools/many_days.py
-part "streams that fail" tools/stream_cases.sh
-part "memory refused" tools/fail_alloc.sh
-part "memory refused to a load" tools/fail_load.sh
-part "memory refused to a check" tools/fail_check.sh
-part "memory refused to a desk that is kept" tools/fail_kept.sh
-part "stopped at each call on its files" tools/stop_kept.py
-part "HTTP over sockets" tools/http_cases.py
-part "a server that nobody stalls" tools/http_stalls.py
-part "HTTP that fails" tools/fail_http.py
-part "loop beside run" tools/loop_cases.sh
-part "the curl lines of the manual" tools/curl_cases.sh
-part "the proxy of the manual" tools/proxy_cases.py
+part "where nothing is" tools/tests/bare_cases.sh
+part "which program is run" tools/tests/first_run_cases.sh
+part "program cases" tools/tests/program_cases.sh
+part "what cannot be read or written" tools/tests/status_cases.sh
+part "the manual and the rehearsals" tools/pages/manual.sh
+part "the page of the manual" tools/pages/man_cases.sh
+part "check" tools/tests/test_check.py
+part "desks that are kept" tools/tests/kept_cases.sh
+part "the shift report" tools/tests/test_report.py
+part "a plain desk: acts on the book" tools/tests/test_plain_book.py
+part "a plain desk: the link" tools/tests/test_plain_link.py
+part "what lies in the tables" tools/tests/test_written.py
+part "what was left, and changed" tools/tests/test_changed.py
+part "tables that no desk wrote" tools/tests/test_broken.py
+part "desks opened again and again" tools/tests/test_many_days.py
+part "streams that fail" tools/faults/stream_cases.sh
+part "memory refused" tools/faults/fail_alloc.sh
+part "memory refused to a load" tools/faults/fail_load.sh
+part "memory refused to a check" tools/faults/fail_check.sh
+part "memory refused to a desk that is kept" tools/faults/fail_kept.sh
+part "stopped at each call on its files" tools/faults/stop_kept.py
+part "HTTP over sockets" tools/tests/test_http.py
+part "a server that nobody stalls" tools/tests/test_http_stalls.py
+part "HTTP that fails" tools/faults/fail_http.py
+part "loop beside run" tools/tests/loop_cases.sh
+part "the curl lines of the manual" tools/pages/curl_cases.sh
+part "the proxy of the manual" tools/pages/proxy_cases.py
 table
 ((${#untried[@]} == 0)) || printf '%s\n' "${untried[@]}"
 echo "gate: all parts passed; not tried: ${#untried[@]}"

@@ -3,7 +3,7 @@ response.
 """
 import json
 
-from http_peer import Case, get, post
+from tests.http_peer import Case, get, post
 from http_requests import BODY, ENTRY, act, entry, load
 from plain_http import NO_PATH
 

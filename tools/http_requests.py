@@ -1,7 +1,7 @@
 """The requests that http_cases.py sends, in lists: each with its name, its bytes, and the number of the refusal that is wanted."""
 import json
 
-from http_peer import NOTHING, Case, get, post
+from tests.http_peer import NOTHING, Case, get, post
 from plain_http import LARGE, NO_PATH, OTHER_METHOD
 
 ENTRY = "enter 5 a--c no 8 1 - - ok"

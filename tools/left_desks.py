@@ -1,5 +1,5 @@
 """Desks as the lines of their first day leave them, what each opening answers then, and changes of their files: all written out by hand, for
-tools/changed_cases.py.
+tools/tests/test_changed.py.
 """
 from dataclasses import dataclass
 

@@ -1,4 +1,4 @@
-"""Writers of long scripts for tools/plain_link.py: each drives the plain desk of plain_flight.py as it writes, so that a line fits
+"""Writers of long scripts for tools/tests/test_plain_link.py: each drives the plain desk of plain_flight.py as it writes, so that a line fits
 how the link stands, and keeps what the plain desk answers to each line.
 """
 import random
