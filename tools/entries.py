@@ -16,8 +16,8 @@ class Entry(NamedTuple):
 C_COMPILER = "a C compiler (Debian: gcc, libc6-dev)"
 # In the order in which the gate runs them.
 ENTRIES = (
-    Entry("edits-test", "the tool for edits, on a small crate of wrong, harmless and unreadable ones", command=("edits_test.py",), needs="rt"),
-    Entry("edits", "whether the prover refuses the edits of crates/NAME/wrong/ that tools/edits.tried does not have", command=("edits.py",), needs="rt"),
+    Entry("edits-test", "the tool for edits, on a small crate of wrong, harmless and unreadable ones", command=("edits/edits_test.py",), needs="rt"),
+    Entry("edits", "whether the prover refuses the edits of crates/NAME/wrong/ that tools/edits.tried does not have", command=("edits/edits.py",), needs="rt"),
     Entry("bare", "README.md's first command and a server, in a root of glibc, bash and coreutils alone", command=("tests/bare_cases.sh", "PROGRAM"),
           needs="curl; root, or a system that lets a user have a root of its own"),
     Entry("first-run", "which program ./tcdesk runs, and what it says while one is proved, over toy crates", command=("tests/first_run_cases.sh",),

@@ -1,6 +1,6 @@
 #!/usr/bin/env python3
-"""The test of tools/edits.py: a small crate with planted edits, wrong, harmless and unreadable, and what it must say of
-each; and what it passes over, by tools/edits.tried: tools/edits_test.py, at any place. The last line is 'N passed, M failed'.
+"""The test of tools/edits/edits.py: a small crate with planted edits, wrong, harmless and unreadable, and what it must say of
+each; and what it passes over, by tools/edits.tried: tools/edits/edits_test.py, at any place. The last line is 'N passed, M failed'.
 
 The crate is written here, since `rt ci` refuses a source that no crate of the repository reads.
 """
@@ -10,8 +10,11 @@ import shutil
 import subprocess
 import sys
 import tempfile
+from collections.abc import Iterator, Mapping
 
 TOOLS = os.path.dirname(os.path.realpath(__file__))
+# What must hold: its name, whether it does, and what was said.
+Held = tuple[str, object, object]
 
 CRATE = {
     "src/lib.rt": """\
@@ -253,7 +256,7 @@ UNKNOWN = {
 }
 
 
-def lay(top, files):
+def lay(top: str, files: Mapping[str, str]) -> None:
     for file, text in files.items():
         path = f"{top}/{file}"
         os.makedirs(os.path.dirname(path), exist_ok=True)
@@ -261,36 +264,34 @@ def lay(top, files):
             it.write(text)
 
 
-def edit_text(file, old, new):
+def edit_text(file: str, old: str, new: str) -> str:
     # (an edit's texts are lines)
     return f"file: {file}\nold: {old.strip(chr(10))}\nnew: {new.strip(chr(10))}\n"
 
 
-def ran(top, *words, tools=TOOLS, path=""):
-    how = {"cwd": top, "capture_output": True, "text": True, "errors": "replace"}
-    how["env"] = {**os.environ, "PATH": path + os.environ["PATH"], "PYTHONDONTWRITEBYTECODE": "1"}
-    it = subprocess.run([sys.executable, f"{tools}/edits.py", *words], **how)
+def ran(top: str, *words: str, tools: str = TOOLS, path: str = "") -> tuple[int, list[str]]:
+    env = {**os.environ, "PATH": path + os.environ["PATH"], "PYTHONDONTWRITEBYTECODE": "1"}
+    command = [sys.executable, f"{tools}/edits.py", *words]
+    it = subprocess.run(command, cwd=top, capture_output=True, text=True, errors="replace", env=env)
     return it.returncode, it.stdout.splitlines() or [it.stderr]
 
 
-def tried(top, **how):
+def tried(top: str, tools: str = TOOLS, path: str = "") -> bool:
     """Whether the edits of `planted` would be tried."""
-    return any(it.startswith("try  planted: ") for it in ran(top, "--which", **how)[1])
+    return any(it.startswith("try  planted: ") for it in ran(top, "--which", tools=tools, path=path)[1])
 
 
-def text_of(path):
-    if not os.path.exists(path):
-        return None
+def text_of(path: str) -> str:
     with open(path, encoding="utf-8") as it:
         return it.read()
 
 
-def recorded(top):
+def recorded(top: str) -> list[list[str]]:
     """What tools/edits.tried has, as lines of words."""
     return [it.split() for it in text_of(f"{top}/tools/edits.tried").splitlines()]
 
 
-def verdicts():
+def verdicts() -> Iterator[Held]:
     """What must hold of the planted edits, one by one, and of the tool's last line and status."""
     with tempfile.TemporaryDirectory(prefix="edits-test-") as top:
         lay(top, {"crates.txt": "planted:\n"})
@@ -315,7 +316,7 @@ def verdicts():
         yield "nothing is recorded unasked", recorded(top) == [["planted", "0", "18"]], recorded(top)
 
 
-def records():
+def records() -> Iterator[Held]:
     """What must hold of a crate all of whose edits were refused: it is recorded, and passed over from then on."""
     with tempfile.TemporaryDirectory(prefix="edits-test-") as top:
         lay(top, {"crates.txt": "planted:\n", "tools/edits.tried": ""})
@@ -340,9 +341,9 @@ def records():
         yield "the newest line stands first, with one more", recorded(top) == [["planted", digest, "1"], ["planted", "0", "1"]], recorded(top)
 
 
-def changed(top, file, added):
+def changed(top: str, file: str, added: str) -> bool:
     """Whether the edits of `planted` would be tried once this is added to a file, which then is as before."""
-    before = text_of(f"{top}/{file}")
+    before = text_of(f"{top}/{file}") if os.path.exists(f"{top}/{file}") else None
     lay(top, {file: (before or "") + added})
     is_tried = tried(top)
     if before is None:
@@ -352,13 +353,13 @@ def changed(top, file, added):
     return is_tried
 
 
-def noted(top):
+def noted(top: str) -> None:
     """Records the digest that stands."""
     digest = ran(top, "--which")[1][-1].split(" ")[-1]
     lay(top, {"tools/edits.tried": f"planted {digest} 1\n"})
 
 
-def changes():
+def changes() -> Iterator[Held]:
     """What must hold as something changes, of the crate, below it, or of what judges."""
     with tempfile.TemporaryDirectory(prefix="edits-test-") as top:
         lay(f"{top}/crates/planted", CRATE)
@@ -383,7 +384,7 @@ def changes():
         yield from judges(top)
 
 
-def judges(top):
+def judges(top: str) -> Iterator[Held]:
     """What must hold as a crate's dependencies, the toolchain or the rules of judging change."""
     lay(top, {"crates.txt": THREE["crates.txt"].replace("low:", "low: thiserror")})
     yield "once a lower crate stands on more", tried(top), recorded(top)
@@ -396,7 +397,7 @@ def judges(top):
     yield "once a rule of judging changes", tried(top, tools=f"{top}/rules"), recorded(top)
 
 
-def main():
+def main() -> int:
     passed = failed = 0
     for name, is_well, said in [*verdicts(), *records(), *changes()]:
         passed, failed = passed + bool(is_well), failed + (not is_well)

@@ -1,5 +1,5 @@
 #!/usr/bin/env python3
-"""Tries the edits that must fail, many in one check: tools/edits.py [CRATE ..], at the top of the repository.
+"""Tries the edits that must fail, many in one check: tools/edits/edits.py [CRATE ..], at the top of the repository.
 
 An edit is a file crates/CRATE/wrong/NAME.edit that makes a crate wrong, in the format of `rt must-fail`. Edits of the
 bodies of different functions go into one copy of the crate, and the prover is asked for those functions alone. An edit
@@ -8,7 +8,7 @@ function calls, and not because a proof file names what is gone. What is not cle
 whole check, and judged as `rt must-fail` does.
 
 Where no crate is named, a crate is passed over whose edits were all refused for the very texts that stand: tools/edits.tried
-has the digests, and tools/edit_record.py says what they cover and what is trusted. --record writes that file after a run.
+has the digests, and tools/edits/edit_record.py says what they cover and what is trusted. --record writes that file after a run.
 
 The libraries below a crate must be built (crates/*/out/rlib), by `rt ci` or `rt all check`. For each edit there is a
 line with the goal that refuses it, and for each crate passed over one with how many it has; the last line is
@@ -21,30 +21,35 @@ import shutil
 import tempfile
 import threading
 import time
+from collections.abc import Mapping, Sequence
 from concurrent.futures import ThreadPoolExecutor
 
-from edit_checks import Crate, Kit, check, crates_of, fault_of, path_of, told
-from edit_files import edits_in, joined
+from edit_checks import Crate, Kit, Report, check, crates_of, fault_of, path_of, told
+from edit_files import Edit, Function, edits_in, joined
 from edit_record import Record, digest_of
 
 
-def say(text):
+def say(text: str) -> None:
     print(text, flush=True)
 
 
 class Trial:
     """The edits of one crate, tried."""
 
-    def __init__(self, crate, asked, cores):
+    def __init__(self, crate: Crate, asked: argparse.Namespace, cores: threading.Semaphore) -> None:
         self.crate, self.asked, self.cores = crate, asked, cores
         self.edits = edits_in(f"{crate.folder}/{asked.folder}", crate.folder)
         # Of all that the verdicts are made from, before the first check.
         self.digest = digest_of(crate, asked.folder)
         # What was found of each edit, what each check took, and how many edits met an answer by hand.
-        self.verdicts, self.reports, self.by_hand = [], [], 0
-        self.names = set()
+        self.verdicts: list[bool] = []
+        self.reports: list[Report] = []
+        self.by_hand = 0
+        self.names: set[str] = set()
+        # Where its first check keeps what it proved.
+        self.kept = ""
 
-    def check(self, label, texts, only=()):
+    def check(self, label: str, texts: Mapping[str, str], only: Sequence[str] = ()) -> Report:
         with self.cores:
             report = check(self.crate, texts, self.kept, only, self.asked.logs)
         self.reports.append(report)
@@ -52,11 +57,11 @@ class Trial:
         say(f"     {self.crate.name}: {label}: {took}; {report.last[:60]}")
         return report
 
-    def tell(self, edit, is_refused, why):
+    def tell(self, edit: Edit, is_refused: bool, why: str) -> None:
         self.verdicts.append(is_refused)
         say(f"{'ok  ' if is_refused else 'FAIL'} {self.crate.name}/{edit.name}: {why[:240]}")
 
-    def alone(self, edit):
+    def alone(self, edit: Edit) -> None:
         """Tries an edit by a whole check, and judges it as `rt must-fail` does, or harder: where only a proof file names
         what the edit took away, that is no refusal."""
         report = self.check(f"alone, {edit.name}", edit.texts)
@@ -73,15 +78,15 @@ class Trial:
         else:
             self.tell(edit, False, f"BAD EDIT: it did not reach the prover: {' / '.join(report.lines[:4])}")
 
-    def group(self, edits):
+    def group(self, edits: list[Edit]) -> list[Edit]:
         """Tries edits of different functions in one check, and returns those of which it says nothing clear."""
-        only = sorted({self.path(it) for edit in edits for it in edit.functions})
-        report = self.check(f"{len(edits)} edits", joined(edits, self.crate.folder), only)
+        paths = {it: path for edit in edits for it in edit.functions if (path := self.path(it))}
+        report = self.check(f"{len(edits)} edits", joined(edits, self.crate.folder), sorted({*paths.values()}))
         if report.unread({it.file for edit in edits for it in edit.splices}) or not report.last.startswith("only="):
             return self.without_unread(edits, report)
         unclear = []
         for edit in edits:
-            faults = [fault_of(it, self.path(it), report) for it in edit.functions]
+            faults = [fault_of(it, paths[it], report) for it in edit.functions]
             fault = next((it for it in faults if it), None)
             if fault:
                 self.by_hand += not fault.is_searched
@@ -90,7 +95,7 @@ class Trial:
                 unclear.append(edit)
         return unclear
 
-    def without_unread(self, edits, report):
+    def without_unread(self, edits: list[Edit], report: Report) -> list[Edit]:
         """Where a text of a group does not read: goes on without the edits at fault, or in halves."""
         if len(edits) == 1:
             return edits
@@ -104,17 +109,17 @@ class Trial:
         return self.group(edits[:half]) + self.group(edits[half:])
 
     @property
-    def is_refused(self):
+    def is_refused(self) -> bool:
         """Whether each edit was refused, for the texts that stand now."""
         is_all = len(self.verdicts) == len(self.edits) > 0 and all(self.verdicts)
         return is_all and self.digest == digest_of(self.crate, self.asked.folder)
 
-    def path(self, function):
+    def path(self, function: Function) -> str | None:
         return path_of(function, self.crate.name, self.names)
 
-    def groups(self, edits):
+    def groups(self, edits: Sequence[Edit]) -> list[list[Edit]]:
         """As few groups as the function with most edits needs, of like sizes; no two edits of a group change one."""
-        made = []
+        made: list[list[Edit]] = []
         for edit in sorted(edits, key=lambda it: -self.rivals(it, edits)):
             fits = [it for it in made if len(it) < self.asked.most and not any(edit.functions & of.functions for of in it)]
             if fits:
@@ -123,10 +128,10 @@ class Trial:
                 made.append([edit])
         return made
 
-    def rivals(self, edit, edits):
+    def rivals(self, edit: Edit, edits: Sequence[Edit]) -> int:
         return sum(bool(edit.functions & it.functions) for it in edits)
 
-    def run(self):
+    def run(self) -> None:
         for edit in self.edits:
             if edit.fault:
                 self.tell(edit, False, f"BAD EDIT: {edit.fault}")
@@ -149,7 +154,7 @@ class Trial:
                 list(pool.map(self.alone, unclear))
 
 
-def asked():
+def asked() -> argparse.Namespace:
     to = argparse.ArgumentParser(description=__doc__, formatter_class=argparse.RawDescriptionHelpFormatter)
     to.add_argument("--folder", default="wrong", help="of each crate, that holds its edits (wrong)")
     to.add_argument("--cores", type=int, default=os.cpu_count() or 1, help="checks side by side (the processors)")
@@ -166,14 +171,14 @@ def asked():
     return given
 
 
-def spared(given, trials):
+def spared(given: argparse.Namespace, trials: Sequence[Trial]) -> list[Trial]:
     """The crates that need not be tried, by what tools/edits.tried has. One that is named is always tried."""
     record = Record()
-    is_same = lambda it: it.edits and record.holds(it.crate.name, it.digest, len(it.edits))
-    return [] if given.all or given.crates else [it for it in trials if is_same(it)]
+    same = [it for it in trials if it.edits and record.holds(it.crate.name, it.digest, len(it.edits))]
+    return [] if given.all or given.crates else same
 
 
-def put_down(trials):
+def put_down(trials: Sequence[Trial]) -> None:
     """Records the crates all of whose edits were refused, and takes out those where one was not."""
     record = Record()
     for trial in trials:
@@ -184,7 +189,7 @@ def put_down(trials):
     record.write(crates_of())
 
 
-def main():
+def main() -> int:
     given, began, kit, crates = asked(), time.time(), Kit(), crates_of()
     unknown = [it for it in given.crates if it not in crates]
     if unknown:

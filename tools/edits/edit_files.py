@@ -5,6 +5,7 @@ line, an old TEXT stands once in its file, and later pairs apply to what the ear
 """
 import os
 import re
+from collections.abc import Sequence
 from dataclasses import dataclass, field
 
 # Comments, texts and characters of Rust: the search for braces passes over them.
@@ -16,7 +17,7 @@ BLOCK = re.compile(r"\b(?:impl|trait)\b([^{};]*)\{")
 CLAUSE = re.compile(r"\b(requires|ensures|ghost)\b")
 
 
-def text_of(path):
+def text_of(path: str) -> str:
     with open(path, encoding="utf-8") as it:
         return it.read()
 
@@ -36,14 +37,14 @@ class Function:
     head: str = field(compare=False)
     is_const: bool = field(compare=False)
 
-    def spans(self, file, line):
+    def spans(self, file: str, line: int) -> bool:
         return file == self.file and self.first_line <= line <= self.last_line
 
-    def holds(self, at, length):
+    def holds(self, at: int, length: int) -> bool:
         return self.begins <= at and at + length <= self.ends
 
 
-def end_of_block(blank, at):
+def end_of_block(blank: str, at: int) -> int:
     """Where the block that opens at this brace has ended."""
     depth = 0
     for found in re.compile(r"[{}]").finditer(blank, at):
@@ -53,7 +54,7 @@ def end_of_block(blank, at):
     return len(blank)
 
 
-def block_name(head):
+def block_name(head: str) -> str:
     """How a check names what stands in this impl or trait: `impl Read for Counted<R>` is CountedRead."""
     while re.search(r"<[^<>]*>", head):
         head = re.sub(r"<[^<>]*>", "", head)
@@ -62,7 +63,7 @@ def block_name(head):
     return "".join(it[1] for it in words if it)
 
 
-def body_of(blank, at):
+def body_of(blank: str, at: int) -> int | None:
     """Where the body opens of a function whose name ends here, behind its clauses, or None where it has none."""
     depth, since = 0, at
     while at < len(blank):
@@ -78,20 +79,22 @@ def body_of(blank, at):
     return None
 
 
-def functions_of(file, text):
+def functions_of(file: str, text: str) -> list[Function]:
     """The outermost functions of a .rt file that have a body, in order."""
     blank = SKIPPED.sub(lambda it: re.sub(r"[^\n]", " ", it[0]), text)
     blocks = [(it.end() - 1, end_of_block(blank, it.end() - 1), block_name(it[1])) for it in BLOCK.finditer(blank)]
-    made, end = [], 0
+    made: list[Function] = []
+    end = 0
     for found in FUNCTION.finditer(blank):
         opens = body_of(blank, found.end()) if found.start() >= end else None
         if opens is None:
             continue
         end = end_of_block(blank, opens)
         inside = [name for start, stop, name in blocks if start < found.start() < stop]
-        lines = [blank.count("\n", 0, it) + 1 for it in (found.start(), end)]
+        first, last = (blank.count("\n", 0, it) + 1 for it in (found.start(), end))
         head, is_const = text[found.start() : opens], "const" in found[1].split()
-        made.append(Function(file, "::".join([*inside[-1:], found[2]]), *lines, opens + 1, end - 1, head, is_const))
+        name = "::".join([*inside[-1:], found[2]])
+        made.append(Function(file, name, first, last, opens + 1, end - 1, head, is_const))
     return made
 
 
@@ -112,22 +115,23 @@ class Unreadable(Exception):
 class Edit:
     """A wrong text of a crate: what it changes, the texts that it makes, and the functions that it changes alone."""
 
-    def __init__(self, path, folder):
+    def __init__(self, path: str, folder: str) -> None:
         self.name = os.path.basename(path)
         # The file's text with this edit, by its path in the crate.
-        self.texts = {}
-        self.splices = []
+        self.texts: dict[str, str] = {}
+        self.splices: list[Splice] = []
         # The functions whose bodies it changes, if it changes nothing else.
-        self.functions = frozenset()
-        self.fault = None
+        self.functions: frozenset[Function] = frozenset()
+        self.fault: str | None = None
         try:
             self._read(text_of(path).split("\n"), folder)
             self._place(folder)
         except (Unreadable, OSError, UnicodeDecodeError) as error:
             self.fault = str(error)
 
-    def _read(self, lines, folder):
-        file = old = None
+    def _read(self, lines: Sequence[str], folder: str) -> None:
+        file: str | None = None
+        old: str | None = None
         for line in lines:
             if line.startswith("file: "):
                 file = line.removeprefix("file: ").strip()
@@ -143,7 +147,7 @@ class Edit:
         if not self.splices:
             raise Unreadable("it has no 'old:' and 'new:' pair")
 
-    def _splice(self, file, old, new, folder):
+    def _splice(self, file: str, old: str, new: str, folder: str) -> None:
         if not os.path.isfile(f"{folder}/{file}"):
             raise Unreadable(f"there is no file {file}")
         was = text_of(f"{folder}/{file}")
@@ -153,15 +157,15 @@ class Edit:
         self.texts[file] = text.replace(old, new)
         self.splices.append(Splice(file, was.find(old) if was.count(old) == 1 else -1, old, new))
 
-    def _place(self, folder):
+    def _place(self, folder: str) -> None:
         """Finds the functions that the edit changes, if it changes bodies alone, and of no `const fn`."""
-        functions = {}
+        functions: dict[str, list[Function]] = {}
         for file, text in self.texts.items():
             before, after = functions_of(file, text_of(f"{folder}/{file}")), functions_of(file, text)
             if not file.startswith("src/") or [(it.name, it.head) for it in before] != [(it.name, it.head) for it in after]:
                 return
             functions[file] = before
-        changed = []
+        changed: list[Function] = []
         for it in self.splices:
             inside = [of for of in functions[it.file] if of.holds(it.at, len(it.old)) and not of.is_const]
             if it.at < 0 or not inside:
@@ -170,7 +174,7 @@ class Edit:
         self.functions = frozenset(changed)
 
 
-def joined(edits, folder):
+def joined(edits: Sequence[Edit], folder: str) -> dict[str, str]:
     """The texts of a crate with all these edits, which change different functions' bodies."""
     texts = {it.file: text_of(f"{folder}/{it.file}") for edit in edits for it in edit.splices}
     splices = [it for edit in edits for it in edit.splices]
@@ -179,7 +183,7 @@ def joined(edits, folder):
     return texts
 
 
-def edits_in(path, folder):
+def edits_in(path: str, folder: str) -> list[Edit]:
     """The edits of a folder, in order of name. A file `.md` is only to be read."""
     names = sorted(os.listdir(path)) if os.path.isdir(path) else []
     return [Edit(f"{path}/{it}", folder) for it in names if not it.endswith(".md")]

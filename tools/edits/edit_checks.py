@@ -5,10 +5,11 @@ import shutil
 import subprocess
 import tempfile
 import time
+from collections.abc import Container, Mapping, Sequence
 from dataclasses import dataclass
 from functools import cached_property
 
-from edit_files import text_of
+from edit_files import Function, text_of
 
 PARTS = ("src", "specs", "proofs")
 # What is said where a proof file names what the edit took away, or cites such a file.
@@ -20,7 +21,7 @@ UNREAD = re.compile(r"is not in scope|has no field|is no name|operand is missing
 class Kit:
     """Where the toolchain lies."""
 
-    def __init__(self):
+    def __init__(self) -> None:
         rt = shutil.which("rt")
         if not rt:
             raise SystemExit("edits: the toolchain's command rt is not on the path")
@@ -28,7 +29,7 @@ class Kit:
         self.rattle = f"{self.top}/bin/rattle"
 
     @cached_property
-    def version(self):
+    def version(self) -> str:
         """What the toolchain calls itself."""
         return subprocess.run([self.rt, "version"], stdout=subprocess.PIPE, text=True, check=True).stdout.strip()
 
@@ -36,20 +37,20 @@ class Kit:
 class Crate:
     """A crate as crates.txt has it, and the words that check it as rt does."""
 
-    def __init__(self, name, crates, kit):
+    def __init__(self, name: str, crates: Mapping[str, Sequence[str]], kit: Kit) -> None:
         self.name, self.folder = name, os.path.abspath(f"crates/{name}")
         self.crates, self.kit = crates, kit
 
-    def below(self):
+    def below(self) -> list[str]:
         """The crates of the repository below this one."""
-        found = []
+        found: list[str] = []
         for name in self.crates[self.name]:
             if name in self.crates:
                 lower = Crate(name, self.crates, self.kit)
                 found += [it for it in [*lower.below(), name] if it not in found]
         return found
 
-    def words(self):
+    def words(self) -> list[str]:
         kit, top = self.kit, "main" if os.path.isfile(f"{self.folder}/src/main.rt") else "lib"
         made = [kit.rattle, "check", "--crate-name", self.name, f"src/{top}.rt"]
         made += ["--extern", f"std={kit.top}/rlibs/std.rlib", "-L", f"dependency={kit.top}/rlibs"]
@@ -67,34 +68,34 @@ class Report:
     """What a check said."""
 
     status: int
-    lines: list
+    lines: list[str]
     seconds: float
     processor: float
 
     @property
-    def last(self):
+    def last(self) -> str:
         return self.lines[-1]
 
     @property
-    def is_proved(self):
+    def is_proved(self) -> bool:
         return self.status == 0 and self.last.startswith("logic=proved")
 
     @property
-    def is_refused(self):
+    def is_refused(self) -> bool:
         return self.status == 1 and self.last.startswith("logic=not-proved")
 
-    def proved(self):
+    def proved(self) -> list[str]:
         """The names of the functions that are proved."""
         return [it[1] for it in (re.match(r"fn (\S+): proved", line) for line in self.lines) if it]
 
-    def not_proved(self):
+    def not_proved(self) -> dict[str, str]:
         """Why each other function is not, by its name."""
         found = (re.match(r"fn (\S+): ((?:not proved|no proof).*)", line) for line in self.lines)
         return {it[1]: it[2] for it in found if it}
 
-    def unread(self, files):
+    def unread(self, files: Container[str]) -> list[str]:
         """The lines that tell of a text which the prover cannot read, as rt takes them: of these files, src/ or specs/."""
-        found = []
+        found: list[str] = []
         for line in self.lines:
             at = re.match(r"(?:\./)?(\S+?):\d+:\d+: error: (?:(`[^`]*`): )?(.*)", line)
             if at and (at[1] in files or at[1].startswith(("src/", "specs/"))):
@@ -105,7 +106,9 @@ class Report:
         return found
 
 
-def check(crate, texts, kept, only=(), logs=None):
+def check(
+    crate: Crate, texts: Mapping[str, str], kept: str, only: Sequence[str] = (), logs: str | None = None
+) -> Report:
     """Checks a copy of the crate with these texts, over what is kept, which stays as it is where `only` names functions
     or texts are given: rattle replaces the files that it keeps, so hard links to them serve a copy."""
     began = time.time()
@@ -121,8 +124,10 @@ def check(crate, texts, kept, only=(), logs=None):
         words = [*crate.words(), "--incremental", kept]
         for name in only:
             words += ["--only", name]
-        how = {"stdout": subprocess.PIPE, "stderr": subprocess.STDOUT, "errors": "replace"}
-        ran = subprocess.Popen(words, cwd=room, stdin=subprocess.DEVNULL, **how)
+        ran = subprocess.Popen(
+            words, cwd=room, stdin=subprocess.DEVNULL, stdout=subprocess.PIPE, stderr=subprocess.STDOUT, errors="replace"
+        )
+        assert ran.stdout
         said = ran.stdout.read()
         _, status, used = os.wait4(ran.pid, 0)
         ran.returncode = os.waitstatus_to_exitcode(status)
@@ -143,7 +148,7 @@ class Fault:
     is_searched: bool
 
 
-def path_of(function, crate, names):
+def path_of(function: Function, crate: str, names: set[str]) -> str | None:
     """The name by which a check reports the function, or None where that is not plain: what stands in an impl is named
     by the module of its type."""
     module = function.file.removeprefix("src/").removesuffix(".rt").replace("/", "::")
@@ -154,7 +159,7 @@ def path_of(function, crate, names):
     return ends[0] if len(ends) == 1 else None
 
 
-def fault_of(function, path, report):
+def fault_of(function: Function, path: str, report: Report) -> Fault | None:
     """What a report tells of a fault in a function's own proof or in that of a closure in it, if anything: not what it
     tells of a function that it calls, and not that a proof file names what is gone."""
     closures = f"{path[: -len(function.name)]}fn::{function.name}::"
@@ -175,7 +180,7 @@ def fault_of(function, path, report):
     return None
 
 
-def told(report):
+def told(report: Report) -> tuple[str, bool]:
     """The first line of a whole check that tells why it is refused, and whether that is more than a proof file that
     names what is gone."""
     lines = [it for it in report.lines if re.match(r"(note: )?\S+:\d+:\d+:", it)]
@@ -185,7 +190,7 @@ def told(report):
     return (first, True) if first else (lines[0], False) if lines else ("no place is told", True)
 
 
-def crates_of(path="crates.txt"):
+def crates_of(path: str = "crates.txt") -> dict[str, list[str]]:
     """Each crate of crates.txt with what it stands on, as written."""
     rows = [it.partition("#")[0].partition(":") for it in text_of(path).splitlines()]
     return {name.split()[0]: rest.split() for name, _, rest in rows if name.strip()}
