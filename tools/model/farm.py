@@ -2,7 +2,7 @@
 reports. It is written from the requirements, and asks the program nothing.
 """
 from collections import Counter
-from typing import NamedTuple, Optional
+from typing import Mapping, NamedTuple, Optional
 
 from model.facts import CHANNEL
 
@@ -85,7 +85,7 @@ class Farm:
             return "ahead"
         return "behind" if 256 - half <= d <= 255 else "outside"
 
-    def does(self, table: dict[str, tuple[str, ...]], case: str, value: int = 0) -> bool:
+    def does(self, table: Mapping[str, tuple[str, ...]], case: str, value: int = 0) -> bool:
         """What a cell says is done. Answers whether a frame was accepted."""
         self.visits[case, self.state] += 1
         is_accepted = False

@@ -7,10 +7,10 @@ from model.facts import ACK_BITS, ACKS, SCHEDULE, TAKES_TARGET, TAKES_TIME, Subt
 class Identity(NamedTuple):
     """The name of a request on board: its application process, and its sequence count."""
     apid: int
-    count: int
+    sequence: int
 
     def __str__(self) -> str:
-        return f"{self.apid}/{self.count}"
+        return f"{self.apid}/{self.sequence}"
 
 
 class Form(NamedTuple):
