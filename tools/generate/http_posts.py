@@ -2,10 +2,10 @@
 response.
 """
 import json
-from typing import Any, Iterator
+from typing import Any, Callable, Iterator
 
 from generate.http_words import BODY, ENTRY, Case, act, entry, get, load, post
-from model.facts import PROCEDURE_HEADER, STACK_HEADER
+from model.facts import MOST_ROWS, MOST_STEPS, PROCEDURE_HEADER, STACK_HEADER
 from model.http import NO_PATH
 
 
@@ -47,6 +47,13 @@ def shapes() -> Iterator[Case]:
             ("a word", "nul", 1), ("NaN", "NaN", 1), ("a form", "act=places&by=ann&moment=100", 1), ("the act alone", ENTRY, 1),
             ("an object in an object", '{"body":' + BODY + "}", 1), ("keys in capitals", BODY.replace("act", "Act").replace('"by', '"By'), 1)]:
         yield Case(f"a body: {name}", post("/acts", body), want)
+    yield from other_values()
+    yield from bad_bytes()
+
+
+def other_values() -> Iterator[Case]:
+    """Values of JSON, and what is none, for a key that is not looked at, and for one that is named again."""
+    tail = BODY[1:]
     for name, text, want in [
             ("null", "null", 0), ("NaN", "NaN", 1), ("Infinity", "Infinity", 1), ("minus Infinity", "-Infinity", 1), ("True", "True", 1),
             ("a huge number", "1e400", 1),
@@ -73,28 +80,33 @@ def shapes() -> Iterator[Case]:
         yield Case(f"another key is {name}", post("/acts", '{"x":' + text + "," + tail), want)
     for name, text in [("half a pair", '"\\ud83d"'), ("a huge number", "1e400"), ("127 arrays", "[" * 127 + "]" * 127), ("no JSON", "NaN")]:
         yield Case(f"a key that is named again is {name}", post("/acts", '{"moment":' + text + "," + tail), 1)
+
+
+def bad_bytes() -> Iterator[Case]:
+    """Bytes that are not UTF-8, in a text, in a key and behind the body."""
     body = BODY.encode()
-    for name, text in [
+    for name, raw in [
             ("byte ff", b"\xff"), ("a byte of more to come", b"\xc3"), ("a byte that goes on", b"\x80"), ("too long a form", b"\xc0\x80"),
             ("half a pair", b"\xed\xa0\x80"),
             ("past the last character", b"\xf4\x90\x80\x80"), ("a character that is cut", b"\xf0\x9f\x98")]:
-        yield Case(f"in the act {name}", post("/acts", body.replace(b"- ok", text)), 1)
-        yield Case(f"in another key {name}", post("/acts", b'{"x' + text + b'":1,' + body[1:]), 1)
-        yield Case(f"behind it {name}", post("/acts", body + text), 1)
+        yield Case(f"in the act {name}", post("/acts", body.replace(b"- ok", raw)), 1)
+        yield Case(f"in another key {name}", post("/acts", b'{"x' + raw + b'":1,' + body[1:]), 1)
+        yield Case(f"behind it {name}", post("/acts", body + raw), 1)
     yield Case("a body in two bytes a letter", post("/acts", BODY.encode("utf-16")), 1)
 
 
 def keys() -> Iterator[Case]:
     """Keys that lack, come twice, or are of another kind, for all three kinds of a post."""
     csv, plan = rows(1, apid=8), steps(1)
-    posts = {"/acts": {"act": ENTRY, "by": "ann", "moment": 100}, "/stacks": {"by": "ann", "csv": csv, "moment": 100, "name": "k1"},
+    posts: dict[str, dict[str, Any]] = {
+             "/acts": {"act": ENTRY, "by": "ann", "moment": 100}, "/stacks": {"by": "ann", "csv": csv, "moment": 100, "name": "k1"},
              "/procedures": {"by": "ann", "csv": plan, "moment": 100, "name": "k1"}}
-    others = {"null": None, "true": True, "a list": ["ann"], "an object": {"a": 1}, "an empty list": []}
+    others: dict[str, Any] = {"null": None, "true": True, "a list": ["ann"], "an object": {"a": 1}, "an empty list": []}
     for path, values in posts.items():
         for key in values:
             lacking = {it: value for it, value in values.items() if it != key}
             yield Case(f"{path} lacks {key}", post(path, json.dumps(lacking)), 1)
-            wrong = {**others, "a text": "100"} if key == "moment" else {**others, "a number": 5}
+            wrong: dict[str, Any] = {**others, "a text": "100"} if key == "moment" else {**others, "a number": 5}
             for name, value in wrong.items():
                 yield Case(f"{path}: {key} is {name}", post(path, json.dumps({**values, key: value})), 1)
                 yield Case(f"{path}: {key} comes twice, the last {name}", post(path, json.dumps(values)[:-1] + f',"{key}":{json.dumps(value)}}}'), 1)
@@ -110,30 +122,47 @@ def keys() -> Iterator[Case]:
         yield Case(f"named twice, last {last[:20]}", post("/acts", BODY[:-1] + "," + last + "}"), want)
 
 
+LONG = "x" * 201
+
+
 def values() -> Iterator[Case]:
     """Persons, moments and acts at their limits, and which test comes first."""
-    long = "x" * 201
+    yield from moments()
+    yield from persons()
+    yield from texts_of_acts()
+
+
+def moments() -> Iterator[Case]:
+    """Moments at their limits, and in other spellings."""
     for number, want in [
             ("0", 0), ("1", 0), ("4102444799", 0), ("4102444800", 1), ("4294967296", 1), ("18446744073709551615", 1), ("18446744073709551616", 1),
             ("9" * 40, 1), ("-1", 1), ("-0", 1),
             ("0.0", 1), ("100.0", 1), ("100.5", 1), ("1e2", 1), ("1E2", 1), ("100e0", 1), ("1e-400", 1), ("-100", 1), ("-9223372036854775808", 1),
             ("-9223372036854775809", 1), ("1e308", 1)]:
         yield Case(f"the moment {number[:30]}", post("/acts", BODY.replace("100", number)), want)
-        yield Case(f"the moment {number[:30]} and a long act", post("/acts", entry(act=long).replace("100", number)), 17)
+        yield Case(f"the moment {number[:30]} and a long act", post("/acts", entry(act=LONG).replace("100", number)), 17)
         stack = json.dumps({"by": "ann", "csv": rows(201), "moment": 1, "name": "m"}).replace('"moment": 1', f'"moment": {number}')
         yield Case(f"the moment {number[:30]} of a stack of 201 rows", post("/stacks", stack), 17)
     for number in ("1e400", "01", "+1", "NaN", "1.", '"1"', "null", ""):
-        yield Case(f"no number for a moment, and a long act: {number}", post("/acts", entry(act=long).replace("100", number)), 1)
+        yield Case(f"no number for a moment, and a long act: {number}", post("/acts", entry(act=LONG).replace("100", number)), 1)
+
+
+def persons() -> Iterator[Case]:
+    """Persons, and what is none."""
     for name in ("", "desk", "Ann", "ann ", " ann", "a nn", "ann\n", "a-b", "a_b", "änn", "a" * 17, "ann\x00", "-", "ＡＮＮ", "١"):
         yield Case(f"the person {name!r}", post("/acts", entry(by=name)), 1)
-        yield Case(f"the person {name!r} and a long act", post("/acts", entry(by=name, act=long)), 1)
+        yield Case(f"the person {name!r} and a long act", post("/acts", entry(by=name, act=LONG)), 1)
         yield Case(f"the person {name!r} and a question", post("/acts", entry(by=name, act="places")), 1)
         yield Case(f"the person {name!r} of a stack", load("stack", "p1", rows(1), by=name), 1)
         yield Case(f"the person {name!r} of 201 rows", load("stack", "p1", rows(201), by=name), 1)
     for name in ("a", "0", "9z", "a" * 16, "desk1", "des"):
         yield Case(f"the person {name!r}", post("/acts", entry(by=name)), 0)
+
+
+def texts_of_acts() -> Iterator[Case]:
+    """Acts at the limit of their length, with letters of several bytes, and texts that are no acts."""
     for text, want in [
-            ("x" * 200, 1), (long, 17), ("x" * 60000, 17), ("é" * 100, 1), ("é" * 101, 17), ("😀" * 50, 1), ("😀" * 51, 17), (" " * 200, 1),
+            ("x" * 200, 1), (LONG, 17), ("x" * 60000, 17), ("é" * 100, 1), ("é" * 101, 17), ("😀" * 50, 1), ("😀" * 51, 17), (" " * 200, 1),
             (" " * 201, 17), ("\n" * 200, 1),
             ("\n" * 201, 17), ("\x00" * 200, 1), ("\x00" * 201, 17), (ENTRY + " " * 174, 1), (ENTRY + " " * 175, 17), ("", 1), (" ", 1),
             (" " + ENTRY, 1), (ENTRY + " ", 1),
@@ -146,8 +175,8 @@ def values() -> Iterator[Case]:
             ("places", 0), ("link", 0), ("schedule", 0), ("history 1 0", 0), ("request 1", 0), ("log 1", 16), ("report 0 9", 0), ("places ", 1),
             ("history 1", 1), ("report 9 4102444800", 1)]:
         yield Case(f"the act {text[:30]!r} of {len(text.encode())} bytes", act(text), want)
-    yield Case("a long act of a bad person at a bad moment", post("/acts", entry(act=long, by="desk", moment=-1)), 1)
-    yield Case("a long act that lacks its person", post("/acts", entry(act=long, by=None)), 1)
+    yield Case("a long act of a bad person at a bad moment", post("/acts", entry(act=LONG, by="desk", moment=-1)), 1)
+    yield Case("a long act that lacks its person", post("/acts", entry(act=LONG, by=None)), 1)
     yield Case("a long act, spelled by escapes", post("/acts", BODY.replace(ENTRY, "\\u0041" * 201)), 17)
     yield Case("an act of 200 bytes, spelled by escapes", post("/acts", BODY.replace(ENTRY, "\\u0041" * 200)), 1)
     yield Case("101 letters of two bytes, spelled by escapes", post("/acts", BODY.replace(ENTRY, "\\u00e9" * 101)), 17)
@@ -155,45 +184,58 @@ def values() -> Iterator[Case]:
 
 # ---- loads
 
+# What is wrong with a load besides its text, and what is wanted where the text is too long.
+BESIDES: list[tuple[str, dict[str, Any], int]] = [
+    ("alone", {}, 17), ("a bad name", {"name": "No"}, 17), ("no name", {"name": ""}, 17), ("a long name", {"name": "a" * 17}, 17),
+    ("a bad moment", {"moment": -1}, 17),
+    ("a late moment", {"moment": 4102444800}, 17), ("half a moment", {"moment": 0.5}, 17),
+    ("both bad", {"moment": -1, "name": "No"}, 17), ("a bad person", {"by": "No"}, 1),
+    ("the desk", {"by": "desk"}, 1), ("a name of another kind", {"name": 5}, 1), ("a moment of another kind", {"moment": "5"}, 1),
+    ("a name that lacks", {"name": None}, 1)]
+
+
+def long_loads(kind: str, make: Callable[[int], str], most: int) -> Iterator[Case]:
+    """Loads of as many rows as may be, and of more, which are refused for that before their other faults."""
+    long = make(most + 1)
+    ragged = make(most + 1).replace(",no,", ",", 3)
+    yield Case(f"a {kind} of {most} rows", load(kind, "most", make(most)), 0)
+    yield Case(f"a {kind} of a name that is used", load(kind, "most", make(1)), 9)
+    yield Case(f"a {kind} that is too long, of a name that is used", load(kind, "most", long), 17)
+    for name, keys_, want in BESIDES:
+        for what, csv in (("rows too many", long), ("a bad header and rows too many", long.replace(",", ";")), ("unequal rows too many", ragged)):
+            yield Case(f"a {kind}, {what}, and {name}", load(kind, **{"name": "x1", "csv": csv, **keys_}), want)
+        yield Case(f"a {kind} of one row, and {name}", load(kind, **{"name": f"n{most}", "csv": make(1), **keys_}), 1 if keys_ else 0)
+        yield Case(f"a {kind} of no row, and {name}", load(kind, **{"name": "x2", "csv": make(0), **keys_}), 1)
+    for name, want in (("a" * 16, 0), ("0", 0), ("desk", 0), ("a-b", 1), ("a b", 1), ("é", 1), ("A", 1), ("a\n", 1)):
+        yield Case(f"a {kind} of the name {name!r}", load(kind, name, make(1)), want)
+
+
+def spelled_loads(kind: str, text: str) -> Iterator[Case]:
+    """Loads of this text in its spellings, and of what is none; and bodies at their limit."""
+    for name, csv, want in [
+            ("CR LF", text.replace("\n", "\r\n"), 0), ("CR", text.replace("\n", "\r"), 0), ("no last line end", text[:-1], 0),
+            ("empty lines", "\n\n" + text.replace("\n", "\n\n"), 0),
+            ("a mark at the front", "\ufeff" + text, 0), ("two marks", "\ufeff\ufeff" + text, 1),
+            ("quotes", '"' + text.replace(",", '","').replace("\n", '"\n"')[:-1], 0),
+            ("nothing", "", 1), ("a header alone", text.split("\n", maxsplit=1)[0], 1),
+            ("another header", text.replace("l", "L", 1).replace("s", "S", 1), 1), ("spaces", " " + text, 1),
+            ("a column more", text.replace("\n", ",x\n"), 1), ("a column less", text.replace(",", "", 1), 1),
+            ("line 2 first", text.replace("\n1,", "\n2,"), 1),
+            ("letters of other tongues", text.replace("1,", "é,", 1), 1), ("NUL", text + "\x00", 1), ("many spaces", text + " " * 50000, 1),
+            ("many empty lines", text + "\n" * 20000, 0)]:
+        yield Case(f"a {kind} with {name}", load(kind, f"{kind[0]}{name.replace(' ', '')[:12].lower()}", csv), want)
+    yield Case(f"a {kind}, its act beside it", load(kind, f"{kind[0]}act", text, act="withdraw 1", number=9), 0)
+    spare = 65536 - len(load(kind, "large", text, x="").split(b"\r\n\r\n", 1)[1])
+    yield Case(f"a {kind} in a body of 65,536 bytes", load(kind, "large", text, x="x" * spare), 0)
+    yield Case(f"a {kind} in a body of 65,537 bytes", load(kind, "larger", text, x="x" * (spare + 1)), 17)
+
+
 def loads() -> Iterator[Case]:
     """Stacks and procedures: which test comes first, and what is loaded."""
-    for kind, make, most in (("stack", rows, 200), ("procedure", steps, 100)):
-        long = make(most + 1)
-        ragged = make(most + 1).replace(",no,", ",", 3)
-        yield Case(f"a {kind} of {most} rows", load(kind, "most", make(most)), 0)
-        yield Case(f"a {kind} of a name that is used", load(kind, "most", make(1)), 9)
-        yield Case(f"a {kind} that is too long, of a name that is used", load(kind, "most", long), 17)
-        for name, keys_, want in [
-                ("alone", {}, 17), ("a bad name", {"name": "No"}, 17), ("no name", {"name": ""}, 17), ("a long name", {"name": "a" * 17}, 17),
-                ("a bad moment", {"moment": -1}, 17),
-                ("a late moment", {"moment": 4102444800}, 17), ("half a moment", {"moment": 0.5}, 17),
-                ("both bad", {"moment": -1, "name": "No"}, 17), ("a bad person", {"by": "No"}, 1),
-                ("the desk", {"by": "desk"}, 1), ("a name of another kind", {"name": 5}, 1), ("a moment of another kind", {"moment": "5"}, 1),
-                ("a name that lacks", {"name": None}, 1)]:
-            for what, csv in (("rows too many", long), ("a bad header and rows too many", long.replace(",", ";")), ("unequal rows too many", ragged)):
-                yield Case(f"a {kind}, {what}, and {name}", load(kind, **{"name": "x1", "csv": csv, **keys_}), want)
-            one = {17: 1, 1: 1}[want] if keys_ else 0
-            yield Case(f"a {kind} of one row, and {name}", load(kind, **{"name": f"n{most}", "csv": make(1), **keys_}), one)
-            yield Case(f"a {kind} of no row, and {name}", load(kind, **{"name": "x2", "csv": make(0), **keys_}), 1)
-        for name, want in (("a" * 16, 0), ("0", 0), ("desk", 0), ("a-b", 1), ("a b", 1), ("é", 1), ("A", 1), ("a\n", 1)):
-            yield Case(f"a {kind} of the name {name!r}", load(kind, name, make(1)), want)
-        text = make(1)
-        for name, csv, want in [
-                ("CR LF", text.replace("\n", "\r\n"), 0), ("CR", text.replace("\n", "\r"), 0), ("no last line end", text[:-1], 0),
-                ("empty lines", "\n\n" + text.replace("\n", "\n\n"), 0),
-                ("a mark at the front", "\ufeff" + text, 0), ("two marks", "\ufeff\ufeff" + text, 1),
-                ("quotes", '"' + text.replace(",", '","').replace("\n", '"\n"')[:-1], 0),
-                ("nothing", "", 1), ("a header alone", text.split("\n", maxsplit=1)[0], 1),
-                ("another header", text.replace("l", "L", 1).replace("s", "S", 1), 1), ("spaces", " " + text, 1),
-                ("a column more", text.replace("\n", ",x\n"), 1), ("a column less", text.replace(",", "", 1), 1),
-                ("line 2 first", text.replace("\n1,", "\n2,"), 1),
-                ("letters of other tongues", text.replace("1,", "é,", 1), 1), ("NUL", text + "\x00", 1), ("many spaces", text + " " * 50000, 1),
-                ("many empty lines", text + "\n" * 20000, 0)]:
-            yield Case(f"a {kind} with {name}", load(kind, f"{kind[0]}{name.replace(' ', '')[:12].lower()}", csv), want)
-        yield Case(f"a {kind}, its act beside it", load(kind, f"{kind[0]}act", text, act="withdraw 1", number=9), 0)
-        spare = 65536 - len(load(kind, "large", text, x="").split(b"\r\n\r\n", 1)[1])
-        yield Case(f"a {kind} in a body of 65,536 bytes", load(kind, "large", text, x="x" * spare), 0)
-        yield Case(f"a {kind} in a body of 65,537 bytes", load(kind, "larger", text, x="x" * (spare + 1)), 17)
+    makes: list[tuple[str, Callable[[int], str], int]] = [("stack", rows, MOST_ROWS), ("procedure", steps, MOST_STEPS)]
+    for kind, make, most in makes:
+        yield from long_loads(kind, make, most)
+        yield from spelled_loads(kind, make(1))
     yield Case("a stack with a target of service 11", load("stack", "t1", rows(1) + "2,7,11,5,1,,---c,no,,ok\n3,7,11,5,2,,---c,no,,ok\n"), 19)
     yield Case("a stack with a target on a later line", load("stack", "t2", f"{STACK_HEADER}\n1,7,11,5,2,,---c,no,,ok\n2,7,8,1,,,a--c,no,,ok\n"), 1)
     yield Case("a procedure of a request that nobody entered", load("procedure", "r1", steps(1) + "2,go,no,60000\n"), 2)

@@ -8,12 +8,15 @@ NOTHING = "nothing"  # what is wanted where no front of the input decides anythi
 ENTRY = "enter 5 a--c no 8 1 - - ok"
 
 
+Want = Union[None, int, str, Refused]
+
+
 class Case(NamedTuple):
     """Bytes that a peer sends, and what is wanted: the number of the refusal, 0 for none, NO_PATH, OTHER_METHOD or NOTHING; None where the plain
     reading alone says it."""
     name: str
     raw: bytes
-    want: Union[None, int, str, Refused] = None
+    want: Want = None
 
 
 def get(path: str, *lines: str, end: str = "\r\n") -> bytes:
