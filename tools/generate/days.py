@@ -1,12 +1,10 @@
 """Random lines of a day at a desk, most of which the desk will answer; they go on from what its tables hold."""
 from dataclasses import dataclass, field
 
-from desk_tables import (ACCEPTED, APPROVED, COMPLETED, CONFIRMED, DOUBTFUL, ENTERED, INSERT, RIDING, SCHEDULE, SCHEDULED, SENT,
-                         STARTED)
+from model.facts import CLOSED_FROM, SCHEDULE, STACK_HEADER, Place, Subtype
 
 TURNS = 40
 PERSONS = "ann bob cid eve joe".split()
-CLOSED_FROM = (CONFIRMED, RIDING, SCHEDULED, ACCEPTED, STARTED, DOUBTFUL)
 
 
 @dataclass
@@ -16,7 +14,7 @@ class Guess:
     critical: bool
     is_plain: bool
     asks_acceptance: bool
-    place: int = ENTERED
+    place: int = Place.ENTERED
     target: int = 0
     stack: str = ""
     approvers: set = field(default_factory=set)
@@ -26,7 +24,7 @@ def guesses_of(tables):
     """The requests of these tables, each as it stands."""
     made = []
     for r in tables.request:
-        target = r.target if r.service == SCHEDULE and r.subtype == INSERT else 0
+        target = r.target if r.service == SCHEDULE and r.subtype == Subtype.INSERT else 0
         given = {a.person for a in tables.request_approval if a.of == r.num}
         made.append(Guess(r.author, bool(r.critical), r.service != SCHEDULE, r.ack >= 8, r.place, target, r.stack, given))
     return made
@@ -116,7 +114,7 @@ class Writer:
     def stack(self):
         """A stack is loaded, of one to five rows."""
         name, by, first = f"s{self.day}{len(self.files)}", self.dice.choice(PERSONS), len(self.requests) + 1
-        rows = ["line,apid,service,subtype,target,time,ack,critical,after,outcome".split(",")]
+        rows = [STACK_HEADER.split(",")]
         for line in range(1, self.dice.randrange(2, 7)):
             command, ack, outcome, guess = self.form(range(first, len(self.requests) + 1), first)
             if command[1] == 4 and command[0] == SCHEDULE:
@@ -133,7 +131,7 @@ class Writer:
         """A procedure is loaded, of one to five steps."""
         name, rows = f"p{self.day}{len(self.files)}", [["step", "text", "second", "request"]]
         for number in range(1, self.dice.randrange(2, 7)):
-            request = self.pick(ENTERED, APPROVED) if self.dice.random() < 0.5 and self.requests else 0
+            request = self.pick(Place.ENTERED, Place.APPROVED) if self.dice.random() < 0.5 and self.requests else 0
             request = request if self.at(request) else ""
             rows.append([number, f"do {number}", self.dice.choice(["yes", "no"]), request])
         self.steps[name] = rows[1:]
@@ -143,17 +141,17 @@ class Writer:
 
     def approve(self):
         """A request, or a stack, is approved."""
-        alone = [n for n, it in enumerate(self.requests, 1) if it.place == ENTERED and not it.stack]
+        alone = [n for n, it in enumerate(self.requests, 1) if it.place == Place.ENTERED and not it.stack]
         if not alone and self.dice.random() < 0.9:
             return self.enter()
-        number = self.dice.choice(alone) if alone and self.dice.random() < 0.95 else self.pick(ENTERED)
+        number = self.dice.choice(alone) if alone and self.dice.random() < 0.95 else self.pick(Place.ENTERED)
         it = self.at(number)
         by = self.other(it.author, *it.approvers) if it and self.dice.random() < 0.95 else self.dice.choice(PERSONS)
         self.say(f"approve {number}", by)
-        if it and not it.stack and it.place == ENTERED and by != it.author:
+        if it and not it.stack and it.place == Place.ENTERED and by != it.author:
             it.approvers.add(by)
             if len(it.approvers) > it.critical:
-                it.place = APPROVED
+                it.place = Place.APPROVED
 
     def approve_stack(self):
         """A stack is approved."""
@@ -168,17 +166,17 @@ class Writer:
         self.say(f"approvestack {name}", by)
         given.add(by)
         for it in self.requests:
-            if it.stack == name and it.place == ENTERED and len(given) > critical:
-                it.place = APPROVED
+            if it.stack == name and it.place == Place.ENTERED and len(given) > critical:
+                it.place = Place.APPROVED
 
     def leave(self):
         """A request is withdrawn or closed."""
-        verb, places = self.dice.choice([("withdraw", (ENTERED, APPROVED)), ("close", CLOSED_FROM), ("close", CLOSED_FROM)])
+        verb, places = self.dice.choice([("withdraw", (Place.ENTERED, Place.APPROVED)), ("close", CLOSED_FROM), ("close", CLOSED_FROM)])
         number = self.pick(*places)
         self.say(f"{verb} {number}")
         it = self.at(number)
         if it and it.place in places:
-            it.place = COMPLETED
+            it.place = Place.COMPLETED
 
     def work_step(self):
         """A step of an execution is recorded; where none goes on, one is begun, or a procedure is loaded."""
@@ -213,18 +211,18 @@ class Writer:
             self.start()
         self.say(f"release {number}")
         it = self.at(number)
-        if it and it.place == APPROVED:
-            it.place = SENT
+        if it and it.place == Place.APPROVED:
+            it.place = Place.SENT
             if self.at(it.target):
-                self.at(it.target).place = RIDING
+                self.at(it.target).place = Place.RIDING
         for act in self.dice.choice([[], ["up"], ["up", "down"], ["up", "work", "down"], ["up", "work", "down", "down", "down"],
                                      ["up", "work", "down", "down"], ["up", "clcw", "down"], ["loseup 0", "tick"]]):
             self.say(act)
 
     def release(self):
         """A request that is approved is released; where there is none, one is approved."""
-        if any(it.place == APPROVED for it in self.requests):
-            self.fly(self.pick(APPROVED))
+        if any(it.place == Place.APPROVED for it in self.requests):
+            self.fly(self.pick(Place.APPROVED))
         else:
             self.approve()
 
@@ -235,12 +233,12 @@ class Writer:
         number = len(self.requests)
         self.say(f"enter 5 ---c no 11 {words} ok", by)
         self.say(f"approve {number}", self.other(by))
-        self.requests[-1].place = APPROVED
+        self.requests[-1].place = Place.APPROVED
         self.fly(number)
 
     def schedule(self):
         """An activity is inserted, and what is scheduled is often changed behind it."""
-        named = [n for n, it in enumerate(self.requests, 1) if it.is_plain and it.asks_acceptance and it.place == APPROVED]
+        named = [n for n, it in enumerate(self.requests, 1) if it.is_plain and it.asks_acceptance and it.place == Place.APPROVED]
         if not named:
             return self.approve()
         target = self.dice.choice(named)
@@ -273,7 +271,7 @@ class Writer:
 
     def ask(self):
         """A question, or a line that is no line."""
-        number = self.pick(ENTERED)
+        number = self.pick(Place.ENTERED)
         self.say(self.dice.choice(["places", f"history {number} 0", f"request {number}", "link", "schedule",
                                    "log 1", "release", f"approve {number} "]))
 

@@ -1,8 +1,8 @@
 """Texts of stacks and of procedures, checked by `tcdesk check`.
 
-Each line that the program prints is compared with one that was written by hand beside its text (check_texts.py, tools/cases/checks/), or, of
-random texts by their numbers (check_random.py), with what check_reading.py tells, a reading of the rules that asks the program
-nothing; that reading has to tell of the others what was written. Its status has to be 0 or 1, standard error empty, and the file as before. A
+Each line that the program prints is compared with one that was written by hand beside its text (generate/check_texts.py, tools/cases/checks/),
+or, of random texts by their seeds (generate/check_random.py), with what the plain desk tells (model/check.py), a reading of the rules that asks the
+program nothing; that reading has to tell of the others what was written. Its status has to be 0 or 1, standard error empty, and the file as before. A
 share of the texts comes by the standard input too, and of a share the load is tried, by a script: it has to be refused where the check finds a
 fault, as the rule says, and else not. Then the words of the command line, files that give no text, and outputs that take none. Where all are
 run, each line has to be told of some random texts.
@@ -23,11 +23,12 @@ from functools import partial
 from subprocess import PIPE
 from typing import NamedTuple
 
-import book_lines
-from book_lines import NAMES, UNKNOWN_REQUEST, Refused
-from check_random import random_text
-from check_reading import told_of
-from check_texts import NO_STACK, ROW, STACK, Text, all_texts
+from generate.check_random import random_text
+from generate.check_texts import NO_STACK, ROW, STACK, Text, all_texts
+from model.check import told_of
+from model.facts import Refusal
+from model.refused import Refused
+from model.texts import read_procedure, read_stack
 from tests.asked import ASKED
 
 TEXTS, LEAST, LONGEST = 6000, 20, 60
@@ -100,11 +101,11 @@ def differs(what, wanted, got):
 def load_of(text):
     """With what the load of a text is refused, 0 where it is not; and the answer to it, on a desk where nothing was entered."""
     try:
-        rows = (book_lines.read_stack if text.kind == "stack" else book_lines.read_procedure)(text.data)
+        rows = (read_stack if text.kind == "stack" else read_procedure)(text.data)
     except Refused as why:
-        return why.number, f"refused {why.number} {NAMES[why.number]}"
+        return why.number, why.number.line
     if text.kind == "procedure" and any(it.request is not None for it in rows):
-        return 0, f"refused {UNKNOWN_REQUEST} {NAMES[UNKNOWN_REQUEST]}"
+        return 0, Refusal.UNKNOWN_REQUEST.line
     return 0, f"ok stack s1 {len(rows)} 1" if text.kind == "stack" else f"ok procedure s1 {len(rows)}"
 
 
@@ -153,7 +154,7 @@ def try_text(program, work, job):
 
 def numbered(number):
     """The kind, the name and the bytes of a random text."""
-    kind, data = random_text(random.Random(number))
+    kind, data = random_text(number)
     return kind, f"number {number}, {data!r:.600}", data
 
 

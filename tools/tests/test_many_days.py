@@ -14,9 +14,12 @@ from concurrent.futures import ThreadPoolExecutor
 from dataclasses import dataclass
 from functools import partial
 
-from desk_tables import (SCHEDULE, Tables, move_line, opened_moves, opened_tables, place_word, places_by, places_line, read_tables,
-                         tallies_by, why_unsound)
 from generate.days import Writer
+from model.facts import SCHEDULE, place_word
+from model.kept import read_tables
+from model.rows import empty_tables, move_line, places_by, places_line, tallies_by
+from model.sound import why_unsound
+from model.tables import opened_moves, opened_tables
 from tests.asked import ASKED
 from tests.runs import run_kept, write_lines
 
@@ -128,7 +131,7 @@ def run_desk(program, work, number):
     """All days of one desk."""
     folder, dice, told = f"{work}/{number}", random.Random(number), Told([])
     os.mkdir(folder)
-    tables = Tables([("schema", 1)], *([] for _ in range(10)))
+    tables = empty_tables()
     for day in range(1, DAYS + 1):
         tables = run_day(program, folder, day, tables, dice, told)
         if told.faults:

@@ -10,8 +10,9 @@ import subprocess
 from contextlib import closing
 from pathlib import Path
 
-from desk_tables import Tables, connect, move_line, tables_of
 from generate.days import Writer
+from model.kept import connect, tables_of
+from model.rows import empty_tables, move_line
 from tests.asked import TOOLS
 from tests.report_cases import (ALL, ENTRY, LAST, LINK, REPORTS, WORKED, Reported, change, difference, digests, changed, questions, unless,
                                 unlike)
@@ -102,7 +103,7 @@ class Worked(Reported):
 def lines_of(dice, folder):
     """Some 400 random lines by several persons, at moments spread over years, a few of them earlier than those before. None asks for a
     history."""
-    writer, moment, lines = Writer(dice, Tables([("schema", 1)], *([] for _ in range(10))), 0, 1), 700_000_000, []
+    writer, moment, lines = Writer(dice, empty_tables(), 0, 1), 700_000_000, []
     while len(writer.lines) < 400:
         writer.write()
     for name, rows in writer.files.items():

@@ -9,7 +9,8 @@ import unittest
 from dataclasses import dataclass, field
 from itertools import zip_longest
 
-from desk_tables import ROWS, connect, sqlite3
+from model.kept import connect, sqlite3
+from model.rows import ROWS
 from tests.asked import ASKED
 from tests.runs import run_kept, write_lines
 
