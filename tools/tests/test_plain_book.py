@@ -8,7 +8,6 @@ import os
 import shutil
 import subprocess
 import tempfile
-import unittest
 from collections import Counter
 from concurrent.futures import ProcessPoolExecutor
 from dataclasses import dataclass
@@ -21,6 +20,7 @@ from model.kept import read_tables, sqlite3
 from model.rows import ROWS
 from tests.asked import ASKED
 from tests.moved import LAWFUL_MOVES, moves_of
+from tests.runs import Tried
 
 SEEDS = 24
 KEPT_EACH = 4
@@ -52,8 +52,6 @@ def table_fault(desk, path):
         return f"the file that is kept does not read: {fault}"
     for name in ROWS:
         rows, want = getattr(there, name), getattr(wanted, name)
-        if name not in ("meta", "request", "move", "tally", "execution"):
-            rows = sorted(rows)
         if rows != want:
             it, row = next((want, row) for want, row in zip_longest(want, rows) if want != row)
             return f"the table {name} has {row}, and not {it}"
@@ -125,7 +123,7 @@ def lacks(refused, moves):
     return few + [" ".join(it) for it in sorted(moves_to_meet() - moves.keys())]
 
 
-class PlainBook(unittest.TestCase):
+class PlainBook(Tried):
     """Acts on the book."""
 
     def test_scripts(self) -> None:
@@ -139,4 +137,4 @@ class PlainBook(unittest.TestCase):
         print(f"plain book: {len(jobs)} scripts, {sum(it.lines for it in found)} lines answered, {sum(refused.values())} refused,"
               f" {sum(it.printed for it in found)} lines printed, {sum(moves.values())} moves of {len(moves)} kinds, {len(faults)} differ")
         lacking = lacks(refused, moves) if ASKED.is_whole else []
-        self.assertFalse(faults + lacking, "\n".join(faults + [f"hardly met: {it}" for it in lacking]))
+        self.no_faults(faults + lacking)

@@ -5,14 +5,13 @@ written out below, by hand, beside the lines that put it there; nothing of it is
 """
 import os
 import tempfile
-import unittest
 from dataclasses import dataclass, field
 from itertools import zip_longest
 
 from model.kept import connect, sqlite3
 from model.rows import ROWS
 from tests.asked import ASKED
-from tests.runs import run_kept, write_lines
+from tests.runs import Tried, run_kept, write_lines
 
 SCHEMA = """\
 CREATE TABLE meta (name TEXT PRIMARY KEY, value INTEGER NOT NULL) STRICT
@@ -426,7 +425,7 @@ def try_case(program, case, work):
     return [f"{case.name}: {it}" for it in faults + of_schema], rows, values, statements
 
 
-class Written(unittest.TestCase):
+class Written(Tried):
     """The tables, column by column."""
 
     def test_desks(self) -> None:
@@ -436,4 +435,4 @@ class Written(unittest.TestCase):
         faults = [it for found, *_ in told for it in found]
         rows, values, statements = (sum(it[at] for it in told) for at in (1, 2, 3))
         print(f"written cases: {len(CASES)} desks, {rows} rows, {values} values, {statements} statements, {len(faults)} differ")
-        self.assertFalse(faults, "\n".join(faults))
+        self.no_faults(faults)
