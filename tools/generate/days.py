@@ -1,9 +1,14 @@
 """Random lines of a day at a desk, most of which the desk will answer; they go on from what its tables hold."""
+import random
 from dataclasses import dataclass, field
+from typing import Optional, Union
 
-from model.facts import CLOSED_FROM, SCHEDULE, STACK_HEADER, Place, Subtype
+from model.facts import CLOSED_FROM, PROCEDURE_HEADER, SCHEDULE, STACK_HEADER, Place, Subtype
+from model.rows import Tables
 
 TURNS = 40
+PLAIN = 0  # a request of no command of the schedule
+Field = Union[int, str]  # of a row of a text
 PERSONS = "ann bob cid eve joe".split()
 
 
@@ -17,10 +22,10 @@ class Guess:
     place: int = Place.ENTERED
     target: int = 0
     stack: str = ""
-    approvers: set = field(default_factory=set)
+    approvers: set[str] = field(default_factory=set)
 
 
-def guesses_of(tables):
+def guesses_of(tables: Tables) -> list[Guess]:
     """The requests of these tables, each as it stands."""
     made = []
     for r in tables.request:
@@ -33,64 +38,66 @@ def guesses_of(tables):
 class Writer:
     """Writes the lines of a day, most of which the desk will answer."""
 
-    def __init__(self, dice, tables, moment, day):
+    def __init__(self, dice: random.Random, tables: Tables, moment: int, day: int) -> None:
         """Begins at this moment, with what these tables hold. The lines of the files that are loaded stand in `files` then, by their names."""
         self.dice, self.moment, self.day = dice, moment, day
         self.requests = guesses_of(tables)
-        self.stacks = {s.name: (s.author, s.critical, set()) for s in tables.stack}
+        self.stacks: dict[str, tuple[str, bool, set[str]]] = {s.name: (s.author, bool(s.critical), set()) for s in tables.stack}
         for a in tables.stack_approval:
-            self.stacks[a.of][2].add(a.person)
-        self.steps = {p.name: [s for s in tables.step if s.procedure == p.name] for p in tables.procedure}
+            self.stacks[str(a.of)][2].add(a.person)
+        self.steps = {p.name: sum(s.procedure == p.name for s in tables.step) for p in tables.procedure}
         self.executions = [x.procedure for x in tables.execution]
         self.next = [1 + sum(r.execution == x.num for r in tables.record) for x in tables.execution]
-        self.is_on, self.time, self.lines, self.files = False, 0, [], {}
+        self.is_on, self.time = False, 0
+        self.lines: list[str] = []
+        self.files: dict[str, list[str]] = {}
 
-    def say(self, act, by=None):
+    def say(self, act: str, by: Optional[str] = None) -> None:
         """One line, a little later than the one before."""
         self.moment += self.dice.randrange(4)
         self.lines.append(f"{self.moment} {by or self.dice.choice(PERSONS)} {act}")
 
-    def pick(self, *places):
+    def pick(self, *places: Place) -> int:
         """The number of a request that stands at one of these places; now and then, and where there is none, of any."""
         there = [n for n, it in enumerate(self.requests, 1) if it.place in places]
         if self.dice.random() < 0.04:
             return self.dice.randrange(len(self.requests) + 2)
         return self.dice.choice(there or range(1, len(self.requests) + 1))
 
-    def at(self, number):
+    def at(self, number: int) -> Optional[Guess]:
         """The request with this number, if there is one."""
         return self.requests[number - 1] if 1 <= number <= len(self.requests) else None
 
-    def other(self, *persons):
+    def other(self, *persons: str) -> str:
         """A person other than these."""
         return self.dice.choice([it for it in PERSONS if it not in persons])
 
     # ---- entries and loads
 
-    def outcome(self):
+    def outcome(self) -> str:
         """How a plain request turns out."""
         dice = self.dice
         code, steps = dice.choice([16, 30, 255]), dice.randrange(1, 10)
         bad = [f"refuse/{code}", f"nostart/{code}", f"halt/{steps}/{code}", f"fail/{code}"]
         return dice.choice(["ok"] * 6 + [f"ok/{steps}"] + bad)
 
-    def form(self, numbers, first):
+    def form(self, numbers: range, first: int) -> tuple[list[Field], str, str, Guess]:
         """Command, reports and outcome of a request, and the guess of it; its target is one of these, counted from the first."""
         dice = self.dice
         ack = [letter if dice.random() < 0.6 else "-" for letter in "aspc"]
         named = [n for n in numbers if self.requests[n - 1].is_plain and self.requests[n - 1].asks_acceptance]
-        kind = dice.choice(["plain"] * 7 + [4, 4, 4, 5, 7, 1, 2, 3, 15, 17])
-        if kind == "plain" or kind in (4, 5, 7) and not named:
+        kind = dice.choice([PLAIN] * 7 + [4, 4, 4, 5, 7, 1, 2, 3, 15, 17])
+        if kind == PLAIN or kind in (4, 5, 7) and not named:
             guess = Guess("", False, True, ack[0] == "a")
             return [dice.choice([3, 8, 17, 255]), dice.randrange(1, 256), "", ""], "".join(ack), self.outcome(), guess
         target = dice.choice(named) if kind in (4, 5, 7) else 0
         offset = dice.randrange(-200, 300)
-        time = {4: self.time + dice.choice([30, 90, 400, 5000]), 7: offset, 15: offset}.get(kind, "")
+        times: dict[int, Field] = {4: self.time + dice.choice([30, 90, 400, 5000]), 7: offset, 15: offset}
         ack[3] = "c"
         guess = Guess("", False, False, ack[0] == "a", target=target if kind == 4 else 0)
-        return [11, kind, target - first + 1 if target else "", time], "".join(ack), "ok", guess
+        return [11, kind, target - first + 1 if target else "", times.get(kind, "")], "".join(ack), "ok", guess
 
-    def enter(self):
+    def enter(self) -> None:
         """A request is entered."""
         by, critical = self.dice.choice(PERSONS), self.dice.random() < 0.15
         command, ack, outcome, guess = self.form(range(1, len(self.requests) + 1), 1)
@@ -99,47 +106,47 @@ class Writer:
         guess.author, guess.critical = by, critical
         self.requests.append(guess)
 
-    def path(self, rows):
+    def path(self, rows: list[list[Field]]) -> str:
         """A file of these rows, by a name of its own."""
         name = f"d{self.day}f{len(self.files) + 1}.csv"
         self.files[name] = [",".join(str(it) for it in row) for row in rows]
         return name
 
-    def instant(self, seconds):
+    def instant(self, seconds: int) -> str:
         """A moment as a stack's file spells it."""
         days, rest = divmod(seconds, 86400)
         assert days == 0
         return f"1970-01-01T{rest // 3600:02}:{rest // 60 % 60:02}:{rest % 60:02}Z"
 
-    def stack(self):
+    def stack(self) -> None:
         """A stack is loaded, of one to five rows."""
         name, by, first = f"s{self.day}{len(self.files)}", self.dice.choice(PERSONS), len(self.requests) + 1
-        rows = [STACK_HEADER.split(",")]
+        rows: list[list[Field]] = [list(STACK_HEADER.split(","))]
         for line in range(1, self.dice.randrange(2, 7)):
             command, ack, outcome, guess = self.form(range(first, len(self.requests) + 1), first)
             if command[1] == 4 and command[0] == SCHEDULE:
-                command[3] = self.instant(command[3])
+                command[3] = self.instant(int(command[3]))
             critical = self.dice.random() < 0.1
-            after = self.dice.randrange(1, line) if line > 1 and self.dice.random() < 0.3 else ""
+            after: Field = self.dice.randrange(1, line) if line > 1 and self.dice.random() < 0.3 else ""
             rows.append([line, self.dice.randrange(1, 5)] + command + [ack, "yes" if critical else "no", after, outcome])
             guess.author, guess.critical, guess.stack = by, critical, name
             self.requests.append(guess)
         self.stacks[name] = (by, any(it.critical for it in self.requests[first - 1:]), set())
         self.say(f"stack {name} {self.path(rows)}", by)
 
-    def procedure(self):
+    def procedure(self) -> None:
         """A procedure is loaded, of one to five steps."""
-        name, rows = f"p{self.day}{len(self.files)}", [["step", "text", "second", "request"]]
+        name = f"p{self.day}{len(self.files)}"
+        rows: list[list[Field]] = [list(PROCEDURE_HEADER.split(","))]
         for number in range(1, self.dice.randrange(2, 7)):
             request = self.pick(Place.ENTERED, Place.APPROVED) if self.dice.random() < 0.5 and self.requests else 0
-            request = request if self.at(request) else ""
-            rows.append([number, f"do {number}", self.dice.choice(["yes", "no"]), request])
-        self.steps[name] = rows[1:]
+            rows.append([number, f"do {number}", self.dice.choice(["yes", "no"]), request if self.at(request) else ""])
+        self.steps[name] = len(rows) - 1
         self.say(f"procedure {name} {self.path(rows)}")
 
     # ---- acts on the book
 
-    def approve(self):
+    def approve(self) -> None:
         """A request, or a stack, is approved."""
         alone = [n for n, it in enumerate(self.requests, 1) if it.place == Place.ENTERED and not it.stack]
         if not alone and self.dice.random() < 0.9:
@@ -153,7 +160,7 @@ class Writer:
             if len(it.approvers) > it.critical:
                 it.place = Place.APPROVED
 
-    def approve_stack(self):
+    def approve_stack(self) -> None:
         """A stack is approved."""
         open_ones = [name for name, (_, critical, given) in self.stacks.items() if len(given) <= critical]
         if not open_ones and self.dice.random() < 0.8:
@@ -169,7 +176,7 @@ class Writer:
             if it.stack == name and it.place == Place.ENTERED and len(given) > critical:
                 it.place = Place.APPROVED
 
-    def leave(self):
+    def leave(self) -> None:
         """A request is withdrawn or closed."""
         verb, places = self.dice.choice([("withdraw", (Place.ENTERED, Place.APPROVED)), ("close", CLOSED_FROM), ("close", CLOSED_FROM)])
         number = self.pick(*places)
@@ -178,9 +185,9 @@ class Writer:
         if it and it.place in places:
             it.place = Place.COMPLETED
 
-    def work_step(self):
+    def work_step(self) -> None:
         """A step of an execution is recorded; where none goes on, one is begun, or a procedure is loaded."""
-        going = [e for e, name in enumerate(self.executions) if self.next[e] <= len(self.steps[name])]
+        going = [e for e, name in enumerate(self.executions) if self.next[e] <= self.steps[name]]
         if not self.steps:
             return self.procedure()
         if not going or self.dice.random() < 0.2:
@@ -195,7 +202,7 @@ class Writer:
 
     # ---- the link and the spacecraft
 
-    def start(self):
+    def start(self) -> None:
         """The service begins, in one of its ways, or is directed."""
         way = self.dice.choice(["none"] * 5 + ["check", "unlock", "setvr 0", "setvr 7"])
         if self.is_on and self.dice.random() < 0.3:
@@ -205,7 +212,7 @@ class Writer:
             self.say(act)
         self.is_on = True
 
-    def fly(self, number):
+    def fly(self, number: int) -> None:
         """A request is released, and often comes on board and is carried out."""
         if not self.is_on:
             self.start()
@@ -213,20 +220,22 @@ class Writer:
         it = self.at(number)
         if it and it.place == Place.APPROVED:
             it.place = Place.SENT
-            if self.at(it.target):
-                self.at(it.target).place = Place.RIDING
-        for act in self.dice.choice([[], ["up"], ["up", "down"], ["up", "work", "down"], ["up", "work", "down", "down", "down"],
-                                     ["up", "work", "down", "down"], ["up", "clcw", "down"], ["loseup 0", "tick"]]):
+            activity = self.at(it.target)
+            if activity:
+                activity.place = Place.RIDING
+        ways: list[list[str]] = [[], ["up"], ["up", "down"], ["up", "work", "down"], ["up", "work", "down", "down", "down"],
+                                 ["up", "work", "down", "down"], ["up", "clcw", "down"], ["loseup 0", "tick"]]
+        for act in self.dice.choice(ways):
             self.say(act)
 
-    def release(self):
+    def release(self) -> None:
         """A request that is approved is released; where there is none, one is approved."""
         if any(it.place == Place.APPROVED for it in self.requests):
             self.fly(self.pick(Place.APPROVED))
         else:
             self.approve()
 
-    def command(self, words, target=0):
+    def command(self, words: str, target: int = 0) -> None:
         """A command of the schedule is entered, approved and released."""
         by = self.dice.choice(PERSONS)
         self.requests.append(Guess(by, False, False, False, target=target))
@@ -236,7 +245,7 @@ class Writer:
         self.requests[-1].place = Place.APPROVED
         self.fly(number)
 
-    def schedule(self):
+    def schedule(self) -> None:
         """An activity is inserted, and what is scheduled is often changed behind it."""
         named = [n for n, it in enumerate(self.requests, 1) if it.is_plain and it.asks_acceptance and it.place == Place.APPROVED]
         if not named:
@@ -247,7 +256,7 @@ class Writer:
             more = [f"5 {target} -", f"7 {target} -20", "3 - -", "1 - -", "15 - 60", "17 - -"]
             self.command(self.dice.choice(more + more[:3]))
 
-    def cut(self):
+    def cut(self) -> None:
         """The service ends while one request is out and one waits."""
         self.say("set k 1")
         self.release()
@@ -255,27 +264,27 @@ class Writer:
         self.say("terminate")
         self.is_on = False
 
-    def link(self):
+    def link(self) -> None:
         """The link is worked, or something of it is lost."""
         losses = ["tick", "loseup 0", "losedown 0", "losedown 1"]
         self.say(self.dice.choice(["up"] * 5 + ["down"] * 8 + ["work"] * 5 + ["clcw"] * 3 + losses))
 
-    def turn_clock(self):
+    def turn_clock(self) -> None:
         """The spacecraft's time goes on."""
         self.time += self.dice.choice([10, 60, 200])
         self.say(f"clock {self.time}")
 
-    def direct(self):
+    def direct(self) -> None:
         """The FOP is directed."""
         self.say(self.dice.choice(["set k 1", "set k 10", "set k 2", "set t1 2", "set limit 2", "set vs 0", "terminate"]))
 
-    def ask(self):
+    def ask(self) -> None:
         """A question, or a line that is no line."""
         number = self.pick(Place.ENTERED)
         self.say(self.dice.choice(["places", f"history {number} 0", f"request {number}", "link", "schedule",
                                    "log 1", "release", f"approve {number} "]))
 
-    def write(self):
+    def write(self) -> list[str]:
         """The lines of a day, which often ends with one request out and one that waits."""
         often = [(self.enter, 6), (self.approve, 7), (self.release, 8), (self.link, 8), (self.work_step, 7), (self.ask, 2),
                  (self.schedule, 4), (self.approve_stack, 2), (self.cut, 1), (self.stack, 1), (self.procedure, 1),

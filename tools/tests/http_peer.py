@@ -8,10 +8,11 @@ import socket
 import struct
 import subprocess
 import time
-from typing import NamedTuple
+from typing import Callable, Iterable, NamedTuple, Optional, Sequence, Union
 
-from generate.http_words import NOTHING
-from model.http import Asks, Loads, Refused, answer_to, refused_response, reply_response
+from generate.http_words import NOTHING, Case, Want
+from model.http import Acts, Asked, Asks, Loads, Refused, answer_to, refused_response, reply_response
+from model.facts import status_of
 
 PATIENCE = float(os.environ.get("PATIENCE", "20"))  # seconds for one exchange, or for the program to begin or to end
 HERE = "127.0.0.1"
@@ -34,7 +35,7 @@ class Ended(NamedTuple):
 
 # ---- the server
 
-def free_port():
+def free_port() -> int:
     """A port that nobody has, below those that the system gives to those who connect."""
     while True:
         port = random.randrange(20000, 32000)
@@ -49,11 +50,12 @@ def free_port():
 class Server:
     """The program as it serves a desk in a file, for so many connections. It is killed at the end of the block, if it has not ended."""
 
-    def __init__(self, program, folder, database, count, words=(), env=None, first=None, port=None, told=None):
+    def __init__(self, program: str, folder: str, database: str, count: Optional[int], words: Sequence[str] = (), env: Optional[dict[str, str]] = None,
+                 first: Optional[Callable[[], None]] = None, port: Optional[int] = None, told: Optional[str] = None) -> None:
         """Starts it, without a word for how many connections where that is None, with these variables beside those of this process, after that
         call. What it writes to descriptor 9 comes into the file
         `told`."""
-        def begin():
+        def begin() -> None:
             if told:
                 os.dup2(os.open(told, os.O_WRONLY | os.O_CREAT | os.O_TRUNC), 9)
             if first:
@@ -64,10 +66,10 @@ class Server:
         self.process = subprocess.Popen(words, cwd=folder, stdin=subprocess.DEVNULL, stdout=self.files[0], stderr=self.files[1], close_fds=False,
                                         preexec_fn=begin, env={**os.environ, **(env or {})})
 
-    def __enter__(self):
+    def __enter__(self) -> "Server":
         return self
 
-    def __exit__(self, *_):
+    def __exit__(self, *_: object) -> None:
         if self.process.poll() is None:
             self.process.kill()
         self.process.wait()
@@ -75,16 +77,16 @@ class Server:
             file.close()
 
     @property
-    def listens(self):
+    def listens(self) -> str:
         """What it says on the standard error once it listens."""
         return f"tcdesk: listening on {HERE}:{self.port}\n"
 
     @property
-    def says(self):
+    def says(self) -> str:
         """All that it says there, where every connection was served."""
         return f"{self.listens}tcdesk: ended after {self.count} connections\n"
 
-    def connect(self):
+    def connect(self) -> socket.socket:
         """A connection to it. Before it listens a connection is refused, so that none is counted."""
         end = time.monotonic() + PATIENCE
         while True:
@@ -102,7 +104,7 @@ class Server:
                     raise Fault("the server does not listen") from None
                 time.sleep(0.002)
 
-    def said(self):
+    def said(self) -> Ended:
         """How the program ended and what it printed, once it has ended."""
         texts = []
         for file in self.files:
@@ -110,7 +112,7 @@ class Server:
             texts.append(file.read().decode("latin-1"))
         return Ended(self.process.returncode, *texts)
 
-    def end(self):
+    def end(self) -> Ended:
         """Waits for the program to end by itself."""
         try:
             self.process.wait(PATIENCE)
@@ -118,7 +120,7 @@ class Server:
             raise Fault("the server does not end after its last connection") from None
         return self.said()
 
-    def exchange(self, raw, size=None, pause=0.0, shuts=False):
+    def exchange(self, raw: bytes, size: Optional[int] = None, pause: float = 0.0, shuts: bool = False) -> bytes:
         """Sends these bytes, in pieces of this size, and reads the answer to its end; what came of it where the time is over."""
         with self.connect() as peer:
             try:
@@ -133,7 +135,7 @@ class Server:
             return received(peer)
 
 
-def send(peer, raw, size=None, pause=0.0):
+def send(peer: socket.socket, raw: bytes, size: Optional[int] = None, pause: float = 0.0) -> None:
     """Sends these bytes in pieces of this size, with so many seconds between them."""
     size = size or max(1, len(raw))
     for at in range(0, len(raw), size):
@@ -142,7 +144,7 @@ def send(peer, raw, size=None, pause=0.0):
         peer.sendall(raw[at:at + size])
 
 
-def received(peer):
+def received(peer: socket.socket) -> bytes:
     """What comes until the peer closes. A reset behind the last byte is an end too: so a system closes where bytes were left unread."""
     got, end = b"", time.monotonic() + PATIENCE
     while time.monotonic() < end:
@@ -158,7 +160,7 @@ def received(peer):
     return got + b"[and no end within the time]"
 
 
-def reset(peer):
+def reset(peer: socket.socket) -> None:
     """Closes a connection by a reset."""
     peer.setsockopt(socket.SOL_SOCKET, socket.SO_LINGER, RST)
     peer.close()
@@ -166,7 +168,7 @@ def reset(peer):
 
 # ---- what has to be answered
 
-def run(program, folder, lines, *words):
+def run(program: str, folder: str, lines: Iterable[str], *words: str) -> str:
     """Runs a script of these lines."""
     with open(f"{folder}/script.tc", "w", encoding="ascii", newline="") as file:
         file.write("".join(f"{it}\n" for it in lines))
@@ -177,7 +179,7 @@ def run(program, folder, lines, *words):
     return ended.out
 
 
-def replies(program, folder, lines, before=(), words=()):
+def replies(program: str, folder: str, lines: Sequence[str], before: Sequence[str] = (), words: Sequence[str] = ()) -> list[list[str]]:
     """What the desk replies to each of these lines, after those before: lists of lines."""
     script = list(before) + [BETWEEN] + [it for line in lines for it in (line, BETWEEN)]
     parts = REPORT.split(run(program, folder, script, *words))
@@ -186,7 +188,7 @@ def replies(program, folder, lines, before=(), words=()):
     return [it.splitlines() for it in parts[1:-1]]
 
 
-def line_of(asked, folder, number):
+def line_of(asked: Union[Asks, Acts, Loads], folder: str, number: int) -> Optional[str]:
     """The script's line that asks the same of the desk; none where no line can, and the desk cannot read the act."""
     if isinstance(asked, Asks):
         return f"0 zed {asked.act}"
@@ -198,28 +200,30 @@ def line_of(asked, folder, number):
     return f"{asked.moment} {asked.by} {asked.act}" if is_line else None
 
 
-def wanted(want):
+def wanted(want: Want) -> tuple[str, int]:
     """The status and the refusal of what a case wants by its writer."""
     if isinstance(want, Refused):
         return f"{want.status}", want.refusal
-    status = {0: "200", 1: "400", 2: "404", 13: "404", 16: "404", 17: "413", 30: "503", 31: "503", 32: "503"}.get(want, "409")
-    return status, want
+    assert isinstance(want, int), want
+    return f"{status_of(want)}", want
 
 
 class Expected:
     """The responses that a list of cases has to be given, one after the other, on a desk that answered the lines before."""
 
-    def __init__(self, program, folder, cases, before=(), words=()):
+    def __init__(self, program: str, folder: str, cases: Iterable[Case], before: Sequence[str] = (), words: Sequence[str] = ()) -> None:
         asked = [answer_to(it.raw) for it in cases]
         lines = [None if it is None or isinstance(it, Refused) else line_of(it, folder, at) for at, it in enumerate(asked)]
         self.lines = [it for it in lines if it]
         parts = replies(program, folder, self.lines, before, words)
         self.told, told = [it for reply in parts for it in reply], iter(parts)
-        self.responses, self.refusals, self.disputed = [], set(), []
+        self.responses: list[bytes] = []
+        self.refusals: set[int] = set()
+        self.disputed: list[tuple[Case, object]] = []
         for case, it, line in zip(cases, asked, lines):
             self.add(case, it, next(told) if line else ["refused 1 BadText"])
 
-    def add(self, case, asked, reply):
+    def add(self, case: Case, asked: Optional[Asked], reply: Sequence[str]) -> None:
         """One more, where the desk, if it is asked, has this reply."""
         if asked is None:
             response = b""

@@ -16,11 +16,11 @@ from functools import partial
 from generate.days import Writer
 from model.facts import SCHEDULE, place_word
 from model.kept import read_tables
-from model.rows import empty_tables, move_line, places_by, places_line, tallies_by
+from model.rows import Request, Tables, empty_tables, move_line, places_by, places_line, tallies_by
 from model.sound import why_unsound
 from model.tables import opened_moves, opened_tables
 from tests.asked import ASKED
-from tests.runs import Tried, run_kept, write_lines
+from tests.runs import Ran, Tried, run_kept, write_lines
 
 SEED = 20311126
 DESKS, DAYS = 10, 5
@@ -30,13 +30,13 @@ SPAN = 1000
 @dataclass
 class Told:
     """Faults that were found, and how many lines were answered and refused."""
-    faults: list
+    faults: list[str]
     days: int = 0
     answered: int = 0
     refused: int = 0
 
 
-def moves_in(lines):
+def moves_in(lines: list[str]) -> list[str]:
     """The lines of moves that acts printed: not those that a history answers."""
     moves, skip = [], 0
     for line in lines:
@@ -49,7 +49,7 @@ def moves_in(lines):
     return moves
 
 
-def faults_of(before, after, ran, moment):
+def faults_of(before: Tables, after: Tables, ran: Ran, moment: int) -> list[str]:
     """How the tables after a day differ from what the tables before it and its lines want."""
     opened = opened_moves(before, moment)
     stood = before.move + opened
@@ -75,7 +75,7 @@ def faults_of(before, after, ran, moment):
     return [name for name, holds in wants.items() if not holds] + ([f"unsound: {why}"] if why else [])
 
 
-def request_line(r):
+def request_line(r: Request) -> str:
     """A request as the program tells it."""
     letters = "".join(letter if r.ack & bit else "-" for letter, bit in zip("aspc", (8, 4, 2, 1)))
     target = str(r.target) if r.target else "-"
@@ -84,7 +84,7 @@ def request_line(r):
             f" {r.at_time if takes_time else '-'} {r.outcome} {r.author} {place_word(r.place)}")
 
 
-def answers_of(tables):
+def answers_of(tables: Tables) -> list[str]:
     """What questions for each request, and its history, have to answer."""
     lines = []
     for r in tables.request:
@@ -93,7 +93,7 @@ def answers_of(tables):
     return lines + [places_line(tables)]
 
 
-def asked_faults(first, second, plain, asked):
+def asked_faults(first: Tables, second: Tables, plain: Ran, asked: Ran) -> list[str]:
     """How the day with questions behind it differs from the one without."""
     wants = {
         "the tables of the second file": first == second,
@@ -103,7 +103,7 @@ def asked_faults(first, second, plain, asked):
     return [name for name, holds in wants.items() if not holds]
 
 
-def run_day(program, folder, day, before, dice, told):
+def run_day(program: str, folder: str, day: int, before: Tables, dice: random.Random, told: Told) -> Tables:
     """One day on both files: what is left, and what of it is wrong."""
     moment = day * SPAN + dice.randrange(100)
     left = opened_tables(before, moment)
@@ -126,7 +126,7 @@ def run_day(program, folder, day, before, dice, told):
     return after
 
 
-def run_desk(program, work, number):
+def run_desk(program: str, work: str, number: int) -> Told:
     """All days of one desk."""
     folder, dice, told = f"{work}/{number}", random.Random(number), Told([])
     os.mkdir(folder)

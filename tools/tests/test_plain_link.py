@@ -15,9 +15,9 @@ import tempfile
 from collections import Counter
 from concurrent.futures import ProcessPoolExecutor
 from functools import partial
-from typing import NamedTuple
+from typing import Any, Mapping, NamedTuple, Optional, Sequence
 
-from generate.link_scripts import REFUSED, RINGS, SEED, jobs_of, some_jobs, written
+from generate.link_scripts import REFUSED, RINGS, SEED, Job, jobs_of, some_jobs, written
 from model import farm, fop
 from model.board import ON_BOARD
 from model.schedule import MIRRORED
@@ -25,6 +25,11 @@ from tests.asked import ASKED
 from tests.link_promise import Judge
 from tests.moved import LAWFUL_MOVES, moves_of
 from tests.runs import Tried
+from generate.link_writers import Writer
+from model.desk import Desk
+
+
+Met = Counter[tuple[str, Any]]  # how often a kind of thing was met
 
 
 class Told(NamedTuple):
@@ -33,20 +38,20 @@ class Told(NamedTuple):
     acts: int
     printed: int
     refused: int
-    met: Counter
-    seen: Counter
-    alerts: Counter
+    met: Met
+    seen: Counter[str]
+    alerts: Counter[tuple[str, str]]
 
 
 # ---- one script
 
-def keep(path, lines):
+def keep(path: str, lines: list[str]) -> None:
     """Writes a script."""
     with open(path, "w", encoding="ascii") as script:
         script.write("".join(f"{line}\n" for line in lines))
 
 
-def run(program, writer):
+def run(program: str, writer: Writer) -> tuple[int, list[str], str]:
     """The status and the lines of the program's run of a script."""
     with tempfile.TemporaryDirectory(prefix="link-") as folder:
         keep(f"{folder}/script.tc", writer.lines)
@@ -55,7 +60,7 @@ def run(program, writer):
     return done.returncode, done.stdout.decode("latin-1").splitlines(), done.stderr.decode("latin-1").strip()
 
 
-def difference(writer, status, lines, errors):
+def difference(writer: Writer, status: int, lines: list[str], errors: str) -> Optional[str]:
     """The first line that the program prints otherwise than the plain desk; none where there is none."""
     at = 0
     for number, (line, wanted) in enumerate(zip(writer.lines + ["the end"], writer.wanted + [[writer.desk.places()]]), 1):
@@ -72,16 +77,17 @@ def difference(writer, status, lines, errors):
     return None
 
 
-def met_by(desk):
+def met_by(desk: Desk) -> Met:
     """What a script met of all that has to be met."""
     link = desk.link
-    met = {"FOP-1": link.fop.visits, "FARM-1": link.farm.visits, "on board": desk.board.visits, "mirror": desk.mirror.visits,
-           "move": moves_of(desk.book), "refused": desk.refusals,
-           "overwritten": Counter({(way, it.size): it.dropped for way, it in (("up", link.up), ("down", link.down)) if it.size})}
+    dropped = {(way, size): count for way, size, count in (("up", link.up.size, link.up.dropped), ("down", link.down.size, link.down.dropped)) if size}
+    met: dict[str, Mapping[Any, int]] = {
+        "FOP-1": link.fop.visits, "FARM-1": link.farm.visits, "on board": desk.board.visits, "mirror": desk.mirror.visits,
+        "move": moves_of(desk.book), "refused": desk.refusals, "overwritten": dropped}
     return Counter({(kind, it): count for kind, counts in met.items() for it, count in counts.items()})
 
 
-def play(program, job):
+def play(program: str, job: Job) -> Told:
     """Runs the script of a job, and compares it; what is printed is judged by itself too."""
     writer = written(job)
     status, lines, errors = run(program, writer)
@@ -115,14 +121,14 @@ LEAST_ALERTS = {("started kept", "T1"): 100, ("started kept", "LIMIT"): 20, ("st
                 ("started broken", "SYNCH"): 10, ("started broken", "NN(R)"): 10}
 
 
-def unmet(met):
+def unmet(met: Met) -> list[str]:
     """What no script met, of what a desk can meet; and the cells that were met and cannot be."""
     faults = [f"no script meets {kind}: {it}" for kind, it in TO_MEET if not met[kind, it]]
     return faults + [f"{kind}: {it} cannot be met, and was" for kind, it in met if kind in ("FOP-1", "FARM-1") and len(it) == 2
                      and (kind, it) not in TO_MEET]
 
 
-def print_cells(met):
+def print_cells(met: Met) -> None:
     """How often each cell was met, and all else."""
     for row in fop.TABLE:
         counts = ((met["FOP-1", (row, state)], ("FOP-1", (row, state)) in TO_MEET) for state in fop.STATES + (fop.INITIAL,))
@@ -132,16 +138,26 @@ def print_cells(met):
             print(f"{met[kind, it]:7} {kind}: {' '.join(str(word) for word in it) if isinstance(it, tuple) else it}")
 
 
-def told_alerts(alerts, premise):
+def told_alerts(alerts: Counter[tuple[str, str]], premise: str) -> str:
     """How often each alert ended a service that had started."""
     return ", ".join(f"{kind} {count}" for (told, kind), count in sorted(alerts.items()) if told == f"started {premise}")
 
 
-def hardly(told, met):
+def all_seen(told: Sequence[Told]) -> Counter[str]:
+    """What was seen of the promise in all scripts."""
+    return sum((it.seen for it in told), Counter())
+
+
+def all_alerts(told: Sequence[Told]) -> Counter[tuple[str, str]]:
+    """The alerts of all scripts."""
+    return sum((it.alerts for it in told), Counter())
+
+
+def hardly(told: Sequence[Told], met: Met) -> list[str]:
     """What was not met, or hardly seen, of all that these scripts have to meet."""
-    seen, alerts = (sum((getattr(it, name) for it in told), Counter()) for name in ("seen", "alerts"))
-    return unmet(met) + [f"only {counts[what]} {what}" for counts, all_least in ((seen, LEAST), (alerts, LEAST_ALERTS))
-                         for what, least in all_least.items() if counts[what] < least]
+    seen, alerts = all_seen(told), all_alerts(told)
+    return (unmet(met) + [f"only {seen[what]} {what}" for what, least in LEAST.items() if seen[what] < least]
+            + [f"only {alerts[what]} {what}" for what, least in LEAST_ALERTS.items() if alerts[what] < least])
 
 
 class PlainLink(Tried):
@@ -152,7 +168,8 @@ class PlainLink(Tried):
         jobs = jobs_of(ASKED.seed_or(SEED)) if ASKED.count is None else some_jobs(ASKED.seed_or(SEED), ASKED.count)
         with ProcessPoolExecutor(4) as pool:
             told = list(pool.map(partial(play, ASKED.program), jobs))
-        met, seen, alerts = (sum((getattr(it, name) for it in told), Counter()) for name in ("met", "seen", "alerts"))
+        met: Met = sum((it.met for it in told), Counter())
+        seen, alerts = all_seen(told), all_alerts(told)
         faults = [it.fault for it in told if it.fault] + (hardly(told, met) if ASKED.count is None else [])
         if ASKED.cells:
             print_cells(met)
