@@ -85,6 +85,7 @@ class Cause(IntEnum):
 
 
 PLACES = tuple(Place)[1:]
+PLACE_WORDS = tuple(it.word for it in PLACES)
 FINAL = frozenset({Place.COMPLETED, Place.FAILED, Place.WITHDRAWN, Place.DELETED, Place.CLOSED})
 # Where a request stands that flew and of which no report has been read, and what a report may ask for.
 FLOWN = frozenset({Place.SENT, Place.CONFIRMED, Place.RIDING, Place.SCHEDULED, Place.DOUBTFUL})
