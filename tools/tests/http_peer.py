@@ -1,5 +1,5 @@
 """How the tools for HTTP start the built program's server, speak to it over real sockets, and know what it has to answer. A response is computed by
-the model; what the desk itself replies comes from a run of the same acts as a script.
+model/http.py; what the desk itself replies comes from a run of the same acts as a script.
 """
 import os
 import random

@@ -1,6 +1,6 @@
 """The file of a desk opened again, as it was left and changed.
 
-What each opening answers is written out in left_desks.py, by hand: desks on which requests were on their way, opened a second time and
+What each opening answers is written out in generate/left_desks.py, by hand: desks on which requests were on their way, opened a second time and
 a third; one whose approvals, stacks and executions go on; and one whose history lacks one row, and then is full. Then single values, rows, tables
 and indexes of files are changed by SQLite, and it stands there which of these a desk could have written: that is opened, and has the rows of the
 opening then; all else is refused, and its file left byte for byte.

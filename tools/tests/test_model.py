@@ -1,25 +1,15 @@
-"""The plain desk itself, which the other tests stand beside the program: it has to answer what persons wrote by hand, and to leave the rows that they
-wrote. The program is not run.
+"""The plain desk itself, which the other tests stand beside the program: it has to answer the days, and to leave the rows, that persons wrote by
+hand. The program is not run.
 """
-import os
 import unittest
 
 from generate.left_desks import EVERYWHERE, FILES, FIVE, FULL, GOING, OTHERS, RIDERS, WHOLE, Left
-from model.desk import Desk, answers
+from model.desk import Desk
 from model.facts import MOST_HISTORY, Cause, Place
 from model.rows import ROWS, Move, Tables
 from model.sound import why_unsound
-from tests.asked import TOOLS
 from tests.test_written import CASES, NO_TALLY, Case
 from tests.test_written import FILES as WRITTEN_FILES
-
-
-def text_of(path: str, default: str = "") -> str:
-    """The text of a file, each byte as one character; the default where there is none."""
-    if not os.path.exists(path):
-        return default
-    with open(path, encoding="latin-1", newline="") as file:
-        return file.read()
 
 
 def data_of(texts: dict[str, str]) -> dict[str, bytes]:
@@ -47,19 +37,6 @@ def rows_of(case: Case) -> tuple[Tables, int]:
 
 class PlainDesk(unittest.TestCase):
     """The plain desk beside what is written by hand."""
-
-    def test_written_scripts(self) -> None:
-        """It answers the scripts of tools/cases as they are written, by the options that stand beside some."""
-        folder = f"{TOOLS}/cases"
-        files = data_of({name: text_of(f"{folder}/data/{name}") for name in os.listdir(f"{folder}/data")})
-        cases = sorted(it.removesuffix(".tc") for it in os.listdir(folder) if it.endswith(".tc"))
-        for case in cases:
-            with self.subTest(case):
-                lines, status = answers(text_of(f"{folder}/{case}.tc"), files, tuple(text_of(f"{folder}/{case}.args").split()))
-                self.assertEqual(text_of(f"{folder}/{case}.stdout").split("\n")[:-1], lines)
-                self.assertEqual(int(text_of(f"{folder}/{case}.status", "0")), status)
-        print(f"plain desk: {len(cases)} written scripts")
-        self.assertGreater(len(cases), 50)
 
     def test_days(self) -> None:
         """It answers each opening of the desks that were left, and each line behind it, up to the last row of a history."""
