@@ -1,5 +1,5 @@
-"""Random lines of a day at a desk that is kept in a file: they go on from what its tables hold, over a link that loses, and look at the plain desk that
-was opened over them.
+"""Random lines of a day at a desk that is kept in a file: they go on from what its tables hold, over a link that loses, and look at the plain desk
+that was opened over them.
 """
 from random import Random
 from typing import Callable

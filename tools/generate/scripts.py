@@ -320,8 +320,8 @@ class Writer(Written):
 
     def direct(self) -> None:
         """The FOP is directed."""
-        self.give(self.dice.choice(["set k 1", "set k 2", "set k 10", "set k 11", "set t1 1", "set t1 65535", "set limit 1", "set limit 255", "set vs 0",
-                                    f"set vs {self.link.fop.vs}", "terminate"]))
+        self.give(self.dice.choice(["set k 1", "set k 2", "set k 10", "set k 11", "set t1 1", "set t1 65535", "set limit 1", "set limit 255",
+                                    "set vs 0", f"set vs {self.link.fop.vs}", "terminate"]))
 
     def cut(self) -> None:
         """The service ends while something is out and something waits."""
