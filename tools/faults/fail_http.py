@@ -96,8 +96,8 @@ def stream(runs, name, raws, wanted, within=PATIENCE, **settings):
 
 def each_fails(runs, request, entered, step):
     """Of a request that enters so many, and of the question behind it: each read, or each stepth, fails, each write fails, or takes nothing."""
-    right = Expected(runs.program, runs.folder, [Case("", request), Case("", PLACES)]).responses
-    before = Expected(runs.program, runs.folder, [Case("", PLACES)]).responses[0]
+    right = Expected(runs.folder, [Case("", request), Case("", PLACES)]).responses
+    before = Expected(runs.folder, [Case("", PLACES)]).responses[0]
     raws, name = [request, PLACES], repr(request[:12])
     for at in range(1, len(request) + 1, step):
         stream(runs, f"a read of {name}", raws, Wanted([b"", before], (at + len(PLACES), 1), 0), READ_MOST=1, READ_FAIL_AT=at)
@@ -118,9 +118,9 @@ def streams(runs):
     for name, request, entered in (("a body of 65,536 bytes", post("/acts", body), 1), ("a head of 8,192 bytes", requests.padded(8192), 0),
                                    ("64 lines and a body of 65,536 bytes", post("/acts", body, *["a: b"] * 61), 1),
                                    ("a head of 8,192 bytes and a body of 65,536", requests.sized(8192, body), 1)):
-        right = Expected(runs.program, runs.folder, [Case("", request)]).responses
+        right = Expected(runs.folder, [Case("", request)]).responses
         stream(runs, f"{name}, a byte a read", [request], Wanted(right, (len(request), 1), entered), SLOW, READ_MOST=1)
-    endless = Expected(runs.program, runs.folder, [Case("", b"\n" * 8193)]).responses
+    endless = Expected(runs.folder, [Case("", b"\n" * 8193)]).responses
     stream(runs, "line ends without end", [PLACES], Wanted(endless, (8193, 1), 0), SLOW, READ_MOST=1, READ_LINE_ENDS=1)
 
 
@@ -131,8 +131,8 @@ class Exchange:
 
     def __init__(self, runs, raw):
         self.raw = raw
-        self.right, self.after = Expected(runs.program, runs.folder, [Case("", raw), Case("", PLACES)]).responses
-        self.before = Expected(runs.program, runs.folder, [Case("", PLACES)]).responses[0]
+        self.right, self.after = Expected(runs.folder, [Case("", raw), Case("", PLACES)]).responses
+        self.before = Expected(runs.folder, [Case("", PLACES)]).responses[0]
         self.enters = int(self.after.split(b"places ")[1].split(b":")[0])
 
 
@@ -227,7 +227,7 @@ def disk(runs):
             Case("a long stack of a bad name", load("stack", "No", posts.rows(201)), 17), Case("no path", get("/none"), NO_PATH),
             Case("another method", get("/acts"), OTHER_METHOD), Case("a long body", post("/acts", "", length=65537), LARGE),
             Case("a question in the end", PLACES, 32)]
-    right = Expected(runs.program, runs.folder, told)
+    right = Expected(runs.folder, told)
     wanted = [{31: STORE, 32: STOPPED}.get(case.want, response) for case, response in zip(told, right.responses)]
     # with fewer bytes than some hundred the file cannot be opened
     for size in (1000, 4151, 4152, 5000):

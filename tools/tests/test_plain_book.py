@@ -17,7 +17,7 @@ from itertools import zip_longest
 from typing import Callable, Union
 
 from generate.book_plans import PLANS
-from generate.scripts import LINES, Written, book_script
+from generate.scripts import LINES, Written, book_script, is_losing
 from model.facts import LAWFUL, TESTS, Cause, Place, Refusal, cause_word, place_word
 from model.kept import read_tables, sqlite3
 from model.rows import ROWS
@@ -102,7 +102,7 @@ def compare(program: str, script: Written, folder: str, is_kept: bool) -> str:
 def try_script(program: str, work: str, job: Union[int, Callable[[], Written]]) -> Found:
     """Writes the script of a plan, or of a seed, and compares."""
     script = book_script(job, LINES) if isinstance(job, int) else job()
-    is_kept = job % KEPT_EACH < 2 if isinstance(job, int) else script.title in ("stacks of 200 rows", "borders")
+    is_kept = job % KEPT_EACH == 0 or is_losing(job) if isinstance(job, int) else script.title in ("stacks of 200 rows", "borders")
     folder = tempfile.mkdtemp(dir=work)
     try:
         fault = compare(program, script, folder, is_kept)
