@@ -9,7 +9,6 @@ import os
 import random
 import shutil
 import tempfile
-import unittest
 from concurrent.futures import ProcessPoolExecutor
 from dataclasses import dataclass
 from functools import partial
@@ -21,7 +20,7 @@ from model.sound import is_name, is_outcome, why_unsound
 from tests.asked import ASKED
 from tests.changes import Change, change_file, why_not_opened, why_not_refused
 from tests.full_desks import lacks, make_desks
-from tests.runs import bytes_of, run_kept
+from tests.runs import Tried, bytes_of, run_kept
 
 SEED = 20311125
 LEAST_JUDGED = 1000
@@ -157,7 +156,7 @@ def judge_all(program, work, jobs):
         return list(pool.map(partial(judge, program, work), jobs, chunksize=8))
 
 
-class Broken(unittest.TestCase):
+class Broken(Tried):
     """Files of which a value or a row is another."""
 
     def test_changes(self) -> None:
@@ -172,6 +171,6 @@ class Broken(unittest.TestCase):
         counts = {kind: sum(it.kind == kind for it in found) for kind in ("refused", "taken", "skipped")}
         faults = [f"{os.path.basename(desk.path)}: {change.text}: {it.fault}" for (desk, change), it in zip(jobs, found) if it.fault]
         print(f"broken cases: {', '.join(f'{count} {kind}' for kind, count in counts.items())}, {len(faults)} disagreed")
-        self.assertFalse(faults, "\n".join(faults))
+        self.no_faults(faults)
         if ASKED.count is None:
             self.assertGreaterEqual(counts["refused"] + counts["taken"], LEAST_JUDGED, "too few were judged")

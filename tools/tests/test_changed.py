@@ -7,7 +7,6 @@ opening then; all else is refused, and its file left byte for byte.
 """
 import shutil
 import tempfile
-import unittest
 from concurrent.futures import ThreadPoolExecutor
 from itertools import zip_longest
 
@@ -17,7 +16,7 @@ from model.facts import MOST_HISTORY
 from model.kept import read_tables
 from tests.asked import ASKED
 from tests.changes import change_file, changed_by, left_beside, why_not_opened
-from tests.runs import bytes_of, run_kept, write_lines
+from tests.runs import Tried, bytes_of, run_kept, write_lines
 
 
 class Told:
@@ -125,7 +124,7 @@ def change_left(program, work, left, changes, told):
             told.taken, told.refused = told.taken + is_sound, told.refused + (not is_sound)
 
 
-class Changed(unittest.TestCase):
+class Changed(Tried):
     """Desks that were left, and what their openings answer."""
 
     def setUp(self) -> None:
@@ -139,7 +138,7 @@ class Changed(unittest.TestCase):
         told = self.told
         print(f"changed cases: {told.days} days, {told.lines} lines answered, {told.taken} changes taken, {told.refused} refused,"
               f" {len(told.faults)} faults")
-        self.assertFalse(told.faults, "\n".join(told.faults))
+        self.no_faults(told.faults)
 
     def test_days(self) -> None:
         """Desks that are opened again and again, and one whose history is full."""

@@ -8,7 +8,6 @@ for each script. Where all are run, each refusal and each lawful move has to be 
 import shutil
 import subprocess
 import tempfile
-import unittest
 from collections import Counter
 from concurrent.futures import ProcessPoolExecutor
 from dataclasses import dataclass
@@ -22,7 +21,7 @@ from model.facts import LAWFUL, TESTS, Cause, Place, Refusal, cause_word, place_
 from model.kept import read_tables, sqlite3
 from model.rows import ROWS
 from tests.asked import ASKED
-from tests.runs import write_files
+from tests.runs import Tried, write_files
 
 SEEDS = 24
 KEPT_EACH = 4
@@ -129,7 +128,7 @@ def lacks(found: list[Found]) -> list[str]:
     return few + [f"{place_word(before)} {place_word(to)} {cause_word(cause)}" for before, to, cause in sorted(wanted_moves - moves.keys())]
 
 
-class PlainBook(unittest.TestCase):
+class PlainBook(Tried):
     """Acts on the book."""
 
     def test_scripts(self) -> None:
@@ -143,4 +142,4 @@ class PlainBook(unittest.TestCase):
         print(f"plain book: {len(jobs)} scripts, {sum(it.lines for it in found)} lines answered, {sum(sum(it.refused.values()) for it in found)} refused,"
               f" {sum(it.printed for it in found)} lines printed, {sum(moves.values())} moves of {len(moves)} kinds, {len(faults)} differ")
         lacking = lacks(found) if ASKED.is_whole else []
-        self.assertFalse(faults + lacking, "\n".join(faults + [f"hardly met: {it}" for it in lacking]))
+        self.no_faults(faults + [f"hardly met: {it}" for it in lacking])

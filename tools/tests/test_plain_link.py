@@ -12,7 +12,6 @@ those that may come. The first fault of each script is told.
 """
 import subprocess
 import tempfile
-import unittest
 from collections import Counter
 from concurrent.futures import ProcessPoolExecutor
 from functools import partial
@@ -28,6 +27,7 @@ from model.facts import LAWFUL, Cause
 from model.schedule import MIRRORED
 from tests.asked import ASKED
 from tests.link_promise import Judge
+from tests.runs import Tried
 
 class Told(NamedTuple):
     """What came of one script."""
@@ -150,7 +150,7 @@ def hardly(told: list[Told], met: Counter[Any]) -> list[str]:
     return unmet(met) + few + [f"only {alerts[what]} {what}" for what, least in LEAST_ALERTS.items() if alerts[what] < least]
 
 
-class PlainLink(unittest.TestCase):
+class PlainLink(Tried):
     """The link, and the spacecraft behind it."""
 
     def test_scripts(self) -> None:
@@ -170,4 +170,4 @@ class PlainLink(unittest.TestCase):
               f" times; {seen['confirmed while kept']} confirmed while the premise was kept, {seen['places']} counts of places; alerts of"
               f" services that had started: {told_alerts(alerts, 'kept')} while the premise was kept, {told_alerts(alerts, 'broken')} where"
               f" it was broken; {len(faults)} faults")
-        self.assertFalse(faults, "\n".join(faults))
+        self.no_faults(faults)

@@ -5,7 +5,6 @@ written out below, by hand, beside the lines that put it there; nothing of it is
 """
 import os
 import tempfile
-import unittest
 from dataclasses import dataclass, field
 from itertools import zip_longest
 
@@ -13,7 +12,7 @@ from model.facts import SCHEMA
 from model.kept import connect, sqlite3
 from model.rows import ROWS
 from tests.asked import ASKED
-from tests.runs import run_kept, write_lines
+from tests.runs import Tried, run_kept, write_lines
 
 NO_TALLY = "\n".join(f"{place}|0" for place in range(1, 16))
 
@@ -408,7 +407,7 @@ def try_case(program, case, work):
     return [f"{case.name}: {it}" for it in faults + of_schema], rows, values, statements
 
 
-class Written(unittest.TestCase):
+class Written(Tried):
     """The tables, column by column."""
 
     def test_desks(self) -> None:
@@ -418,4 +417,4 @@ class Written(unittest.TestCase):
         faults = [it for found, *_ in told for it in found]
         rows, values, statements = (sum(it[at] for it in told) for at in (1, 2, 3))
         print(f"written cases: {len(CASES)} desks, {rows} rows, {values} values, {statements} statements, {len(faults)} differ")
-        self.assertFalse(faults, "\n".join(faults))
+        self.no_faults(faults)
