@@ -17,8 +17,7 @@ import unittest
 from collections import Counter
 from typing import Callable, NamedTuple, Optional, Sequence, Union
 
-from generate import http_posts as posts
-from generate import http_requests as requests
+from generate import http_posts as posts, http_requests as requests
 from generate.http_words import BODY, ENTRY, PLACES, Case, Want, act, get, load, post
 from model.http import LARGE, NO_PATH, OTHER_METHOD, reply_response
 from tests.asked import ASKED
@@ -104,8 +103,8 @@ def stream(runs: Runs, name: str, raws: Sequence[bytes], wanted: Wanted, within:
 
 def each_fails(runs: Runs, request: bytes, entered: int, step: int) -> None:
     """Of a request that enters so many, and of the question behind it: each read, or each stepth, fails, each write fails, or takes nothing."""
-    right = Expected(runs.program, runs.folder, [Case("", request), Case("", PLACES)]).responses
-    before = Expected(runs.program, runs.folder, [Case("", PLACES)]).responses[0]
+    right = Expected(runs.folder, [Case("", request), Case("", PLACES)]).responses
+    before = Expected(runs.folder, [Case("", PLACES)]).responses[0]
     raws, name = [request, PLACES], repr(request[:12])
     for at in range(1, len(request) + 1, step):
         stream(runs, f"a read of {name}", raws, Wanted([b"", before], (at + len(PLACES), 1), 0), READ_MOST=1, READ_FAIL_AT=at)
@@ -126,9 +125,9 @@ def streams(runs: Runs) -> None:
     for name, request, entered in (("a body of 65,536 bytes", post("/acts", body), 1), ("a head of 8,192 bytes", requests.padded(8192), 0),
                                    ("64 lines and a body of 65,536 bytes", post("/acts", body, *["a: b"] * 61), 1),
                                    ("a head of 8,192 bytes and a body of 65,536", requests.sized(8192, body), 1)):
-        right = Expected(runs.program, runs.folder, [Case("", request)]).responses
+        right = Expected(runs.folder, [Case("", request)]).responses
         stream(runs, f"{name}, a byte a read", [request], Wanted(right, (len(request), 1), entered), SLOW, READ_MOST=1)
-    endless = Expected(runs.program, runs.folder, [Case("", b"\n" * 8193)]).responses
+    endless = Expected(runs.folder, [Case("", b"\n" * 8193)]).responses
     stream(runs, "line ends without end", [PLACES], Wanted(endless, (8193, 1), 0), SLOW, READ_MOST=1, READ_LINE_ENDS=1)
 
 
@@ -139,8 +138,8 @@ class Exchange:
 
     def __init__(self, runs: Runs, raw: bytes) -> None:
         self.raw = raw
-        self.right, self.after = Expected(runs.program, runs.folder, [Case("", raw), Case("", PLACES)]).responses
-        self.before = Expected(runs.program, runs.folder, [Case("", PLACES)]).responses[0]
+        self.right, self.after = Expected(runs.folder, [Case("", raw), Case("", PLACES)]).responses
+        self.before = Expected(runs.folder, [Case("", PLACES)]).responses[0]
         self.enters = int(self.after.split(b"places ")[1].split(b":")[0])
 
 
@@ -237,7 +236,7 @@ def disk(runs: Runs) -> None:
             Case("a long stack of a bad name", load("stack", "No", posts.rows(201)), 17), Case("no path", get("/none"), NO_PATH),
             Case("another method", get("/acts"), OTHER_METHOD), Case("a long body", post("/acts", "", length=65537), LARGE),
             Case("a question in the end", PLACES, 32)]
-    right = Expected(runs.program, runs.folder, told)
+    right = Expected(runs.folder, told)
     ends: dict[Want, bytes] = {31: STORE, 32: STOPPED}
     wanted = [ends.get(case.want, response) for case, response in zip(told, right.responses)]
     # with fewer bytes than some hundred the file cannot be opened

@@ -7,9 +7,10 @@ from itertools import count
 from typing import Any, Iterable, Optional, Sequence
 
 from generate.http_words import PLACES, Case, act, get
+from model.desk import Desk
 from tests.asked import ASKED
 from tests.http_peer import Ended, Expected, Fault, Server, run
-from tests.runs import quick_folder
+from tests.runs import quick_folder, write_files
 
 MOST_FAULTS = 20
 MOST_ASKED = 300  # requests whose histories are asked for in the end
@@ -47,9 +48,10 @@ class Cases:
         """Waits for a server's end, which has to be a good one."""
         self.tell(f"{name}: the program's end", Ended(0, out, server.says), server.end())
 
-    def expected(self, folder: str, cases: Iterable[Case], before: Sequence[str] = ()) -> Expected:
-        """The responses that these cases have to be given; a case whose writer and the plain reading disagree has failed."""
-        made = Expected(self.program, folder, cases, before)
+    def expected(self, folder: str, cases: Sequence[Case], desk: Optional[Desk] = None) -> Expected:
+        """The responses that these cases have to be given by a new desk or by this one; a case whose writer and the plain reading disagree has
+        failed."""
+        made = Expected(folder, cases, desk)
         for case, found in made.disputed:
             self.tell(f"{case.name}, by the plain reading", case.want, found)
         self.refusals |= made.refusals
@@ -60,19 +62,22 @@ class Cases:
         looks at the file in the end."""
         folder = self.folder()
         told: list[Case] = []
-        for file, text in (files or {}).items():
-            with open(f"{folder}/{file}", "w", encoding="ascii") as loaded:
-                loaded.write(text)
+        data = {file: text.encode() for file, text in (files or {}).items()}
+        write_files(folder, data)
         for case in cases:
             told += [case, Case(f"the places after {case.name}", PLACES, 0)] if looks else [case]
         if before:
             run(self.program, folder, before, "--db", "desk.db")
             shutil.copy(f"{folder}/desk.db", f"{folder}/plain.db")
-        made = self.expected(folder, told, before)
+        desk = Desk(files=data)
+        for line in before:
+            desk.line(line)
+        desk = Desk.opened(desk.tables(), 0)
+        made = self.expected(folder, told, desk)
         numbers = range(1, 2 + min(MOST_ASKED, sum(" Entered enter" in it for it in made.told)))
         behind = [Case(f"{path} at the end", get(path)) for it in numbers for path in (f"/requests/{it}", f"/history/{it}/0")]
         behind += [Case(f"{it} at the end", act(it, "zed", 0), 0) for it in LAST_QUESTIONS]
-        asked = self.expected(folder, behind, [*before, *made.lines])
+        asked = self.expected(folder, behind, desk)
         with self.server(folder, len(told) + len(behind)) as server:
             for case, response in zip(told + behind, made.responses + asked.responses):
                 self.tell(f"{name}: {case.name}: {case.raw!r:.300}", response, server.exchange(case.raw, shuts=not response))

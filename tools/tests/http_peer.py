@@ -1,5 +1,5 @@
-"""How the tools for HTTP start the built program's server, speak to it over real sockets, and know what it has to answer. A response is computed by
-model/http.py; what the desk itself replies comes from a run of the same acts as a script.
+"""How the tools for HTTP start the built program's server, speak to it over real sockets, and know what it has to answer: a response is what
+model/http.py makes of what the plain desk replies.
 """
 import os
 import random
@@ -10,16 +10,14 @@ import subprocess
 import time
 from typing import Callable, Iterable, NamedTuple, Optional, Sequence, Union
 
-from generate.http_words import NOTHING, Case, Want
-from model.http import Acts, Asked, Asks, Loads, Refused, answer_to, refused_response, reply_response
+from generate.http_words import NOTHING, Case
+from model.desk import Desk
 from model.facts import status_of
+from model.http import Acts, Asks, Loads, Refused, answer_to, refused_response, reply_response
 
 PATIENCE = float(os.environ.get("PATIENCE", "20"))  # seconds for one exchange, or for the program to begin or to end
 HERE = "127.0.0.1"
 RST = struct.pack("ii", 1, 0)  # a socket that is closed resets its connection
-# Between the replies of a run stands this report of a shift that ends before it begins.
-BETWEEN = "0 zed report 4102444799 0"
-REPORT = re.compile("SHIFT REPORT\nfrom 2099-12-31 23:59:59\nto   1970-01-01 00:00:00\npremise .*\nplaces .*\nmoves 0\nEND\n")
 
 
 class Fault(Exception):
@@ -179,13 +177,13 @@ def run(program: str, folder: str, lines: Iterable[str], *words: str) -> str:
     return ended.out
 
 
-def replies(program: str, folder: str, lines: Sequence[str], before: Sequence[str] = (), words: Sequence[str] = ()) -> list[list[str]]:
-    """What the desk replies to each of these lines, after those before: lists of lines."""
-    script = list(before) + [BETWEEN] + [it for line in lines for it in (line, BETWEEN)]
-    parts = REPORT.split(run(program, folder, script, *words))
-    if len(parts) != len(lines) + 2:
-        raise Fault(f"a run of {len(lines)} lines has {len(parts) - 2} replies")
-    return [it.splitlines() for it in parts[1:-1]]
+def reply_of(desk: Desk, asked: Union[Asks, Acts, Loads]) -> list[str]:
+    """What the plain desk replies to what is asked."""
+    if isinstance(asked, Asks):
+        return desk.acts("zed", 0, asked.act)
+    if isinstance(asked, Loads):
+        return desk.loads(asked.by, asked.moment, asked.kind, asked.name, asked.csv.encode("utf-8"))
+    return desk.acts(asked.by, asked.moment, asked.act)
 
 
 def line_of(asked: Union[Asks, Acts, Loads], folder: str, number: int) -> Optional[str]:
@@ -200,39 +198,44 @@ def line_of(asked: Union[Asks, Acts, Loads], folder: str, number: int) -> Option
     return f"{asked.moment} {asked.by} {asked.act}" if is_line else None
 
 
-def wanted(want: Want) -> tuple[str, int]:
+def wanted(want: Union[int, Refused]) -> tuple[str, int]:
     """The status and the refusal of what a case wants by its writer."""
     if isinstance(want, Refused):
-        return f"{want.status}", want.refusal
-    assert isinstance(want, int), want
+        return f"{want.status}", int(want.refusal)
     return f"{status_of(want)}", want
 
 
 class Expected:
-    """The responses that a list of cases has to be given, one after the other, on a desk that answered the lines before."""
+    """The responses that a list of cases has to be given, one after the other, by a new desk or by this one, which goes on; the lines of a script that
+    asks the same, whose files are written to a folder; and what the writer of a case and the plain reading dispute."""
 
-    def __init__(self, program: str, folder: str, cases: Iterable[Case], before: Sequence[str] = (), words: Sequence[str] = ()) -> None:
-        asked = [answer_to(it.raw) for it in cases]
-        lines = [None if it is None or isinstance(it, Refused) else line_of(it, folder, at) for at, it in enumerate(asked)]
-        self.lines = [it for it in lines if it]
-        parts = replies(program, folder, self.lines, before, words)
-        self.told, told = [it for reply in parts for it in reply], iter(parts)
+    def __init__(self, folder: str, cases: Sequence[Case], desk: Optional[Desk] = None) -> None:
+        """Asks the plain desk."""
+        desk = desk or Desk()
+        self.lines: list[str] = []
+        self.told: list[str] = []
         self.responses: list[bytes] = []
         self.refusals: set[int] = set()
         self.disputed: list[tuple[Case, object]] = []
-        for case, it, line in zip(cases, asked, lines):
-            self.add(case, it, next(told) if line else ["refused 1 BadText"])
+        for at, case in enumerate(cases):
+            asked = answer_to(case.raw)
+            self.add(case, b"" if asked is None else refused_response(asked) if isinstance(asked, Refused) else self.answer(desk, asked, folder, at))
 
-    def add(self, case: Case, asked: Optional[Asked], reply: Sequence[str]) -> None:
-        """One more, where the desk, if it is asked, has this reply."""
-        if asked is None:
-            response = b""
-        else:
-            response = refused_response(asked) if isinstance(asked, Refused) else reply_response(reply)
+    def answer(self, desk: Desk, asked: Union[Asks, Acts, Loads], folder: str, at: int) -> bytes:
+        """The response of the desk."""
+        line, reply = line_of(asked, folder, at), reply_of(desk, asked)
+        self.lines += [line] if line else []
+        self.told += reply
+        return reply_response(reply)
+
+    def add(self, case: Case, response: bytes) -> None:
+        """One response more, none where nothing is answered."""
         self.responses.append(response)
+        found: object = NOTHING
         if response:
             status, refusal = response.split(b" ")[1].decode(), int(response.rsplit(b":", 1)[1][:-1])
             self.refusals.add(refusal)
-        found = (status, refusal) if response else NOTHING
-        if case.want is not None and found != (NOTHING if case.want is NOTHING else wanted(case.want)):
+            found = (status, refusal)
+        want = case.want
+        if want is not None and found != (NOTHING if isinstance(want, str) else wanted(want)):
             self.disputed.append((case, found))

@@ -1,8 +1,8 @@
 """Texts of stacks and of procedures, checked by `tcdesk check`.
 
-Each line that the program prints is compared with one that was written by hand beside its text (generate/check_texts.py, tools/cases/checks/),
-or, of random texts by their seeds (generate/check_random.py), with what the plain desk tells (model/check.py), a reading of the rules that asks the
-program nothing; that reading has to tell of the others what was written. Its status has to be 0 or 1, standard error empty, and the file as before. A
+Each line that the program prints is compared with one that was written by hand beside its text (check_texts.py, tools/cases/checks/), or, of
+random texts by their numbers (check_random.py), with what model/check.py tells, a reading of the rules that asks the program
+nothing; that reading has to tell of the others what was written. Its status has to be 0 or 1, standard error empty, and the file as before. A
 share of the texts comes by the standard input too, and of a share the load is tried, by a script: it has to be refused where the check finds a
 fault, as the rule says, and else not. Then the words of the command line, files that give no text, and outputs that take none. Where all are
 run, each line has to be told of some random texts.
@@ -10,7 +10,6 @@ run, each line has to be told of some random texts.
 Not known to the reading, and not tried, is what may stand in brackets behind an instant (RFC 9557).
 """
 import os
-import random
 import re
 import shutil
 import signal
@@ -20,14 +19,13 @@ from collections import Counter
 from concurrent.futures import ProcessPoolExecutor
 from functools import partial
 from subprocess import PIPE
-from typing import NamedTuple, Sequence, Union
+from typing import NamedTuple, Union
 
 from generate.check_random import random_text
 from generate.check_texts import NO_STACK, ROW, STACK, Text, all_texts
 from model.check import told_of
+from model.desk import Desk
 from model.facts import Refusal
-from model.refused import Refused
-from model.texts import read_procedure, read_stack
 from tests.asked import ASKED
 from tests.runs import Tried
 
@@ -99,15 +97,10 @@ def differs(what: str, wanted: object, got: object) -> list[str]:
 
 
 def load_of(text: Text) -> tuple[int, str]:
-    """With what the load of a text is refused, 0 where it is not; and the answer to it, on a desk where nothing was entered."""
-    try:
-        if text.kind == "stack":
-            return 0, f"ok stack s1 {len(read_stack(text.data))} 1"
-        steps = read_procedure(text.data)
-    except Refused as why:
-        return why.number, why.number.line
-    names_request = any(it.request is not None for it in steps)
-    return 0, Refusal.UNKNOWN_REQUEST.line if names_request else f"ok procedure s1 {len(steps)}"
+    """With what the load of a text is refused for its text, 0 where it is not; and the answer to it, on a desk where nothing was entered."""
+    answer = Desk().loads("ann", 0, text.kind, "s1", text.data)[0]
+    refusal = int(answer.split(" ")[1]) if answer.startswith("refused ") else 0
+    return 0 if (text.kind, refusal) == ("procedure", Refusal.UNKNOWN_REQUEST) else refusal, answer
 
 
 def check_by(program: str, folder: str, text: Text, wanted: str, path: str, given: bytes = b"") -> list[str]:
@@ -129,11 +122,11 @@ def load_by(program: str, folder: str, text: Text) -> list[str]:
     return differs("load", (int(answer.startswith("refused")), answer, b""), (status, out.decode("latin-1").split("\n")[0], err))
 
 
-def try_text(program: str, work: str, job: tuple[int, Union[int, Text]]) -> Found:
-    """Writes a text to a folder of its own, and has it checked and perhaps loaded."""
-    at, asked = job
-    is_hand = isinstance(asked, Text)
-    text = asked if isinstance(asked, Text) else Text(*numbered(asked), "")
+def try_text(program: str, work: str, job: tuple[int, Union[Text, int]]) -> Found:
+    """Writes a text, one by hand or the random one of a number, to a folder of its own, and has it checked and perhaps loaded."""
+    at, given = job
+    is_hand = isinstance(given, Text)
+    text = given if isinstance(given, Text) else numbered(given)
     told = told_of(text.kind, text.data)
     wanted = text.wanted or told.line
     faults = differs("the reading", wanted, told.line) + differs("the refusal by two readings", told.refusal, load_of(text)[0])
@@ -153,10 +146,10 @@ def try_text(program: str, work: str, job: tuple[int, Union[int, Text]]) -> Foun
     return Found(template(text.kind, wanted), is_loaded, is_input, [f"{text.kind} {text.name}: {it}" for it in faults])
 
 
-def numbered(number: int) -> tuple[str, str, bytes]:
-    """The kind, the name and the bytes of a random text."""
+def numbered(number: int) -> Text:
+    """The random text of a number."""
     kind, data = random_text(number)
-    return kind, f"number {number}, {data!r:.600}", data
+    return Text(kind, f"number {number}, {data!r:.600}", data, "")
 
 
 def template(kind: str, line: str) -> str:
@@ -164,7 +157,7 @@ def template(kind: str, line: str) -> str:
     return f"{kind} " + re.sub(r"^(line|step) [0-9]+(?=,|: not)", r"\1 N", line)
 
 
-def try_all(program: str, work: str, jobs: Sequence[Union[int, Text]]) -> list[Found]:
+def try_all(program: str, work: str, jobs: list[Union[Text, int]]) -> list[Found]:
     """What became of all texts, four at a time."""
     with ProcessPoolExecutor(4) as pool:
         return list(pool.map(partial(try_text, program, work), enumerate(jobs), chunksize=32))
@@ -172,12 +165,11 @@ def try_all(program: str, work: str, jobs: Sequence[Union[int, Text]]) -> list[F
 
 # ---- words, files and outputs
 
-Wanted = Union[bytes, re.Pattern[bytes]]
 USAGE = re.compile(rb"(?s).+")
 OUTPUT = b"tcdesk: cannot use output\n"
 # Each case: words of a shell, in which "$0" is the program, and the status, the output and the errors that are wanted. The files are good.csv, which
 # is a stack, bad.csv, which is none, and folder.
-CASES: list[tuple[str, int, Wanted, Wanted]] = [
+CASES: list[tuple[str, int, Union[bytes, re.Pattern[bytes]], Union[bytes, re.Pattern[bytes]]]] = [
     ('"$0" check', 2, b"", USAGE),
     ('"$0" check stack', 2, b"", re.compile(rb"(?s).*FILE")),
     ('"$0" check procedure', 2, b"", re.compile(rb"(?s).*FILE")),
@@ -226,7 +218,7 @@ CASES: list[tuple[str, int, Wanted, Wanted]] = [
 ]
 
 
-def is_like(wanted: Wanted, got: bytes) -> bool:
+def is_like(wanted: Union[bytes, re.Pattern[bytes]], got: bytes) -> bool:
     """Whether some bytes are these, or are matched."""
     return wanted == got if isinstance(wanted, bytes) else bool(wanted.match(got))
 
@@ -246,7 +238,7 @@ def try_words(program: str, work: str) -> list[str]:
     return faults
 
 
-def lacks(written: Sequence[Found], others: Sequence[Found], least: int) -> list[str]:
+def lacks(written: list[Found], others: list[Found], least: int) -> list[str]:
     """Which lines no text has that is written by hand, or hardly any other; and which are told and are none of all lines."""
     by_hand, told = Counter(it.line for it in written), Counter(it.line for it in others)
     hardly = [f"told of {by_hand[it]} texts by hand, and of {told[it]} others: {it}" for it in LINES if not by_hand[it] or told[it] < least]

@@ -14,8 +14,7 @@ import subprocess
 import time
 from typing import Callable, Sequence
 
-from generate import http_posts as posts
-from generate import http_requests as requests
+from generate import http_posts as posts, http_requests as requests
 from generate.http_words import BODY, ENTRY, PLACES, Case, act, entry, get, load, post
 from model.http import decided
 from tests.http_cases import Cases, Served

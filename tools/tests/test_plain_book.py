@@ -1,10 +1,10 @@
-"""Long scripts beside a plain desk.
+"""Long scripts beside the plain desk, about the book.
 
-The plain desk answers each line by itself, from the requirements. The scripts are random ones by their seeds, and those of plans. Every line that
-the program prints has to be the plain desk's, and so has the status; some scripts are run on a desk that is kept, whose tables have to be
-the plain desk's too. The first line that differs is told for each script. Where all are run, each refusal and each lawful move has to be met.
+The plain desk answers each line by itself, from the requirements. The scripts that are run are random ones by their seeds, some of them over a link
+that loses, and those of plans. Every line that the program prints has to be the plain desk's, and so has the status; some scripts are run on a desk
+that is kept, whose tables have to be the plain desk's too, row by row in the order in which they were written. The first line that differs is told
+for each script. Where all are run, each refusal and each lawful move has to be met, and each refusal of each act that these scripts can reach.
 """
-import os
 import shutil
 import subprocess
 import tempfile
@@ -16,21 +16,24 @@ from itertools import zip_longest
 from typing import Callable, Union
 
 from generate.book_plans import PLANS
-from generate.scripts import Written, book_script
+from generate.scripts import LINES, Written, book_script, is_losing
+from model.facts import LAWFUL, TESTS, Cause, Place, Refusal, cause_word, place_word
 from model.kept import read_tables, sqlite3
 from model.rows import ROWS
 from tests.asked import ASKED
-from tests.moved import LAWFUL_MOVES, MoveWords, moves_of
-from tests.runs import Tried
-from model.desk import Desk
+from tests.runs import Tried, write_files
 
 SEEDS = 24
-KEPT_EACH, KEPT_PLANS = 4, ("stacks of 200 rows", "borders")
+KEPT_EACH = 4
 LONGEST = 600
 LEAST_REFUSALS, FEW = 50, {8: 9, 18: 9}
-# What comes only where a report was lost, which is for test_plain_link.py; the last never, since a control word flies behind the report.
-LOST = {("Riding", "Accepted"), ("Riding", "Started"), ("Riding", "Completed"), ("Riding", "Failed"), ("Riding", "Deleted"),
-        ("Doubtful", "Deleted"), ("Scheduled", "Started"), ("Scheduled", "Completed"), ("Confirmed", "Accepted")}
+# What hardly comes where few reports are lost, which is for test_plain_link.py; the last never, since a control word flies behind the report.
+LOST = {(Place.RIDING, Place.ACCEPTED), (Place.RIDING, Place.STARTED), (Place.RIDING, Place.COMPLETED), (Place.RIDING, Place.FAILED),
+        (Place.RIDING, Place.DELETED), (Place.DOUBTFUL, Place.DELETED), (Place.SCHEDULED, Place.STARTED), (Place.SCHEDULED, Place.COMPLETED),
+        (Place.CONFIRMED, Place.ACCEPTED)}
+# What is refused once the history is full, which is for test_changed.py; and a step never names a request that is not there, since its load did not.
+FULL = {"enter", "begin", "stack", "procedure"}
+NEVER = {("step", Refusal.UNKNOWN_REQUEST)}
 
 
 @dataclass
@@ -39,24 +42,22 @@ class Found:
     lines: int
     printed: int
     refused: Counter[int]
-    moves: Counter[MoveWords]
+    tests: Counter[tuple[str, int]]
+    moves: Counter[tuple[int, int, int]]
     fault: str
 
 
-# ---- what differs
-
-def table_fault(desk: Desk, path: str) -> str:
+def table_fault(script: Written, path: str) -> str:
     """Which table of a file is not the plain desk's, and the first of its rows."""
-    wanted = desk.tables()
+    wanted = script.desk.tables()
     try:
         there = read_tables(path)
     except sqlite3.Error as fault:
         return f"the file that is kept does not read: {fault}"
     for name in ROWS:
-        rows, want = getattr(there, name), getattr(wanted, name)
-        if rows != want:
-            it, row = next((want, row) for want, row in zip_longest(want, rows) if want != row)
-            return f"the table {name} has {row}, and not {it}"
+        for it, row in zip_longest(getattr(wanted, name), getattr(there, name)):
+            if it != row:
+                return f"the table {name} has {row}, and not {it}"
     return ""
 
 
@@ -77,9 +78,7 @@ def first_fault(script: Written, lines: list[str]) -> str:
 
 def write_script(script: Written, folder: str) -> None:
     """Writes a script and its files."""
-    for name, data in script.files.items():
-        with open(f"{folder}/{name}", "wb") as file:
-            file.write(data)
+    write_files(folder, script.files)
     with open(f"{folder}/script.tc", "wb") as file:
         file.write("".join(f"{it}\n" for it in script.lines).encode("latin-1"))
 
@@ -96,32 +95,37 @@ def compare(program: str, script: Written, folder: str, is_kept: bool) -> str:
     fault = first_fault(script, lines[:-1])
     if not fault and (ran.returncode, ran.stderr, lines[-1]) != (script.status(), b"", ""):
         fault = f"status {ran.returncode}, and not {script.status()}: {ran.stderr!r:.200}"
-    return fault or (table_fault(script.desk, f"{folder}/kept.db") if is_kept else "")
+    return fault or (table_fault(script, f"{folder}/kept.db") if is_kept else "")
 
 
 def try_script(program: str, work: str, job: Union[int, Callable[[], Written]]) -> Found:
     """Writes the script of a plan, or of a seed, and compares."""
-    script = book_script(job) if isinstance(job, int) else job()
-    is_kept = job % KEPT_EACH == 0 if isinstance(job, int) else script.title in KEPT_PLANS
+    script = book_script(job, LINES) if isinstance(job, int) else job()
+    is_kept = job % KEPT_EACH == 0 or is_losing(job) if isinstance(job, int) else script.title in ("stacks of 200 rows", "borders")
     folder = tempfile.mkdtemp(dir=work)
     try:
         fault = compare(program, script, folder, is_kept)
     finally:
         shutil.rmtree(folder)
-    return Found(len(script.told), sum(len(it) for _, it in script.told) + 1, script.refused, moves_of(script.book), fault and f"{script.title}: {fault}")
+    moves = Counter((it.from_place, it.to_place, it.cause) for it in script.book.history)
+    tests: Counter[tuple[str, int]] = Counter({(act, int(number)): times for (act, number), times in script.desk.refusals.items()})
+    printed = sum(len(it) for _, it in script.told) + 1
+    return Found(len(script.told), printed, script.refused, tests, moves, fault and f"{script.title}: {fault}")
 
 
 # ---- all scripts
 
-def moves_to_meet() -> set[MoveWords]:
-    """All lawful moves that come without an opening and where nothing is lost."""
-    return {it for it in LAWFUL_MOVES if it[:2] not in LOST or it[2] not in ("report", "delete")}
-
-
-def lacks(refused: Counter[int], moves: Counter[MoveWords]) -> list[str]:
-    """What was hardly met: refusals, and lawful moves."""
+def lacks(found: list[Found]) -> list[str]:
+    """What was hardly met: refusals, refusals of each act, and lawful moves."""
+    refused: Counter[int] = sum((it.refused for it in found), Counter())
+    tests: Counter[tuple[str, int]] = sum((it.tests for it in found), Counter())
+    moves: Counter[tuple[int, int, int]] = sum((it.moves for it in found), Counter())
     few = [f"refusal {it} {refused[it]} times" for it in range(1, 20) if refused[it] < FEW.get(it, LEAST_REFUSALS)]
-    return few + [" ".join(it) for it in sorted(moves_to_meet() - moves.keys())]
+    few += [f"{act}, refusal {it.line}" for act, wanted in TESTS.items() for it in wanted
+            if not tests[act, it] and (act, it) not in NEVER and (it is not Refusal.DESK_FULL or act in FULL)]
+    is_lost = {it for it in LAWFUL if it[:2] in LOST and it[2] in (Cause.REPORT, Cause.DELETE)}
+    wanted_moves = {it for it in LAWFUL if it[2] is not Cause.OPEN} - is_lost
+    return few + [f"{place_word(before)} {place_word(to)} {cause_word(cause)}" for before, to, cause in sorted(wanted_moves - moves.keys())]
 
 
 class PlainBook(Tried):
@@ -130,13 +134,12 @@ class PlainBook(Tried):
     def test_scripts(self) -> None:
         """The program answers plans and random scripts as the plain desk does; with a seed or a number, those random ones alone."""
         first, count = ASKED.seed_or(1), ASKED.count_or(SEEDS)
-        jobs = [*(PLANS if ASKED.is_whole else []), *range(first, first + count)]
+        jobs: list[Union[int, Callable[[], Written]]] = [*(PLANS if ASKED.is_whole else []), *range(first, first + count)]
         with tempfile.TemporaryDirectory(prefix="book-") as work, ProcessPoolExecutor(4) as pool:
             found = list(pool.map(partial(try_script, ASKED.program, work), jobs))
         faults = [it.fault for it in found if it.fault]
-        refused: Counter[int] = sum((it.refused for it in found), Counter())
-        moves: Counter[MoveWords] = sum((it.moves for it in found), Counter())
-        print(f"plain book: {len(jobs)} scripts, {sum(it.lines for it in found)} lines answered, {sum(refused.values())} refused,"
+        moves: Counter[tuple[int, int, int]] = sum((it.moves for it in found), Counter())
+        print(f"plain book: {len(jobs)} scripts, {sum(it.lines for it in found)} lines answered, {sum(sum(it.refused.values()) for it in found)} refused,"
               f" {sum(it.printed for it in found)} lines printed, {sum(moves.values())} moves of {len(moves)} kinds, {len(faults)} differ")
-        lacking = lacks(refused, moves) if ASKED.is_whole else []
-        self.no_faults(faults + lacking)
+        lacking = lacks(found) if ASKED.is_whole else []
+        self.no_faults(faults + [f"hardly met: {it}" for it in lacking])

@@ -1,8 +1,8 @@
 """The desk over a link beside a plain desk, which asks the program nothing.
 
 The plain desk answers each line of a script from the requirements: FOP-1 and FARM-1 as literal tables, two carriers that are lists or
-rings, the spacecraft, its schedule and the mirror, and where each request stands. The program runs long scripts that fit how the link
-stands, with losses, starts of every kind, windows K from 1 to 127 and W from 2 to 254, rings of 1 to 4,096, lockout and the way back; every line that it prints, and
+rings, the spacecraft, its schedule and the mirror, and where each request stands. The program runs long scripts that fit how the link stands, with losses, starts of
+every kind, windows K from 1 to 127 and W from 2 to 254, rings of 1 to 4,096, lockout and the way back; every line that it prints, and
 its status, are those of the plain desk. Each cell of the two tables that a desk can reach has to be met, and each ring has to be full both ways.
 
 Then longer scripts, in which after each act is asked where the requests stand. Of what is printed alone (link_promise.py, without the
@@ -15,22 +15,19 @@ import tempfile
 from collections import Counter
 from concurrent.futures import ProcessPoolExecutor
 from functools import partial
-from typing import Any, Mapping, NamedTuple, Optional, Sequence
+from typing import Any, Mapping, NamedTuple, Optional
 
 from generate.link_scripts import REFUSED, RINGS, SEED, Job, jobs_of, some_jobs, written
+from generate.link_writers import Writer
 from model import farm, fop
 from model.board import ON_BOARD
+from model.carrier import Carrier
+from model.desk import Desk
+from model.facts import LAWFUL, Cause
 from model.schedule import MIRRORED
 from tests.asked import ASKED
 from tests.link_promise import Judge
-from tests.moved import LAWFUL_MOVES, moves_of
 from tests.runs import Tried
-from generate.link_writers import Writer
-from model.desk import Desk
-
-
-Met = Counter[tuple[str, Any]]  # how often a kind of thing was met
-
 
 class Told(NamedTuple):
     """What came of one script."""
@@ -38,7 +35,7 @@ class Told(NamedTuple):
     acts: int
     printed: int
     refused: int
-    met: Met
+    met: Counter[Any]
     seen: Counter[str]
     alerts: Counter[tuple[str, str]]
 
@@ -77,13 +74,13 @@ def difference(writer: Writer, status: int, lines: list[str], errors: str) -> Op
     return None
 
 
-def met_by(desk: Desk) -> Met:
+def met_by(desk: Desk) -> Counter[Any]:
     """What a script met of all that has to be met."""
-    link = desk.link
-    dropped = {(way, size): count for way, size, count in (("up", link.up.size, link.up.dropped), ("down", link.down.size, link.down.dropped)) if size}
+    carriers: dict[str, Carrier[Any]] = {"up": desk.link.up, "down": desk.link.down}
     met: dict[str, Mapping[Any, int]] = {
-        "FOP-1": link.fop.visits, "FARM-1": link.farm.visits, "on board": desk.board.visits, "mirror": desk.mirror.visits,
-        "move": moves_of(desk.book), "refused": desk.refusals, "overwritten": dropped}
+        "FOP-1": desk.link.fop.visits, "FARM-1": desk.link.farm.visits, "on board": desk.board.visits, "mirror": desk.mirror.visits,
+        "move": Counter((it.from_place, it.to_place, it.cause) for it in desk.book.history), "refused": desk.refusals,
+        "overwritten": {(way, it.size): it.dropped for way, it in carriers.items() if it.size}}
     return Counter({(kind, it): count for kind, counts in met.items() for it, count in counts.items()})
 
 
@@ -93,7 +90,7 @@ def play(program: str, job: Job) -> Told:
     status, lines, errors = run(program, writer)
     judge = Judge()
     fault = difference(writer, status, lines, errors)
-    broken = judge.reads(lines)
+    broken: Optional[str] = judge.reads(lines)
     fault = fault or broken
     if fault:
         path = f"{tempfile.gettempdir()}/link-{job[0]}-{job[1]}.tc"
@@ -106,10 +103,12 @@ def play(program: str, job: Job) -> Told:
 
 # ---- all of them
 
-TO_MEET = ([("FOP-1", cell) for cell in fop.CELLS + fop.BESIDES] + [("FARM-1", cell) for cell in farm.CELLS]
-           + [("on board", it) for it in ON_BOARD] + [("mirror", it) for it in MIRRORED] + [("move", it) for it in LAWFUL_MOVES]
-           + [("refused", (act, number)) for act, numbers in REFUSED.items() for number in numbers]
-           + [("overwritten", (way, size)) for way in ("up", "down") for size in RINGS])
+TO_MEET: list[tuple[str, Any]] = (
+    [("FOP-1", cell) for cell in [*fop.CELLS, *fop.BESIDES]] + [("FARM-1", cell) for cell in farm.CELLS]
+    + [("on board", it) for it in ON_BOARD] + [("mirror", it) for it in MIRRORED]
+    + [("move", it) for it in sorted(LAWFUL) if it[2] is not Cause.OPEN]
+    + [("refused", (act, number)) for act, numbers in REFUSED.items() for number in numbers]
+    + [("overwritten", (way, size)) for way in ("up", "down") for size in RINGS])
 # What has to be seen of the promise: that it was put to the test, also over rings, and that it hangs on the premise. No cell of a FARM in
 # Lockout, and none of the rows that lead to the other alerts, is left out of what has to be met: while the premise is kept a desk meets
 # none of them, but a start over what is still in flight leads to each.
@@ -121,14 +120,14 @@ LEAST_ALERTS = {("started kept", "T1"): 100, ("started kept", "LIMIT"): 20, ("st
                 ("started broken", "SYNCH"): 10, ("started broken", "NN(R)"): 10}
 
 
-def unmet(met: Met) -> list[str]:
+def unmet(met: Counter[Any]) -> list[str]:
     """What no script met, of what a desk can meet; and the cells that were met and cannot be."""
     faults = [f"no script meets {kind}: {it}" for kind, it in TO_MEET if not met[kind, it]]
     return faults + [f"{kind}: {it} cannot be met, and was" for kind, it in met if kind in ("FOP-1", "FARM-1") and len(it) == 2
                      and (kind, it) not in TO_MEET]
 
 
-def print_cells(met: Met) -> None:
+def print_cells(met: Counter[Any]) -> None:
     """How often each cell was met, and all else."""
     for row in fop.TABLE:
         counts = ((met["FOP-1", (row, state)], ("FOP-1", (row, state)) in TO_MEET) for state in fop.STATES + (fop.INITIAL,))
@@ -143,21 +142,12 @@ def told_alerts(alerts: Counter[tuple[str, str]], premise: str) -> str:
     return ", ".join(f"{kind} {count}" for (told, kind), count in sorted(alerts.items()) if told == f"started {premise}")
 
 
-def all_seen(told: Sequence[Told]) -> Counter[str]:
-    """What was seen of the promise in all scripts."""
-    return sum((it.seen for it in told), Counter())
-
-
-def all_alerts(told: Sequence[Told]) -> Counter[tuple[str, str]]:
-    """The alerts of all scripts."""
-    return sum((it.alerts for it in told), Counter())
-
-
-def hardly(told: Sequence[Told], met: Met) -> list[str]:
+def hardly(told: list[Told], met: Counter[Any]) -> list[str]:
     """What was not met, or hardly seen, of all that these scripts have to meet."""
-    seen, alerts = all_seen(told), all_alerts(told)
-    return (unmet(met) + [f"only {seen[what]} {what}" for what, least in LEAST.items() if seen[what] < least]
-            + [f"only {alerts[what]} {what}" for what, least in LEAST_ALERTS.items() if alerts[what] < least])
+    seen: Counter[str] = sum((it.seen for it in told), Counter())
+    alerts: Counter[tuple[str, str]] = sum((it.alerts for it in told), Counter())
+    few = [f"only {seen[what]} {what}" for what, least in LEAST.items() if seen[what] < least]
+    return unmet(met) + few + [f"only {alerts[what]} {what}" for what, least in LEAST_ALERTS.items() if alerts[what] < least]
 
 
 class PlainLink(Tried):
@@ -168,8 +158,9 @@ class PlainLink(Tried):
         jobs = jobs_of(ASKED.seed_or(SEED)) if ASKED.count is None else some_jobs(ASKED.seed_or(SEED), ASKED.count)
         with ProcessPoolExecutor(4) as pool:
             told = list(pool.map(partial(play, ASKED.program), jobs))
-        met: Met = sum((it.met for it in told), Counter())
-        seen, alerts = all_seen(told), all_alerts(told)
+        met: Counter[Any] = sum((it.met for it in told), Counter())
+        seen: Counter[str] = sum((it.seen for it in told), Counter())
+        alerts: Counter[tuple[str, str]] = sum((it.alerts for it in told), Counter())
         faults = [it.fault for it in told if it.fault] + (hardly(told, met) if ASKED.count is None else [])
         if ASKED.cells:
             print_cells(met)
