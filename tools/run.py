@@ -95,7 +95,7 @@ def suite_of(entry: Entry, more: list[str]) -> unittest.TestSuite:
     """The tests of an entry."""
     if entry.command:
         return unittest.TestSuite([Script(entry, more)])
-    return unittest.defaultTestLoader.loadTestsFromName(entry.module)
+    return unittest.defaultTestLoader.loadTestsFromNames(entry.modules)
 
 
 def processor_seconds() -> float:

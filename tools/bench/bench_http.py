@@ -1,6 +1,5 @@
 #!/usr/bin/env python3
-"""Measures what an act costs over HTTP: tools/bench/bench_http.py [PROGRAM [COUNT [FOLDER]]] prints a table for docs/BENCH.md. COUNT is 2,000 where none
-is given.
+"""Measures what an act costs over HTTP, and prints a table for docs/BENCH.md.
 
 So many requests are entered on a new desk in a file of the folder, which has to lie on a disk (the system's temporary folder where none is
 given): by POST /acts, each on a connection of its own, one after the other; by `loop` and by `run --db` as a script; and beside these the same
@@ -8,6 +7,7 @@ rows in the same batches on the bare store, without a desk (tc_bench, which has 
 with a sync at each commit. What the disk needs for a page and a sync is told too. GET /places is asked as often. Each is measured three times, turn by turn,
 and the best time of each is taken. Every answer has to be a good one. The status is 1 where acts over HTTP are fewer a second than half of the bare store's commits.
 """
+import argparse
 import os
 import re
 import resource
@@ -22,12 +22,12 @@ from pathlib import Path
 try:
     import sqlite3
 except ImportError:
-    print("bench_http: this Python has no module sqlite3, so nothing is measured")
-    sys.exit(0)
+    sys.exit("python3 has no module sqlite3 (Debian: libpython3-stdlib)")
 
 sys.path.insert(0, os.path.dirname(os.path.dirname(os.path.realpath(__file__))))
-from tests.http_peer import Fault, Server, get, post, program_in
 from http_requests import entry
+from tests.asked import BUILT, TOP
+from tests.http_peer import Fault, Server, get, post
 
 TURNS = 3
 PAGE = 4096
@@ -79,9 +79,8 @@ def script(program, folder, count, *words):
 
 def texts():
     """The store's own texts of SQL."""
-    top = os.path.dirname(os.path.dirname(os.path.dirname(os.path.realpath(__file__))))
     found = []
-    for path in sorted(Path(f"{top}/crates/tc_store/src").glob("*.rt")):
+    for path in sorted(Path(f"{TOP}/crates/tc_store/src").glob("*.rt")):
         found += re.findall(r'"((?:CREATE|INSERT) [^"]*)"', path.read_text(encoding="utf-8"))
     return found
 
@@ -159,8 +158,12 @@ def measure(program, count, within):
 
 def main():
     """Measures all, and prints the table."""
-    program, count = program_in(sys.argv[1:2]), int(sys.argv[2]) if len(sys.argv) > 2 else 2000
-    within = sys.argv[3] if len(sys.argv) > 3 else tempfile.gettempdir()
+    parser = argparse.ArgumentParser(description=__doc__, formatter_class=argparse.RawDescriptionHelpFormatter)
+    parser.add_argument("--program", default=BUILT, metavar="PATH", help="the program that is measured")
+    parser.add_argument("--count", type=int, default=2000, metavar="N", help="how many of each (2000)")
+    parser.add_argument("--folder", default=tempfile.gettempdir(), metavar="PATH", help="a folder on the disk that is measured")
+    asked = parser.parse_args()
+    program, count, within = os.path.abspath(asked.program), asked.count, asked.folder
     kind = subprocess.run(["stat", "-f", "-c", "%T", within], capture_output=True, text=True, check=False).stdout.strip()
     load = f"{os.getloadavg()[0]:.1f}"
     best = measure(program, count, within)

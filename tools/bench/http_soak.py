@@ -1,22 +1,21 @@
-#!/usr/bin/env python3
-"""Ten good clients beside peers that stall, drip, reset, end half, speak TLS and flood with connects, on one server: tools/bench/http_soak.py
-[PROGRAM [MINUTES [SEED]]], by hand. All is on this machine, and ends by itself.
+"""Ten good clients beside peers that stall, drip, reset, end half, speak TLS and flood with connects, on one server: `tools/run.py --only soak`, by hand.
+All is on this machine, and ends by itself, after five minutes or so many as --count says.
 
 A peer of each of three kinds is there at any time. Each good client enters requests and asks for the places, a second after its last answer. A line a
 minute tells what was answered, the longest wait so far, and the server's memory and handles. In the end the file has to tell exactly the requests that were
-acknowledged. The status is 1 where a good request was not answered, waited more than 40 s, or was lost.
+acknowledged. It fails where a good request was not answered, waited more than 40 s, or was lost.
 """
 import os
 import random
 import socket
-import sys
 import tempfile
 import threading
 import time
+import unittest
 
-sys.path.insert(0, os.path.dirname(os.path.dirname(os.path.realpath(__file__))))
-from tests.http_peer import Server, program_in, received, reset, run, send
 from http_requests import PLACES, act
+from tests.asked import ASKED
+from tests.http_peer import Server, received, reset, run, send
 
 GOOD, MOST_WAIT = 10, 40.0
 HELLO = bytes.fromhex("160301008f0100008b0303") + bytes(132)  # the front of a TLS hello
@@ -114,29 +113,28 @@ def flooding(soak, dice):
     time.sleep(5)
 
 
-def main():
-    """Runs it for some minutes."""
-    program, minutes = program_in(sys.argv[1:2]), float(sys.argv[2]) if len(sys.argv) > 2 else 5
-    with tempfile.TemporaryDirectory(prefix="http-soak-") as folder, Server(program, folder, "desk.db", None) as server:
-        soak = Soak(server, 60 * minutes, sys.argv[3] if len(sys.argv) > 3 else "1")
-        threads = [threading.Thread(target=soak.good, args=(it,)) for it in range(GOOD)]
-        threads += [threading.Thread(target=soak.rude, args=(it,)) for it in ((silent, dripping), (resetting, half, foreign, noisy), (flooding,))]
-        for it in threads:
-            it.start()
-        while soak.goes_on:
-            memory, handles = soak.figures()
-            print(f"{soak.answered} answered, {soak.entered} entered, longest {soak.longest:.1f} s, {soak.peers} rude peers, {memory} KiB, "
-                  f"{handles} handles, {len(soak.bad)} bad", flush=True)
-            time.sleep(min(60, max(0.1, soak.end - time.monotonic())))
-        for it in threads:
-            it.join()
-        server.process.kill()
-        server.process.wait()
-        told = int(run(program, folder, [], "--db", "desk.db").splitlines()[-1].split(":")[0].removeprefix("places "))
-    print(f"http soak: {soak.answered} answered, longest {soak.longest:.1f} s, {soak.peers} rude peers, {len(soak.bad)} bad, "
-          f"{soak.entered} entered and {told} kept: {soak.bad[:5]}")
-    return 0 if not soak.bad and told == soak.entered else 1
+class Soaked(unittest.TestCase):
+    """A server under load."""
 
-
-if __name__ == "__main__":
-    sys.exit(main())
+    def test_soak(self) -> None:
+        """Runs it for some minutes."""
+        with tempfile.TemporaryDirectory(prefix="http-soak-") as folder, Server(ASKED.program, folder, "desk.db", None) as server:
+            soak = Soak(server, 60 * ASKED.count_or(5), str(ASKED.seed_or(1)))
+            threads = [threading.Thread(target=soak.good, args=(it,)) for it in range(GOOD)]
+            threads += [threading.Thread(target=soak.rude, args=(it,)) for it in ((silent, dripping), (resetting, half, foreign, noisy), (flooding,))]
+            for it in threads:
+                it.start()
+            while soak.goes_on:
+                memory, handles = soak.figures()
+                print(f"{soak.answered} answered, {soak.entered} entered, longest {soak.longest:.1f} s, {soak.peers} rude peers, {memory} KiB, "
+                      f"{handles} handles, {len(soak.bad)} bad")
+                time.sleep(min(60, max(0.1, soak.end - time.monotonic())))
+            for it in threads:
+                it.join()
+            server.process.kill()
+            server.process.wait()
+            told = int(run(ASKED.program, folder, [], "--db", "desk.db").splitlines()[-1].split(":")[0].removeprefix("places "))
+        print(f"http soak: {soak.answered} answered, longest {soak.longest:.1f} s, {soak.peers} rude peers, {len(soak.bad)} bad, "
+              f"{soak.entered} entered and {told} kept")
+        self.assertEqual([], soak.bad[:5], "good requests that were not answered, or late")
+        self.assertEqual(soak.entered, told, "what is kept of what was acknowledged")
