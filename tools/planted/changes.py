@@ -6,7 +6,7 @@ the counts of what was met (COUNTED), and the words of a cause that only a perso
 """
 import ast
 import re
-from collections.abc import Callable, Iterable, Iterator, Sequence
+from collections.abc import Callable, Iterator, Sequence
 from dataclasses import dataclass
 from functools import partial
 
@@ -78,7 +78,7 @@ def is_text(node: ast.AST) -> bool:
 
 def is_counted(node: ast.AST) -> bool:
     """Whether a statement only counts what was met."""
-    targets = [node.target] if isinstance(node, ast.AugAssign) else node.targets if isinstance(node, ast.Assign) else []
+    targets: list[ast.expr] = [node.target] if isinstance(node, ast.AugAssign) else node.targets if isinstance(node, ast.Assign) else []
     tops = [it.value if isinstance(it, ast.Subscript) else it for it in targets]
     return bool(tops) and all(isinstance(it, ast.Attribute) and it.attr in COUNTED for it in tops)
 
@@ -110,7 +110,7 @@ def place_below(node: ast.AST, place: str) -> str:
 def spots_in(parent: ast.AST, place: str = "") -> Iterator[Spot]:
     """Each node below this one that may be changed, in order."""
     for field, value in ast.iter_fields(parent):
-        nodes: Iterable[tuple[int | None, object]] = enumerate(value) if isinstance(value, list) else [(None, value)]
+        nodes: list[tuple[int | None, object]] = list(enumerate(value)) if isinstance(value, list) else [(None, value)]
         for at, node in nodes:
             if not isinstance(node, ast.AST) or is_left_out(node, field):
                 continue
@@ -275,7 +275,7 @@ def orders(spot: Spot) -> Iterator[Change]:
         pairs = {"min": "max", "max": "min", "any": "all", "all": "any", "sorted": "list", "startswith": "endswith"}
         if name_of(node) in pairs:
             other = pairs[name_of(node)]
-            func = ast.Name(other, ast.Load()) if isinstance(node.func, ast.Name) else ast.Attribute(node.func.value, other, ast.Load())
+            func = ast.Attribute(node.func.value, other, ast.Load()) if isinstance(node.func, ast.Attribute) else ast.Name(other, ast.Load())
             yield spot.change(f"{other} for {name_of(node)}", ast.Call(func, node.args, [] if other == "list" else node.keywords))
         if name_of(node)[:1].isupper() and not any(isinstance(it, ast.Starred) for it in node.args):
             for args in exchanged(node.args):

@@ -69,9 +69,8 @@ def rows_by(tables: object) -> Rows:
 
 def script_fault(script: Script) -> str:
     """A script: what is answered to each line, the status, and the tables."""
-    from model.desk import Desk
-    options = {"w": "window", "vc": "channel", "ring": "ring"}
-    desk = Desk(**{options[name]: value for name, value in script.options.items()}, files=script.files)
+    from model.desk import desk_by
+    desk = desk_by([word for name, value in script.options.items() for word in (f"--{name}", str(value))], script.files)
     at = 0
     for line in script.lines:
         told = desk.line(line.removesuffix("\r"))
