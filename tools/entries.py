@@ -32,6 +32,8 @@ ENTRIES = (
     Entry("check", "each line of `check` on 686 texts that are judged by hand, and on random ones", modules=("tests.test_check",), takes_seed=True),
     Entry("kept", "desks that are kept in a file: opened, copied, killed, two programs at once", command=("tests/kept_cases.sh", "PROGRAM")),
     Entry("report", "the shift report beside a plain printer; files that are no desk's, and rows that do not read", modules=("tests.test_report", "tests.test_report_files")),
+    Entry("plain-desk", "the plain desk itself: it answers scripts and days, and leaves rows, as they are written by hand",
+          modules=("tests.test_cases", "tests.test_model")),
     Entry("plain-book", "acts on the book: each printed line and all tables beside the plain desk", modules=("tests.test_plain_book",), takes_seed=True),
     Entry("plain-link", "the link: each printed line beside the plain desk; each cell of FOP-1 and FARM-1; the promise by what is printed",
           modules=("tests.test_plain_link",), takes_seed=True),

@@ -25,9 +25,9 @@ except ImportError:
     sys.exit("python3 has no module sqlite3 (Debian: libpython3-stdlib)")
 
 sys.path.insert(0, os.path.dirname(os.path.dirname(os.path.realpath(__file__))))
-from http_requests import entry
+from generate.http_words import entry, get, post
 from tests.asked import BUILT, TOP
-from tests.http_peer import Fault, Server, get, post
+from tests.http_peer import Fault, Server
 
 TURNS = 3
 PAGE = 4096

@@ -13,7 +13,7 @@ import threading
 import time
 import unittest
 
-from http_requests import PLACES, act
+from generate.http_words import PLACES, act
 from tests.asked import ASKED
 from tests.http_peer import Server, received, reset, run, send
 

@@ -17,12 +17,11 @@ import unittest
 from collections import Counter
 from typing import NamedTuple
 
-import http_posts as posts
-import http_requests as requests
-from http_requests import BODY, ENTRY, PLACES, act
-from plain_http import LARGE, NO_PATH, OTHER_METHOD, reply_response
+from generate import http_posts as posts, http_requests as requests
+from generate.http_words import BODY, ENTRY, PLACES, Case, act, get, load, post
+from model.http import LARGE, NO_PATH, OTHER_METHOD, reply_response
 from tests.asked import ASKED
-from tests.http_peer import PATIENCE, Case, Ended, Expected, Fault, Server, get, post, run
+from tests.http_peer import PATIENCE, Ended, Expected, Fault, Server, run
 from tests.runs import made_shim, quick_folder
 
 MOST_BAD = 10
@@ -113,7 +112,7 @@ def each_fails(runs, request, entered, step):
 
 def streams(runs):
     """Each read and each write of an exchange fails in turn; and the longest requests come a byte a read."""
-    for request, entered, step in ((act(ENTRY), 1, 1), (PLACES, 0, 4), (requests.load("stack", "s1", posts.rows(3)), 3, 7)):
+    for request, entered, step in ((act(ENTRY), 1, 1), (PLACES, 0, 4), (load("stack", "s1", posts.rows(3)), 3, 7)):
         each_fails(runs, request, entered, step)
     body = BODY + " " * (65536 - len(BODY))
     for name, request, entered in (("a body of 65,536 bytes", post("/acts", body), 1), ("a head of 8,192 bytes", requests.padded(8192), 0),
@@ -196,7 +195,7 @@ def refused(runs, it, at):
 
 def memory(runs):
     """Each request for memory of an exchange, or each of some steps, is refused in turn."""
-    for raw, step in ((act(ENTRY), 1), (requests.load("stack", "s1", posts.rows(3)), 5), (act("report 0 9"), 1), (get("/history/1/0"), 2),
+    for raw, step in ((act(ENTRY), 1), (load("stack", "s1", posts.rows(3)), 5), (act("report 0 9"), 1), (get("/history/1/0"), 2),
                       (b"GET /none HTTP/1.1\n\n", 1), (requests.padded(8193), 1), (act("x" * 201), 1), (post("/acts", "{"), 1)):
         it, at = Exchange(runs, raw), 1
         while refused(runs, it, at):
@@ -221,11 +220,11 @@ def disk(runs):
     """The database cannot be written: 31, and then 32 of all that reaches the desk."""
     told = [Case("a question", PLACES, 0), Case("an act", act(ENTRY), 31), Case("a question behind it", PLACES, 32),
             Case("an act behind it", act(ENTRY), 32), Case("a history", get("/history/1/0"), 32), Case("a posted question", act("link"), 32),
-            Case("a report", get("/report/0/9"), 32), Case("a stack", requests.load("stack", "s1", posts.rows(3)), 32),
-            Case("a procedure", requests.load("procedure", "p1", posts.steps(3)), 32), Case("an act that is none", act("x"), 1),
+            Case("a report", get("/report/0/9"), 32), Case("a stack", load("stack", "s1", posts.rows(3)), 32),
+            Case("a procedure", load("procedure", "p1", posts.steps(3)), 32), Case("an act that is none", act("x"), 1),
             Case("an act that is too long", act("x" * 201), 17), Case("a bad person", act(ENTRY, "desk"), 1), Case("no JSON", post("/acts", "{"), 1),
-            Case("a number out of form", get("/requests/x"), 1), Case("a stack of a bad name", requests.load("stack", "No", posts.rows(1)), 1),
-            Case("a long stack of a bad name", requests.load("stack", "No", posts.rows(201)), 17), Case("no path", get("/none"), NO_PATH),
+            Case("a number out of form", get("/requests/x"), 1), Case("a stack of a bad name", load("stack", "No", posts.rows(1)), 1),
+            Case("a long stack of a bad name", load("stack", "No", posts.rows(201)), 17), Case("no path", get("/none"), NO_PATH),
             Case("another method", get("/acts"), OTHER_METHOD), Case("a long body", post("/acts", "", length=65537), LARGE),
             Case("a question in the end", PLACES, 32)]
     right = Expected(runs.program, runs.folder, told)

@@ -21,7 +21,7 @@ from concurrent.futures import ThreadPoolExecutor
 from contextlib import closing
 from dataclasses import dataclass
 
-from desk_tables import sqlite3
+from model.kept import sqlite3
 from tests.asked import ASKED
 from tests.runs import made_shim
 

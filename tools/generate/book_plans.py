@@ -1,13 +1,13 @@
-"""Scripts of a plan about the book: what random ones do not meet, since it takes very many lines, or lies at the border of what a number, a name or
-a line may be. Each is a function that writes its script, the same each time.
+"""Scripts of a plan about the book: what random ones do not meet, since it takes very many lines, or lies at the border of what a number, a name
+or a line may be. Each is a function that writes its script, the same each time.
 """
 import itertools
 from typing import Callable, Iterable
 
 from generate.scripts import Written
 from generate.texts import procedure_text, stack_text
-from model.facts import (COUNTS, LAST_MOMENT, LAST_NUMBER, LONGEST_ACT, LONGEST_TEXT, MARK, MOST_EXECUTIONS, MOST_PROCEDURES, MOST_REQUESTS, MOST_ROWS,
-                         MOST_STACKS, MOST_STEPS, PROCEDURE_HEADER, STACK_HEADER)
+from model.facts import (COUNTS, LAST_MOMENT, LAST_NUMBER, LONGEST_ACT, LONGEST_TEXT, MARK, MOST_EXECUTIONS, MOST_PROCEDURES, MOST_REQUESTS,
+                         MOST_ROWS, MOST_STACKS, MOST_STEPS, STACK_HEADER)
 
 PLAIN = "enter {} ---- no 8 1 - - ok"
 

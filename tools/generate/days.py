@@ -1,292 +1,54 @@
-"""Random lines of a day at a desk, most of which the desk will answer; they go on from what its tables hold."""
-from dataclasses import dataclass, field
+"""Random lines of a day at a desk that is kept in a file: they go on from what its tables hold, over a link that loses, and look at the plain desk
+that was opened over them.
+"""
+from random import Random
+from typing import Callable
 
-from desk_tables import (ACCEPTED, APPROVED, COMPLETED, CONFIRMED, DOUBTFUL, ENTERED, INSERT, RIDING, SCHEDULE, SCHEDULED, SENT,
-                         STARTED)
+from generate.scripts import LosingWriter
+from model.desk import Desk
+from model.facts import Place
+from model.rows import Tables
 
-TURNS = 40
-PERSONS = "ann bob cid eve joe".split()
-CLOSED_FROM = (CONFIRMED, RIDING, SCHEDULED, ACCEPTED, STARTED, DOUBTFUL)
-
-
-@dataclass
-class Guess:
-    """A request as a writer guesses it to stand."""
-    author: str
-    critical: bool
-    is_plain: bool
-    asks_acceptance: bool
-    place: int = ENTERED
-    target: int = 0
-    stack: str = ""
-    approvers: set = field(default_factory=set)
+LINES = 90
 
 
-def guesses_of(tables):
-    """The requests of these tables, each as it stands."""
-    made = []
-    for r in tables.request:
-        target = r.target if r.service == SCHEDULE and r.subtype == INSERT else 0
-        given = {a.person for a in tables.request_approval if a.of == r.num}
-        made.append(Guess(r.author, bool(r.critical), r.service != SCHEDULE, r.ack >= 8, r.place, target, r.stack, given))
-    return made
+class Day(LosingWriter):
+    """Writes the lines of a day, none of which asks for a report."""
 
+    def __init__(self, dice: Random, tables: Tables, moment: int, day: int) -> None:
+        """Begins with the plain desk that is opened over these tables at this moment."""
+        super().__init__(f"day {day}", dice, moment, Desk.opened(tables, moment, files={}))
+        self.day = day
 
-class Writer:
-    """Writes the lines of a day, most of which the desk will answer."""
+    def often(self) -> list[tuple[Callable[[], object], int]]:
+        """Of each turn how often it comes: no line is spelled wrongly here, and the clock goes on often."""
+        return [(turn, times) for turn, times in super().often() if turn not in (self.spell, self.ask)] + [
+            (self.ask_little, 3), (self.turn_clock, 3), (self.lay_in, 6)]
 
-    def __init__(self, dice, tables, moment, day):
-        """Begins at this moment, with what these tables hold. The lines of the files that are loaded stand in `files` then, by their names."""
-        self.dice, self.moment, self.day = dice, moment, day
-        self.requests = guesses_of(tables)
-        self.stacks = {s.name: (s.author, s.critical, set()) for s in tables.stack}
-        for a in tables.stack_approval:
-            self.stacks[a.of][2].add(a.person)
-        self.steps = {p.name: [s for s in tables.step if s.procedure == p.name] for p in tables.procedure}
-        self.executions = [x.procedure for x in tables.execution]
-        self.next = [1 + sum(r.execution == x.num for r in tables.record) for x in tables.execution]
-        self.is_on, self.time, self.lines, self.files = False, 0, [], {}
-
-    def say(self, act, by=None):
-        """One line, a little later than the one before."""
-        self.moment += self.dice.randrange(4)
-        self.lines.append(f"{self.moment} {by or self.dice.choice(PERSONS)} {act}")
-
-    def pick(self, *places):
-        """The number of a request that stands at one of these places; now and then, and where there is none, of any."""
-        there = [n for n, it in enumerate(self.requests, 1) if it.place in places]
-        if self.dice.random() < 0.04:
-            return self.dice.randrange(len(self.requests) + 2)
-        return self.dice.choice(there or range(1, len(self.requests) + 1))
-
-    def at(self, number):
-        """The request with this number, if there is one."""
-        return self.requests[number - 1] if 1 <= number <= len(self.requests) else None
-
-    def other(self, *persons):
-        """A person other than these."""
-        return self.dice.choice([it for it in PERSONS if it not in persons])
-
-    # ---- entries and loads
-
-    def outcome(self):
-        """How a plain request turns out."""
-        dice = self.dice
-        code, steps = dice.choice([16, 30, 255]), dice.randrange(1, 10)
-        bad = [f"refuse/{code}", f"nostart/{code}", f"halt/{steps}/{code}", f"fail/{code}"]
-        return dice.choice(["ok"] * 6 + [f"ok/{steps}"] + bad)
-
-    def form(self, numbers, first):
-        """Command, reports and outcome of a request, and the guess of it; its target is one of these, counted from the first."""
-        dice = self.dice
-        ack = [letter if dice.random() < 0.6 else "-" for letter in "aspc"]
-        named = [n for n in numbers if self.requests[n - 1].is_plain and self.requests[n - 1].asks_acceptance]
-        kind = dice.choice(["plain"] * 7 + [4, 4, 4, 5, 7, 1, 2, 3, 15, 17])
-        if kind == "plain" or kind in (4, 5, 7) and not named:
-            guess = Guess("", False, True, ack[0] == "a")
-            return [dice.choice([3, 8, 17, 255]), dice.randrange(1, 256), "", ""], "".join(ack), self.outcome(), guess
-        target = dice.choice(named) if kind in (4, 5, 7) else 0
-        offset = dice.randrange(-200, 300)
-        time = {4: self.time + dice.choice([30, 90, 400, 5000]), 7: offset, 15: offset}.get(kind, "")
-        ack[3] = "c"
-        guess = Guess("", False, False, ack[0] == "a", target=target if kind == 4 else 0)
-        return [11, kind, target - first + 1 if target else "", time], "".join(ack), "ok", guess
-
-    def enter(self):
-        """A request is entered."""
-        by, critical = self.dice.choice(PERSONS), self.dice.random() < 0.15
-        command, ack, outcome, guess = self.form(range(1, len(self.requests) + 1), 1)
-        words = " ".join("-" if it == "" else str(it) for it in command)
-        self.say(f"enter {self.dice.randrange(1, 5)} {ack} {'yes' if critical else 'no'} {words} {outcome}", by)
-        guess.author, guess.critical = by, critical
-        self.requests.append(guess)
-
-    def path(self, rows):
-        """A file of these rows, by a name of its own."""
-        name = f"d{self.day}f{len(self.files) + 1}.csv"
-        self.files[name] = [",".join(str(it) for it in row) for row in rows]
-        return name
-
-    def instant(self, seconds):
-        """A moment as a stack's file spells it."""
-        days, rest = divmod(seconds, 86400)
-        assert days == 0
-        return f"1970-01-01T{rest // 3600:02}:{rest // 60 % 60:02}:{rest % 60:02}Z"
-
-    def stack(self):
-        """A stack is loaded, of one to five rows."""
-        name, by, first = f"s{self.day}{len(self.files)}", self.dice.choice(PERSONS), len(self.requests) + 1
-        rows = ["line,apid,service,subtype,target,time,ack,critical,after,outcome".split(",")]
-        for line in range(1, self.dice.randrange(2, 7)):
-            command, ack, outcome, guess = self.form(range(first, len(self.requests) + 1), first)
-            if command[1] == 4 and command[0] == SCHEDULE:
-                command[3] = self.instant(command[3])
-            critical = self.dice.random() < 0.1
-            after = self.dice.randrange(1, line) if line > 1 and self.dice.random() < 0.3 else ""
-            rows.append([line, self.dice.randrange(1, 5)] + command + [ack, "yes" if critical else "no", after, outcome])
-            guess.author, guess.critical, guess.stack = by, critical, name
-            self.requests.append(guess)
-        self.stacks[name] = (by, any(it.critical for it in self.requests[first - 1:]), set())
-        self.say(f"stack {name} {self.path(rows)}", by)
-
-    def procedure(self):
-        """A procedure is loaded, of one to five steps."""
-        name, rows = f"p{self.day}{len(self.files)}", [["step", "text", "second", "request"]]
-        for number in range(1, self.dice.randrange(2, 7)):
-            request = self.pick(ENTERED, APPROVED) if self.dice.random() < 0.5 and self.requests else 0
-            request = request if self.at(request) else ""
-            rows.append([number, f"do {number}", self.dice.choice(["yes", "no"]), request])
-        self.steps[name] = rows[1:]
-        self.say(f"procedure {name} {self.path(rows)}")
-
-    # ---- acts on the book
-
-    def approve(self):
-        """A request, or a stack, is approved."""
-        alone = [n for n, it in enumerate(self.requests, 1) if it.place == ENTERED and not it.stack]
-        if not alone and self.dice.random() < 0.9:
-            return self.enter()
-        number = self.dice.choice(alone) if alone and self.dice.random() < 0.95 else self.pick(ENTERED)
-        it = self.at(number)
-        by = self.other(it.author, *it.approvers) if it and self.dice.random() < 0.95 else self.dice.choice(PERSONS)
-        self.say(f"approve {number}", by)
-        if it and not it.stack and it.place == ENTERED and by != it.author:
-            it.approvers.add(by)
-            if len(it.approvers) > it.critical:
-                it.place = APPROVED
-
-    def approve_stack(self):
-        """A stack is approved."""
-        open_ones = [name for name, (_, critical, given) in self.stacks.items() if len(given) <= critical]
-        if not open_ones and self.dice.random() < 0.8:
-            return self.stack()
-        name = self.dice.choice(open_ones or list(self.stacks) or ["none"])
-        if name not in self.stacks:
-            return self.say(f"approvestack {name}")
-        author, critical, given = self.stacks[name]
-        by = self.other(author, *list(given)[:2])
-        self.say(f"approvestack {name}", by)
-        given.add(by)
-        for it in self.requests:
-            if it.stack == name and it.place == ENTERED and len(given) > critical:
-                it.place = APPROVED
-
-    def leave(self):
-        """A request is withdrawn or closed."""
-        verb, places = self.dice.choice([("withdraw", (ENTERED, APPROVED)), ("close", CLOSED_FROM), ("close", CLOSED_FROM)])
-        number = self.pick(*places)
-        self.say(f"{verb} {number}")
-        it = self.at(number)
-        if it and it.place in places:
-            it.place = COMPLETED
-
-    def work_step(self):
-        """A step of an execution is recorded; where none goes on, one is begun, or a procedure is loaded."""
-        going = [e for e, name in enumerate(self.executions) if self.next[e] <= len(self.steps[name])]
-        if not self.steps:
-            return self.procedure()
-        if not going or self.dice.random() < 0.2:
-            self.executions.append(self.dice.choice(list(self.steps)))
-            self.next.append(1)
-            return self.say(f"begin {self.executions[-1]}")
-        e = self.dice.choice(going)
-        by, verdict = self.dice.choice(PERSONS), self.dice.choice(["done"] * 5 + ["skipped"] * 4 + ["failed"])
-        second = self.other(by) if self.dice.random() < 0.8 else "-"
-        self.say(f"step {e + 1} {self.next[e]} {verdict} {second}", by)
-        self.next[e] += 1 if verdict != "failed" else 100
-
-    # ---- the link and the spacecraft
-
-    def start(self):
-        """The service begins, in one of its ways, or is directed."""
-        way = self.dice.choice(["none"] * 5 + ["check", "unlock", "setvr 0", "setvr 7"])
-        if self.is_on and self.dice.random() < 0.3:
-            self.say("terminate")
-        self.say(f"initiate {way}")
-        for act in [] if way == "none" else ["up", "clcw", "down", "down"]:
-            self.say(act)
-        self.is_on = True
-
-    def fly(self, number):
-        """A request is released, and often comes on board and is carried out."""
-        if not self.is_on:
-            self.start()
-        self.say(f"release {number}")
-        it = self.at(number)
-        if it and it.place == APPROVED:
-            it.place = SENT
-            if self.at(it.target):
-                self.at(it.target).place = RIDING
-        for act in self.dice.choice([[], ["up"], ["up", "down"], ["up", "work", "down"], ["up", "work", "down", "down", "down"],
-                                     ["up", "work", "down", "down"], ["up", "clcw", "down"], ["loseup 0", "tick"]]):
-            self.say(act)
-
-    def release(self):
-        """A request that is approved is released; where there is none, one is approved."""
-        if any(it.place == APPROVED for it in self.requests):
-            self.fly(self.pick(APPROVED))
-        else:
-            self.approve()
-
-    def command(self, words, target=0):
-        """A command of the schedule is entered, approved and released."""
-        by = self.dice.choice(PERSONS)
-        self.requests.append(Guess(by, False, False, False, target=target))
-        number = len(self.requests)
-        self.say(f"enter 5 ---c no 11 {words} ok", by)
-        self.say(f"approve {number}", self.other(by))
-        self.requests[-1].place = APPROVED
-        self.fly(number)
-
-    def schedule(self):
-        """An activity is inserted, and what is scheduled is often changed behind it."""
-        named = [n for n, it in enumerate(self.requests, 1) if it.is_plain and it.asks_acceptance and it.place == APPROVED]
-        if not named:
-            return self.approve()
-        target = self.dice.choice(named)
-        self.command(f"4 {target} {self.time + self.dice.choice([30, 90, 400, 5000])}", target)
-        if self.dice.random() < 0.7:
-            more = [f"5 {target} -", f"7 {target} -20", "3 - -", "1 - -", "15 - 60", "17 - -"]
-            self.command(self.dice.choice(more + more[:3]))
-
-    def cut(self):
-        """The service ends while one request is out and one waits."""
-        self.say("set k 1")
-        self.release()
-        self.release()
-        self.say("terminate")
-        self.is_on = False
-
-    def link(self):
-        """The link is worked, or something of it is lost."""
-        losses = ["tick", "loseup 0", "losedown 0", "losedown 1"]
-        self.say(self.dice.choice(["up"] * 5 + ["down"] * 8 + ["work"] * 5 + ["clcw"] * 3 + losses))
-
-    def turn_clock(self):
-        """The spacecraft's time goes on."""
-        self.time += self.dice.choice([10, 60, 200])
-        self.say(f"clock {self.time}")
-
-    def direct(self):
-        """The FOP is directed."""
-        self.say(self.dice.choice(["set k 1", "set k 10", "set k 2", "set t1 2", "set limit 2", "set vs 0", "terminate"]))
-
-    def ask(self):
+    def ask_little(self) -> None:
         """A question, or a line that is no line."""
-        number = self.pick(ENTERED)
-        self.say(self.dice.choice(["places", f"history {number} 0", f"request {number}", "link", "schedule",
-                                   "log 1", "release", f"approve {number} "]))
+        number = self.pick(Place.ENTERED)
+        self.give(self.dice.choice(["places", f"history {number} 0", f"request {number}", "link", "schedule", "log 1", "release",
+                                    f"approve {number} "]))
 
-    def write(self):
-        """The lines of a day, which often ends with one request out and one that waits."""
-        often = [(self.enter, 6), (self.approve, 7), (self.release, 8), (self.link, 8), (self.work_step, 7), (self.ask, 2),
-                 (self.schedule, 4), (self.approve_stack, 2), (self.cut, 1), (self.stack, 1), (self.procedure, 1),
-                 (self.leave, 3), (self.turn_clock, 2), (self.direct, 1), (self.start, 1)]
-        turns = [turn for turn, times in often for _ in range(times)]
-        self.enter()
-        for _ in range(TURNS):
-            self.dice.choice(turns)()
-        for act in [self.start, self.release, self.schedule] if self.dice.random() < 0.6 else []:
-            self.say("set k 1")
-            act()
-        return self.lines
+    def close_day(self) -> None:
+        """The day often ends with requests out, an insert among them, and one that waits."""
+        for turn in [self.start, self.release, self.lay_in, self.release] if self.dice.random() < 0.6 else []:
+            self.give("set k 1")
+            turn()
+
+    def opening(self) -> list[str]:
+        """What the opening printed before the first line."""
+        return [it.line() for it in self.desk.opening]
+
+    def answers(self) -> list[str]:
+        """All that a run of the day prints."""
+        return self.opening() + [it for _, answer in self.told for it in answer] + [self.desk.places()]
+
+
+def day_script(dice: Random, tables: Tables, moment: int, day: int, lines: int = LINES) -> Day:
+    """The lines of a day, so many or a few more, at a desk with these tables, opened at this moment."""
+    script = Day(dice, tables, moment, day)
+    script.write(lines)
+    script.close_day()
+    return script

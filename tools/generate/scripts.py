@@ -29,11 +29,10 @@ class Told(NamedTuple):
 class Written:
     """A script, the files that it loads, and what the plain desk answers to each of its lines."""
 
-    def __init__(self, title: str) -> None:
-        """Nothing was said yet."""
-        self.title = title
-        self.files: dict[str, bytes] = {}
-        self.desk = Desk(files=self.files)
+    def __init__(self, title: str, desk: Optional[Desk] = None) -> None:
+        """Nothing was said yet to this plain desk, or to a new one."""
+        self.title, self.desk = title, desk or Desk()
+        self.files = self.desk.files
         self.lines: list[str] = []
         self.told: list[Told] = []
         self.refused: Counter[int] = Counter()
@@ -83,18 +82,22 @@ class Command(NamedTuple):
 class Writer(Written):
     """Writes a random script over a link that loses nothing: a service starts where both sides agree, and what flies comes on board."""
 
-    def __init__(self, title: str, dice: Random, turns: int) -> None:
-        """Writes it, with so many lines."""
-        super().__init__(title)
-        self.dice, self.moment = dice, dice.choice([0, 0, 10**9, LAST_MOMENT - turns])
-        often: list[tuple[Callable[[], object], int]] = [
-            (self.enter, 10), (self.approve, 13), (self.approve_stack, 3), (self.leave, 5), (self.release, 12), (self.fly, 34),
-            (self.start, 3), (self.stack, 2), (self.procedure, 2), (self.work_step, 9), (self.ask, 10), (self.spell, 7),
-            (self.direct, 2), (self.turn_clock, 2), (self.cut, 1), (self.lay_in, 4)]
-        turns_by = [turn for turn, times in often for _ in range(times)]
-        while len(self.lines) < turns:
-            dice.choice(turns_by)()
-        self.ask_of_all()
+    def __init__(self, title: str, dice: Random, moment: int, desk: Optional[Desk] = None) -> None:
+        """Begins at this moment, with a new plain desk, or with this one."""
+        super().__init__(title, desk)
+        self.dice, self.moment = dice, moment
+
+    def often(self) -> list[tuple[Callable[[], object], int]]:
+        """Of each turn how often it comes."""
+        return [(self.enter, 10), (self.approve, 13), (self.approve_stack, 3), (self.leave, 5), (self.release, 12), (self.fly, 34),
+                (self.start, 3), (self.stack, 2), (self.procedure, 2), (self.work_step, 9), (self.ask, 10), (self.spell, 7),
+                (self.direct, 2), (self.turn_clock, 2), (self.cut, 1), (self.lay_in, 4)]
+
+    def write(self, count: int) -> None:
+        """So many lines, or a few more."""
+        turns = [turn for turn, times in self.often() for _ in range(times)]
+        while len(self.lines) < count:
+            self.dice.choice(turns)()
 
     @property
     def link(self) -> Link:
@@ -114,8 +117,8 @@ class Writer(Written):
             "set vs": lambda: is_off and not (act.fields[0] == fop.vs and self.is_still()),
             "tick": lambda: fop.timer != 0,
             "up": lambda: bool(self.link.up) and not self.desk.board.has_room(),
-            "loseup": lambda: act.fields[0] < len(self.link.up),
-            "losedown": lambda: act.fields[0] < len(self.link.down),
+            "loseup": lambda: bool(act.fields[0] < len(self.link.up)),
+            "losedown": lambda: bool(act.fields[0] < len(self.link.down)),
         }
         return super().is_wanted(act) and not (act.word in unwanted and unwanted[act.word]())
 
@@ -317,8 +320,8 @@ class Writer(Written):
 
     def direct(self) -> None:
         """The FOP is directed."""
-        self.give(self.dice.choice(["set k 1", "set k 2", "set k 10", "set k 11", "set t1 1", "set t1 65535", "set limit 1", "set limit 255", "set vs 0",
-                                    f"set vs {self.link.fop.vs}", "terminate"]))
+        self.give(self.dice.choice(["set k 1", "set k 2", "set k 10", "set k 11", "set t1 1", "set t1 65535", "set limit 1", "set limit 255",
+                                    "set vs 0", f"set vs {self.link.fop.vs}", "terminate"]))
 
     def cut(self) -> None:
         """The service ends while something is out and something waits."""
@@ -392,5 +395,8 @@ class LosingWriter(Writer):
 
 def book_script(seed: int, turns: int = LINES) -> Written:
     """The random script of a seed, with so many lines or a few more: each fourth is over a link that loses."""
-    kind = LosingWriter if seed % LOSING_EACH == 3 else Writer
-    return kind(f"seed {seed}", Random(seed), turns)
+    dice, kind = Random(seed), LosingWriter if seed % LOSING_EACH == 3 else Writer
+    script = kind(f"seed {seed}", dice, dice.choice([0, 0, 10**9, LAST_MOMENT - turns]))
+    script.write(turns)
+    script.ask_of_all()
+    return script

@@ -40,7 +40,7 @@ def maybe(read: Reader) -> Reader:
 
 def is_scheduling(row: TextRow) -> bool:
     """Whether a row has a command of the schedule."""
-    return row["service"] == str(SCHEDULE)
+    return str(row["service"]) == str(SCHEDULE)
 
 
 def commands(row: TextRow, *subtypes: Subtype) -> bool:

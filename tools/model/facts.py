@@ -12,7 +12,6 @@ LAST_APID = 2047
 COUNTS = 16_384  # sequence counts of an application process: 0 to one less
 LAST_KIND = 255  # of a service, of a subtype and of a code
 LONGEST_ACT = 200  # bytes, without moment and person
-LONGEST_SCRIPT = 1_048_576  # bytes
 LONGEST_TEXT = 65_536  # bytes of a text of comma-separated values
 MOST_ROWS, MOST_STEPS = 200, 100  # of a stack, of a procedure
 LONGEST_STEP = 80  # bytes of the text of a step
@@ -29,7 +28,6 @@ NAME = re.compile("[a-z0-9]{1,16}")  # of persons, stacks and procedures
 # ---- the link, as a desk is opened
 
 WINDOW, CHANNEL = 20, 3  # the FARM's window, the virtual channel
-LAST_CHANNEL, LAST_WINDOW = 63, 254
 FIRST_K, FIRST_T1, FIRST_LIMIT = 10, 10, 3  # K is half of the FARM's window at most
 LAST_K, LAST_T1, LAST_LIMIT = 255, 65_535, 255  # as they are spelled
 
@@ -85,6 +83,7 @@ class Cause(IntEnum):
 
 
 PLACES = tuple(Place)[1:]
+PLACE_WORDS = tuple(it.word for it in PLACES)
 FINAL = frozenset({Place.COMPLETED, Place.FAILED, Place.WITHDRAWN, Place.DELETED, Place.CLOSED})
 # Where a request stands that flew and of which no report has been read, and what a report may ask for.
 FLOWN = frozenset({Place.SENT, Place.CONFIRMED, Place.RIDING, Place.SCHEDULED, Place.DOUBTFUL})

@@ -1,5 +1,5 @@
-"""Lines of a script, as their grammar has them: words, requests, acts and questions. Each value has one spelling. What is none raises `Refused`. It is
-written from the requirements, and asks the program nothing.
+"""Lines of a script, as their grammar has them: words, requests, acts and questions. Each value has one spelling. What is none raises `Refused`. It
+is written from the requirements, and asks the program nothing.
 """
 import re
 from typing import Any, Callable, NamedTuple, Optional

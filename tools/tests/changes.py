@@ -3,7 +3,9 @@ import os
 import shutil
 from dataclasses import dataclass, field
 
-from desk_tables import connect, move_line, opened_moves, opened_tables, places_line, read_tables, sqlite3, tables_of
+from model.kept import connect, read_tables, sqlite3, tables_of
+from model.rows import move_line, places_line
+from model.tables import opened_moves, opened_tables
 from tests.runs import bytes_of
 
 

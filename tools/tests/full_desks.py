@@ -2,8 +2,10 @@
 import shutil
 from dataclasses import dataclass
 
-import desk_tables
-from desk_tables import ROWS, columns_of, connect, tables_of, why_unsound
+from model.facts import place_word
+from model.kept import columns_of, connect, tables_of
+from model.rows import ROWS
+from model.sound import why_unsound
 from tests.runs import run_kept, write_lines
 
 FILES = {
@@ -186,7 +188,7 @@ def lacks(desks):
     """What the desks should have and do not: tables of few rows, and places where nobody stands."""
     day = desks[0].tables
     few = [name for name in ROWS if name != "meta" and len(getattr(day, name)) < 2]
-    empty = [desk_tables.place_word(t.place) for t in day.tally if t.amount == 0]
+    empty = [place_word(t.place) for t in day.tally if t.amount == 0]
     unsound = [why for why in (why_unsound(desk.tables) for desk in desks) if why]
     unknown = [name for desk in desks for name in desk.columns if name not in ROWS]
     return few + empty + unsound + unknown + ([] if len(day.move) >= 60 else ["60 moves"])

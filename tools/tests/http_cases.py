@@ -5,9 +5,9 @@ import tempfile
 import unittest
 from itertools import count
 
-from http_requests import PLACES, act
+from generate.http_words import PLACES, Case, act, get
 from tests.asked import ASKED
-from tests.http_peer import Case, Ended, Expected, Fault, Server, get, run
+from tests.http_peer import Ended, Expected, Fault, Server, run
 from tests.runs import quick_folder
 
 MOST_FAULTS = 20

@@ -1,5 +1,5 @@
 """How the tools for HTTP start the built program's server, speak to it over real sockets, and know what it has to answer. A response is computed by
-plain_http.py; what the desk itself replies comes from a run of the same acts as a script.
+model/http.py; what the desk itself replies comes from a run of the same acts as a script.
 """
 import os
 import random
@@ -10,23 +10,15 @@ import subprocess
 import time
 from typing import NamedTuple
 
-from plain_http import Asks, Loads, Refused, answer_to, refused_response, reply_response
+from generate.http_words import NOTHING
+from model.http import Asks, Loads, Refused, answer_to, refused_response, reply_response
 
 PATIENCE = float(os.environ.get("PATIENCE", "20"))  # seconds for one exchange, or for the program to begin or to end
 HERE = "127.0.0.1"
-NOTHING = "nothing"  # what is wanted where no front of the input decides anything
 RST = struct.pack("ii", 1, 0)  # a socket that is closed resets its connection
 # Between the replies of a run stands this report of a shift that ends before it begins.
 BETWEEN = "0 zed report 4102444799 0"
 REPORT = re.compile("SHIFT REPORT\nfrom 2099-12-31 23:59:59\nto   1970-01-01 00:00:00\npremise .*\nplaces .*\nmoves 0\nEND\n")
-
-
-class Case(NamedTuple):
-    """Bytes that a peer sends, and what is wanted: the number of the refusal, 0 for none, NO_PATH, OTHER_METHOD or NOTHING; None where the plain
-    reading alone says it."""
-    name: str
-    raw: bytes
-    want: object = None
 
 
 class Fault(Exception):
@@ -240,18 +232,3 @@ class Expected:
         found = (status, refusal) if response else NOTHING
         if case.want is not None and found != (NOTHING if case.want is NOTHING else wanted(case.want)):
             self.disputed.append((case, found))
-
-
-# ---- requests
-
-def get(path, *lines, end="\r\n"):
-    """A GET of this path, with these header lines."""
-    return "".join(f"{it}{end}" for it in (f"GET {path} HTTP/1.1", "Host: desk", *lines, "")).encode()
-
-
-def post(path, body, *lines, length=None, end="\r\n"):
-    """A POST of this body, with these header lines."""
-    body = body.encode() if isinstance(body, str) else body
-    length = len(body) if length is None else length
-    head = (f"POST {path} HTTP/1.1", "Host: desk", "Content-Type: application/json", f"Content-Length: {length}", *lines, "")
-    return "".join(f"{it}{end}" for it in head).encode() + body

@@ -6,8 +6,8 @@ Nothing is known here of how a desk comes to its answers.
 """
 from collections import Counter
 
-PLACES = ("Entered Approved Queued Sent Confirmed Riding Scheduled Accepted Started Completed Failed Doubtful Withdrawn"
-          " Deleted Closed").split()
+from model.facts import PLACE_WORDS
+
 # The alerts that may come while the premise is kept: in a service that has started, and before that in S4 and S5.
 ALWAYS = {"T1", "TERM"}
 STARTED, UNLEVEL = ALWAYS | {"LIMIT"}, ALWAYS | {"NN(R)", "SYNCH"}
@@ -115,7 +115,7 @@ class Judge:
         """The counts are those of the moves, and sum to the requests that were entered."""
         total, _, numbers = rest.partition(": ")
         counts = [int(it) for it in numbers.split(" ")]
-        self.need(counts == [self.counts[place] for place in PLACES], "not the counts of the moves")
+        self.need(counts == [self.counts[place] for place in PLACE_WORDS], "not the counts of the moves")
         self.need(int(total) == len(self.places) == sum(counts), "not as many as were entered")
         self.seen["places"] += 1
 

@@ -21,6 +21,13 @@ def write_lines(path: str, lines: Iterable[str]) -> None:
         file.write("".join(f"{line}\n" for line in lines))
 
 
+def write_files(folder: str, files: dict[str, bytes]) -> None:
+    """Writes the files that a script loads."""
+    for name, data in files.items():
+        with open(f"{folder}/{name}", "wb") as file:
+            file.write(data)
+
+
 def bytes_of(path: str) -> bytes:
     """All bytes of a file."""
     with open(path, "rb") as file:

@@ -14,8 +14,10 @@ from concurrent.futures import ProcessPoolExecutor
 from dataclasses import dataclass
 from functools import partial
 
-import desk_tables
-from desk_tables import LAST_MOMENT, ROWS, read_tables, why_unsound
+from model.facts import LAST_MOMENT
+from model.kept import read_tables
+from model.rows import ROWS
+from model.sound import is_name, is_outcome, why_unsound
 from tests.asked import ASKED
 from tests.changes import Change, change_file, why_not_opened, why_not_refused
 from tests.full_desks import lacks, make_desks
@@ -48,7 +50,7 @@ def other_texts(value, column, names, dice):
     bad = ["", "desk", "zed", "z" * 16, "z" * 17, "z" * 81, value + "x", value[:-1], value.upper(), value + "\0", " " + value,
            "\xff", "\xc3\xa9", "7"]
     outcomes = "ok ok/1 ok/0 ok/10 ok/01 fail/16 fail/15 fail/256 refuse/255 halt/9/255 halt/1 nostart/16".split()
-    special = outcomes * 2 if desk_tables.is_outcome(value) else ["a text", "~" * 80, "a\tb"]
+    special = outcomes * 2 if is_outcome(value) else ["a text", "~" * 80, "a\tb"]
     return bad + special + [dice.choice(column) for _ in range(4)] + [dice.choice(names) for _ in range(6)]
 
 
@@ -67,7 +69,7 @@ def new_values(desk, name, at, row, dice):
 def names_in(tables):
     """All names that stand in the tables, of persons, stacks and procedures."""
     rows = [row for name in ROWS for row in getattr(tables, name)]
-    return sorted({it for row in rows for it in row if desk_tables.is_name(it)})
+    return sorted({it for row in rows for it in row if is_name(it)})
 
 
 # ---- changes

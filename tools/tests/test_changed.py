@@ -1,6 +1,6 @@
 """The file of a desk opened again, as it was left and changed.
 
-What each opening answers is written out in left_desks.py, by hand: desks on which requests were on their way, opened a second time and
+What each opening answers is written out in generate/left_desks.py, by hand: desks on which requests were on their way, opened a second time and
 a third; one whose approvals, stacks and executions go on; and one whose history lacks one row, and then is full. Then single values, rows, tables
 and indexes of files are changed by SQLite, and it stands there which of these a desk could have written: that is opened, and has the rows of the
 opening then; all else is refused, and its file left byte for byte.
@@ -11,8 +11,10 @@ import unittest
 from concurrent.futures import ThreadPoolExecutor
 from itertools import zip_longest
 
-from desk_tables import read_tables
-from left_desks import EVERYWHERE, FILES, FIVE, FULL, GOING, MOST_ROWS, OF_FIVE, OF_WHOLE, OTHERS, RIDERS, WHOLE, Day, fill
+from generate.left_changes import OF_FIVE, OF_WHOLE
+from generate.left_desks import EVERYWHERE, FILES, FIVE, FULL, GOING, OTHERS, RIDERS, WHOLE, Day, fill
+from model.facts import MOST_HISTORY
+from model.kept import read_tables
 from tests.asked import ASKED
 from tests.changes import change_file, changed_by, left_beside, why_not_opened
 from tests.runs import bytes_of, run_kept, write_lines
@@ -143,7 +145,7 @@ class Changed(unittest.TestCase):
         """Desks that are opened again and again, and one whose history is full."""
         for left in (FIVE, RIDERS, OTHERS, EVERYWHERE, GOING, WHOLE):
             open_left(ASKED.program, self.work, left, self.told)
-        open_left(ASKED.program, self.work, FULL, self.told, fill(MOST_ROWS - 1))
+        open_left(ASKED.program, self.work, FULL, self.told, fill(MOST_HISTORY - 1))
         self.settle()
 
     def test_changes(self) -> None:

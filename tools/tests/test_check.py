@@ -1,7 +1,7 @@
 """Texts of stacks and of procedures, checked by `tcdesk check`.
 
 Each line that the program prints is compared with one that was written by hand beside its text (check_texts.py, tools/cases/checks/), or, of
-random texts by their numbers (check_random.py), with what check_reading.py tells, a reading of the rules that asks the program
+random texts by their numbers (check_random.py), with what model/check.py tells, a reading of the rules that asks the program
 nothing; that reading has to tell of the others what was written. Its status has to be 0 or 1, standard error empty, and the file as before. A
 share of the texts comes by the standard input too, and of a share the load is tried, by a script: it has to be refused where the check finds a
 fault, as the rule says, and else not. Then the words of the command line, files that give no text, and outputs that take none. Where all are
@@ -10,7 +10,6 @@ run, each line has to be told of some random texts.
 Not known to the reading, and not tried, is what may stand in brackets behind an instant (RFC 9557).
 """
 import os
-import random
 import re
 import shutil
 import signal
@@ -21,13 +20,13 @@ from collections import Counter
 from concurrent.futures import ProcessPoolExecutor
 from functools import partial
 from subprocess import PIPE
-from typing import NamedTuple
+from typing import NamedTuple, Union
 
-import book_lines
-from book_lines import NAMES, UNKNOWN_REQUEST, Refused
-from check_random import random_text
-from check_reading import told_of
-from check_texts import NO_STACK, ROW, STACK, Text, all_texts
+from generate.check_random import random_text
+from generate.check_texts import NO_STACK, ROW, STACK, Text, all_texts
+from model.check import told_of
+from model.desk import Desk
+from model.facts import Refusal
 from tests.asked import ASKED
 
 TEXTS, LEAST, LONGEST = 6000, 20, 60
@@ -76,12 +75,12 @@ class Found(NamedTuple):
     line: str
     is_loaded: bool
     is_input: bool
-    faults: list
+    faults: list[str]
 
 
 # ---- a text
 
-def run(words, folder, given=b""):
+def run(words: list[str], folder: str, given: bytes = b"") -> tuple[Union[int, str], bytes, bytes]:
     """The status of a run in a folder, what it printed, and its errors."""
     with subprocess.Popen(words, cwd=folder, stdin=PIPE, stdout=PIPE, stderr=PIPE, start_new_session=True) as ran:
         try:
@@ -92,46 +91,42 @@ def run(words, folder, given=b""):
     return ran.returncode, out, err
 
 
-def differs(what, wanted, got):
+def differs(what: str, wanted: object, got: object) -> list[str]:
     """A line of what was wanted and what was got; none where they are the same."""
     return [] if wanted == got else [f"{what}: wanted {wanted!r:.300}, and got {got!r:.300}"]
 
 
-def load_of(text):
-    """With what the load of a text is refused, 0 where it is not; and the answer to it, on a desk where nothing was entered."""
-    try:
-        rows = (book_lines.read_stack if text.kind == "stack" else book_lines.read_procedure)(text.data)
-    except Refused as why:
-        return why.number, f"refused {why.number} {NAMES[why.number]}"
-    if text.kind == "procedure" and any(it.request is not None for it in rows):
-        return 0, f"refused {UNKNOWN_REQUEST} {NAMES[UNKNOWN_REQUEST]}"
-    return 0, f"ok stack s1 {len(rows)} 1" if text.kind == "stack" else f"ok procedure s1 {len(rows)}"
+def load_of(text: Text) -> tuple[int, str]:
+    """With what the load of a text is refused for its text, 0 where it is not; and the answer to it, on a desk where nothing was entered."""
+    answer = Desk().loads("ann", 0, text.kind, "s1", text.data)[0]
+    refusal = int(answer.split(" ")[1]) if answer.startswith("refused ") else 0
+    return 0 if (text.kind, refusal) == ("procedure", Refusal.UNKNOWN_REQUEST) else refusal, answer
 
 
-def check_by(program, folder, text, wanted, path, given=b""):
+def check_by(program: str, folder: str, text: Text, wanted: str, path: str, given: bytes = b"") -> list[str]:
     """How the check of a text, by its file or by the standard input, differs from a line."""
     answer = (int(wanted != "ok"), f"{wanted}\n".encode(), b"")
     return differs(f"check {text.kind} {path}", answer, run([program, "check", text.kind, path], folder, given))
 
 
-def left_by(folder, text):
+def left_by(folder: str, text: Text) -> list[str]:
     """How the folder of a text differs from what it was."""
     with open(f"{folder}/text.csv", "rb") as file:
         return differs("the folder after the checks", (["text.csv"], text.data), (os.listdir(folder), file.read()))
 
 
-def load_by(program, folder, text):
+def load_by(program: str, folder: str, text: Text) -> list[str]:
     """How the load of a text differs from what the reading of loads answers."""
     answer = load_of(text)[1]
     status, out, err = run([program, "run", "-"], folder, f"0 ann {text.kind} s1 text.csv\n".encode())
     return differs("load", (int(answer.startswith("refused")), answer, b""), (status, out.decode("latin-1").split("\n")[0], err))
 
 
-def try_text(program, work, job):
-    """Writes a text to a folder of its own, and has it checked and perhaps loaded."""
-    at, text = job
-    is_hand = isinstance(text, Text)
-    text = text if is_hand else Text(*numbered(text), "")
+def try_text(program: str, work: str, job: tuple[int, Union[Text, int]]) -> Found:
+    """Writes a text, one by hand or the random one of a number, to a folder of its own, and has it checked and perhaps loaded."""
+    at, given = job
+    is_hand = isinstance(given, Text)
+    text = given if isinstance(given, Text) else numbered(given)
     told = told_of(text.kind, text.data)
     wanted = text.wanted or told.line
     faults = differs("the reading", wanted, told.line) + differs("the refusal by two readings", told.refusal, load_of(text)[0])
@@ -151,18 +146,18 @@ def try_text(program, work, job):
     return Found(template(text.kind, wanted), is_loaded, is_input, [f"{text.kind} {text.name}: {it}" for it in faults])
 
 
-def numbered(number):
-    """The kind, the name and the bytes of a random text."""
-    kind, data = random_text(random.Random(number))
-    return kind, f"number {number}, {data!r:.600}", data
+def numbered(number: int) -> Text:
+    """The random text of a number."""
+    kind, data = random_text(number)
+    return Text(kind, f"number {number}, {data!r:.600}", data, "")
 
 
-def template(kind, line):
+def template(kind: str, line: str) -> str:
     """A line without the number of its row, where it is of a row by its number."""
     return f"{kind} " + re.sub(r"^(line|step) [0-9]+(?=,|: not)", r"\1 N", line)
 
 
-def try_all(program, work, jobs):
+def try_all(program: str, work: str, jobs: list[Union[Text, int]]) -> list[Found]:
     """What became of all texts, four at a time."""
     with ProcessPoolExecutor(4) as pool:
         return list(pool.map(partial(try_text, program, work), enumerate(jobs), chunksize=32))
@@ -174,7 +169,7 @@ USAGE = re.compile(rb"(?s).+")
 OUTPUT = b"tcdesk: cannot use output\n"
 # Each case: words of a shell, in which "$0" is the program, and the status, the output and the errors that are wanted. The files are good.csv, which
 # is a stack, bad.csv, which is none, and folder.
-CASES = [
+CASES: list[tuple[str, int, Union[bytes, re.Pattern[bytes]], Union[bytes, re.Pattern[bytes]]]] = [
     ('"$0" check', 2, b"", USAGE),
     ('"$0" check stack', 2, b"", re.compile(rb"(?s).*FILE")),
     ('"$0" check procedure', 2, b"", re.compile(rb"(?s).*FILE")),
@@ -223,12 +218,12 @@ CASES = [
 ]
 
 
-def is_like(wanted, got):
+def is_like(wanted: Union[bytes, re.Pattern[bytes]], got: bytes) -> bool:
     """Whether some bytes are these, or are matched."""
     return wanted == got if isinstance(wanted, bytes) else bool(wanted.match(got))
 
 
-def try_words(program, work):
+def try_words(program: str, work: str) -> list[str]:
     """A line for each case of words that differs."""
     faults = []
     for shell, status, out, err in CASES:
@@ -243,7 +238,7 @@ def try_words(program, work):
     return faults
 
 
-def lacks(written, others, least):
+def lacks(written: list[Found], others: list[Found], least: int) -> list[str]:
     """Which lines no text has that is written by hand, or hardly any other; and which are told and are none of all lines."""
     by_hand, told = Counter(it.line for it in written), Counter(it.line for it in others)
     hardly = [f"told of {by_hand[it]} texts by hand, and of {told[it]} others: {it}" for it in LINES if not by_hand[it] or told[it] < least]

@@ -14,12 +14,11 @@ import subprocess
 import time
 from typing import Callable
 
-import http_posts as posts
-import http_requests as requests
-from http_requests import BODY, ENTRY, PLACES, act, entry
-from plain_http import decided
+from generate import http_posts as posts, http_requests as requests
+from generate.http_words import BODY, ENTRY, PLACES, Case, act, entry, get, load, post
+from model.http import decided
 from tests.http_cases import Cases, Served
-from tests.http_peer import PATIENCE, Case, Ended, Server, free_port, get, post, received, reset, run, send
+from tests.http_peer import PATIENCE, Ended, Server, free_port, received, reset, run, send
 from tests.runs import bytes_of
 
 SEED = 20311126
@@ -34,7 +33,7 @@ class Pieces(Served):
         """The bytes of a request cut after each byte but the last: nothing is answered, and no act is made; and what a front decides stays decided."""
         cases = self.cases
         for raw, closes in ((act(ENTRY), "a shut end"), (post("/acts", BODY, end="\n"), "a closed connection"), (act(ENTRY), "a reset"),
-                            (get("/history/1/0"), "a shut end"), (b"\r\n\n" + requests.load("stack", "s1", posts.rows(1)), "a shut end")):
+                            (get("/history/1/0"), "a shut end"), (b"\r\n\n" + load("stack", "s1", posts.rows(1)), "a shut end")):
             folder, fronts = cases.folder(), range(len(raw))
             name = f"{raw[:12]!r} cut by {closes}"
             last = cases.expected(folder, [Case("", raw)] + [Case("", PLACES, 0)] * 2)
@@ -60,7 +59,7 @@ class Pieces(Served):
         cases = self.cases
         dice, told = random.Random(SEED), []
         raws = [act(ENTRY), post("/acts", BODY, end="\n"), b"\r\n\n" + PLACES, get("/none"), post("/acts", "{"), act("x" * 201), act(ENTRY) + PLACES,
-                requests.load("stack", "s1", posts.rows(200)), requests.padded(8192), requests.padded(8193), b"\n" * 8193]
+                load("stack", "s1", posts.rows(200)), requests.padded(8192), requests.padded(8193), b"\n" * 8193]
         for raw in raws:
             for size in (1, 2, 3, 7, 16, 61, 500, 4095, 4096, 4097):
                 for pause in (0.0, 0.001):
@@ -313,8 +312,8 @@ class WordsAndFiles(Served):
         """A desk on which no more stacks, or no more requests of one application process, may stand."""
         cases = self.cases
         name = "a full desk"
-        told = [Case("the stack 1,001", requests.load("stack", "more", posts.rows(1, apid=9)), 18), Case("an identity in use", act(ENTRY), 8),
-                Case("an identity in use, in a stack", requests.load("stack", "more", posts.rows(1, apid=5)), 8),
+        told = [Case("the stack 1,001", load("stack", "more", posts.rows(1, apid=9)), 18), Case("an identity in use", act(ENTRY), 8),
+                Case("an identity in use, in a stack", load("stack", "more", posts.rows(1, apid=5)), 8),
                 Case("another process", act("enter 9 a--c no 8 1 - - ok"), 0),
                 Case("withdraw 1", act("withdraw 1"), 0), Case("an identity that is free again", act(ENTRY), 0), Case("the next one", act(ENTRY), 8)]
         cases.play(name, told, full(), {"many.csv": posts.rows(200, apid=5), "rest.csv": posts.rows(184, apid=5), "one.csv": posts.rows(1, apid=6)})

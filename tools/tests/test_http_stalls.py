@@ -12,9 +12,9 @@ import time
 from concurrent.futures import ThreadPoolExecutor
 from functools import partial
 
-from http_requests import ENTRY, PLACES, act
+from generate.http_words import ENTRY, PLACES, Case, act, get
 from tests import http_cases
-from tests.http_peer import Case, Ended, Fault, get, received, reset, run, send
+from tests.http_peer import Ended, Fault, received, reset, run, send
 
 SILENCE, WHOLE, FAREWELL = 5.0, 30.0, 2.0  # seconds: without a byte, for a request, behind an answer
 EARLY, SLACK = 0.5, 4.0  # seconds by which a peer's clock may begin later than the server's, and that a busy machine may add

@@ -13,12 +13,17 @@ import unittest
 from concurrent.futures import ThreadPoolExecutor
 from dataclasses import dataclass
 from functools import partial
+from itertools import zip_longest
 
-from desk_tables import (SCHEDULE, Tables, move_line, opened_moves, opened_tables, place_word, places_by, places_line, read_tables,
-                         tallies_by, why_unsound)
-from generate.days import Writer
+from generate.days import Day, day_script
+from model.facts import MOST_SHOWN, place_word
+from model.kept import read_tables
+from model.request import ack_text, takes_time
+from model.rows import ROWS, Request, Tables, empty_tables, move_line, places_by, places_line, tallies_by
+from model.sound import why_unsound
+from model.tables import opened_moves
 from tests.asked import ASKED
-from tests.runs import run_kept, write_lines
+from tests.runs import Ran, run_kept, write_files, write_lines
 
 SEED = 20311126
 DESKS, DAYS = 10, 5
@@ -28,13 +33,13 @@ SPAN = 1000
 @dataclass
 class Told:
     """Faults that were found, and how many lines were answered and refused."""
-    faults: list
+    faults: list[str]
     days: int = 0
     answered: int = 0
     refused: int = 0
 
 
-def moves_in(lines):
+def moves_in(lines: list[str]) -> list[str]:
     """The lines of moves that acts printed: not those that a history answers."""
     moves, skip = [], 0
     for line in lines:
@@ -47,7 +52,7 @@ def moves_in(lines):
     return moves
 
 
-def faults_of(before, after, ran, moment):
+def faults_of(before: Tables, after: Tables, ran: Ran, moment: int) -> list[str]:
     """How the tables after a day differ from what the tables before it and its lines want."""
     opened = opened_moves(before, moment)
     stood = before.move + opened
@@ -73,25 +78,33 @@ def faults_of(before, after, ran, moment):
     return [name for name, holds in wants.items() if not holds] + ([f"unsound: {why}"] if why else [])
 
 
-def request_line(r):
+def faults_by(script: Day, ran: Ran, after: Tables) -> list[str]:
+    """How a day differs from the plain desk's: each line that it printed, its status, and all tables that it left."""
+    pairs = enumerate(zip_longest(script.answers(), ran.lines), 1)
+    faults: list[str] = next(([f"printed line {at} is {got!r}, and not {want!r}"] for at, (want, got) in pairs if got != want), [])
+    wanted = script.desk.tables()
+    return faults + [f"status {ran.status}"] * (ran.status != script.status()) + [
+        f"the table {name} is not the plain desk's" for name in ROWS if getattr(wanted, name) != getattr(after, name)]
+
+
+def request_line(r: Request) -> str:
     """A request as the program tells it."""
-    letters = "".join(letter if r.ack & bit else "-" for letter, bit in zip("aspc", (8, 4, 2, 1)))
     target = str(r.target) if r.target else "-"
-    takes_time = r.service == SCHEDULE and r.subtype in (4, 7, 15)
-    return (f"request {r.num} {r.apid}/{r.cnt} {r.service}/{r.subtype} {letters} {'yes' if r.critical else 'no'} {target}"
-            f" {r.at_time if takes_time else '-'} {r.outcome} {r.author} {place_word(r.place)}")
+    time = r.at_time if takes_time(r.service, r.subtype) else "-"
+    return (f"request {r.num} {r.apid}/{r.cnt} {r.service}/{r.subtype} {ack_text(r.ack)} {'yes' if r.critical else 'no'} {target} {time}"
+            f" {r.outcome} {r.author} {place_word(r.place)}")
 
 
-def answers_of(tables):
+def answers_of(tables: Tables) -> list[str]:
     """What questions for each request, and its history, have to answer."""
     lines = []
     for r in tables.request:
-        rows = [move_line(it) for it in tables.move if it.request == r.num][:50]
+        rows = [move_line(it) for it in tables.move if it.request == r.num][:MOST_SHOWN]
         lines += [request_line(r), f"history {r.num}: {len(rows)}"] + rows
     return lines + [places_line(tables)]
 
 
-def asked_faults(first, second, plain, asked):
+def asked_faults(first: Tables, second: Tables, plain: Ran, asked: Ran) -> list[str]:
     """How the day with questions behind it differs from the one without."""
     wants = {
         "the tables of the second file": first == second,
@@ -101,14 +114,12 @@ def asked_faults(first, second, plain, asked):
     return [name for name, holds in wants.items() if not holds]
 
 
-def run_day(program, folder, day, before, dice, told):
+def run_day(program: str, folder: str, day: int, before: Tables, dice: random.Random, told: Told) -> Tables:
     """One day on both files: what is left, and what of it is wrong."""
     moment = day * SPAN + dice.randrange(100)
-    left = opened_tables(before, moment)
-    writer = Writer(dice, left, moment, day)
-    lines = writer.write()
-    for name, rows in writer.files.items():
-        write_lines(f"{folder}/{name}", rows)
+    script = day_script(dice, before, moment, day)
+    lines = script.lines
+    write_files(folder, script.files)
     write_lines(f"{folder}/day{day}.tc", lines)
     plain = run_kept(program, folder, "first.db", moment, f"day{day}.tc")
     after = read_tables(f"{folder}/first.db")
@@ -119,16 +130,16 @@ def run_day(program, folder, day, before, dice, told):
     told.days += 1
     told.refused += sum(line.startswith("refused") for line in plain.lines)
     told.answered += len(lines) - sum(line.startswith("refused") for line in plain.lines)
-    faults = faults_of(before, after, plain, moment) + asked_faults(after, second, plain, asked)
+    faults = faults_by(script, plain, after) + faults_of(before, after, plain, moment) + asked_faults(after, second, plain, asked)
     told.faults += [f"day {day}: {it}" for it in faults]
     return after
 
 
-def run_desk(program, work, number):
+def run_desk(program: str, work: str, number: int) -> Told:
     """All days of one desk."""
     folder, dice, told = f"{work}/{number}", random.Random(number), Told([])
     os.mkdir(folder)
-    tables = Tables([("schema", 1)], *([] for _ in range(10)))
+    tables = empty_tables()
     for day in range(1, DAYS + 1):
         tables = run_day(program, folder, day, tables, dice, told)
         if told.faults:

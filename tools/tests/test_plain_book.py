@@ -1,12 +1,10 @@
-"""Long scripts beside a plain desk.
+"""Long scripts beside the plain desk, about the book.
 
-The plain desk answers each line by itself, from the requirements. First it has to answer the scripts of tools/cases that load something as they are
-written there (test_plain_link.py has the others). The scripts that are run are random ones by their seeds, and those of plans. Every line that
-the program prints has to be the plain desk's, and so has the status; some scripts are run on a desk that is kept, whose tables have to be
-the plain desk's too. The first line that differs is told for each script. Where all are run, each refusal and each lawful move has to be met.
+The plain desk answers each line by itself, from the requirements. The scripts that are run are random ones by their seeds, some of them over a link
+that loses, and those of plans. Every line that the program prints has to be the plain desk's, and so has the status; some scripts are run on a desk
+that is kept, whose tables have to be the plain desk's too, row by row in the order in which they were written. The first line that differs is told
+for each script. Where all are run, each refusal and each lawful move has to be met, and each refusal of each act that these scripts can reach.
 """
-import os
-import random
 import shutil
 import subprocess
 import tempfile
@@ -16,21 +14,27 @@ from concurrent.futures import ProcessPoolExecutor
 from dataclasses import dataclass
 from functools import partial
 from itertools import zip_longest
+from typing import Callable, Union
 
-import desk_tables
-from desk_tables import CAUSES, LAWFUL, OPEN, place_word, read_tables
-from book_desk import PLACES, answers
-from book_plans import PLANS
-from book_scripts import Writer
-from tests.asked import ASKED, TOOLS
+from generate.book_plans import PLANS
+from generate.scripts import LINES, Written, book_script
+from model.facts import LAWFUL, TESTS, Cause, Place, Refusal, cause_word, place_word
+from model.kept import read_tables, sqlite3
+from model.rows import ROWS
+from tests.asked import ASKED
+from tests.runs import write_files
 
-SEEDS, LINES = 24, 2800
+SEEDS = 24
 KEPT_EACH = 4
 LONGEST = 600
 LEAST_REFUSALS, FEW = 50, {8: 9, 18: 9}
-# What comes only where a report was lost, which is for test_plain_link.py; the last never, since a control word flies behind the report.
-LOST = {("Riding", "Accepted"), ("Riding", "Started"), ("Riding", "Completed"), ("Riding", "Failed"), ("Riding", "Deleted"),
-        ("Doubtful", "Deleted"), ("Scheduled", "Started"), ("Scheduled", "Completed"), ("Confirmed", "Accepted")}
+# What hardly comes where few reports are lost, which is for test_plain_link.py; the last never, since a control word flies behind the report.
+LOST = {(Place.RIDING, Place.ACCEPTED), (Place.RIDING, Place.STARTED), (Place.RIDING, Place.COMPLETED), (Place.RIDING, Place.FAILED),
+        (Place.RIDING, Place.DELETED), (Place.DOUBTFUL, Place.DELETED), (Place.SCHEDULED, Place.STARTED), (Place.SCHEDULED, Place.COMPLETED),
+        (Place.CONFIRMED, Place.ACCEPTED)}
+# What is refused once the history is full, which is for test_changed.py; and a step never names a request that is not there, since its load did not.
+FULL = {"enter", "begin", "stack", "procedure"}
+NEVER = {("step", Refusal.UNKNOWN_REQUEST)}
 
 
 @dataclass
@@ -38,68 +42,29 @@ class Found:
     """What became of a script: how many lines it has and were printed, what was refused and moved, and what differs."""
     lines: int
     printed: int
-    refused: Counter
-    moves: Counter
+    refused: Counter[int]
+    tests: Counter[tuple[str, int]]
+    moves: Counter[tuple[int, int, int]]
     fault: str
 
 
-# ---- the tables of a plain desk
-
-def code_of(place):
-    """The number by which a place is written, 0 for none."""
-    return PLACES.index(place) + 1 if place in PLACES else 0
-
-
-def request_row(desk, it):
-    """A request as its row has it."""
-    form = it.form
-    ack = sum(bit for letter, bit in zip(form.ack, (8, 4, 2, 1)) if letter != "-")
-    return desk_tables.Request(it.number, *it.identity, ack, int(form.critical), form.service, form.subtype, form.target or 0, form.time or 0,
-                               form.outcome, it.author, it.stack, it.line, it.after, code_of(desk.place(it.number)))
-
-
-def tables_by(desk):
-    """The tables of a plain desk; each but the history in the order of its keys."""
-    moves = [desk_tables.Move(it.seq, it.request, code_of(it.before), code_of(it.to), CAUSES.index(it.cause) + 1, it.by, it.moment)
-             for it in desk.rows]
-    verdicts = {"done": 1, "skipped": 2, "failed": 3}
-    records = [desk_tables.Record(e, step, verdicts[verdict], by, second.strip("-"), moment)
-               for e, it in enumerate(desk.executions, 1) for step, moment, by, verdict, second in it.records]
-    return desk_tables.Tables(
-        meta=[("schema", 1)],
-        request=[request_row(desk, it) for it in desk.requests],
-        move=moves,
-        tally=desk_tables.tallies_by(moves),
-        request_approval=sorted(desk_tables.Approval(n, it) for n, given in desk.approvers.items() for it in given),
-        stack=sorted(desk_tables.Stack(name, it.author, it.wanted - 1) for name, it in desk.stacks.items()),
-        stack_approval=sorted(desk_tables.Approval(name, it) for name, stack in desk.stacks.items() for it in stack.approvers),
-        procedure=sorted(desk_tables.Procedure(name, it.author) for name, it in desk.procedures.items()),
-        step=sorted(desk_tables.Step(name, at, step.text, int(step.is_countersigned), step.request or 0)
-                    for name, it in desk.procedures.items() for at, step in enumerate(it.steps, 1)),
-        execution=[desk_tables.Execution(at, it.procedure, it.by, it.moment) for at, it in enumerate(desk.executions, 1)],
-        record=records)
-
-
-def table_fault(desk, path):
+def table_fault(script: Written, path: str) -> str:
     """Which table of a file is not the plain desk's, and the first of its rows."""
-    wanted = tables_by(desk)
+    wanted = script.desk.tables()
     try:
         there = read_tables(path)
-    except desk_tables.sqlite3.Error as fault:
+    except sqlite3.Error as fault:
         return f"the file that is kept does not read: {fault}"
-    for name in desk_tables.ROWS:
-        rows, want = getattr(there, name), getattr(wanted, name)
-        if name not in ("meta", "request", "move", "tally", "execution"):
-            rows = sorted(rows)
-        if rows != want:
-            it, row = next((want, row) for want, row in zip_longest(want, rows) if want != row)
-            return f"the table {name} has {row}, and not {it}"
+    for name in ROWS:
+        for it, row in zip_longest(getattr(wanted, name), getattr(there, name)):
+            if it != row:
+                return f"the table {name} has {row}, and not {it}"
     return ""
 
 
 # ---- a script
 
-def first_fault(script, lines):
+def first_fault(script: Written, lines: list[str]) -> str:
     """The first line that the program printed and the plain desk does not answer, or the other way round."""
     at = 0
     for number, (line, answer) in enumerate(script.told, 1):
@@ -108,102 +73,74 @@ def first_fault(script, lines):
             if got != want:
                 return f"at its line {number}, {line!r:.150}: printed {got!r:.200}, and not {want!r:.200}"
             at += 1
-    want = script.desk.counts()
+    want = script.desk.places()
     return "" if lines[at:] == [want] else f"at its end: printed {lines[at:at + 3]!r:.200}, and not {want!r}"
 
 
-def write_script(script, folder):
+def write_script(script: Written, folder: str) -> None:
     """Writes a script and its files."""
-    for name, data in script.files.items():
-        with open(f"{folder}/{name}", "wb") as file:
-            file.write(data)
+    write_files(folder, script.files)
     with open(f"{folder}/script.tc", "wb") as file:
         file.write("".join(f"{it}\n" for it in script.lines).encode("latin-1"))
 
 
-def compare(program, script, folder, is_kept):
+def compare(program: str, script: Written, folder: str, is_kept: bool) -> str:
     """Runs a script, and tells how that differs from the plain desk; nothing where it does not."""
     write_script(script, folder)
     words = [program, "run", *(["--db", "kept.db"] if is_kept else []), "script.tc"]
     try:
         ran = subprocess.run(words, cwd=folder, stdin=subprocess.DEVNULL, capture_output=True, timeout=LONGEST, check=False)
-    except subprocess.SubprocessError as fault:
-        return str(fault)
+    except subprocess.SubprocessError as why:
+        return str(why)
     lines = ran.stdout.decode("latin-1").split("\n")
     fault = first_fault(script, lines[:-1])
     if not fault and (ran.returncode, ran.stderr, lines[-1]) != (script.status(), b"", ""):
         fault = f"status {ran.returncode}, and not {script.status()}: {ran.stderr!r:.200}"
-    return fault or (table_fault(script.desk, f"{folder}/kept.db") if is_kept else "")
+    return fault or (table_fault(script, f"{folder}/kept.db") if is_kept else "")
 
 
-def try_script(program, work, lines, job):
+def try_script(program: str, work: str, job: Union[int, Callable[[], Written]]) -> Found:
     """Writes the script of a plan, or of a seed, and compares."""
-    is_plan = callable(job)
-    script = job() if is_plan else Writer(f"seed {job}", random.Random(job), lines)
-    is_kept = script.title in ("stacks of 200 rows", "borders") if is_plan else job % KEPT_EACH == 0
+    script = book_script(job, LINES) if isinstance(job, int) else job()
+    is_kept = job % KEPT_EACH < 2 if isinstance(job, int) else script.title in ("stacks of 200 rows", "borders")
     folder = tempfile.mkdtemp(dir=work)
     try:
         fault = compare(program, script, folder, is_kept)
     finally:
         shutil.rmtree(folder)
-    moves = Counter((it.before, it.to, it.cause) for it in script.desk.rows)
-    return Found(len(script.told), sum(len(it) for _, it in script.told) + 1, script.refused, moves, fault and f"{script.title}: {fault}")
+    moves = Counter((it.from_place, it.to_place, it.cause) for it in script.book.history)
+    tests: Counter[tuple[str, int]] = Counter({(act, int(number)): times for (act, number), times in script.desk.refusals.items()})
+    printed = sum(len(it) for _, it in script.told) + 1
+    return Found(len(script.told), printed, script.refused, tests, moves, fault and f"{script.title}: {fault}")
 
 
 # ---- all scripts
 
-def text_of(path, default=None):
-    """The text of a file; the default where there is none."""
-    if default is not None and not os.path.exists(path):
-        return default
-    with open(path, encoding="latin-1", newline="") as file:
-        return file.read()
-
-
-def written_faults():
-    """Which of the written scripts that load something the plain desk answers otherwise than they say, and how many there are."""
-    folder, faults, count = f"{TOOLS}/cases", [], 0
-    files = {name: text_of(f"{folder}/data/{name}").encode("latin-1") for name in os.listdir(f"{folder}/data")}
-    for case in sorted(f"{folder}/{it[:-3]}" for it in os.listdir(folder) if it.endswith(".tc")):
-        script = text_of(f"{case}.tc")
-        if " stack " in script or " procedure " in script:
-            lines, status = answers(script, files)
-            is_right = "".join(f"{it}\n" for it in lines) == text_of(f"{case}.stdout") and status == int(text_of(f"{case}.status", "0"))
-            faults, count = faults + ([] if is_right else [f"{os.path.basename(case)}: the plain desk answers otherwise"]), count + 1
-    return faults, count
-
-
-def lawful_moves():
-    """All lawful moves, as they are printed, that come without an opening and where nothing is lost."""
-    moves = {(place_word(before), place_word(to), CAUSES[cause - 1]) for cause, rules in LAWFUL.items() if cause != OPEN
-             for befores, tos in rules for before in befores for to in tos}
-    return {it for it in moves if it[:2] not in LOST or it[2] not in ("report", "delete")}
-
-
-def lacks(refused, moves):
-    """What was hardly met: refusals, and lawful moves."""
+def lacks(found: list[Found]) -> list[str]:
+    """What was hardly met: refusals, refusals of each act, and lawful moves."""
+    refused: Counter[int] = sum((it.refused for it in found), Counter())
+    tests: Counter[tuple[str, int]] = sum((it.tests for it in found), Counter())
+    moves: Counter[tuple[int, int, int]] = sum((it.moves for it in found), Counter())
     few = [f"refusal {it} {refused[it]} times" for it in range(1, 20) if refused[it] < FEW.get(it, LEAST_REFUSALS)]
-    return few + [" ".join(it) for it in sorted(lawful_moves() - moves.keys())]
+    few += [f"{act}, refusal {it.line}" for act, wanted in TESTS.items() for it in wanted
+            if not tests[act, it] and (act, it) not in NEVER and (it is not Refusal.DESK_FULL or act in FULL)]
+    is_lost = {it for it in LAWFUL if it[:2] in LOST and it[2] in (Cause.REPORT, Cause.DELETE)}
+    wanted_moves = {it for it in LAWFUL if it[2] is not Cause.OPEN} - is_lost
+    return few + [f"{place_word(before)} {place_word(to)} {cause_word(cause)}" for before, to, cause in sorted(wanted_moves - moves.keys())]
 
 
 class PlainBook(unittest.TestCase):
     """Acts on the book."""
 
-    def test_written_scripts(self) -> None:
-        """The plain desk answers the scripts that persons wrote as they are written."""
-        faults, count = written_faults()
-        print(f"plain book: {count} written scripts, {len(faults)} differ")
-        self.assertFalse(faults, "\n".join(faults))
-
     def test_scripts(self) -> None:
         """The program answers plans and random scripts as the plain desk does; with a seed or a number, those random ones alone."""
         first, count = ASKED.seed_or(1), ASKED.count_or(SEEDS)
-        jobs = [*(PLANS if ASKED.is_whole else []), *range(first, first + count)]
+        jobs: list[Union[int, Callable[[], Written]]] = [*(PLANS if ASKED.is_whole else []), *range(first, first + count)]
         with tempfile.TemporaryDirectory(prefix="book-") as work, ProcessPoolExecutor(4) as pool:
-            found = list(pool.map(partial(try_script, ASKED.program, work, LINES), jobs))
+            found = list(pool.map(partial(try_script, ASKED.program, work), jobs))
         faults = [it.fault for it in found if it.fault]
-        refused, moves = sum((it.refused for it in found), Counter()), sum((it.moves for it in found), Counter())
-        print(f"plain book: {len(jobs)} scripts, {sum(it.lines for it in found)} lines answered, {sum(refused.values())} refused,"
+        moves: Counter[tuple[int, int, int]] = sum((it.moves for it in found), Counter())
+        print(f"plain book: {len(jobs)} scripts, {sum(it.lines for it in found)} lines answered, {sum(sum(it.refused.values()) for it in found)} refused,"
               f" {sum(it.printed for it in found)} lines printed, {sum(moves.values())} moves of {len(moves)} kinds, {len(faults)} differ")
-        lacking = lacks(refused, moves) if ASKED.is_whole else []
+        lacking = lacks(found) if ASKED.is_whole else []
         self.assertFalse(faults + lacking, "\n".join(faults + [f"hardly met: {it}" for it in lacking]))

@@ -10,13 +10,14 @@ import subprocess
 from contextlib import closing
 from pathlib import Path
 
-from desk_tables import Tables, connect, move_line, tables_of
-from generate.days import Writer
+from generate.days import day_script
+from model.kept import connect, tables_of
+from model.rows import empty_tables, move_line
 from tests.asked import TOOLS
 from tests.report_cases import (ALL, ENTRY, LAST, LINK, REPORTS, WORKED, Reported, change, difference, digests, changed, questions, unless,
                                 unlike)
 from tests.report_printer import TIMES, moves_in, places_of, report_of
-from tests.runs import write_lines
+from tests.runs import write_files, write_lines
 
 SEED = 20311127
 LONG = "op00000000000016"
@@ -102,13 +103,10 @@ class Worked(Reported):
 def lines_of(dice, folder):
     """Some 400 random lines by several persons, at moments spread over years, a few of them earlier than those before. None asks for a
     history."""
-    writer, moment, lines = Writer(dice, Tables([("schema", 1)], *([] for _ in range(10))), 0, 1), 700_000_000, []
-    while len(writer.lines) < 400:
-        writer.write()
-    for name, rows in writer.files.items():
-        write_lines(f"{folder}/{name}", rows)
-    for line in writer.lines:
-        rest = re.sub(r"\bjoe\b", LONG, line.split(" ", 1)[1])
+    script, moment, lines = day_script(dice, empty_tables(), 0, 1, 400), 700_000_000, []
+    write_files(folder, script.files)
+    for line in script.lines:
+        rest = re.sub(r"\bz\b", LONG, line.split(" ", 1)[1])
         moment += dice.choice([0, 0, 1, 59, 86399, 86400, 30 * 86400, 90 * 86400])
         if " history " not in rest:
             lines.append(f"{moment - dice.choice([0] * 9 + [500 * 86400])} {rest}")

@@ -5,7 +5,8 @@ import os
 import random
 from pathlib import Path
 
-from desk_tables import move_line, read_tables
+from model.kept import read_tables
+from model.rows import move_line
 from tests.full_desks import make_desks
 from tests.report_cases import LAST, WORKED, Reported, change
 from tests.report_printer import moves_in, places_of, report_of

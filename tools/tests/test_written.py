@@ -9,29 +9,12 @@ import unittest
 from dataclasses import dataclass, field
 from itertools import zip_longest
 
-from desk_tables import ROWS, connect, sqlite3
+from model.facts import SCHEMA
+from model.kept import connect, sqlite3
+from model.rows import ROWS
 from tests.asked import ASKED
 from tests.runs import run_kept, write_lines
 
-SCHEMA = """\
-CREATE TABLE meta (name TEXT PRIMARY KEY, value INTEGER NOT NULL) STRICT
-CREATE TABLE request (num INTEGER PRIMARY KEY, apid INTEGER NOT NULL, cnt INTEGER NOT NULL, ack INTEGER NOT NULL, critical INTEGER NOT NULL, \
-service INTEGER NOT NULL, subtype INTEGER NOT NULL, target INTEGER NOT NULL, at_time INTEGER NOT NULL, outcome TEXT NOT NULL, author TEXT NOT \
-NULL, stack TEXT NOT NULL, line INTEGER NOT NULL, prior INTEGER NOT NULL, place INTEGER NOT NULL) STRICT
-CREATE TABLE move (seq INTEGER PRIMARY KEY, request INTEGER NOT NULL, from_place INTEGER NOT NULL, to_place INTEGER NOT NULL, cause INTEGER NOT \
-NULL, person TEXT NOT NULL, moment INTEGER NOT NULL) STRICT
-CREATE INDEX move_by_request ON move (request, seq)
-CREATE TABLE tally (place INTEGER PRIMARY KEY, amount INTEGER NOT NULL) STRICT
-CREATE TABLE request_approval (request INTEGER NOT NULL, person TEXT NOT NULL, PRIMARY KEY (request, person)) STRICT
-CREATE TABLE stack (name TEXT PRIMARY KEY, author TEXT NOT NULL, critical INTEGER NOT NULL) STRICT
-CREATE TABLE stack_approval (stack TEXT NOT NULL, person TEXT NOT NULL, PRIMARY KEY (stack, person)) STRICT
-CREATE TABLE procedure (name TEXT PRIMARY KEY, author TEXT NOT NULL) STRICT
-CREATE TABLE step (procedure TEXT NOT NULL, step INTEGER NOT NULL, body TEXT NOT NULL, countersign INTEGER NOT NULL, request INTEGER NOT NULL, \
-PRIMARY KEY (procedure, step)) STRICT
-CREATE TABLE execution (num INTEGER PRIMARY KEY, procedure TEXT NOT NULL, person TEXT NOT NULL, moment INTEGER NOT NULL) STRICT
-CREATE TABLE record (execution INTEGER NOT NULL, step INTEGER NOT NULL, verdict INTEGER NOT NULL, person TEXT NOT NULL, second TEXT NOT NULL, \
-moment INTEGER NOT NULL, PRIMARY KEY (execution, step)) STRICT
-""".splitlines()
 NO_TALLY = "\n".join(f"{place}|0" for place in range(1, 16))
 
 FILES = {
