@@ -267,7 +267,8 @@ class HttpFaults(unittest.TestCase):
         """How many runs there were; none may have been bad."""
         counts = self.runs.counts
         seen = ", ".join(f"{count} {name}" for name, count in sorted(self.runs.seen.items()))
-        print(f"fail http: {counts['streams']} stream runs, {counts['memory']} memory runs ({seen}), {counts['disk']} of the disk, {counts['bad']} bad")
+        print(f"fail http: {counts['streams']} stream runs, {counts['memory']} memory runs ({seen}),"
+              f" {counts['disk']} of the disk, {counts['bad']} bad")
         self.assertEqual(0, counts["bad"], "runs were bad")
 
     def test_streams(self) -> None:
