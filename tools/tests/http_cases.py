@@ -4,6 +4,7 @@ import shutil
 import tempfile
 import unittest
 from itertools import count
+from typing import Any, Iterable, Optional, Sequence
 
 from generate.http_words import PLACES, Case, act, get
 from model.desk import Desk
@@ -19,10 +20,12 @@ LAST_QUESTIONS = ["link", "schedule", "report 0 4102444799"]
 class Cases:
     """The program, a folder to work in, and how many cases passed."""
 
-    def __init__(self, program, work):
-        self.program, self.work, self.passed, self.failed, self.refusals, self.numbers = program, work, 0, 0, set(), count(1)
+    def __init__(self, program: str, work: str) -> None:
+        """No case was tried yet."""
+        self.program, self.work, self.passed, self.failed, self.numbers = program, work, 0, 0, count(1)
+        self.refusals: set[int] = set()
 
-    def tell(self, name, want, got):
+    def tell(self, name: str, want: object, got: object) -> None:
         """Counts a case, and prints it where what came is not what is wanted."""
         is_right = got == want
         self.passed += is_right
@@ -32,21 +35,21 @@ class Cases:
             if self.failed >= MOST_FAULTS:
                 raise Fault("too many cases failed")
 
-    def folder(self):
+    def folder(self) -> str:
         """A new folder."""
         made = f"{self.work}/{next(self.numbers)}"
         os.mkdir(made)
         return made
 
-    def server(self, folder, connections, *words, **more):
+    def server(self, folder: str, connections: int, *words: str, **more: Any) -> Server:
         """The server of desk.db in this folder."""
         return Server(self.program, folder, "desk.db", connections, words, **more)
 
-    def ended(self, name, server, out=""):
+    def ended(self, name: str, server: Server, out: str = "") -> None:
         """Waits for a server's end, which has to be a good one."""
         self.tell(f"{name}: the program's end", Ended(0, out, server.says), server.end())
 
-    def expected(self, folder, cases, desk=None):
+    def expected(self, folder: str, cases: Sequence[Case], desk: Optional[Desk] = None) -> Expected:
         """The responses that these cases have to be given by a new desk or by this one; a case whose writer and the plain reading disagree has
         failed."""
         made = Expected(folder, cases, desk)
@@ -55,10 +58,12 @@ class Cases:
         self.refusals |= made.refusals
         return made
 
-    def play(self, name, cases, before=(), files=None, looks=True):
+    def play(self, name: str, cases: Iterable[Case], before: Sequence[str] = (), files: Optional[dict[str, str]] = None,
+             looks: bool = True) -> None:
         """Sends these cases to a new desk, or to one that answered the lines before, which may load these files, with questions behind them, and
         looks at the file in the end."""
-        folder, told = self.folder(), []
+        folder = self.folder()
+        told: list[Case] = []
         data = {file: text.encode() for file, text in (files or {}).items()}
         write_files(folder, data)
         for case in cases:
@@ -82,7 +87,7 @@ class Cases:
         run(self.program, folder, made.lines, "--db", "plain.db")
         self.same_file(name, folder, numbers)
 
-    def same_file(self, name, folder, numbers):
+    def same_file(self, name: str, folder: str, numbers: range) -> None:
         """Looks whether the file that was served is that of the acts as a script."""
         lines = [f"0 zed {it} {at}" for at in numbers for it in ("request", "history")]
         lines = [f"{it} 0" if " history " in it else it for it in lines] + [f"0 zed {it}" for it in LAST_QUESTIONS] + ["0 zed log 1"]

@@ -8,7 +8,7 @@ import socket
 import struct
 import subprocess
 import time
-from typing import NamedTuple, Optional, Sequence, Union
+from typing import Callable, Iterable, NamedTuple, Optional, Sequence, Union
 
 from generate.http_words import NOTHING, Case
 from model.desk import Desk
@@ -33,7 +33,7 @@ class Ended(NamedTuple):
 
 # ---- the server
 
-def free_port():
+def free_port() -> int:
     """A port that nobody has, below those that the system gives to those who connect."""
     while True:
         port = random.randrange(20000, 32000)
@@ -48,11 +48,13 @@ def free_port():
 class Server:
     """The program as it serves a desk in a file, for so many connections. It is killed at the end of the block, if it has not ended."""
 
-    def __init__(self, program, folder, database, count, words=(), env=None, first=None, port=None, told=None):
+    def __init__(self, program: str, folder: str, database: str, count: Optional[int], words: Sequence[str] = (),
+                 env: Optional[dict[str, str]] = None, first: Optional[Callable[[], object]] = None, port: Optional[int] = None,
+                 told: Optional[str] = None) -> None:
         """Starts it, without a word for how many connections where that is None, with these variables beside those of this process, after that
-        call. What it writes to descriptor 9 comes into the file
-        `told`."""
-        def begin():
+        call. What it writes to descriptor 9 comes into the file `told`."""
+        def begin() -> None:
+            """What the new process does before it is the program."""
             if told:
                 os.dup2(os.open(told, os.O_WRONLY | os.O_CREAT | os.O_TRUNC), 9)
             if first:
@@ -63,10 +65,10 @@ class Server:
         self.process = subprocess.Popen(words, cwd=folder, stdin=subprocess.DEVNULL, stdout=self.files[0], stderr=self.files[1], close_fds=False,
                                         preexec_fn=begin, env={**os.environ, **(env or {})})
 
-    def __enter__(self):
+    def __enter__(self) -> "Server":
         return self
 
-    def __exit__(self, *_):
+    def __exit__(self, *_: object) -> None:
         if self.process.poll() is None:
             self.process.kill()
         self.process.wait()
@@ -74,16 +76,16 @@ class Server:
             file.close()
 
     @property
-    def listens(self):
+    def listens(self) -> str:
         """What it says on the standard error once it listens."""
         return f"tcdesk: listening on {HERE}:{self.port}\n"
 
     @property
-    def says(self):
+    def says(self) -> str:
         """All that it says there, where every connection was served."""
         return f"{self.listens}tcdesk: ended after {self.count} connections\n"
 
-    def connect(self):
+    def connect(self) -> socket.socket:
         """A connection to it. Before it listens a connection is refused, so that none is counted."""
         end = time.monotonic() + PATIENCE
         while True:
@@ -101,7 +103,7 @@ class Server:
                     raise Fault("the server does not listen") from None
                 time.sleep(0.002)
 
-    def said(self):
+    def said(self) -> Ended:
         """How the program ended and what it printed, once it has ended."""
         texts = []
         for file in self.files:
@@ -109,7 +111,7 @@ class Server:
             texts.append(file.read().decode("latin-1"))
         return Ended(self.process.returncode, *texts)
 
-    def end(self):
+    def end(self) -> Ended:
         """Waits for the program to end by itself."""
         try:
             self.process.wait(PATIENCE)
@@ -117,7 +119,7 @@ class Server:
             raise Fault("the server does not end after its last connection") from None
         return self.said()
 
-    def exchange(self, raw, size=None, pause=0.0, shuts=False):
+    def exchange(self, raw: bytes, size: Optional[int] = None, pause: float = 0.0, shuts: bool = False) -> bytes:
         """Sends these bytes, in pieces of this size, and reads the answer to its end; what came of it where the time is over."""
         with self.connect() as peer:
             try:
@@ -132,7 +134,7 @@ class Server:
             return received(peer)
 
 
-def send(peer, raw, size=None, pause=0.0):
+def send(peer: socket.socket, raw: bytes, size: Optional[int] = None, pause: float = 0.0) -> None:
     """Sends these bytes in pieces of this size, with so many seconds between them."""
     size = size or max(1, len(raw))
     for at in range(0, len(raw), size):
@@ -141,7 +143,7 @@ def send(peer, raw, size=None, pause=0.0):
         peer.sendall(raw[at:at + size])
 
 
-def received(peer):
+def received(peer: socket.socket) -> bytes:
     """What comes until the peer closes. A reset behind the last byte is an end too: so a system closes where bytes were left unread."""
     got, end = b"", time.monotonic() + PATIENCE
     while time.monotonic() < end:
@@ -157,7 +159,7 @@ def received(peer):
     return got + b"[and no end within the time]"
 
 
-def reset(peer):
+def reset(peer: socket.socket) -> None:
     """Closes a connection by a reset."""
     peer.setsockopt(socket.SOL_SOCKET, socket.SO_LINGER, RST)
     peer.close()
@@ -165,7 +167,7 @@ def reset(peer):
 
 # ---- what has to be answered
 
-def run(program, folder, lines, *words):
+def run(program: str, folder: str, lines: Iterable[str], *words: str) -> str:
     """Runs a script of these lines."""
     with open(f"{folder}/script.tc", "w", encoding="ascii", newline="") as file:
         file.write("".join(f"{it}\n" for it in lines))

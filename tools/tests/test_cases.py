@@ -39,7 +39,8 @@ class Cases(Tried):
     def test_cases(self) -> None:
         """Each line and the status of each."""
         files = {name: text_of(f"{FOLDER}/data/{name}").encode("latin-1") for name in os.listdir(f"{FOLDER}/data")}
-        faults, count = [], 0
+        faults: list[str] = []
+        count = 0
         for case in all_cases():
             lines, status = answers(case.script, files, case.options)
             is_right = ("".join(f"{it}\n" for it in lines), status) == (case.printed, case.status)

@@ -7,8 +7,9 @@ import os
 import tempfile
 from dataclasses import dataclass, field
 from itertools import zip_longest
+from typing import NamedTuple
 
-from model.facts import SCHEMA
+from model.facts import COLUMNS, SCHEMA
 from model.kept import connect, sqlite3
 from model.rows import ROWS
 from tests.asked import ASKED
@@ -47,9 +48,9 @@ class Case:
     """A desk: the lines of its days, each day behind its moment; what is refused of them; and the rows of its tables, of which none stand here
     that are those of an empty desk."""
     name: str
-    days: list
+    days: list[tuple[int, str]]
     refused: int
-    rows: dict = field(default_factory=dict)
+    rows: dict[str, str] = field(default_factory=dict)
 
 
 # Requests of every kind, with the least and the greatest of each number. The last four lines enter nothing.
@@ -349,25 +350,22 @@ PROCEDURES = Case("procedures", [(0, """\
     "record": "1|1|1|ann|zoe|24\n1|2|1|ann|bob|25\n1|3|2|ann||26\n2|1|3|cid||27\n3|1|2|eve|ann|28\n",
 })
 CASES = (Case("nothing", [(0, "")], 0), ENTRIES, MOVES, STACKS, PROCEDURES)
-TEXTS = {"name", "outcome", "author", "stack", "person", "procedure", "body", "second"}
 
 
 # ---- what differs
 
-def row_faults(case, connection, name):
+def row_faults(case: Case, connection: sqlite3.Connection, name: str) -> tuple[list[str], int, int]:
     """How a table's rows differ from those that are written out; they stand in the order in which they were written."""
     wanted = case.rows.get(name, {"meta": "schema|1", "tally": NO_TALLY}.get(name, "")).splitlines()
-    cursor = connection.execute(f"SELECT * FROM {name} ORDER BY rowid")
-    columns, rows = [it[0] for it in cursor.description], cursor.fetchall()
-    kinds = [str if it in TEXTS else int for it in columns]
+    rows, kinds = connection.execute(f"SELECT * FROM {name} ORDER BY rowid").fetchall(), list(COLUMNS[name].values())
     faults = [f"{name}: {row} is of other kinds" for row in rows if [type(it) for it in row] != kinds]
     for want, row in zip_longest(wanted, ["|".join(str(it) for it in row) for row in rows]):
         if want != row:
             faults.append(f"{name}: the row {row}, and not {want}")
-    return faults[:1], len(rows), len(rows) * len(columns)
+    return faults[:1], len(rows), len(rows) * len(kinds)
 
 
-def schema_faults(connection):
+def schema_faults(connection: sqlite3.Connection) -> tuple[list[str], int]:
     """How the statements that made the tables differ from those that are written out; and whether all is STRICT and in order."""
     made = [sql for sql, in connection.execute("SELECT sql FROM sqlite_schema WHERE sql IS NOT NULL ORDER BY rowid")]
     faults = [f"made by {got}, and not by {want}" for want, got in zip_longest(SCHEMA, made) if want != got]
@@ -376,9 +374,10 @@ def schema_faults(connection):
     return faults[:1], len(made)
 
 
-def desk_faults(program, case, folder):
+def desk_faults(program: str, case: Case, folder: str) -> list[str]:
     """Runs the days of a desk; what its lines are refused, and how often."""
-    refused, faults = 0, []
+    refused = 0
+    faults: list[str] = []
     for at, (moment, lines) in enumerate(case.days):
         write_lines(f"{folder}/day{at}.tc", lines.splitlines())
         ran = run_kept(program, folder, "desk.db", moment, f"day{at}.tc")
@@ -387,8 +386,16 @@ def desk_faults(program, case, folder):
     return faults + ([f"{refused} lines were refused, and not {case.refused}"] if refused != case.refused else [])
 
 
-def try_case(program, case, work):
-    """A desk: its faults, its rows, its values and its statements."""
+class Found(NamedTuple):
+    """What was found of a desk: faults, and how many rows, values and statements there were."""
+    faults: list[str]
+    rows: int
+    values: int
+    statements: int
+
+
+def try_case(program: str, case: Case, work: str) -> Found:
+    """What is found of a desk."""
     folder = f"{work}/{case.name}"
     os.mkdir(folder)
     for name, text in FILES.items():
@@ -404,7 +411,7 @@ def try_case(program, case, work):
         of_schema, statements = [f"the file does not read: {fault}"], 0
     finally:
         connection.close()
-    return [f"{case.name}: {it}" for it in faults + of_schema], rows, values, statements
+    return Found([f"{case.name}: {it}" for it in faults + of_schema], rows, values, statements)
 
 
 class Written(Tried):
@@ -414,7 +421,7 @@ class Written(Tried):
         """Each desk has the rows that are written out, and is made by these statements."""
         with tempfile.TemporaryDirectory(prefix="written-") as work:
             told = [try_case(ASKED.program, case, work) for case in CASES]
-        faults = [it for found, *_ in told for it in found]
-        rows, values, statements = (sum(it[at] for it in told) for at in (1, 2, 3))
-        print(f"written cases: {len(CASES)} desks, {rows} rows, {values} values, {statements} statements, {len(faults)} differ")
+        faults = [it for found in told for it in found.faults]
+        print(f"written cases: {len(CASES)} desks, {sum(it.rows for it in told)} rows, {sum(it.values for it in told)} values,"
+              f" {sum(it.statements for it in told)} statements, {len(faults)} differ")
         self.no_faults(faults)
