@@ -12,12 +12,13 @@ tools/tests or tools/faults, or a script of the shell. What could not be tried i
 `N passed, N failed`, where each test method counts and each script; the status is 1 where one failed, or where nothing was tried.
 """
 import argparse
+import io
 import os
 import subprocess
 import sys
 import time
 import unittest
-from typing import NamedTuple, Optional
+from typing import Any, NamedTuple, Optional
 
 from entries import ENTRIES, Entry
 from tests.asked import ASKED, BUILT, KEPT, TOOLS
@@ -64,17 +65,17 @@ class Told(unittest.TestResult):
         super().addSuccess(test)
         self.passed += 1
 
-    def addFailure(self, test: unittest.TestCase, err: tuple) -> None:  # type: ignore[type-arg, override]
+    def addFailure(self, test: unittest.TestCase, err: Any) -> None:
         """What a test looks for is not so: its message says what."""
         super().addFailure(test, err)
         self.fails(test, str(err[1]))
 
-    def addError(self, test: unittest.TestCase, err: tuple) -> None:  # type: ignore[type-arg, override]
+    def addError(self, test: unittest.TestCase, err: Any) -> None:
         """A test goes no further."""
         super().addError(test, err)
         self.fails(test, self.errors[-1][1])
 
-    def addSubTest(self, test: unittest.TestCase, subtest: unittest.TestCase, err: Optional[tuple]) -> None:  # type: ignore[type-arg, override]
+    def addSubTest(self, test: unittest.TestCase, subtest: unittest.TestCase, err: Any) -> None:
         """A part of a test: only one that failed counts, and then as one more."""
         super().addSubTest(test, subtest, err)
         if err is not None:
@@ -160,7 +161,8 @@ def program_of(path: Optional[str]) -> str:
 
 def main() -> int:
     """Runs the entries that are asked for."""
-    sys.stdout.reconfigure(line_buffering=True)  # type: ignore[union-attr]
+    if isinstance(sys.stdout, io.TextIOWrapper):
+        sys.stdout.reconfigure(line_buffering=True)
     os.environ["PYTHONUNBUFFERED"] = "1"
     asked = parsed(sys.argv[1:])
     if asked.list:

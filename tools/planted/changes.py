@@ -8,6 +8,7 @@ import ast
 import re
 from collections.abc import Callable, Iterator, Sequence
 from dataclasses import dataclass
+from functools import partial
 
 # Attributes that count what was met, for those who ask whether enough was tried.
 COUNTED = {"visits", "met", "refusals", "dropped", "seen"}
@@ -77,7 +78,7 @@ def is_text(node: ast.AST) -> bool:
 
 def is_counted(node: ast.AST) -> bool:
     """Whether a statement only counts what was met."""
-    targets = [node.target] if isinstance(node, ast.AugAssign) else node.targets if isinstance(node, ast.Assign) else []
+    targets: list[ast.expr] = [node.target] if isinstance(node, ast.AugAssign) else node.targets if isinstance(node, ast.Assign) else []
     tops = [it.value if isinstance(it, ast.Subscript) else it for it in targets]
     return bool(tops) and all(isinstance(it, ast.Attribute) and it.attr in COUNTED for it in tops)
 
@@ -109,7 +110,8 @@ def place_below(node: ast.AST, place: str) -> str:
 def spots_in(parent: ast.AST, place: str = "") -> Iterator[Spot]:
     """Each node below this one that may be changed, in order."""
     for field, value in ast.iter_fields(parent):
-        for at, node in enumerate(value) if isinstance(value, list) else [(None, value)]:
+        nodes: list[tuple[int | None, object]] = list(enumerate(value)) if isinstance(value, list) else [(None, value)]
+        for at, node in nodes:
             if not isinstance(node, ast.AST) or is_left_out(node, field):
                 continue
             below = place_below(node, place)
@@ -198,6 +200,11 @@ def spelled(text: str) -> str:
     return text[:at] + ("b" if text[at] == "a" else "a") + text[at + 1:]
 
 
+def is_of_re(node: ast.AST) -> bool:
+    """Whether a node calls a function of the module re."""
+    return isinstance(node, ast.Call) and isinstance(node.func, ast.Attribute) and name_of(node.func.value) == "re"
+
+
 def constants(spot: Spot) -> Iterator[Change]:
     """A number by one, a flag turned, a word with another letter, a number in a pattern by one."""
     node = spot.node
@@ -210,7 +217,7 @@ def constants(spot: Spot) -> Iterator[Change]:
         is_modulus = isinstance(into, ast.BinOp) and isinstance(into.op, ast.Mod)
         for other in (value + 1, value - 1):
             yield spot.change("a modulus" if is_modulus else "a constant by one", ast.Constant(other))
-    elif isinstance(value, str) and (isinstance(into, ast.Call) and isinstance(into.func, ast.Attribute) and name_of(into.func.value) == "re"):
+    elif isinstance(value, str) and is_of_re(into):
         for text in by_one(value):
             yield spot.change("a number in a pattern", ast.Constant(text))
     elif isinstance(value, bytes) and value:
@@ -225,12 +232,16 @@ def is_of_facts(node: ast.AST) -> bool:
     return isinstance(node, (ast.Constant, ast.Name, ast.Attribute))
 
 
+def is_kept_by_name(node: ast.AST) -> bool:
+    """Whether a statement gives one name its value."""
+    return isinstance(node, ast.AnnAssign) or isinstance(node, ast.Assign) and isinstance(node.targets[0], ast.Name)
+
+
 def members(spot: Spot) -> Iterator[Change]:
     """A member left out of a set, or of a list of facts that is searched or stands for itself; and a word of a list of words."""
     node, into = spot.node, spot.parent
     if isinstance(node, ast.Set) or isinstance(node, (ast.Tuple, ast.List)) and (
-            isinstance(into, ast.Compare) and spot.field == "comparators" or isinstance(into, (ast.Assign, ast.AnnAssign)) and spot.field == "value"
-            and "." not in spot.place and spot.place.isupper()):
+            isinstance(into, ast.Compare) and spot.field == "comparators" or is_kept_by_name(into) and "." not in spot.place and spot.place.isupper()):
         if len(node.elts) > 1 and all(is_of_facts(it) for it in node.elts):
             for at in range(len(node.elts)):
                 rest = [*node.elts[:at], *node.elts[at + 1:]]
@@ -264,7 +275,7 @@ def orders(spot: Spot) -> Iterator[Change]:
         pairs = {"min": "max", "max": "min", "any": "all", "all": "any", "sorted": "list", "startswith": "endswith"}
         if name_of(node) in pairs:
             other = pairs[name_of(node)]
-            func = ast.Name(other, ast.Load()) if isinstance(node.func, ast.Name) else ast.Attribute(node.func.value, other, ast.Load())
+            func = ast.Attribute(node.func.value, other, ast.Load()) if isinstance(node.func, ast.Attribute) else ast.Name(other, ast.Load())
             yield spot.change(f"{other} for {name_of(node)}", ast.Call(func, node.args, [] if other == "list" else node.keywords))
         if name_of(node)[:1].isupper() and not any(isinstance(it, ast.Starred) for it in node.args):
             for args in exchanged(node.args):
@@ -337,13 +348,13 @@ def dictionary_cells(spot: Spot, node: ast.Dict) -> Iterator[Change]:
             if other is not None:
                 elts = [*value.elts[:at], other, *value.elts[at + 1:]]
                 made = Spot(cell, value, "elts", at, spot.place)
-                yield Change(line_of(cell), spot.place, "a cell", f"{told(row)}, column {at + 1}: {told(cell)}", told(other), lambda made=made, other=other: made.put(other))
+                yield Change(line_of(cell), spot.place, "a cell", f"{told(row)}, column {at + 1}: {told(cell)}", told(other), partial(made.put, other))
 
 
 # ---- names of facts
 
 def groups_in(trees: Sequence[ast.Module]) -> dict[str, str]:
-    """Of each name that is given its value together with others, the next of them: places, causes, refusals, subtypes."""
+    """Of each name that is given its value together with others, and of each member of an enumeration, the next of them: places, causes, refusals."""
     following: dict[str, str] = {}
     for tree in trees:
         for node in tree.body:
@@ -351,6 +362,9 @@ def groups_in(trees: Sequence[ast.Module]) -> dict[str, str]:
             names = [it.id for it in target.elts if isinstance(it, ast.Name)] if isinstance(target, ast.Tuple) else []
             if len(names) > 1 and all(it.isupper() for it in names):
                 following |= dict(zip(names, [*names[1:], names[0]]))
+            if isinstance(node, ast.ClassDef) and name_of(node.bases[0] if node.bases else node) in ("Enum", "IntEnum"):
+                members = [f"{node.name}.{name_of(it.targets[0])}" for it in node.body if isinstance(it, ast.Assign)]
+                following |= dict(zip(members, [*members[1:], members[0]]))
     return following
 
 
@@ -359,6 +373,9 @@ def names(spot: Spot, following: dict[str, str]) -> Iterator[Change]:
     node = spot.node
     if isinstance(node, ast.Name) and isinstance(node.ctx, ast.Load) and node.id in following:
         yield spot.change("another fact of its kind", ast.Name(following[node.id], ast.Load()))
+    if isinstance(node, ast.Attribute) and isinstance(node.value, ast.Name) and f"{node.value.id}.{node.attr}" in following:
+        other = following[f"{node.value.id}.{node.attr}"].partition(".")[2]
+        yield spot.change("another fact of its kind", ast.Attribute(node.value, other, ast.Load()))
 
 
 RULES: tuple[Callable[[Spot], Iterator[Change]], ...] = (

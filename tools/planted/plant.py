@@ -28,7 +28,8 @@ TOOLS = os.path.dirname(os.path.dirname(os.path.realpath(__file__)))
 sys.path.insert(0, TOOLS)
 
 from planted.changes import changes_in, groups_in  # noqa: E402
-from planted.looks import files_of_readings, first_difference, recorded_by  # noqa: E402
+from planted.looks import files_of_readings, first_difference  # noqa: E402
+from planted.recorded import Recorded  # noqa: E402
 from planted.trials import Trial, all_tried, done_apart  # noqa: E402
 
 COUNT, SEED = 400, 1
@@ -105,6 +106,12 @@ def program_of(path: str | None) -> str:
     return there[0]
 
 
+def put_down(program: str, seed: int) -> Recorded:
+    """What the program does, which another process asks: in this one nothing of the plain desk may be imported."""
+    from planted.corpus import recorded_by
+    return recorded_by(program, seed)
+
+
 def main(words: Sequence[str]) -> int:
     """Plants the faults that are asked for."""
     asked = parsed(words)
@@ -114,7 +121,7 @@ def main(words: Sequence[str]) -> int:
         print("\n".join(it.name for it in trials))
         return 0
     program = program_of(asked.program)
-    recorded = done_apart(lambda: recorded_by(program, asked.seed))
+    recorded = done_apart(lambda: put_down(program, asked.seed))
     began = time.monotonic()
     fault = done_apart(lambda: first_difference("", recorded))
     if fault:

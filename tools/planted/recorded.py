@@ -2,11 +2,8 @@
 program runs any more. The scripts are written beside the plain desk as it stands, so that they fit how a desk stands.
 """
 import os
-import random
-import shutil
 import sqlite3
 import subprocess
-import tempfile
 from dataclasses import dataclass, field
 from typing import NamedTuple, Optional
 
@@ -36,6 +33,13 @@ class Opening(NamedTuple):
     after: Optional[Rows]
 
 
+class File(NamedTuple):
+    """A file of a desk, the rows of its tables, and the statements that made it."""
+    data: bytes
+    rows: Rows
+    schema: list[str]
+
+
 class Text(NamedTuple):
     """A text, and what `check` told of it."""
     kind: str
@@ -62,6 +66,7 @@ class Recorded:
     """All that was put down."""
     scripts: list[Script] = field(default_factory=list)
     openings: list[Opening] = field(default_factory=list)
+    files: list[File] = field(default_factory=list)
     texts: list[Text] = field(default_factory=list)
     served: list[Served] = field(default_factory=list)
 
@@ -75,6 +80,21 @@ def rows_of(path: str) -> Rows:
         return {it: connection.execute(f"SELECT * FROM {it} ORDER BY rowid").fetchall() for it in names}
     finally:
         connection.close()
+
+
+def schema_of(path: str) -> list[str]:
+    """The statements by which a file was made."""
+    connection = sqlite3.connect(f"file:{path}?immutable=1", uri=True)
+    try:
+        return [it for it, in connection.execute("SELECT sql FROM sqlite_schema WHERE sql IS NOT NULL ORDER BY rowid")]
+    finally:
+        connection.close()
+
+
+def file_of(path: str) -> File:
+    """A file as it lies there."""
+    with open(path, "rb") as file:
+        return File(file.read(), rows_of(path), schema_of(path))
 
 
 def run_in(folder: str, words: list[str]) -> tuple[int, list[str]]:
@@ -98,56 +118,9 @@ def record(program: str, script: Script, folder: str) -> None:
 
 # ---- files that are opened again
 
-VALUES = (-1, 0, 1, 2, 3, 7, 16, 255, 256, 65536, 4102444799, 4102444800, "", "ann", "desk", "Zed", "ok", "ok/9", "ok/10", "x" * 17, "fail/15")
-
-
-def some_change(dice: random.Random, tables: Rows) -> str:
-    """A statement that changes one value or one row of some table."""
-    name = dice.choice([it for it in tables if tables[it]])
-    connection = sqlite3.connect(":memory:")
-    connection.close()
-    rowid = f"(SELECT rowid FROM {name} ORDER BY rowid LIMIT 1 OFFSET {dice.randrange(len(tables[name]))})"
-    if dice.random() < 0.15:
-        return f"DELETE FROM {name} WHERE rowid = {rowid}"
-    value = dice.choice([*VALUES, *dice.choice(tables[name])])
-    return f"UPDATE {name} SET COLUMN{dice.randrange(len(tables[name][0]))} = {value!r} WHERE rowid = {rowid}"
-
-
-def changed_copy(path: str, copy: str, statement: str) -> bool:
-    """A copy of a file, changed by a statement; whether the schema takes it."""
-    shutil.copy(path, copy)
-    connection = sqlite3.connect(copy, isolation_level=None)
-    try:
-        words = statement.split(" ")
-        if words[0] == "UPDATE":
-            columns = [row[1] for row in connection.execute(f"PRAGMA table_info({words[1]})")]
-            statement = statement.replace(words[3], columns[int(words[3].removeprefix("COLUMN"))], 1)
-        connection.execute(statement)
-    except sqlite3.Error:
-        return False
-    finally:
-        connection.close()
-    return True
-
-
 def opening(program: str, folder: str, path: str, title: str, moment: int) -> Opening:
     """Opens a file at a moment, with no line behind, and puts down what came of it."""
     before = rows_of(path)
     status, printed = run_in(folder, [program, "run", "--db", path, "--at", str(moment), "/dev/null"])
     return Opening(title, before, moment, printed if status == 0 else None, rows_of(path) if status == 0 else None)
 
-
-def openings(program: str, path: str, seed: int, count: int) -> list[Opening]:
-    """Openings of a file as it is, and of copies in each of which one thing was changed."""
-    dice, made = random.Random(seed), []
-    tables = rows_of(path)
-    with tempfile.TemporaryDirectory(prefix="planted-") as folder:
-        shutil.copy(path, f"{folder}/whole.db")
-        made.append(opening(program, folder, f"{folder}/whole.db", "as it was left", 4102444000))
-        for at in range(count):
-            statement = some_change(dice, tables)
-            copy = f"{folder}/{at}.db"
-            if changed_copy(path, copy, statement):
-                made.append(opening(program, folder, copy, statement, dice.choice([0, 5, 4102444799])))
-            os.remove(copy)
-    return made

@@ -21,7 +21,6 @@ class Cases:
     """The program, a folder to work in, and how many cases passed."""
 
     def __init__(self, program: str, work: str) -> None:
-        """No case was tried yet."""
         self.program, self.work, self.passed, self.failed, self.numbers = program, work, 0, 0, count(1)
         self.refusals: set[int] = set()
 
@@ -41,7 +40,7 @@ class Cases:
         os.mkdir(made)
         return made
 
-    def server(self, folder: str, connections: int, *words: str, **more: Any) -> Server:
+    def server(self, folder: str, connections: Optional[int], *words: str, **more: Any) -> Server:
         """The server of desk.db in this folder."""
         return Server(self.program, folder, "desk.db", connections, words, **more)
 
@@ -58,8 +57,7 @@ class Cases:
         self.refusals |= made.refusals
         return made
 
-    def play(self, name: str, cases: Iterable[Case], before: Sequence[str] = (), files: Optional[dict[str, str]] = None,
-             looks: bool = True) -> None:
+    def play(self, name: str, cases: Iterable[Case], before: Sequence[str] = (), files: Optional[dict[str, str]] = None, looks: bool = True) -> None:
         """Sends these cases to a new desk, or to one that answered the lines before, which may load these files, with questions behind them, and
         looks at the file in the end."""
         folder = self.folder()

@@ -48,13 +48,12 @@ def free_port() -> int:
 class Server:
     """The program as it serves a desk in a file, for so many connections. It is killed at the end of the block, if it has not ended."""
 
-    def __init__(self, program: str, folder: str, database: str, count: Optional[int], words: Sequence[str] = (),
-                 env: Optional[dict[str, str]] = None, first: Optional[Callable[[], object]] = None, port: Optional[int] = None,
-                 told: Optional[str] = None) -> None:
+    def __init__(self, program: str, folder: str, database: str, count: Optional[int], words: Sequence[str] = (), env: Optional[dict[str, str]] = None,
+                 first: Optional[Callable[[], None]] = None, port: Optional[int] = None, told: Optional[str] = None) -> None:
         """Starts it, without a word for how many connections where that is None, with these variables beside those of this process, after that
-        call. What it writes to descriptor 9 comes into the file `told`."""
+        call. What it writes to descriptor 9 comes into the file
+        `told`."""
         def begin() -> None:
-            """What the new process does before it is the program."""
             if told:
                 os.dup2(os.open(told, os.O_WRONLY | os.O_CREAT | os.O_TRUNC), 9)
             if first:

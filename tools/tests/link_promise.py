@@ -5,7 +5,7 @@ TERM in each service, LIMIT in one that has started, NN(R) and SYNCH in S4 where
 Nothing is known here of how a desk comes to its answers.
 """
 from collections import Counter
-from typing import Iterable, Optional
+from typing import Optional
 
 from model.facts import PLACE_WORDS
 
@@ -25,12 +25,11 @@ class Judge:
         """Nothing was printed yet."""
         self.places: list[str] = []
         self.counts: Counter[str] = Counter()
-        self.rows, self.skip = 0, 0
         self.seen: Counter[str] = Counter()
+        self.rows, self.skip, self.last_accepted, self.last_confirmed = 0, 0, 0, 0
         self.transmitted: dict[int, int] = {}
         self.accepted: Counter[int] = Counter()
         self.confirmed: Counter[int] = Counter()
-        self.last_accepted = self.last_confirmed = 0
         self.is_kept, self.is_started = True, False
         self.fop: dict[str, str] = {}
         self.farm: dict[str, str] = {}
@@ -38,7 +37,7 @@ class Judge:
         # what may come before a service has started: that is told by the first `link` behind its initiation
         self.may_come: Optional[set[str]] = None
 
-    def reads(self, lines: Iterable[str]) -> Optional[str]:
+    def reads(self, lines: list[str]) -> Optional[str]:
         """All lines of a run. Answers what does not hold; none where all does."""
         for number, line in enumerate(lines, 1):
             try:
@@ -72,12 +71,12 @@ class Judge:
         elif line.startswith("ok accepted "):
             self.accepts(int(line.rsplit(" ", 1)[1]))
 
-    def need(self, holds: object, why: str) -> None:
+    def need(self, holds: bool, why: str) -> None:
         """What has to hold."""
         if not holds:
             raise Broken(why)
 
-    def promised(self, holds: object, why: str) -> None:
+    def promised(self, holds: bool, why: str) -> None:
         """What has to hold while the premise is kept, and may not afterwards."""
         self.need(holds or not self.is_kept, why)
         if not holds:

@@ -7,9 +7,8 @@ import os
 import tempfile
 from dataclasses import dataclass, field
 from itertools import zip_longest
-from typing import NamedTuple
 
-from model.facts import COLUMNS, SCHEMA
+from model.facts import SCHEMA
 from model.kept import connect, sqlite3
 from model.rows import ROWS
 from tests.asked import ASKED
@@ -350,6 +349,7 @@ PROCEDURES = Case("procedures", [(0, """\
     "record": "1|1|1|ann|zoe|24\n1|2|1|ann|bob|25\n1|3|2|ann||26\n2|1|3|cid||27\n3|1|2|eve|ann|28\n",
 })
 CASES = (Case("nothing", [(0, "")], 0), ENTRIES, MOVES, STACKS, PROCEDURES)
+TEXTS = {"name", "outcome", "author", "stack", "person", "procedure", "body", "second"}
 
 
 # ---- what differs
@@ -357,12 +357,14 @@ CASES = (Case("nothing", [(0, "")], 0), ENTRIES, MOVES, STACKS, PROCEDURES)
 def row_faults(case: Case, connection: sqlite3.Connection, name: str) -> tuple[list[str], int, int]:
     """How a table's rows differ from those that are written out; they stand in the order in which they were written."""
     wanted = case.rows.get(name, {"meta": "schema|1", "tally": NO_TALLY}.get(name, "")).splitlines()
-    rows, kinds = connection.execute(f"SELECT * FROM {name} ORDER BY rowid").fetchall(), list(COLUMNS[name].values())
+    cursor = connection.execute(f"SELECT * FROM {name} ORDER BY rowid")
+    columns, rows = [it[0] for it in cursor.description], cursor.fetchall()
+    kinds = [str if it in TEXTS else int for it in columns]
     faults = [f"{name}: {row} is of other kinds" for row in rows if [type(it) for it in row] != kinds]
     for want, row in zip_longest(wanted, ["|".join(str(it) for it in row) for row in rows]):
         if want != row:
             faults.append(f"{name}: the row {row}, and not {want}")
-    return faults[:1], len(rows), len(rows) * len(kinds)
+    return faults[:1], len(rows), len(rows) * len(columns)
 
 
 def schema_faults(connection: sqlite3.Connection) -> tuple[list[str], int]:
@@ -376,8 +378,7 @@ def schema_faults(connection: sqlite3.Connection) -> tuple[list[str], int]:
 
 def desk_faults(program: str, case: Case, folder: str) -> list[str]:
     """Runs the days of a desk; what its lines are refused, and how often."""
-    refused = 0
-    faults: list[str] = []
+    refused, faults = 0, []
     for at, (moment, lines) in enumerate(case.days):
         write_lines(f"{folder}/day{at}.tc", lines.splitlines())
         ran = run_kept(program, folder, "desk.db", moment, f"day{at}.tc")
@@ -386,16 +387,8 @@ def desk_faults(program: str, case: Case, folder: str) -> list[str]:
     return faults + ([f"{refused} lines were refused, and not {case.refused}"] if refused != case.refused else [])
 
 
-class Found(NamedTuple):
-    """What was found of a desk: faults, and how many rows, values and statements there were."""
-    faults: list[str]
-    rows: int
-    values: int
-    statements: int
-
-
-def try_case(program: str, case: Case, work: str) -> Found:
-    """What is found of a desk."""
+def try_case(program: str, case: Case, work: str) -> tuple[list[str], int, int, int]:
+    """A desk: its faults, its rows, its values and its statements."""
     folder = f"{work}/{case.name}"
     os.mkdir(folder)
     for name, text in FILES.items():
@@ -411,7 +404,7 @@ def try_case(program: str, case: Case, work: str) -> Found:
         of_schema, statements = [f"the file does not read: {fault}"], 0
     finally:
         connection.close()
-    return Found([f"{case.name}: {it}" for it in faults + of_schema], rows, values, statements)
+    return [f"{case.name}: {it}" for it in faults + of_schema], rows, values, statements
 
 
 class Written(Tried):
@@ -421,7 +414,7 @@ class Written(Tried):
         """Each desk has the rows that are written out, and is made by these statements."""
         with tempfile.TemporaryDirectory(prefix="written-") as work:
             told = [try_case(ASKED.program, case, work) for case in CASES]
-        faults = [it for found in told for it in found.faults]
-        print(f"written cases: {len(CASES)} desks, {sum(it.rows for it in told)} rows, {sum(it.values for it in told)} values,"
-              f" {sum(it.statements for it in told)} statements, {len(faults)} differ")
+        faults = [it for found, *_ in told for it in found]
+        rows, values, statements = sum(it[1] for it in told), sum(it[2] for it in told), sum(it[3] for it in told)
+        print(f"written cases: {len(CASES)} desks, {rows} rows, {values} values, {statements} statements, {len(faults)} differ")
         self.no_faults(faults)
