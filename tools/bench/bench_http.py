@@ -18,6 +18,7 @@ import time
 from collections import defaultdict
 from contextlib import closing
 from pathlib import Path
+from typing import Sequence
 
 try:
     import sqlite3
@@ -33,26 +34,27 @@ TURNS = 3
 PAGE = 4096
 PROCESSES = 10
 WANTED = 0.5
+Spent = tuple[float, float]  # seconds by the clock, and of processors
 
 
-def act_of(at):
+def act_of(at: int) -> str:
     """The act that enters the request at this place of the list, from 0."""
     return f"enter {at % PROCESSES} ---- no 8 1 - - ok"
 
 
-def acts_served(program, folder, count):
+def acts_served(program: str, folder: str, count: int) -> float:
     """Acts by POST /acts."""
     raws = [post("/acts", entry(act=act_of(at), by="a", moment=0)) for at in range(count)]
     return served(program, folder, raws, b"HTTP/1.1 200 OK\r\n")
 
 
-def questions_served(program, folder, count):
+def questions_served(program: str, folder: str, count: int) -> float:
     """Questions by GET /places, of a desk on which acts were made."""
     script(program, folder, count, "run", "--db", "desk.db", "script.tc")
     return served(program, folder, [get("/places")] * count, b"HTTP/1.1 200 OK\r\n")
 
 
-def served(program, folder, raws, begins):
+def served(program: str, folder: str, raws: Sequence[bytes], begins: bytes) -> float:
     """Seconds in which the server answers all of these, one connection each."""
     with Server(program, folder, "desk.db", len(raws) + 1) as server:
         server.exchange(get("/places"))
@@ -65,7 +67,7 @@ def served(program, folder, raws, begins):
     return took
 
 
-def script(program, folder, count, *words):
+def script(program: str, folder: str, count: int, *words: str) -> float:
     """Seconds in which the program runs a script of so many acts, by these words."""
     with open(f"{folder}/script.tc", "w", encoding="ascii") as file:
         file.write("".join(f"0 a {act_of(at)}\n" for at in range(count)))
@@ -77,15 +79,15 @@ def script(program, folder, count, *words):
     return took
 
 
-def texts():
+def texts() -> list[str]:
     """The store's own texts of SQL."""
-    found = []
+    found: list[str] = []
     for path in sorted(Path(f"{TOP}/crates/tc_store/src").glob("*.rt")):
         found += re.findall(r'"((?:CREATE|INSERT) [^"]*)"', path.read_text(encoding="utf-8"))
     return found
 
 
-def bare_store(program, folder, count):
+def bare_store(program: str, folder: str, count: int) -> float:
     """The rows of the same acts on the bare store."""
     bare = os.path.join(os.path.dirname(os.path.realpath(program)), "../../tc_bench/out/tc_bench")
     began = time.monotonic()
@@ -96,7 +98,7 @@ def bare_store(program, folder, count):
     return took
 
 
-def own_library(_, folder, count):
+def own_library(_: str, folder: str, count: int) -> float:
     """The rows of the same acts by SQLite's own library."""
     made = texts()
     begins = ("INSERT INTO request ", "INSERT INTO move ", "INSERT OR REPLACE INTO tally ")
@@ -117,11 +119,11 @@ def own_library(_, folder, count):
         return time.monotonic() - began
 
 
-def pages(_, folder, count):
+def pages(_: str, folder: str, count: int) -> float:
     """A page that is written behind the last one, and a sync, so often."""
     with open(f"{folder}/pages", "wb", buffering=0) as file:
         began = time.monotonic()
-        for _ in range(count):
+        for _turn in range(count):
             file.write(bytes(PAGE))
             os.fdatasync(file.fileno())
         return time.monotonic() - began
@@ -138,9 +140,9 @@ MEASURED = {
 }
 
 
-def measure(program, count, within):
+def measure(program: str, count: int, within: str) -> dict[str, Spent]:
     """The best seconds of each, and the user and kernel seconds of the programs in that turn."""
-    best = defaultdict(lambda: (float("inf"), 0.0))
+    best: dict[str, Spent] = defaultdict(lambda: (float("inf"), 0.0))
     for _ in range(TURNS):
         for name, measured in MEASURED.items():
             with tempfile.TemporaryDirectory(prefix="bench-http-", dir=within) as folder:
@@ -156,7 +158,7 @@ def measure(program, count, within):
     return best
 
 
-def main():
+def main() -> int:
     """Measures all, and prints the table."""
     parser = argparse.ArgumentParser(description=__doc__, formatter_class=argparse.RawDescriptionHelpFormatter)
     parser.add_argument("--program", default=BUILT, metavar="PATH", help="the program that is measured")

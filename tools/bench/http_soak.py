@@ -12,6 +12,7 @@ import tempfile
 import threading
 import time
 import unittest
+from typing import Callable, Sequence
 
 from generate.http_words import PLACES, act
 from tests.asked import ASKED
@@ -24,15 +25,18 @@ HELLO = bytes.fromhex("160301008f0100008b0303") + bytes(132)  # the front of a T
 class Soak:
     """A server, and what came of the good requests."""
 
-    def __init__(self, server, seconds, seed):
+    def __init__(self, server: Server, seconds: float, seed: str) -> None:
+        """Nothing was asked yet; it ends after so many seconds."""
         self.server, self.seed, self.end, self.lock = server, seed, time.monotonic() + seconds, threading.Lock()
-        self.answered, self.entered, self.longest, self.bad, self.peers = 0, 0, 0.0, [], 0
+        self.answered, self.entered, self.longest, self.peers = 0, 0, 0.0, 0
+        self.bad: list[tuple[float, bytes]] = []
 
     @property
-    def goes_on(self):
+    def goes_on(self) -> bool:
+        """Whether its time is not over."""
         return time.monotonic() < self.end
 
-    def good(self, number):
+    def good(self, number: int) -> None:
         """One good client."""
         dice = random.Random(f"{self.seed} {number}")
         while self.goes_on:
@@ -50,7 +54,7 @@ class Soak:
                     self.bad.append((round(took, 1), got[:80]))
             time.sleep(1)
 
-    def rude(self, kinds):
+    def rude(self, kinds: Sequence[Callable[["Soak", random.Random], None]]) -> None:
         """Peers of these kinds, one after the other."""
         dice = random.Random(f"{self.seed} {kinds[0].__name__}")
         while self.goes_on:
@@ -61,20 +65,20 @@ class Soak:
             self.peers += 1
             time.sleep(dice.random())
 
-    def figures(self):
+    def figures(self) -> tuple[int, int]:
         """The server's memory in KiB, and its handles."""
         with open(f"/proc/{self.server.process.pid}/status", encoding="ascii") as file:
             memory = next(it.split()[1] for it in file if it.startswith("VmRSS"))
         return int(memory), len(os.listdir(f"/proc/{self.server.process.pid}/fd"))
 
 
-def silent(soak, dice):
+def silent(soak: Soak, dice: random.Random) -> None:
     with soak.server.connect() as peer:
         send(peer, PLACES[:dice.randrange(9)])
         received(peer)
 
 
-def dripping(soak, dice):
+def dripping(soak: Soak, dice: random.Random) -> None:
     with soak.server.connect() as peer:
         peer.settimeout(0.01)
         for byte in b"GET /places HTTP/1.1\r\nX: " + b"a" * 200:
@@ -82,32 +86,32 @@ def dripping(soak, dice):
             time.sleep(dice.random())
 
 
-def resetting(soak, dice):
+def resetting(soak: Soak, dice: random.Random) -> None:
     peer = soak.server.connect()
     send(peer, act("link")[:dice.randrange(90)])
     reset(peer)
 
 
-def half(soak, dice):
+def half(soak: Soak, dice: random.Random) -> None:
     with soak.server.connect() as peer:
         send(peer, act("link")[:dice.randrange(90)])
         peer.shutdown(socket.SHUT_WR)
         received(peer)
 
 
-def foreign(soak, _):
+def foreign(soak: Soak, _: random.Random) -> None:
     with soak.server.connect() as peer:
         send(peer, HELLO)
         received(peer)
 
 
-def noisy(soak, dice):
+def noisy(soak: Soak, dice: random.Random) -> None:
     with soak.server.connect() as peer:
         send(peer, dice.randbytes(dice.randrange(20000)))
         received(peer)
 
 
-def flooding(soak, dice):
+def flooding(soak: Soak, dice: random.Random) -> None:
     for peer in [soak.server.connect() for _ in range(dice.randrange(60))]:
         peer.close()
     time.sleep(5)

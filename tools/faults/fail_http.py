@@ -15,10 +15,10 @@ import tempfile
 import time
 import unittest
 from collections import Counter
-from typing import NamedTuple
+from typing import Callable, NamedTuple, Optional, Sequence, Union
 
 from generate import http_posts as posts, http_requests as requests
-from generate.http_words import BODY, ENTRY, PLACES, Case, act, get, load, post
+from generate.http_words import BODY, ENTRY, PLACES, Case, Want, act, get, load, post
 from model.http import LARGE, NO_PATH, OTHER_METHOD, reply_response
 from tests.asked import ASKED
 from tests.http_peer import PATIENCE, Ended, Expected, Fault, Server, run
@@ -30,37 +30,43 @@ SLOW = 5.0  # seconds in which a request that is read a byte at a time has to be
 MEMORY, STORE, STOPPED = (reply_response([it]) for it in ("refused 30 Memory", "refused 31 Store", "refused 32 Stopped"))
 
 
+Counts = tuple[Optional[int], Optional[int]]  # how often is read, and written; none where that is not known
+
+
 class Runs:
     """The program, a folder to work in with an empty desk, the libraries that are preloaded, and how many runs there were."""
 
-    def __init__(self, program, folder):
-        self.program, self.folder, self.counts, self.seen = program, folder, Counter(), Counter()
+    def __init__(self, program: str, folder: str) -> None:
+        self.program, self.folder = program, folder
+        self.counts: Counter[str] = Counter()
+        self.seen: Counter[str] = Counter()
         for name in ("fail_io", "fail_malloc"):
             made_shim(name, folder)
         run(program, folder, [], "--db", "left.db")
 
-    def bad(self, name, *what):
+    def bad(self, name: str, *what: object) -> None:
         """Tells of a run that was bad."""
         self.counts["bad"] += 1
         print(f"{name}: {', '.join(f'{it!r:.300}' for it in what)}", flush=True)
         if self.counts["bad"] >= MOST_BAD:
             raise Fault("too many runs were bad")
 
-    def server(self, connections, library=None, words=(), first=None, **settings):
+    def server(self, connections: int, library: Optional[str] = None, words: Sequence[str] = (), first: Optional[Callable[[], None]] = None,
+               settings: Optional[dict[str, int]] = None) -> Server:
         """The server of a copy of the desk that was left, with this library preloaded; what this tells by descriptor 9 is in the file `told`."""
         for end in ("", "-wal"):
             if os.path.exists(f"{self.folder}/kept.db{end}"):
                 os.remove(f"{self.folder}/kept.db{end}")
         shutil.copy(f"{self.folder}/left.db", f"{self.folder}/kept.db")
-        env = {**{it: str(value) for it, value in settings.items()}, **({"LD_PRELOAD": f"{self.folder}/{library}.so"} if library else {})}
+        env = {**{it: str(value) for it, value in (settings or {}).items()}, **({"LD_PRELOAD": f"{self.folder}/{library}.so"} if library else {})}
         return Server(self.program, self.folder, "kept.db", connections, words, env=env, told=f"{self.folder}/told", first=first)
 
-    def told(self):
+    def told(self) -> str:
         """What a library told."""
         with open(f"{self.folder}/told", encoding="ascii") as file:
             return file.read()
 
-    def entered(self):
+    def entered(self) -> int:
         """How many requests the file tells, which has to be a desk's."""
         return int(run(self.program, self.folder, [], "--db", "kept.db").split(":")[0].removeprefix("places "))
 
@@ -70,34 +76,35 @@ class Runs:
 class Wanted(NamedTuple):
     """What a run with failing streams has to do: the answers, how often is read at least and how often written, where that is known, and how many
     requests stand."""
-    answers: list
-    counts: tuple
+    answers: list[bytes]
+    counts: Counts
     entered: int
 
 
-def is_counted(wanted, counts, connections):
+def is_counted(wanted: Counts, counts: tuple[int, int], connections: int) -> bool:
     """Whether so often was read and written. Behind an answer a server may read a little more, so that its peer does not lose the answer."""
     least, writes = wanted
     return (least is None or least <= counts[0] <= least + MOST_BEHIND * connections) and writes in (None, counts[1])
 
 
-def stream(runs, name, raws, wanted, within=PATIENCE, **settings):
+def stream(runs: Runs, name: str, raws: Sequence[bytes], wanted: Wanted, within: float = PATIENCE, **settings: int) -> None:
     """One run with these settings of fail_io.c, on these requests, within so many seconds."""
     runs.counts["streams"] += 1
     began = time.monotonic()
-    with runs.server(len(raws), "fail_io", SOCKETS=1, **settings) as server:
+    with runs.server(len(raws), "fail_io", settings={"SOCKETS": 1, **settings}) as server:
         got = [server.exchange(it) for it in raws]
         took, ended = time.monotonic() - began, server.end()
-    counts = tuple(int(it) for it in runs.told().split())
+    reads, writes = (int(it) for it in runs.told().split())
+    counts = (reads, writes)
     found = Wanted(got, wanted.counts if is_counted(wanted.counts, counts, len(raws)) else counts, runs.entered())
     if found != wanted or ended != Ended(0, "", server.says) or took > within:
         runs.bad(f"{name}, {settings}", found, wanted, ended, f"{took:.1f} s")
 
 
-def each_fails(runs, request, entered, step):
+def each_fails(runs: Runs, request: bytes, entered: int, step: int) -> None:
     """Of a request that enters so many, and of the question behind it: each read, or each stepth, fails, each write fails, or takes nothing."""
-    right = Expected(runs.program, runs.folder, [Case("", request), Case("", PLACES)]).responses
-    before = Expected(runs.program, runs.folder, [Case("", PLACES)]).responses[0]
+    right = Expected(runs.folder, [Case("", request), Case("", PLACES)]).responses
+    before = Expected(runs.folder, [Case("", PLACES)]).responses[0]
     raws, name = [request, PLACES], repr(request[:12])
     for at in range(1, len(request) + 1, step):
         stream(runs, f"a read of {name}", raws, Wanted([b"", before], (at + len(PLACES), 1), 0), READ_MOST=1, READ_FAIL_AT=at)
@@ -110,7 +117,7 @@ def each_fails(runs, request, entered, step):
         stream(runs, f"short pieces of {name}", raws, Wanted(right, (None, None), entered), READ_MOST=most, WRITE_MOST=most)
 
 
-def streams(runs):
+def streams(runs: Runs) -> None:
     """Each read and each write of an exchange fails in turn; and the longest requests come a byte a read."""
     for request, entered, step in ((act(ENTRY), 1, 1), (PLACES, 0, 4), (load("stack", "s1", posts.rows(3)), 3, 7)):
         each_fails(runs, request, entered, step)
@@ -118,9 +125,9 @@ def streams(runs):
     for name, request, entered in (("a body of 65,536 bytes", post("/acts", body), 1), ("a head of 8,192 bytes", requests.padded(8192), 0),
                                    ("64 lines and a body of 65,536 bytes", post("/acts", body, *["a: b"] * 61), 1),
                                    ("a head of 8,192 bytes and a body of 65,536", requests.sized(8192, body), 1)):
-        right = Expected(runs.program, runs.folder, [Case("", request)]).responses
+        right = Expected(runs.folder, [Case("", request)]).responses
         stream(runs, f"{name}, a byte a read", [request], Wanted(right, (len(request), 1), entered), SLOW, READ_MOST=1)
-    endless = Expected(runs.program, runs.folder, [Case("", b"\n" * 8193)]).responses
+    endless = Expected(runs.folder, [Case("", b"\n" * 8193)]).responses
     stream(runs, "line ends without end", [PLACES], Wanted(endless, (8193, 1), 0), SLOW, READ_MOST=1, READ_LINE_ENDS=1)
 
 
@@ -129,14 +136,14 @@ def streams(runs):
 class Exchange:
     """A request, the right response, the right responses to /places before and after it, and how many requests it enters."""
 
-    def __init__(self, runs, raw):
+    def __init__(self, runs: Runs, raw: bytes) -> None:
         self.raw = raw
-        self.right, self.after = Expected(runs.program, runs.folder, [Case("", raw), Case("", PLACES)]).responses
-        self.before = Expected(runs.program, runs.folder, [Case("", PLACES)]).responses[0]
+        self.right, self.after = Expected(runs.folder, [Case("", raw), Case("", PLACES)]).responses
+        self.before = Expected(runs.folder, [Case("", PLACES)]).responses[0]
         self.enters = int(self.after.split(b"places ")[1].split(b":")[0])
 
 
-def why_bad(it, first, second, stands):
+def why_bad(it: Exchange, first: bytes, second: bytes, stands: int) -> Optional[tuple[bytes, bytes, int]]:
     """What is wrong of these two responses and of how many requests stand then; none where nothing is."""
     if first == it.right:
         is_right = second in (it.after, MEMORY, STORE, b"") and stands == it.enters
@@ -149,19 +156,19 @@ def why_bad(it, first, second, stands):
     return None if is_right else (first, second, stands)
 
 
-def kind_of(it, response):
+def kind_of(it: Exchange, response: bytes) -> str:
     """What a response is called where the runs are counted."""
     return {it.right: "right", it.after: "right", MEMORY: "refused 30", STORE: "refused 31", b"": "not answered"}.get(response, "another")
 
 
-def parted(ended):
+def parted(ended: Ended) -> tuple[Ended, list[str]]:
     """How a program ended but for what it said of connections, and how it said that each of these ended."""
     lines = ended.err.splitlines(keepends=True)
     told = [it for it in lines if it.startswith("tcdesk: connection ")]
     return ended._replace(err="".join(it for it in lines if it not in told)), [it.split(": ")[2].strip() for it in told]
 
 
-def look_at_ends(runs, got, ends):
+def look_at_ends(runs: Runs, got: Sequence[bytes], ends: Sequence[str]) -> None:
     """Whether of each connection is told that it was answered, or why not."""
     for response, end in zip(got, ends):
         runs.seen[f"told {end}"] += 1
@@ -169,10 +176,12 @@ def look_at_ends(runs, got, ends):
             runs.bad("how a connection ended", end, response)
 
 
-def refused(runs, it, at):
+def refused(runs: Runs, it: Exchange, at: int) -> bool:
     """One run with the request for memory of this number refused. False where it was not made."""
-    got, ends = [], []
-    with runs.server(2, "fail_malloc", ("--verbose",), FAIL_AT=at, FAIL_BEHIND_ACCEPT=1) as server:
+    got: list[bytes] = []
+    ends: list[str] = []
+    ended: Union[Ended, Fault]
+    with runs.server(2, "fail_malloc", ("--verbose",), settings={"FAIL_AT": at, "FAIL_BEHIND_ACCEPT": 1}) as server:
         try:
             for raw in (it.raw, PLACES):
                 got.append(server.exchange(raw))
@@ -184,7 +193,7 @@ def refused(runs, it, at):
     runs.counts["memory"] += 1
     runs.seen[kind_of(it, got[0]) if got else "not accepted"] += 1
     look_at_ends(runs, got, ends)
-    why = why_bad(it, *got, runs.entered()) if len(got) == 2 else got
+    why: object = why_bad(it, got[0], got[1], runs.entered()) if len(got) == 2 else got
     # Where both were answered the memory was wanted as the desk was closed.
     closings = [Ended(0, "", server.says)]
     closings += [Ended(2, "", f"{server.says}tcdesk: cannot use {what}\n") for what in ("memory", "kept.db") if b"" not in got]
@@ -193,7 +202,7 @@ def refused(runs, it, at):
     return True
 
 
-def memory(runs):
+def memory(runs: Runs) -> None:
     """Each request for memory of an exchange, or each of some steps, is refused in turn."""
     for raw, step in ((act(ENTRY), 1), (load("stack", "s1", posts.rows(3)), 5), (act("report 0 9"), 1), (get("/history/1/0"), 2),
                       (b"GET /none HTTP/1.1\n\n", 1), (requests.padded(8193), 1), (act("x" * 201), 1), (post("/acts", "{"), 1)):
@@ -208,15 +217,15 @@ def memory(runs):
 
 # ---- the disk
 
-def small_files(size):
+def small_files(size: int) -> Callable[[], None]:
     """No file of the process may pass this size."""
-    def limit():
+    def limit() -> None:
         signal.signal(signal.SIGXFSZ, signal.SIG_IGN)
         resource.setrlimit(resource.RLIMIT_FSIZE, (size, size))
     return limit
 
 
-def disk(runs):
+def disk(runs: Runs) -> None:
     """The database cannot be written: 31, and then 32 of all that reaches the desk."""
     told = [Case("a question", PLACES, 0), Case("an act", act(ENTRY), 31), Case("a question behind it", PLACES, 32),
             Case("an act behind it", act(ENTRY), 32), Case("a history", get("/history/1/0"), 32), Case("a posted question", act("link"), 32),
@@ -227,8 +236,9 @@ def disk(runs):
             Case("a long stack of a bad name", load("stack", "No", posts.rows(201)), 17), Case("no path", get("/none"), NO_PATH),
             Case("another method", get("/acts"), OTHER_METHOD), Case("a long body", post("/acts", "", length=65537), LARGE),
             Case("a question in the end", PLACES, 32)]
-    right = Expected(runs.program, runs.folder, told)
-    wanted = [{31: STORE, 32: STOPPED}.get(case.want, response) for case, response in zip(told, right.responses)]
+    right = Expected(runs.folder, told)
+    ends: dict[Want, bytes] = {31: STORE, 32: STOPPED}
+    wanted = [ends.get(case.want, response) for case, response in zip(told, right.responses)]
     # with fewer bytes than some hundred the file cannot be opened
     for size in (1000, 4151, 4152, 5000):
         with runs.server(len(told), first=small_files(size)) as server:
@@ -257,7 +267,8 @@ class HttpFaults(unittest.TestCase):
         """How many runs there were; none may have been bad."""
         counts = self.runs.counts
         seen = ", ".join(f"{count} {name}" for name, count in sorted(self.runs.seen.items()))
-        print(f"fail http: {counts['streams']} stream runs, {counts['memory']} memory runs ({seen}), {counts['disk']} of the disk, {counts['bad']} bad")
+        print(f"fail http: {counts['streams']} stream runs, {counts['memory']} memory runs ({seen}),"
+              f" {counts['disk']} of the disk, {counts['bad']} bad")
         self.assertEqual(0, counts["bad"], "runs were bad")
 
     def test_streams(self) -> None:

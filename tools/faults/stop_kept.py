@@ -20,6 +20,7 @@ import unittest
 from concurrent.futures import ThreadPoolExecutor
 from contextlib import closing
 from dataclasses import dataclass
+from typing import Any, Iterable, Optional
 
 from model.kept import sqlite3
 from tests.asked import ASKED
@@ -30,9 +31,10 @@ LEFT, OPENED, AGAIN = 100, 1000, 9000
 
 # The statuses of a program that tools/faults/stop_io.c stopped, and of one that it was to stop in the middle of a call that has none.
 STOPPED, NOTHING_TO_HALVE = 137, 138
+Rows = list[tuple[Any, ...]]  # of a table, as SQLite gives them
 
 # The four ways of a stop, by their settings.
-WAYS = {
+WAYS: dict[str, dict[str, str]] = {
     "before the call": {},
     "in the call": {"STOP_HALF": "1"},
     "before the call, the power lost": {"STOP_LOST": "1"},
@@ -113,34 +115,34 @@ STACK_HEAD = "line,apid,service,subtype,target,time,ack,critical,after,outcome"
 PROCEDURE = "step,text,second,request\n1,check the battery,no,\n2,switch the heater on,yes,1\n3,check the temperature,no,\n"
 
 
-def stack_of(rows):
+def stack_of(rows: int) -> str:
     """The text of a stack of so many rows, each of which waits for the one before it."""
     lines = [f"{row},{6 + row % 3},8,{row},,,a--c,no,{row - 1 or ''},ok" for row in range(1, rows + 1)]
     return "\n".join([STACK_HEAD, *lines, ""])
 
 
-def write(path, text):
+def write(path: str, text: str) -> str:
     """Writes a text to a file."""
     with open(path, "w", encoding="ascii") as it:
         it.write(text)
     return path
 
 
-def script_of(path, moment, lines):
+def script_of(path: str, moment: int, lines: Iterable[str]) -> str:
     """Writes a script of lines that all have one moment."""
     return write(path, "".join(f"{moment} {line}\n" for line in lines))
 
 
-def without_last_line(out):
+def without_last_line(out: bytes) -> bytes:
     """What was printed before the counts, which each run that is not stopped prints at its end."""
     return out[: out.rstrip(b"\n").rfind(b"\n") + 1]
 
 
-def tables_of(path):
+def tables_of(path: str) -> dict[str, Rows]:
     """What SQLite reads from a database file alone: whether it is sound, its schema, and all rows of each table."""
     with closing(sqlite3.connect(f"file:{path}?mode=ro&immutable=1", uri=True)) as it:
         schema = it.execute("SELECT type, name, tbl_name, sql FROM sqlite_schema ORDER BY type, name").fetchall()
-        tables = {"the schema": schema, "what is sound": it.execute("PRAGMA integrity_check").fetchall()}
+        tables: dict[str, Rows] = {"the schema": schema, "what is sound": it.execute("PRAGMA integrity_check").fetchall()}
         for kind, name, _, _ in schema:
             if kind == "table":
                 tables[name] = it.execute(f"SELECT rowid, * FROM {name} ORDER BY rowid").fetchall()
@@ -154,9 +156,9 @@ class Seen:
     status: int
     out: bytes
     err: bytes
-    tables: dict
+    tables: dict[str, Rows]
 
-    def unlike(self, right):
+    def unlike(self, right: "Seen") -> str:
         """In what this is not what is right, in words."""
         if self.status != right.status or self.err:
             return f"it is not opened: status {self.status}, {self.err.decode(errors='replace').strip()}"
@@ -173,14 +175,14 @@ class Seen:
 class Desks:
     """The folder in which desks are made, run and stopped, and the program that does it."""
 
-    def __init__(self, work, program):
+    def __init__(self, work: str, program: str) -> None:
         """The library that stops the program is made in this folder, and the files that its lines load are put there."""
         self.work, self.program, self.shim = work, program, made_shim("stop_io", work)
         write(f"{work}/some.csv", stack_of(12))
         write(f"{work}/many.csv", stack_of(200))
         write(f"{work}/warm.csv", PROCEDURE)
 
-    def run(self, folder, script, moment, **settings):
+    def run(self, folder: str, script: str, moment: int, **settings: str) -> tuple[int, bytes, bytes]:
         """Runs a script on the desk of a folder, and gives how it ended, what it printed, and what it said of faults."""
         database = f"{folder}/desk.db"
         words = [self.program, "run", "--db", database, "--at", str(moment), script]
@@ -188,14 +190,14 @@ class Desks:
         it = subprocess.run(words, env=own, cwd=self.work, stdin=subprocess.DEVNULL, capture_output=True, timeout=600, check=False)
         return it.returncode, it.stdout, it.stderr
 
-    def whole(self, folder, script, moment):
+    def whole(self, folder: str, script: str, moment: int) -> bytes:
         """What a run prints that is not stopped, and has to end well."""
         status, out, err = self.run(folder, script, moment)
         if status or err:
             raise AssertionError(f"a run that was not stopped ended with status {status}: {err.decode(errors='replace')}")
         return out
 
-    def calls(self, folder, script, moment):
+    def calls(self, folder: str, script: str, moment: int) -> int:
         """How many calls a run makes that is not stopped."""
         told = self.run(folder, script, moment, STOP_AT="0")[2].strip()
         if not told.isdigit() or told == b"0":
@@ -206,7 +208,7 @@ class Desks:
 class Trial:
     """One run, and what its desk is where it is not stopped: before its opening, after that, and after each of its lines."""
 
-    def __init__(self, desks, run, pool):
+    def __init__(self, desks: Desks, run: Run, pool: ThreadPoolExecutor) -> None:
         self.desks, self.run, self.pool = desks, run, pool
         self.folder = tempfile.mkdtemp(dir=desks.work)
         self.script = script_of(f"{self.folder}/script", OPENED, run.lines)
@@ -220,22 +222,22 @@ class Trial:
             self.fronts.append(without_last_line(out))
             self.rights.append(seen)
 
-    def after(self, count):
+    def after(self, count: int) -> tuple[bytes, Seen]:
         """What a run of so many of the lines prints, and what is seen of the desk that it leaves."""
         folder = self.copy()
         prefix = script_of(f"{folder}/prefix", OPENED, self.run.lines[:count])
         out = self.desks.whole(folder, prefix, OPENED)
         return out, self.again(folder)
 
-    def empty(self):
+    def empty(self) -> str:
         """A new folder."""
         return tempfile.mkdtemp(dir=self.folder)
 
-    def copy(self):
+    def copy(self) -> str:
         """A new folder with a copy of the desk that the run begins with."""
-        return shutil.copytree(self.left, self.empty(), dirs_exist_ok=True)
+        return str(shutil.copytree(self.left, self.empty(), dirs_exist_ok=True))
 
-    def make_left(self):
+    def make_left(self) -> str:
         """Makes the desk that the run begins with, and gives its folder."""
         folder = self.empty()
         if not self.run.left:
@@ -244,16 +246,17 @@ class Trial:
         self.desks.whole(folder, script, LEFT)
         return self.left_open(script) if self.run.is_left_open else folder
 
-    def left_open(self, script):
+    def left_open(self, script: str) -> str:
         """A desk that was stopped at the first call after its last answer: its rows are in the log alone."""
-        found = None
+        found = ""
         for at in range(self.desks.calls(self.empty(), script, LEFT), 0, -1):
             folder = self.empty()
             if b"places" not in self.desks.run(folder, script, LEFT, STOP_AT=str(at))[1]:
                 return found
             found = folder
+        raise AssertionError("no stop comes before the last answer")
 
-    def again(self, folder):
+    def again(self, folder: str) -> Seen:
         """Opens the desk of a folder once more, tells what is seen of it, and removes the folder."""
         status, out, err = self.desks.run(folder, self.questions, AGAIN)
         try:
@@ -263,13 +266,13 @@ class Trial:
         shutil.rmtree(folder)
         return Seen(status, out, err, tables)
 
-    def answered(self, out):
+    def answered(self, out: bytes) -> list[int]:
         """The states up to which a run printed exactly this."""
         if out == self.all:
             return [len(self.fronts) - 1]
         return [state for state, front in enumerate(self.fronts) if front == out]
 
-    def stop(self, number, way):
+    def stop(self, number: int, way: str) -> Optional[str]:
         """Stops the run at a call, and tells which state it left: before, after, or either; of a fault, what it is. Nothing where there was no
         call to halve."""
         folder = self.copy()
@@ -293,11 +296,11 @@ class Trial:
             return "after"
         return f"after {out[-60:]!r}: not as before the act, {found.unlike(before)}; nor as after it, {found.unlike(after)}"
 
-    def numbers(self):
+    def numbers(self) -> range:
         """The numbers of the calls at which it is stopped: all."""
         return range(1, self.desks.calls(self.copy(), self.script, OPENED) + 1)
 
-    def tell(self):
+    def tell(self) -> tuple[int, int]:
         """Tries all stops, and says how they went. Gives how many there were, and how many disagreed."""
         tried = [(number, way) for number in self.numbers() for way in WAYS]
         found = self.pool.map(lambda it: self.stop(*it), tried)

@@ -393,9 +393,14 @@ class LosingWriter(Writer):
             super().fly()
 
 
+def is_losing(seed: int) -> bool:
+    """Whether the script of a seed is over a link that loses."""
+    return seed % LOSING_EACH == 3
+
+
 def book_script(seed: int, turns: int = LINES) -> Written:
     """The random script of a seed, with so many lines or a few more: each fourth is over a link that loses."""
-    dice, kind = Random(seed), LosingWriter if seed % LOSING_EACH == 3 else Writer
+    dice, kind = Random(seed), LosingWriter if is_losing(seed) else Writer
     script = kind(f"seed {seed}", dice, dice.choice([0, 0, 10**9, LAST_MOMENT - turns]))
     script.write(turns)
     script.ask_of_all()

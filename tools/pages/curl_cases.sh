@@ -9,35 +9,14 @@ program=${1:-$top/crates/tc_cli/out/tc_cli}
 command -v curl >/dev/null || { echo "curl_cases: curl is not installed (Debian: curl)" >&2; exit 1; }
 program=$(readlink -f "$program")
 work=$(mktemp -d) || exit 1
-server=
-end() {
-    [[ -z $server ]] || kill "$server" 2>/dev/null
-    rm -rf "$work"
-}
-trap end EXIT
+me=curl_cases
+. "$top/tools/lib.sh"
+trap end_cases EXIT
 cd "$top" || exit 1
-passed=0
-failed=0
-
-# tell NAME: counts a case by the status of the command before.
-tell() {
-    if [[ $? == 0 ]]; then
-        passed=$((passed + 1))
-    else
-        failed=$((failed + 1))
-        echo "curl_cases: $1" >&2
-        head -40 "$work/out" "$work/err" >&2
-    fi
-}
-
-# free: a port of 127.0.0.1 that nobody uses now.
-free() {
-    python3 -c 'import socket; s = socket.socket(); s.bind(("127.0.0.1", 0)); print(s.getsockname()[1])'
-}
 
 # start FILE COUNT: serves the desk of a file, and waits until it says that it listens.
 start() {
-    port=$(free)
+    port=$(free_port)
     count=$2
     "$program" serve "$1" "$port" "$count" >"$work/served" 2>"$work/served.err" &
     server=$!
@@ -186,7 +165,7 @@ tell "a port that is taken, and no file"
 "$program" serve "$work/second.db" "$port" 1 >"$work/out" 2>"$work/err"
 [[ $? == 2 && ! -s $work/out && $(<"$work/err") == "tcdesk: cannot use port $port" ]] && cmp "$work/stood.db" "$work/second.db" >>"$work/err" 2>&1
 tell "a port that is taken, and a desk"
-"$program" serve "$work/first.db" "$(free)" 1 >"$work/out" 2>"$work/err"
+"$program" serve "$work/first.db" "$(free_port)" 1 >"$work/out" 2>"$work/err"
 [[ $? == 2 && ! -s $work/out && $(<"$work/err") == "tcdesk: cannot use $work/first.db" ]]
 tell "a desk that is served already"
 curl -s "http://127.0.0.1:$port/places" >"$work/out" 2>"$work/err"

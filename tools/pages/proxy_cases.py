@@ -14,9 +14,10 @@ import subprocess
 import time
 from concurrent.futures import ThreadPoolExecutor
 from http.client import HTTPSConnection
+from typing import Optional
 
 from tests.asked import TOP
-from tests.http_cases import Served
+from tests.http_cases import Cases, Served
 from tests.http_peer import HERE, Fault, Server, free_port
 
 POSTS, AT_ONCE = 300, 60
@@ -35,10 +36,13 @@ http {{
 """
 
 
-def manual(folder, own, desk):
+def manual(folder: str, own: int, desk: int) -> str:
     """The manual's text for nginx, at these ports, with its files in this folder."""
     with open(f"{TOP}/docs/OPERATORS.md", encoding="utf-8") as file:
-        text = re.search(r"```nginx\n(.*?)```", file.read(), re.DOTALL)[1]
+        found = re.search(r"```nginx\n(.*?)```", file.read(), re.DOTALL)
+    if not found:
+        raise Fault("the manual has no text for nginx")
+    text = found[1]
     for old, new in (("127.0.0.1:8080", f"{HERE}:{desk}"), ("listen 443 ssl;", f"listen {HERE}:{own} ssl;"),
                      ("/etc/ssl/certs/tcdesk.pem", f"{folder}/tcdesk.pem"), ("/etc/ssl/private/tcdesk.key", f"{folder}/tcdesk.key"),
                      ("/etc/nginx/tcdesk.users", f"{folder}/tcdesk.users")):
@@ -48,7 +52,7 @@ def manual(folder, own, desk):
     return text
 
 
-def begin(folder, own, desk):
+def begin(folder: str, own: int, desk: int) -> subprocess.Popen[bytes]:
     """Starts the proxy, and waits until it listens."""
     openssl = ["openssl", "req", "-x509", "-newkey", "rsa:2048", "-nodes", "-days", "2", "-subj", "/CN=desk.example.org"]
     subprocess.run([*openssl, "-keyout", f"{folder}/tcdesk.key", "-out", f"{folder}/tcdesk.pem"], check=True, capture_output=True)
@@ -69,10 +73,10 @@ def begin(folder, own, desk):
 class Proxy:
     """The desk through the proxy."""
 
-    def __init__(self, port):
+    def __init__(self, port: int) -> None:
         self.port, self.context = port, ssl._create_unverified_context()
 
-    def ask(self, method, path, body=None, login="ann:secret"):
+    def ask(self, method: str, path: str, body: Optional[str] = None, login: Optional[str] = "ann:secret") -> tuple[int, str]:
         """The status and the text of an answer."""
         peer = HTTPSConnection(HERE, self.port, timeout=60, context=self.context)
         head = {"Content-Type": "application/json"} if body else {}
@@ -85,7 +89,7 @@ class Proxy:
         return answer.status, text
 
 
-def look(cases, proxy):
+def look(cases: Cases, proxy: Proxy) -> None:
     """All cases."""
     cases.tell("no login", 401, proxy.ask("GET", "/places", login=None)[0])
     cases.tell("a wrong word", 401, proxy.ask("GET", "/places", login="ann:wrong")[0])

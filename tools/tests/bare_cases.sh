@@ -8,16 +8,11 @@ export LC_ALL=C
 top=$(cd "$(dirname "${BASH_SOURCE[0]}")/../.." && pwd) || exit 1
 command -v curl >/dev/null || { echo "bare_cases: curl is not installed (Debian: curl)" >&2; exit 1; }
 work=$(mktemp -d) || exit 1
-server=
-end() {
-    [ -z "$server" ] || kill "$server" 2>/dev/null
-    rm -rf "$work"
-}
-trap end EXIT
+me=bare_cases
+. "$top/tools/lib.sh"
+trap end_cases EXIT
 root=$work/root
 desk=$root/opt/tcdesk
-passed=0
-failed=0
 
 # How a command is run in that root, by nobody.
 if [ "$(id -u)" = 0 ] && chroot / true 2>/dev/null; then
@@ -28,17 +23,6 @@ else
     echo "not tried: a root that holds nothing, since neither chroot nor unshare may be had here"
     exit 0
 fi
-
-# tell NAME: counts a case by the status of the command before.
-tell() {
-    if [[ $? == 0 ]]; then
-        passed=$((passed + 1))
-    else
-        failed=$((failed + 1))
-        echo "bare_cases: $1" >&2
-        head -n 40 "$work/out" "$work/err" >&2
-    fi
-}
 
 # put FILE..: copies programs into the root, with the libraries that they are linked with.
 put() {
@@ -68,14 +52,6 @@ in_root() {
     "${within[@]}" /bin/bash -c "cd /opt/tcdesk && $1" >"$work/out" 2>"$work/err" <&-
 }
 
-# A free port of this machine.
-free() {
-    local port
-    for ((port = 20000 + RANDOM % 9000; ; port++)); do
-        (: <>"/dev/tcp/127.0.0.1/$port") 2>/dev/null || { echo "$port"; return; }
-    done
-}
-
 make_root
 in_root "command -v rt python3 awk find strip git curl"
 [[ $? == 1 && ! -s $work/out ]]
@@ -88,7 +64,7 @@ in_root "$command" && [[ ! -s $work/err ]] && diff "$top/examples/first-pass.out
 tell "README.md's first command: $command"
 in_root "./tcdesk run --db /tmp/desk.db examples/monday.tc" && diff "$top/examples/monday.out" "$work/out" >&2
 tell "a shift on a file"
-port=$(free)
+port=$(free_port)
 "${within[@]}" /bin/bash -c "cd /opt/tcdesk && exec ./tcdesk serve /tmp/desk.db $port 1" >"$work/out" 2>"$work/err" <&- &
 server=$!
 for ((turn = 0; turn < 200; turn++)); do
@@ -99,6 +75,5 @@ curl -s --max-time 20 "http://127.0.0.1:$port/places" >"$work/answer" && grep -q
 tell "curl is answered from outside the root"
 wait "$server"
 tell "the server ends by itself"
-server=
 echo "bare root: $passed passed, $failed failed"
 [[ $failed == 0 ]]

@@ -17,8 +17,8 @@ desk=$work/desk
 export TMPDIR=$work/tmp FIRST_RUN=$work
 export PATH=$work/bin:$PATH
 path=$PATH
-passed=0
-failed=0
+me=first_run_cases
+. "$top/tools/lib.sh"
 
 # ---- the folder, the stand-in and what is looked at
 
@@ -92,22 +92,6 @@ anew() {
     kept) "$desk/tools/build.sh" --keep 2>/dev/null && rm -rf "$desk"/crates/*/out "$desk/out" ;;
     esac
     : >"$work/asked"
-}
-
-# tell NAME: counts a case by the status of the command before.
-tell() {
-    if [[ $? == 0 ]]; then
-        passed=$((passed + 1))
-    else
-        failed=$((failed + 1))
-        echo "first_run_cases: $1" >&2
-    fi
-}
-
-# same NAME WANTED GOT: counts a case by whether the two are the same, and prints both where not.
-same() {
-    [[ $2 == "$3" ]]
-    tell "$1:"$'\n'"-- wanted:"$'\n'"$2"$'\n'"-- got:"$'\n'"$3"
 }
 
 # off WORD..: runs tcdesk off any terminal, in another folder; what it says is in out and err, and its status in status.

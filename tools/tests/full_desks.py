@@ -4,7 +4,7 @@ from dataclasses import dataclass
 
 from model.facts import place_word
 from model.kept import columns_of, connect, tables_of
-from model.rows import ROWS
+from model.rows import ROWS, Tables
 from model.sound import why_unsound
 from tests.runs import run_kept, write_lines
 
@@ -155,11 +155,11 @@ class Desk:
     """A desk as it was left: its file, its tables and its columns."""
     path: str
     moment: int
-    tables: object
-    columns: dict
+    tables: Tables
+    columns: dict[str, list[str]]
 
 
-def left_desk(path, moment):
+def left_desk(path: str, moment: int) -> Desk:
     """A desk as its file has it, to be opened at this moment."""
     connection = connect(path, "immutable=1")
     try:
@@ -168,7 +168,7 @@ def left_desk(path, moment):
         connection.close()
 
 
-def make_desks(program, folder):
+def make_desks(program: str, folder: str) -> list[Desk]:
     """Runs the scripts: a day at the desk, and the next one on a copy of its file."""
     for name, text in FILES.items():
         write_lines(f"{folder}/{name}", text.splitlines())
@@ -184,7 +184,7 @@ def make_desks(program, folder):
     return [left_desk(f"{folder}/day.db", 86400), left_desk(f"{folder}/next.db", 172800)]
 
 
-def lacks(desks):
+def lacks(desks: list[Desk]) -> list[str]:
     """What the desks should have and do not: tables of few rows, and places where nobody stands."""
     day = desks[0].tables
     few = [name for name in ROWS if name != "meta" and len(getattr(day, name)) < 2]

@@ -1,5 +1,5 @@
-"""How the tools for HTTP start the built program's server, speak to it over real sockets, and know what it has to answer. A response is computed by
-model/http.py; what the desk itself replies comes from a run of the same acts as a script.
+"""How the tools for HTTP start the built program's server, speak to it over real sockets, and know what it has to answer: a response is what
+model/http.py makes of what the plain desk replies.
 """
 import os
 import random
@@ -8,17 +8,16 @@ import socket
 import struct
 import subprocess
 import time
-from typing import NamedTuple
+from typing import Callable, Iterable, NamedTuple, Optional, Sequence, Union
 
-from generate.http_words import NOTHING
-from model.http import Asks, Loads, Refused, answer_to, refused_response, reply_response
+from generate.http_words import NOTHING, Case
+from model.desk import Desk
+from model.facts import status_of
+from model.http import Acts, Asks, Loads, Refused, answer_to, refused_response, reply_response
 
 PATIENCE = float(os.environ.get("PATIENCE", "20"))  # seconds for one exchange, or for the program to begin or to end
 HERE = "127.0.0.1"
 RST = struct.pack("ii", 1, 0)  # a socket that is closed resets its connection
-# Between the replies of a run stands this report of a shift that ends before it begins.
-BETWEEN = "0 zed report 4102444799 0"
-REPORT = re.compile("SHIFT REPORT\nfrom 2099-12-31 23:59:59\nto   1970-01-01 00:00:00\npremise .*\nplaces .*\nmoves 0\nEND\n")
 
 
 class Fault(Exception):
@@ -34,7 +33,7 @@ class Ended(NamedTuple):
 
 # ---- the server
 
-def free_port():
+def free_port() -> int:
     """A port that nobody has, below those that the system gives to those who connect."""
     while True:
         port = random.randrange(20000, 32000)
@@ -49,11 +48,12 @@ def free_port():
 class Server:
     """The program as it serves a desk in a file, for so many connections. It is killed at the end of the block, if it has not ended."""
 
-    def __init__(self, program, folder, database, count, words=(), env=None, first=None, port=None, told=None):
+    def __init__(self, program: str, folder: str, database: str, count: Optional[int], words: Sequence[str] = (),
+                 env: Optional[dict[str, str]] = None, first: Optional[Callable[[], None]] = None, port: Optional[int] = None, told: Optional[str] = None) -> None:
         """Starts it, without a word for how many connections where that is None, with these variables beside those of this process, after that
         call. What it writes to descriptor 9 comes into the file
         `told`."""
-        def begin():
+        def begin() -> None:
             if told:
                 os.dup2(os.open(told, os.O_WRONLY | os.O_CREAT | os.O_TRUNC), 9)
             if first:
@@ -64,10 +64,10 @@ class Server:
         self.process = subprocess.Popen(words, cwd=folder, stdin=subprocess.DEVNULL, stdout=self.files[0], stderr=self.files[1], close_fds=False,
                                         preexec_fn=begin, env={**os.environ, **(env or {})})
 
-    def __enter__(self):
+    def __enter__(self) -> "Server":
         return self
 
-    def __exit__(self, *_):
+    def __exit__(self, *_: object) -> None:
         if self.process.poll() is None:
             self.process.kill()
         self.process.wait()
@@ -75,16 +75,16 @@ class Server:
             file.close()
 
     @property
-    def listens(self):
+    def listens(self) -> str:
         """What it says on the standard error once it listens."""
         return f"tcdesk: listening on {HERE}:{self.port}\n"
 
     @property
-    def says(self):
+    def says(self) -> str:
         """All that it says there, where every connection was served."""
         return f"{self.listens}tcdesk: ended after {self.count} connections\n"
 
-    def connect(self):
+    def connect(self) -> socket.socket:
         """A connection to it. Before it listens a connection is refused, so that none is counted."""
         end = time.monotonic() + PATIENCE
         while True:
@@ -102,7 +102,7 @@ class Server:
                     raise Fault("the server does not listen") from None
                 time.sleep(0.002)
 
-    def said(self):
+    def said(self) -> Ended:
         """How the program ended and what it printed, once it has ended."""
         texts = []
         for file in self.files:
@@ -110,7 +110,7 @@ class Server:
             texts.append(file.read().decode("latin-1"))
         return Ended(self.process.returncode, *texts)
 
-    def end(self):
+    def end(self) -> Ended:
         """Waits for the program to end by itself."""
         try:
             self.process.wait(PATIENCE)
@@ -118,7 +118,7 @@ class Server:
             raise Fault("the server does not end after its last connection") from None
         return self.said()
 
-    def exchange(self, raw, size=None, pause=0.0, shuts=False):
+    def exchange(self, raw: bytes, size: Optional[int] = None, pause: float = 0.0, shuts: bool = False) -> bytes:
         """Sends these bytes, in pieces of this size, and reads the answer to its end; what came of it where the time is over."""
         with self.connect() as peer:
             try:
@@ -133,7 +133,7 @@ class Server:
             return received(peer)
 
 
-def send(peer, raw, size=None, pause=0.0):
+def send(peer: socket.socket, raw: bytes, size: Optional[int] = None, pause: float = 0.0) -> None:
     """Sends these bytes in pieces of this size, with so many seconds between them."""
     size = size or max(1, len(raw))
     for at in range(0, len(raw), size):
@@ -142,7 +142,7 @@ def send(peer, raw, size=None, pause=0.0):
         peer.sendall(raw[at:at + size])
 
 
-def received(peer):
+def received(peer: socket.socket) -> bytes:
     """What comes until the peer closes. A reset behind the last byte is an end too: so a system closes where bytes were left unread."""
     got, end = b"", time.monotonic() + PATIENCE
     while time.monotonic() < end:
@@ -158,7 +158,7 @@ def received(peer):
     return got + b"[and no end within the time]"
 
 
-def reset(peer):
+def reset(peer: socket.socket) -> None:
     """Closes a connection by a reset."""
     peer.setsockopt(socket.SOL_SOCKET, socket.SO_LINGER, RST)
     peer.close()
@@ -166,7 +166,7 @@ def reset(peer):
 
 # ---- what has to be answered
 
-def run(program, folder, lines, *words):
+def run(program: str, folder: str, lines: Iterable[str], *words: str) -> str:
     """Runs a script of these lines."""
     with open(f"{folder}/script.tc", "w", encoding="ascii", newline="") as file:
         file.write("".join(f"{it}\n" for it in lines))
@@ -177,16 +177,16 @@ def run(program, folder, lines, *words):
     return ended.out
 
 
-def replies(program, folder, lines, before=(), words=()):
-    """What the desk replies to each of these lines, after those before: lists of lines."""
-    script = list(before) + [BETWEEN] + [it for line in lines for it in (line, BETWEEN)]
-    parts = REPORT.split(run(program, folder, script, *words))
-    if len(parts) != len(lines) + 2:
-        raise Fault(f"a run of {len(lines)} lines has {len(parts) - 2} replies")
-    return [it.splitlines() for it in parts[1:-1]]
+def reply_of(desk: Desk, asked: Union[Asks, Acts, Loads]) -> list[str]:
+    """What the plain desk replies to what is asked."""
+    if isinstance(asked, Asks):
+        return desk.acts("zed", 0, asked.act)
+    if isinstance(asked, Loads):
+        return desk.loads(asked.by, asked.moment, asked.kind, asked.name, asked.csv.encode("utf-8"))
+    return desk.acts(asked.by, asked.moment, asked.act)
 
 
-def line_of(asked, folder, number):
+def line_of(asked: Union[Asks, Acts, Loads], folder: str, number: int) -> Optional[str]:
     """The script's line that asks the same of the desk; none where no line can, and the desk cannot read the act."""
     if isinstance(asked, Asks):
         return f"0 zed {asked.act}"
@@ -198,37 +198,44 @@ def line_of(asked, folder, number):
     return f"{asked.moment} {asked.by} {asked.act}" if is_line else None
 
 
-def wanted(want):
+def wanted(want: Union[int, Refused]) -> tuple[str, int]:
     """The status and the refusal of what a case wants by its writer."""
     if isinstance(want, Refused):
-        return f"{want.status}", want.refusal
-    status = {0: "200", 1: "400", 2: "404", 13: "404", 16: "404", 17: "413", 30: "503", 31: "503", 32: "503"}.get(want, "409")
-    return status, want
+        return f"{want.status}", int(want.refusal)
+    return f"{status_of(want)}", want
 
 
 class Expected:
-    """The responses that a list of cases has to be given, one after the other, on a desk that answered the lines before."""
+    """The responses that a list of cases has to be given, one after the other, by a new desk or by this one, which goes on; the lines of a script
+    that asks the same, whose files are written to a folder; and what the writer of a case and the plain reading dispute."""
 
-    def __init__(self, program, folder, cases, before=(), words=()):
-        asked = [answer_to(it.raw) for it in cases]
-        lines = [None if it is None or isinstance(it, Refused) else line_of(it, folder, at) for at, it in enumerate(asked)]
-        self.lines = [it for it in lines if it]
-        parts = replies(program, folder, self.lines, before, words)
-        self.told, told = [it for reply in parts for it in reply], iter(parts)
-        self.responses, self.refusals, self.disputed = [], set(), []
-        for case, it, line in zip(cases, asked, lines):
-            self.add(case, it, next(told) if line else ["refused 1 BadText"])
+    def __init__(self, folder: str, cases: Sequence[Case], desk: Optional[Desk] = None) -> None:
+        """Asks the plain desk."""
+        desk = desk or Desk()
+        self.lines: list[str] = []
+        self.told: list[str] = []
+        self.responses: list[bytes] = []
+        self.refusals: set[int] = set()
+        self.disputed: list[tuple[Case, object]] = []
+        for at, case in enumerate(cases):
+            asked = answer_to(case.raw)
+            self.add(case, b"" if asked is None else refused_response(asked) if isinstance(asked, Refused) else self.answer(desk, asked, folder, at))
 
-    def add(self, case, asked, reply):
-        """One more, where the desk, if it is asked, has this reply."""
-        if asked is None:
-            response = b""
-        else:
-            response = refused_response(asked) if isinstance(asked, Refused) else reply_response(reply)
+    def answer(self, desk: Desk, asked: Union[Asks, Acts, Loads], folder: str, at: int) -> bytes:
+        """The response of the desk."""
+        line, reply = line_of(asked, folder, at), reply_of(desk, asked)
+        self.lines += [line] if line else []
+        self.told += reply
+        return reply_response(reply)
+
+    def add(self, case: Case, response: bytes) -> None:
+        """One response more, none where nothing is answered."""
         self.responses.append(response)
+        found: object = NOTHING
         if response:
             status, refusal = response.split(b" ")[1].decode(), int(response.rsplit(b":", 1)[1][:-1])
             self.refusals.add(refusal)
-        found = (status, refusal) if response else NOTHING
-        if case.want is not None and found != (NOTHING if case.want is NOTHING else wanted(case.want)):
+            found = (status, refusal)
+        want = case.want
+        if want is not None and found != (NOTHING if isinstance(want, str) else wanted(want)):
             self.disputed.append((case, found))

@@ -8,30 +8,8 @@ program=${1:-$top/crates/tc_cli/out/tc_cli}
 work=$(mktemp -d) || exit 1
 trap 'rm -rf "$work"' EXIT
 cd "$work" || exit 1
-passed=0
-failed=0
-
-# tell NAME: counts a case by the status of the command before.
-tell() {
-    if [[ $? == 0 ]]; then
-        passed=$((passed + 1))
-    else
-        failed=$((failed + 1))
-        echo "kept_cases: $1" >&2
-        head -40 out err >&2
-    fi
-}
-
-# check NAME STATUS STDOUT STDERR WORD..: runs the program on the words, with the file `input` as standard input.
-check() {
-    local name=$1 status=$2 out=$3 err=$4
-    shift 4
-    "$program" "$@" <input >out 2>err
-    local got=$?
-    [[ $got == "$status" && $(cat out; echo .) == "$out." ]] &&
-        { [[ -z $err && ! -s err ]] || { [[ -n $err ]] && grep -qF -- "$err" err; }; }
-    tell "$name: status $got"
-}
+me=kept_cases
+. "$top/tools/lib.sh"
 
 # refused NAME FILE: the program cannot use this file, and leaves it as it is.
 refused() {

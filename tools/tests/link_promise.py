@@ -5,6 +5,7 @@ TERM in each service, LIMIT in one that has started, NN(R) and SYNCH in S4 where
 Nothing is known here of how a desk comes to its answers.
 """
 from collections import Counter
+from typing import Optional
 
 from model.facts import PLACE_WORDS
 
@@ -20,16 +21,23 @@ class Broken(Exception):
 class Judge:
     """Reads printed lines; `seen` counts what was looked at."""
 
-    def __init__(self):
+    def __init__(self) -> None:
         """Nothing was printed yet."""
-        self.places, self.counts, self.rows, self.skip, self.seen = [], Counter(), 0, 0, Counter()
-        self.transmitted, self.accepted, self.confirmed = {}, Counter(), Counter()
-        self.last_accepted = self.last_confirmed = 0
-        self.is_kept, self.is_started, self.fop, self.farm, self.alerts = True, False, {}, {}, Counter()
+        self.places: list[str] = []
+        self.counts: Counter[str] = Counter()
+        self.seen: Counter[str] = Counter()
+        self.rows, self.skip, self.last_accepted, self.last_confirmed = 0, 0, 0, 0
+        self.transmitted: dict[int, int] = {}
+        self.accepted: Counter[int] = Counter()
+        self.confirmed: Counter[int] = Counter()
+        self.is_kept, self.is_started = True, False
+        self.fop: dict[str, str] = {}
+        self.farm: dict[str, str] = {}
+        self.alerts: Counter[tuple[str, str]] = Counter()
         # what may come before a service has started: that is told by the first `link` behind its initiation
-        self.may_come = None
+        self.may_come: Optional[set[str]] = None
 
-    def reads(self, lines):
+    def reads(self, lines: list[str]) -> Optional[str]:
         """All lines of a run. Answers what does not hold; none where all does."""
         for number, line in enumerate(lines, 1):
             try:
@@ -38,7 +46,7 @@ class Judge:
                 return f"printed line {number}, {line!r}: {why}"
         return None
 
-    def read(self, line):
+    def read(self, line: str) -> None:
         """One line: those of a history tell nothing new."""
         word, _, rest = line.partition(" ")
         if self.skip:
@@ -63,18 +71,18 @@ class Judge:
         elif line.startswith("ok accepted "):
             self.accepts(int(line.rsplit(" ", 1)[1]))
 
-    def need(self, holds, why):
+    def need(self, holds: bool, why: str) -> None:
         """What has to hold."""
         if not holds:
             raise Broken(why)
 
-    def promised(self, holds, why):
+    def promised(self, holds: bool, why: str) -> None:
         """What has to hold while the premise is kept, and may not afterwards."""
         self.need(holds or not self.is_kept, why)
         if not holds:
             self.seen["not so where the premise is broken"] += 1
 
-    def moves(self, seq, _moment, _by, request, place, to, cause):
+    def moves(self, seq: str, _moment: str, _by: str, request: str, place: str, to: str, cause: str) -> None:
         """A move: the next row, from where its request stands."""
         self.rows, n = self.rows + 1, int(request)
         self.need(int(seq) == self.rows, "not the next row")
@@ -92,7 +100,7 @@ class Judge:
         elif cause == "confirm":
             self.confirms(n)
 
-    def accepts(self, n):
+    def accepts(self, n: int) -> None:
         """A request is accepted on board: once, and in the order of transmission."""
         self.accepted[n] += 1
         self.promised(self.accepted[n] == 1, "accepted twice")
@@ -101,7 +109,7 @@ class Judge:
         self.last_accepted = max(self.last_accepted, place)
         self.seen["accepted"] += 1
 
-    def confirms(self, n):
+    def confirms(self, n: int) -> None:
         """A request is confirmed: it was accepted exactly once, and in the order of transmission."""
         self.confirmed[n] += 1
         self.promised(self.confirmed[n] == 1, "confirmed twice")
@@ -111,7 +119,7 @@ class Judge:
         self.last_confirmed = max(self.last_confirmed, place)
         self.seen["confirmed while kept"] += self.is_kept
 
-    def compares(self, rest):
+    def compares(self, rest: str) -> None:
         """The counts are those of the moves, and sum to the requests that were entered."""
         total, _, numbers = rest.partition(": ")
         counts = [int(it) for it in numbers.split(" ")]
@@ -119,7 +127,7 @@ class Judge:
         self.need(int(total) == len(self.places) == sum(counts), "not as many as were entered")
         self.seen["places"] += 1
 
-    def hears(self, is_kept):
+    def hears(self, is_kept: bool) -> None:
         """What `link` says of the premise: once it is broken it stays so."""
         self.need(self.is_kept or not is_kept, "the premise is kept again")
         self.is_kept = is_kept
@@ -127,7 +135,7 @@ class Judge:
 
     # ---- windows that fit
 
-    def looks(self):
+    def looks(self) -> None:
         """What `link` tells of the windows, and of a start."""
         fop, farm = self.fop, self.farm
         self.need(2 * int(fop["k"]) <= int(farm["w"]), "K is more than half of W")
@@ -137,7 +145,7 @@ class Judge:
             is_level = fop["vs"] == farm["vr"] and farm["flags"] == "---"
             self.may_come = ALWAYS if fop["state"] == "S5" or is_level else UNLEVEL
 
-    def ends(self, kind):
+    def ends(self, kind: str) -> None:
         """A service ends by an alert: by one that may come."""
         may_come = STARTED if self.is_started else self.may_come or UNLEVEL
         self.need(kind in may_come or not self.is_kept, "an alert that cannot come here while the premise is kept")
@@ -146,7 +154,7 @@ class Judge:
         self.is_started, self.may_come = False, None
 
 
-def named(words):
+def named(words: str) -> dict[str, str]:
     """The values of a line that names each of them."""
     names = words.split(" ")
     return dict(zip(names[::2], names[1::2]))

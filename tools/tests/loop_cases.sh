@@ -10,34 +10,11 @@ program=${1:-$top/crates/tc_cli/out/tc_cli}
 work=$(mktemp -d) || exit 1
 trap 'rm -rf "$work"' EXIT
 cd "$work" || exit 1
-passed=0
-failed=0
+me=loop_cases
+. "$top/tools/lib.sh"
 
-# tell NAME: counts a case by the status of the command before.
-tell() {
-    if [[ $? == 0 ]]; then
-        passed=$((passed + 1))
-    else
-        failed=$((failed + 1))
-        echo "loop_cases: $1" >&2
-        head -40 out err >&2
-    fi
-}
-
-# check NAME STATUS STDOUT STDERR WORD..: runs the program on the words, with the file `input` as standard input. STDERR is a piece that
-# standard error holds; nothing at all is wanted there where it is empty.
-check() {
-    local name=$1 status=$2 out=$3 err=$4
-    shift 4
-    "$program" "$@" <input >out 2>err
-    local got=$?
-    [[ $got == "$status" && $(cat out; echo .) == "$out." ]] &&
-        { [[ -z $err && ! -s err ]] || { [[ -n $err ]] && grep -qF -- "$err" err; }; }
-    tell "$name: status $got"
-}
-
-# same NAME SCRIPT WORD..: a loop and a run of the script, each on a new file, with these options.
-same() {
+# same_as_run NAME SCRIPT WORD..: a loop and a run of the script, each on a new file, with these options.
+same_as_run() {
     local name=$1 script=$2 run loop
     shift 2
     rm -f run.db* loop.db*
@@ -65,30 +42,30 @@ for script in "$top"/tools/cases/*.tc "$top"/examples/*.tc; do
         match($0, /^[^ ]* [^ ]* /); act = RSTART ? substr($0, RLENGTH + 1) : ""
         if (length(act) <= 200 || ($2 ~ /^[a-z0-9]+$/ && length($2) <= 16 && $2 != "desk")) print
     }' "$script" >lines
-    grep -qE '^[^ ]* [^ ]* (stack|procedure) ' lines || same "${script##*/}" lines "${options[@]}"
+    grep -qE '^[^ ]* [^ ]* (stack|procedure) ' lines || same_as_run "${script##*/}" lines "${options[@]}"
 done
-same "another window and channel" "$top/examples/first-pass.tc" --w 254 --vc 63
-same "a ring of 2" "$top/examples/lossy-pass.tc" --ring 2
+same_as_run "another window and channel" "$top/examples/first-pass.tc" --w 254 --vc 63
+same_as_run "a ring of 2" "$top/examples/lossy-pass.tc" --ring 2
 printf '# a comment\r\n\r\n\n7 ann enter 5 a--c no 8 1 - - ok\r\n7 ann places' >lines
-same "CR LF, a comment, empty lines and no last LF" lines
+same_as_run "CR LF, a comment, empty lines and no last LF" lines
 printf '7 ann places\r' >lines
-same "a CR at the end of a last line without LF" lines
+same_as_run "a CR at the end of a last line without LF" lines
 printf '\377\376\n0 ann \303\244\n\377 ann places\n0 \377 places\n0 ann "places"\\\t\001\n' >lines
-same "bytes that are no ASCII, quotes and control characters" lines
+same_as_run "bytes that are no ASCII, quotes and control characters" lines
 printf 'x\n\n0\n0 ann\n0 ann \n0  places\n 0 ann places\n0 desk places\n-1 ann places\n01 ann places\n4102444800 ann places\n' >lines
-same "lines that are none" lines
+same_as_run "lines that are none" lines
 printf '99999999999999999999999999 ann places\n1e3 ann places\n1.0 ann places\n0 anntoolonganame12 places\n' >lines
-same "moments and names that are none" lines
+same_as_run "moments and names that are none" lines
 act=$(printf '%200s' "" | tr ' ' x)
 printf '0 ann %s\n0 ann %sx\nx ann %sx\n0 ann %s%s%s\n' "$act" "$act" "$act" "$act" "$act" "$act" >lines
-same "acts of 200 and more bytes" lines
+same_as_run "acts of 200 and more bytes" lines
 { printf '0 ann '; head -c 900000 /dev/zero | tr '\0' x; printf '\n'; head -c 100000 /dev/zero | tr '\0' y; printf '\n0 ann places\n'; } >lines
-same "a line of 900,000 bytes, and one of 100,000 without a space" lines
+same_as_run "a line of 900,000 bytes, and one of 100,000 without a space" lines
 for ((i = 0; i < 300; i++)); do
     echo "$i ann enter $((i % 7)) a--c no 8 1 - - ok"
 done >lines
 echo '300 ann history 1 0' >>lines
-same "300 entries" lines
+same_as_run "300 entries" lines
 
 # ---- a desk that is continued
 

@@ -9,25 +9,8 @@ program=${1:-$top/crates/tc_cli/out/tc_cli}
 work=$(mktemp -d) || exit 1
 trap 'rm -rf "$work"' EXIT
 cd "$work" || exit 1
-passed=0
-failed=0
-
-# check NAME STATUS STDOUT STDERR WORD..: runs the program on the words, with the file `input` as standard input. STDERR
-# is a piece that standard error holds; nothing at all is wanted there where it is empty.
-check() {
-    local name=$1 status=$2 out=$3 err=$4
-    shift 4
-    "$program" "$@" <input >out 2>err
-    local got=$?
-    if [[ $got == "$status" && $(cat out; echo .) == "$out." ]] &&
-        { [[ -z $err && ! -s err ]] || { [[ -n $err ]] && grep -qF -- "$err" err; }; }; then
-        passed=$((passed + 1))
-    else
-        failed=$((failed + 1))
-        echo "program_cases: $name: status $got, standard output and error:" >&2
-        cat out err >&2
-    fi
-}
+me=program_cases
+. "$top/tools/lib.sh"
 
 none=$'places 0: 0 0 0 0 0 0 0 0 0 0 0 0 0 0 0\n'
 one=$'ok request 1 5/0\nmove 1 7 ann 1 - Entered enter\nplaces 1: 1 0 0 0 0 0 0 0 0 0 0 0 0 0 0\n'

@@ -8,57 +8,62 @@ import shutil
 import subprocess
 import tempfile
 import unittest
-from collections import namedtuple
 from itertools import zip_longest
 from pathlib import Path
+from typing import Any, Callable, Iterable, NamedTuple, Optional, Sequence
 
 from tests.asked import ASKED
 from tests.changes import change_file, changed_by
-from tests.report_printer import moves_in, places_of, report_of
+from tests.report_printer import Moved, moves_in, places_of, report_of
 from tests.runs import write_lines
 
 LAST = 4102444799
-ALL = (0, LAST)
+Shift = tuple[int, int]
+ALL: Shift = (0, LAST)
 ENTRY = "enter 5 a--c no 8 1 - - ok"
 WORKED = ["100 ann enter 5 a--c no 8 1 - - ok", "110 bob enter 5 a--c no 8 2 - - ok", "120 ann withdraw 1"]
 
 
 # ---- what differs: no text where nothing does
 
-Ran = namedtuple("Ran", "status out err")  # how the program ended, and what it printed
+class Ran(NamedTuple):
+    """How the program ended, and what it printed."""
+    status: int
+    out: str
+    err: str
 
 
-def unless(holds, fault):
+def unless(holds: object, fault: str) -> str:
     """This fault, where that does not hold."""
     return "" if holds else fault
 
 
-def difference(want, got):
+def difference(want: str, got: str) -> str:
     """Where a text differs from the one that is wanted."""
     pairs = enumerate(zip_longest(want.split("\n"), got.split("\n")), 1)
     return next((f"line {at} is {found!r:.120}, and not {it!r:.120}" for at, (it, found) in pairs if it != found), "")
 
 
-def unlike(ran, out, err, status):
+def unlike(ran: Ran, out: str, err: Optional[str], status: int) -> list[str]:
     """In what a run differs from one of this output, error (where that is None: any, but one) and status."""
     is_said = ran.err == err or err is None and ran.err != ""
     return [unless(ran.status == status, f"status {ran.status}, and not {status}"), difference(out, ran.out),
             unless(is_said, f"on standard error {ran.err!r:.150}")]
 
 
-def digest_of(path):
+def digest_of(path: Path) -> str:
     """A sum of a file's bytes. A log with fewer bytes than a frame has holds nothing, and an opening writes its few bytes anew."""
     if path.name.endswith("-wal") and path.stat().st_size < 64:
         return "a log that holds nothing"
     return hashlib.sha256(path.read_bytes()).hexdigest()
 
 
-def digests(folder):
+def digests(folder: str) -> dict[str, str]:
     """A digest of each file of a folder."""
     return {it.name: digest_of(it) for it in Path(folder).iterdir() if it.is_file()}
 
 
-def changed(before, folder):
+def changed(before: dict[str, str], folder: str) -> str:
     """Which files of a folder are not what they were."""
     names = sorted(name for name, _ in before.items() ^ digests(folder).items())
     return unless(not names, f"changed, made or gone: {' '.join(dict.fromkeys(names))}")
@@ -71,7 +76,7 @@ PREMISES = re.compile("^link up .* premise (.*)$", re.MULTILINE)
 LINK = ("fop ", "farm ", "link up ")
 
 
-def questions(*shifts):
+def questions(*shifts: Shift) -> list[str]:
     """Lines that ask how the link stands, and then for the reports of these shifts."""
     return ["0 zed link"] + [f"0 zed report {begin} {end}" for begin, end in shifts]
 
@@ -79,10 +84,10 @@ def questions(*shifts):
 class Cases:
     """The program, a folder to work in, and how many cases passed."""
 
-    def __init__(self, program, work):
+    def __init__(self, program: str, work: str) -> None:
         self.program, self.work, self.passed, self.failed = program, work, 0, 0
 
-    def tell(self, name, *faults):
+    def tell(self, name: str, *faults: str) -> None:
         """Counts a case, and says what differs."""
         said = "; ".join(it for it in faults if it)
         self.passed += not said
@@ -90,11 +95,11 @@ class Cases:
         if said:
             print(f"{name}: {said}", flush=True)
 
-    def folder(self):
+    def folder(self) -> str:
         """A new folder."""
         return tempfile.mkdtemp(dir=self.work)
 
-    def copy(self, folder, *ends):
+    def copy(self, folder: str, *ends: str) -> str:
         """A new folder with the desk's file of this one, and what lies beside it by these ends."""
         made = self.folder()
         for end in ("", *ends):
@@ -102,40 +107,40 @@ class Cases:
                 shutil.copy(f"{folder}/desk.db{end}", made)
         return made
 
-    def call(self, folder, words, out=subprocess.PIPE, first=None):
+    def call(self, folder: str, words: Sequence[str], out: Any = subprocess.PIPE, first: Optional[Callable[[], None]] = None) -> Ran:
         """Runs the program in a folder."""
         it = subprocess.run([self.program, *words], cwd=folder, stdin=subprocess.DEVNULL, stdout=out, stderr=subprocess.PIPE,
                             timeout=900, preexec_fn=first, check=False)
         return Ran(it.returncode, (it.stdout or b"").decode("latin-1"), it.stderr.decode("latin-1"))
 
-    def run(self, folder, lines, *words):
+    def run(self, folder: str, lines: Iterable[str], *words: str) -> Ran:
         """Runs a script on a new desk in memory, or on that of the folder where the words say so."""
         write_lines(f"{folder}/script.tc", lines)
         return self.call(folder, ["run", *words, "script.tc"])
 
-    def made(self, lines):
+    def made(self, lines: Iterable[str]) -> tuple[str, list[Moved]]:
         """A folder with a new desk, after these lines, and its moves."""
         folder = self.folder()
         ran = self.run(folder, lines, "--db", "desk.db")
         self.tell("a desk is made", unless(ran.status == 0 and not ran.err, f"status {ran.status}: {ran.err}"))
         return folder, moves_in(ran.out)
 
-    def ask(self, name, folder, words, out, err="", status=0):
+    def ask(self, name: str, folder: str, words: Sequence[str], out: str, err: Optional[str] = "", status: int = 0) -> None:
         """Asks by the command, which has to end so, and to leave the files of the folder."""
         before = digests(folder)
         ran = self.call(folder, ["report", *words])
         self.tell(f"{name}: tcdesk report {' '.join(words)}", *unlike(ran, out, err, status), changed(before, folder))
 
-    def closed(self, name, folder, moves, *shifts):
+    def closed(self, name: str, folder: str, moves: Sequence[Moved], *shifts: Shift) -> None:
         """Asks by the command for the reports of shifts, on a desk that has these moves."""
         for begin, end in shifts:
             self.ask(name, folder, ["desk.db", str(begin), str(end)], report_of(moves, "closed", begin, end))
 
-    def unusable(self, name, folder, file="desk.db"):
+    def unusable(self, name: str, folder: str, file: str = "desk.db") -> None:
         """Asks by the command of a file that cannot be used."""
         self.ask(name, folder, [file, "0", str(LAST)], "", f"tcdesk: cannot use {file}\n", 2)
 
-    def asked(self, name, ran, shifts, moves=()):
+    def asked(self, name: str, ran: Ran, shifts: Sequence[Shift], moves: Sequence[Moved] = ()) -> list[Moved]:
         """Looks at the reports that a run printed, of these shifts, on a desk that had these moves before. Gives all its moves."""
         parts, moves, premise = REPORTS.split(ran.out), list(moves), "kept"
         for (begin, end), text, report in zip(shifts, parts[::2], parts[1::2]):
@@ -148,7 +153,7 @@ class Cases:
                   difference(f"{places_of(moves)}\n", "\n".join(parts[-1].split("\n")[-2:])))
         return moves
 
-    def both(self, name, lines, shifts):
+    def both(self, name: str, lines: list[str], shifts: Sequence[Shift]) -> tuple[str, list[Moved]]:
         """Asks of these shifts behind these lines: on a desk in memory, on one in a file, and by the command."""
         folder, lines = self.folder(), lines + questions(*shifts)
         self.asked(f"{name}, in memory", self.run(folder, lines), shifts)
@@ -157,7 +162,7 @@ class Cases:
         return folder, moves
 
 
-def change(folder, *statements):
+def change(folder: str, *statements: str) -> None:
     """Changes a desk by SQLite, so that its file alone holds everything."""
     change_file(f"{folder}/desk.db", changed_by(*statements))
 

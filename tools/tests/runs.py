@@ -1,8 +1,9 @@
 """How the tests run the program on files, and look at what it leaves there."""
 import os
 import subprocess
+import unittest
 from dataclasses import dataclass
-from typing import Iterable, Optional
+from typing import Iterable, Optional, Sequence
 
 from tests.asked import TOOLS
 
@@ -51,3 +52,12 @@ def made_shim(name: str, folder: str) -> str:
     if subprocess.run([f"{TOOLS}/faults/make_shim.sh", name, folder], check=False).returncode:
         raise AssertionError(f"{name}.so cannot be made (Debian: gcc, libc6-dev)")
     return f"{folder}/{name}.so"
+
+
+class Tried(unittest.TestCase):
+    """Tests that find faults, and tell each in a line."""
+
+    def no_faults(self, faults: Sequence[str]) -> None:
+        """Fails where there are faults."""
+        if faults:
+            self.fail("\n".join(faults))

@@ -14,18 +14,8 @@ program=$(readlink -m "${1:-$top/crates/tc_cli/out/tc_cli}")
 work=$(mktemp -d) || exit 1
 trap 'umount "$work/disk" 2>/dev/null; rm -rf "$work"' EXIT
 cp -r "$top/examples" "$work" && cd "$work" || exit 1
-passed=0
-failed=0
-
-# same NAME WANTED GOT: counts a case, in which two texts have to be the same.
-same() {
-    if [[ $2 == "$3" ]]; then
-        passed=$((passed + 1))
-    else
-        failed=$((failed + 1))
-        printf 'status_cases: %s\n wanted: %q\n got:    %q\n' "$1" "$2" "$3" >&2
-    fi
-}
+me=status_cases
+. "$top/tools/lib.sh"
 
 # The commands that write to their output, in words.
 commands=(

@@ -9,19 +9,19 @@ import os
 import random
 import shutil
 import tempfile
-import unittest
 from concurrent.futures import ProcessPoolExecutor
 from dataclasses import dataclass
 from functools import partial
+from typing import Optional, Union
 
 from model.facts import LAST_MOMENT
 from model.kept import read_tables
-from model.rows import ROWS
+from model.rows import ROWS, Tables
 from model.sound import is_name, is_outcome, why_unsound
 from tests.asked import ASKED
 from tests.changes import Change, change_file, why_not_opened, why_not_refused
-from tests.full_desks import lacks, make_desks
-from tests.runs import bytes_of, run_kept
+from tests.full_desks import Desk, lacks, make_desks
+from tests.runs import Tried, bytes_of, run_kept
 
 SEED = 20311125
 LEAST_JUDGED = 1000
@@ -38,14 +38,14 @@ class Found:
 
 # ---- new values
 
-def other_numbers(value, column, dice):
+def other_numbers(value: int, column: list[int], dice: random.Random) -> list[int]:
     """Numbers in place of a number: near it, at the borders, and others of its column."""
     near = [value + 1, value - 1, -value, 0, 1, max(column) + 1, dice.randrange(17)]
     far = [2**31, 2**32 - 1, 2**32, 2**63 - 1, -2**63, LAST_MOMENT, LAST_MOMENT + 1, 255, 256, 65535, 65536]
     return near + near + far + [dice.choice(column) for _ in range(6)] + [dice.randrange(1, 30) for _ in range(3)]
 
 
-def other_texts(value, column, names, dice):
+def other_texts(value: str, column: list[str], names: list[str], dice: random.Random) -> list[str]:
     """Texts in place of a text: others of its column and of the file, and those that are no names."""
     bad = ["", "desk", "zed", "z" * 16, "z" * 17, "z" * 81, value + "x", value[:-1], value.upper(), value + "\0", " " + value,
            "\xff", "\xc3\xa9", "7"]
@@ -54,7 +54,7 @@ def other_texts(value, column, names, dice):
     return bad + special + [dice.choice(column) for _ in range(4)] + [dice.choice(names) for _ in range(6)]
 
 
-def new_values(desk, name, at, row, dice):
+def new_values(desk: Desk, name: str, at: int, row: int, dice: random.Random) -> list[Optional[Union[int, str]]]:
     """Some values that may stand in place of one, each other than it."""
     rows = getattr(desk.tables, name)
     value, column = rows[row][at], [it[at] for it in rows]
@@ -66,7 +66,7 @@ def new_values(desk, name, at, row, dice):
     return made[:VALUES_A_ROW] + ([None] if dice.random() < 0.1 else [])
 
 
-def names_in(tables):
+def names_in(tables: Tables) -> list[str]:
     """All names that stand in the tables, of persons, stacks and procedures."""
     rows = [row for name in ROWS for row in getattr(tables, name)]
     return sorted({it for row in rows for it in row if is_name(it)})
@@ -74,30 +74,30 @@ def names_in(tables):
 
 # ---- changes
 
-def bound(value):
+def bound(value: Optional[Union[int, str]]) -> Optional[Union[bytes, int]]:
     """A value as it is bound: a text by its bytes, which need not be any text."""
     return value.encode("latin-1") if isinstance(value, str) else value
 
 
-def mark_of(value):
+def mark_of(value: Optional[Union[int, str]]) -> str:
     """The mark that stands for a value in a statement."""
     return "CAST(? AS TEXT)" if isinstance(value, str) else "?"
 
 
-def set_value(desk, name, column, row, value):
+def set_value(desk: Desk, name: str, column: str, row: int, value: Optional[Union[int, str]]) -> Change:
     """One value of one row, changed. Rows are counted from 0, in order."""
     where = f"rowid = (SELECT rowid FROM {name} ORDER BY rowid LIMIT 1 OFFSET {row})"
     sql = f"UPDATE {name} SET {column} = {mark_of(value)} WHERE {where}"
     return Change(f"{name}.{column} of row {row + 1} is {value!r:.40}", [(sql, [bound(value)])])
 
 
-def without_row(desk, name, row):
+def without_row(desk: Desk, name: str, row: int) -> Change:
     """One row less."""
     where = f"rowid = (SELECT rowid FROM {name} ORDER BY rowid LIMIT 1 OFFSET {row})"
     return Change(f"{name} without row {row + 1}", [(f"DELETE FROM {name} WHERE {where}", [])])
 
 
-def with_copy(desk, name, row, at, value):
+def with_copy(desk: Desk, name: str, row: int, at: int, value: Union[int, str]) -> Change:
     """One row more, which is one of the others but for a value."""
     values = list(getattr(desk.tables, name)[row])
     values[at] = value
@@ -106,13 +106,13 @@ def with_copy(desk, name, row, at, value):
     return Change(text, [(f"INSERT INTO {name} VALUES ({marks})", [bound(it) for it in values])])
 
 
-def some_rows(desk, name, dice):
+def some_rows(desk: Desk, name: str, dice: random.Random) -> list[int]:
     """Some rows of a table, in order."""
     count = len(getattr(desk.tables, name))
     return sorted(dice.sample(range(count), min(count, ROWS_A_COLUMN)))
 
 
-def changes_of(desk, dice):
+def changes_of(desk: Desk, dice: random.Random) -> list[Change]:
     """The changes of one desk: of each column of each table, and of rows."""
     changes = []
     for name, columns in desk.columns.items():
@@ -132,7 +132,7 @@ def changes_of(desk, dice):
 
 # ---- what becomes of a change
 
-def judge(program, work, job):
+def judge(program: str, work: str, job: tuple[Desk, Change]) -> Found:
     """Makes a change on a copy of a desk, and opens it."""
     (desk, change), folder = job, tempfile.mkdtemp(dir=work)
     try:
@@ -151,13 +151,13 @@ def judge(program, work, job):
         shutil.rmtree(folder)
 
 
-def judge_all(program, work, jobs):
+def judge_all(program: str, work: str, jobs: list[tuple[Desk, Change]]) -> list[Found]:
     """What became of each change of a desk, four at a time."""
     with ProcessPoolExecutor(4) as pool:
         return list(pool.map(partial(judge, program, work), jobs, chunksize=8))
 
 
-class Broken(unittest.TestCase):
+class Broken(Tried):
     """Files of which a value or a row is another."""
 
     def test_changes(self) -> None:
@@ -172,6 +172,6 @@ class Broken(unittest.TestCase):
         counts = {kind: sum(it.kind == kind for it in found) for kind in ("refused", "taken", "skipped")}
         faults = [f"{os.path.basename(desk.path)}: {change.text}: {it.fault}" for (desk, change), it in zip(jobs, found) if it.fault]
         print(f"broken cases: {', '.join(f'{count} {kind}' for kind, count in counts.items())}, {len(faults)} disagreed")
-        self.assertFalse(faults, "\n".join(faults))
+        self.no_faults(faults)
         if ASKED.count is None:
             self.assertGreaterEqual(counts["refused"] + counts["taken"], LEAST_JUDGED, "too few were judged")

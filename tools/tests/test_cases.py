@@ -1,10 +1,10 @@
 """The plain desk answers the scripts of tools/cases as persons wrote it; the program is asked nothing (test `program` runs them)."""
 import os
-import unittest
 from typing import Iterator, NamedTuple, Optional
 
 from model.desk import answers
 from tests.asked import TOOLS
+from tests.runs import Tried
 
 FOLDER = f"{TOOLS}/cases"
 
@@ -30,19 +30,21 @@ def all_cases() -> Iterator[Case]:
     """All scripts, in order of name."""
     for name in sorted(it[:-3] for it in os.listdir(FOLDER) if it.endswith(".tc")):
         path = f"{FOLDER}/{name}"
-        yield Case(name, text_of(f"{path}.tc"), tuple(text_of(f"{path}.args", "").split()), text_of(f"{path}.stdout"), int(text_of(f"{path}.status", "0")))
+        options = tuple(text_of(f"{path}.args", "").split())
+        yield Case(name, text_of(f"{path}.tc"), options, text_of(f"{path}.stdout"), int(text_of(f"{path}.status", "0")))
 
 
-class Cases(unittest.TestCase):
+class Cases(Tried):
     """The written cases, and the plain desk."""
 
     def test_cases(self) -> None:
         """Each line and the status of each."""
         files = {name: text_of(f"{FOLDER}/data/{name}").encode("latin-1") for name in os.listdir(f"{FOLDER}/data")}
-        faults, count = [], 0
+        faults: list[str] = []
+        count = 0
         for case in all_cases():
             lines, status = answers(case.script, files, case.options)
             is_right = ("".join(f"{it}\n" for it in lines), status) == (case.printed, case.status)
-            faults, count = faults + ([] if is_right else [case.name]), count + 1
+            faults, count = faults + ([] if is_right else [f"the plain desk answers {case.name} otherwise"]), count + 1
         print(f"cases: {count} written scripts, {len(faults)} that the plain desk answers otherwise")
-        self.assertFalse(faults, "the plain desk answers otherwise")
+        self.no_faults(faults)

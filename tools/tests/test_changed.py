@@ -7,32 +7,34 @@ opening then; all else is refused, and its file left byte for byte.
 """
 import shutil
 import tempfile
-import unittest
 from concurrent.futures import ThreadPoolExecutor
 from itertools import zip_longest
+from typing import Optional, Sequence
 
 from generate.left_changes import OF_FIVE, OF_WHOLE
-from generate.left_desks import EVERYWHERE, FILES, FIVE, FULL, GOING, OTHERS, RIDERS, WHOLE, Day, fill
+from generate.left_desks import EVERYWHERE, FILES, FIVE, FULL, GOING, OTHERS, RIDERS, WHOLE, Day, Left, fill
 from model.facts import MOST_HISTORY
 from model.kept import read_tables
 from tests.asked import ASKED
 from tests.changes import change_file, changed_by, left_beside, why_not_opened
-from tests.runs import bytes_of, run_kept, write_lines
+from tests.runs import Tried, bytes_of, run_kept, write_lines
+from model.rows import empty_tables
 
 
 class Told:
     """What was found: faults, and how many days, lines and changes there were."""
 
-    def __init__(self):
-        self.faults, self.days, self.lines, self.taken, self.refused = [], 0, 0, 0, 0
+    def __init__(self) -> None:
+        self.faults: list[str] = []
+        self.days, self.lines, self.taken, self.refused = 0, 0, 0, 0
 
-    def tell(self, name, fault):
+    def tell(self, name: str, fault: str) -> None:
         """Notes a fault, if there is one."""
         if fault:
             self.faults.append(f"{name}: {fault}")
 
 
-def made(program, work, left, told):
+def made(program: str, work: str, left: Left, told: Told) -> Optional[str]:
     """A folder with a desk as its first day leaves it; none where that fails."""
     folder = tempfile.mkdtemp(dir=work)
     for name, text in FILES.items():
@@ -46,7 +48,7 @@ def made(program, work, left, told):
     return None
 
 
-def open_day(program, folder, day):
+def open_day(program: str, folder: str, day: Day) -> str:
     """A day on a desk: what of it is not as it is written out."""
     write_lines(f"{folder}/day.tc", day.lines())
     ran = run_kept(program, folder, "desk.db", day.moment, "day.tc")
@@ -57,7 +59,7 @@ def open_day(program, folder, day):
     return f"status {ran.status}: {ran.errors}" if ran.status != wanted or ran.errors else ""
 
 
-def open_left(program, work, left, told, filling=None):
+def open_left(program: str, work: str, left: Left, told: Told, filling: Optional[str] = None) -> None:
     """A desk, and all days that follow its first; its history is filled first, by this statement, if there is one."""
     folder = made(program, work, left, told)
     if not folder:
@@ -70,7 +72,7 @@ def open_left(program, work, left, told, filling=None):
     shutil.rmtree(folder)
 
 
-def page_days(size):
+def page_days(size: int) -> tuple[Day, list[str]]:
     """How the desk of a full history is opened that has so many rows only, and what changes its tables to that."""
     waits = [f"UPDATE tally SET amount = amount + {by} WHERE place = {place}" for by, place in ((-1, 2), (1, 3))]
     statements = [fill(size)] + (waits + ["UPDATE request SET place = 3 WHERE num = 1"] if size % 2 == 0 else [])
@@ -81,13 +83,15 @@ def page_days(size):
     return Day(8, "".join(f"{it}\n" for it in lines)), statements
 
 
-def open_pages(program, work, told):
+def open_pages(program: str, work: str, told: Told) -> None:
     """Histories that end before, at and behind a full page of 1,000 rows; and the same with a last row that no desk wrote."""
     folder = made(program, work, FULL, told)
-    for size in (999, 1000, 1001, 1999, 2000, 2001) if folder else ():
+    if not folder:
+        return
+    for size in (999, 1000, 1001, 1999, 2000, 2001):
         day, statements = page_days(size)
         write_lines(f"{folder}/day.tc", day.lines())
-        for more, is_sound in (([], True), ([f"UPDATE move SET person = '' WHERE seq = {size}"], False)):
+        for more, is_sound in ((), True), ((f"UPDATE move SET person = '' WHERE seq = {size}",), False):
             shutil.copy(f"{folder}/desk.db", f"{folder}/page.db")
             change_file(f"{folder}/page.db", changed_by(*statements, *more))
             ran = run_kept(program, folder, "page.db", 8, "day.tc" if is_sound else "/dev/null")
@@ -97,14 +101,14 @@ def open_pages(program, work, told):
             told.taken, told.refused = told.taken + is_sound, told.refused + (not is_sound)
 
 
-def open_changed(program, work, path, left, change):
+def open_changed(program: str, work: str, path: str, left: Left, change: tuple[str, bool]) -> str:
     """A changed copy of a desk's file, opened: what is wrong with that."""
     statement, is_sound = change
     folder, day = tempfile.mkdtemp(dir=work), left.days[0]
     file = f"{folder}/desk.db"
     shutil.copy(path, file)
     change_file(file, changed_by(statement))
-    before, tables = bytes_of(file), read_tables(file) if is_sound else None
+    before, tables = bytes_of(file), read_tables(file) if is_sound else empty_tables()
     ran = run_kept(program, folder, "desk.db", day.moment, "/dev/null")
     if is_sound:
         return why_not_opened(ran, folder, day.moment, tables) or ("" if ran.lines == day.answers() else f"it printed {ran.lines}")
@@ -113,7 +117,7 @@ def open_changed(program, work, path, left, change):
     return "the file was changed" if bytes_of(file) != before else f"beside it stay {left_beside(folder)}" if left_beside(folder) else ""
 
 
-def change_left(program, work, left, changes, told):
+def change_left(program: str, work: str, left: Left, changes: Sequence[tuple[str, bool]], told: Told) -> None:
     """All changes of a desk, four at a time."""
     folder = made(program, work, left, told)
     if not folder:
@@ -125,7 +129,7 @@ def change_left(program, work, left, changes, told):
             told.taken, told.refused = told.taken + is_sound, told.refused + (not is_sound)
 
 
-class Changed(unittest.TestCase):
+class Changed(Tried):
     """Desks that were left, and what their openings answer."""
 
     def setUp(self) -> None:
@@ -139,7 +143,7 @@ class Changed(unittest.TestCase):
         told = self.told
         print(f"changed cases: {told.days} days, {told.lines} lines answered, {told.taken} changes taken, {told.refused} refused,"
               f" {len(told.faults)} faults")
-        self.assertFalse(told.faults, "\n".join(told.faults))
+        self.no_faults(told.faults)
 
     def test_days(self) -> None:
         """Desks that are opened again and again, and one whose history is full."""

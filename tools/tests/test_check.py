@@ -15,7 +15,6 @@ import shutil
 import signal
 import subprocess
 import tempfile
-import unittest
 from collections import Counter
 from concurrent.futures import ProcessPoolExecutor
 from functools import partial
@@ -28,6 +27,7 @@ from model.check import told_of
 from model.desk import Desk
 from model.facts import Refusal
 from tests.asked import ASKED
+from tests.runs import Tried
 
 TEXTS, LEAST, LONGEST = 6000, 20, 60
 LOAD_EACH, INPUT_EACH = 3, 7
@@ -245,7 +245,7 @@ def lacks(written: list[Found], others: list[Found], least: int) -> list[str]:
     return hardly + [f"no line that may be told: {it}" for it in sorted((by_hand.keys() | told.keys()) - set(LINES))]
 
 
-class Check(unittest.TestCase):
+class Check(Tried):
     """The command `check`."""
 
     def test_texts(self) -> None:
@@ -259,11 +259,11 @@ class Check(unittest.TestCase):
         print(f"check cases: {len(found)} texts, {len(written)} written, {sum(it.line.endswith(' ok') for it in found)} ok,"
               f" {sum(it.is_loaded for it in found)} loads, {sum(it.is_input for it in found)} by standard input,"
               f" {sum(bool(it.faults) for it in found)} differ")
-        self.assertFalse(faults + lacking, "\n".join(faults + lacking))
+        self.no_faults(faults + lacking)
 
     def test_words(self) -> None:
         """Words, files and outputs of the command."""
         with tempfile.TemporaryDirectory(prefix="check-") as work:
             faults = try_words(ASKED.program, work)
         print(f"check cases: {len(CASES)} cases of words, {len(faults)} differ")
-        self.assertFalse(faults, "\n".join(faults))
+        self.no_faults(faults)

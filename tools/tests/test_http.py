@@ -12,7 +12,7 @@ import shutil
 import socket
 import subprocess
 import time
-from typing import Callable
+from typing import Callable, Sequence
 
 from generate import http_posts as posts, http_requests as requests
 from generate.http_words import BODY, ENTRY, PLACES, Case, act, entry, get, load, post
@@ -30,7 +30,7 @@ class Pieces(Served):
     """Requests that are cut, that come in pieces, and that come slowly."""
 
     def test_cut(self) -> None:
-        """The bytes of a request cut after each byte but the last: nothing is answered, and no act is made; and what a front decides stays decided."""
+        """The bytes of a request cut after each byte but the last: nothing is answered, and no act is made. What a front decides stays decided."""
         cases = self.cases
         for raw, closes in ((act(ENTRY), "a shut end"), (post("/acts", BODY, end="\n"), "a closed connection"), (act(ENTRY), "a reset"),
                             (get("/history/1/0"), "a shut end"), (b"\r\n\n" + load("stack", "s1", posts.rows(1)), "a shut end")):
@@ -78,7 +78,8 @@ class Pieces(Served):
         """The longest heads and bodies, a byte at a time."""
         cases = self.cases
         size = len(BODY)
-        told = [Case("a body of 65,536 bytes", post("/acts", BODY + " " * (65536 - size)), 0), Case("a head of 8,192 bytes", requests.padded(8192), 0),
+        told = [Case("a body of 65,536 bytes", post("/acts", BODY + " " * (65536 - size)), 0),
+                Case("a head of 8,192 bytes", requests.padded(8192), 0),
                 Case("a head of 8,192 bytes of line ends", b"\n" * (8192 - len(PLACES)) + PLACES, 0),
                 Case("8,193 bytes and no head", b"GET /" + b"a" * 8188, 17),
                 Case("a head of 64 lines and a body", post("/acts", BODY + " " * 30000, *["a: b"] * 61), 0),
@@ -95,9 +96,9 @@ class Pieces(Served):
             cases.ended("slow", server)
 
 
-def leaves(raw, how):
+def leaves(raw: bytes, how: str) -> Callable[[Server], None]:
     """Connects, sends these bytes, and leaves in this way, without reading an answer."""
-    def done(server):
+    def done(server: Server) -> None:
         peer = server.connect()
         try:
             send(peer, raw)
@@ -107,6 +108,13 @@ def leaves(raw, how):
             pass
         (reset if how == "reset" else socket.socket.close)(peer)
     return done
+
+
+def found(pattern: bytes, text: bytes) -> re.Match[bytes]:
+    """Where a pattern stands in a text, in which it has to stand."""
+    there = re.search(pattern, text)
+    assert there, f"{pattern!r} does not stand in {text!r:.300}"
+    return there
 
 
 class RudePeers(Served):
@@ -158,9 +166,9 @@ class RudePeers(Served):
                 cases.tell("an act between those whose answers are lost", b"HTTP/1.1 200", server.exchange(act(ENTRY, f"a{at}"))[:12])
             report, places = server.exchange(act("report 0 4102444799")), server.exchange(PLACES)
             cases.ended("answers that are lost", server)
-        entered = int(re.search(rb"places (\d+): \1 0", report)[1])
+        entered = int(found(rb"places (\d+): \1 0", report)[1])
         cases.tell("acts whose answers are lost, in all", True, acts <= entered <= 3 * acts)
-        cases.tell("the places are those of the report", re.search(rb"places [^\"]*", report)[0], re.search(rb"places [^\"]*", places)[0])
+        cases.tell("the places are those of the report", found(rb"places [^\"]*", report)[0], found(rb"places [^\"]*", places)[0])
         history = run(cases.program, folder, ["0 zed report 0 4102444799"], "--db", "desk.db")
         authors = re.findall(r"^ *\d+ \S+ \S+ (\w+) ", history, re.MULTILINE)
         cases.tell("acts that were made twice", len(authors), len(set(authors)))
@@ -237,13 +245,13 @@ class RudePeers(Served):
             cases.tell("what was answered before the server was killed", wanted, re.findall(r"\b(k\d+n\d+) ", told))
 
 
-def began(cases, folder, words):
+def began(cases: Cases, folder: str, words: Sequence[str]) -> Ended:
     """How the program ended that was started to serve with these words, and has to end by itself."""
     ran = subprocess.run([cases.program, "serve", *words], cwd=folder, stdin=subprocess.DEVNULL, capture_output=True, timeout=PATIENCE, check=False)
     return Ended(ran.returncode, ran.stdout.decode("latin-1"), ran.stderr.decode("latin-1"))
 
 
-def full():
+def full() -> list[str]:
     """Lines after which all 16,384 identities of one application process and 1,000 stacks stand."""
     files = ["many"] * 81 + ["rest"] + ["one"] * 918
     return [f"{at} ann stack x{at} {name}.csv" for at, name in enumerate(files)]
@@ -259,12 +267,14 @@ class WordsAndFiles(Served):
         with open(f"{folder}/noise.db", "wb") as file:
             file.write(random.Random(SEED).randbytes(8192))
         huge = "99999999999999999999"
-        for more in ([], ["{db}"], ["{db}", port, "1", "x"],
-                     *(["{db}", it, "1"] for it in ("0", "65536", "-1", "x", "", "80.0", huge, "0x50")),
-                     *(["{db}", port, it] for it in ("0", "1000001", "-1", "x", "", "1.0", huge)),
-                     *(["{db}", port, "1", *it] for it in (["--w", "3"], ["--w", "0"], ["--w", "256"], ["--vc", "64"], ["--at", "4102444800"],
-                                                           ["--ring", "0"], ["--ring", "4097"], ["--ring", "x"], ["--ring"],
-                                                           ["--at", "-1"], ["--colour"], ["--db", "x.db"]))):
+        options = (["--w", "3"], ["--w", "0"], ["--w", "256"], ["--vc", "64"], ["--at", "4102444800"], ["--ring", "0"], ["--ring", "4097"],
+                   ["--ring", "x"], ["--ring"], ["--at", "-1"], ["--colour"], ["--db", "x.db"])
+        words: list[list[str]] = [
+            [], ["{db}"], ["{db}", port, "1", "x"],
+            *(["{db}", it, "1"] for it in ("0", "65536", "-1", "x", "", "80.0", huge, "0x50")),
+            *(["{db}", port, it] for it in ("0", "1000001", "-1", "x", "", "1.0", huge)),
+            *(["{db}", port, "1", *it] for it in options)]
+        for more in words:
             for db in ("new.db", "noise.db", "none/new.db"):
                 asked = [it.format(db=db) for it in more]
                 ran = began(cases, folder, asked)

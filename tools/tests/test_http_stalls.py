@@ -11,10 +11,11 @@ import socket
 import time
 from concurrent.futures import ThreadPoolExecutor
 from functools import partial
+from typing import Callable, Optional
 
 from generate.http_words import ENTRY, PLACES, Case, act, get
 from tests import http_cases
-from tests.http_peer import Ended, Fault, received, reset, run, send
+from tests.http_peer import Ended, Fault, Server, received, reset, run, send
 
 SILENCE, WHOLE, FAREWELL = 5.0, 30.0, 2.0  # seconds: without a byte, for a request, behind an answer
 EARLY, SLACK = 0.5, 4.0  # seconds by which a peer's clock may begin later than the server's, and that a busy machine may add
@@ -24,16 +25,16 @@ HELLO = bytes.fromhex("160301008f0100008b0303") + bytes(132)  # the front of a T
 class Cases(http_cases.Cases):
     """The cases of one group."""
 
-    def places(self):
+    def places(self) -> bytes:
         """The answer to the places of a desk where nothing happened."""
         return self.expected(self.folder(), [Case("", PLACES, 0)]).responses[0]
 
-    def within(self, name, least, most, took):
+    def within(self, name: str, least: float, most: float, took: float) -> None:
         """Counts a case by whether something took so many seconds."""
         self.tell(f"{name}: {least} to {most} s", "", "" if least - EARLY <= took <= most + SLACK else f"{took:.3f} s")
 
 
-def hold(peer, raw, pause):
+def hold(peer: socket.socket, raw: bytes, pause: float) -> float:
     """Sends these bytes one by one, with so many seconds between them, until the peer closes. Gives the seconds that it took."""
     began = time.monotonic()
     try:
@@ -46,7 +47,7 @@ def hold(peer, raw, pause):
     return time.monotonic() - began
 
 
-def held(cases, name, raw, pause, least, most):
+def held(cases: Cases, name: str, raw: bytes, pause: float, least: float, most: float) -> None:
     """A peer that sends these bytes so, and stays: it is let go in time, the good one behind it is answered, and no act was made."""
     none, folder = cases.places(), cases.folder()
     with cases.server(folder, 2, "--verbose") as server, server.connect() as bad:
@@ -59,23 +60,23 @@ def held(cases, name, raw, pause, least, most):
         cases.tell(f"{name}: how they ended", Ended(0, "", server.says.replace("tcdesk: ended", f"{told}tcdesk: ended")), ended)
 
 
-def silent(cases):
+def silent(cases: Cases) -> None:
     """Peers that say nothing, or begin a request and stop."""
     held(cases, "a silent peer", b"", 0, SILENCE, SILENCE)
     held(cases, "a peer that stops in an act", act(ENTRY)[:-1], 0, SILENCE, SILENCE)
 
 
-def foreign(cases):
+def foreign(cases: Cases) -> None:
     """A peer that speaks TLS, and waits for an answer to its hello."""
     held(cases, "a TLS hello", HELLO, 0, 0, SILENCE)
 
 
-def dripping(cases):
+def dripping(cases: Cases) -> None:
     """A peer that sends a byte each second."""
     held(cases, "a peer that drips", b"GET /places HTTP/1.1\r\nX: " + b"a" * 100, 1, WHOLE, WHOLE)
 
 
-def behind(cases):
+def behind(cases: Cases) -> None:
     """A peer that was answered, and drips on."""
     none, folder = cases.places(), cases.folder()
     with cases.server(folder, 2) as server, server.connect() as bad:
@@ -90,7 +91,7 @@ def behind(cases):
         cases.ended("a peer that drips behind its answer", server)
 
 
-def taking(cases):
+def taking(cases: Cases) -> None:
     """A peer that takes nothing of the longest answer: a system holds all of it, so the next one is answered soon."""
     folder = cases.folder()
     run(cases.program, folder, [f"0 ann enter {at % 2000} a--c no 8 1 - - ok" for at in range(4000)], "--db", "desk.db")
@@ -105,7 +106,7 @@ def taking(cases):
         cases.tell("a peer that takes nothing: how it ended", 2, server.end().err.count(": answered\n"))
 
 
-def ends(cases):
+def ends(cases: Cases) -> None:
     """How connections end is told where that is asked, and only there."""
     none, folder = cases.places(), cases.folder()
     with cases.server(folder, 4, "--verbose") as server:
@@ -120,17 +121,17 @@ def ends(cases):
         cases.tell("how they ended", Ended(0, "", server.says.replace("tcdesk: ended", f"{told}tcdesk: ended")), server.end())
 
 
-def own_address():
+def own_address() -> str:
     """The address by which this machine would speak to others, if it has one. Nothing is sent."""
     with socket.socket(socket.AF_INET, socket.SOCK_DGRAM) as asked:
         try:
             asked.connect(("192.0.2.1", 9))
-            return asked.getsockname()[0]
+            return str(asked.getsockname()[0])
         except OSError:
             return "127.0.0.1"
 
 
-def lost(cases):
+def lost(cases: Cases) -> None:
     """A peer that resets before its answer: the write fails, and the act stands."""
     folder = cases.folder()
     with cases.server(folder, 3, "--verbose") as server, server.connect() as first:
@@ -144,7 +145,7 @@ def lost(cases):
         cases.tell("how a connection ended that was reset", True, "tcdesk: connection 2: 34 WriteFault\n" in told)
 
 
-def uncounted(cases):
+def uncounted(cases: Cases) -> None:
     """No word for how many connections: it goes on. And 127.0.0.1 is the one address that is listened at."""
     none, folder = cases.places(), cases.folder()
     with cases.server(folder, None) as server:
@@ -157,7 +158,7 @@ def uncounted(cases):
             cases.tell("where it says that it listens", server.listens, said.read())
 
 
-def limited(server, most=None):
+def limited(server: Server, most: Optional[int] = None) -> None:
     """Lets a server that runs have so many file handles, and no more, or those alone that it has, once its last connection is closed."""
     if most is None:
         time.sleep(1)
@@ -166,7 +167,7 @@ def limited(server, most=None):
     resource.prlimit(server.process.pid, resource.RLIMIT_NOFILE, (most, 256))
 
 
-def starved(cases):
+def starved(cases: Cases) -> None:
     """No file handle is left for a while: no connection is counted meanwhile, and then each is served. The first is served all the same, since the
     system took its handle as the server began to wait for it."""
     none, folder = cases.places(), cases.folder()
@@ -187,7 +188,7 @@ def starved(cases):
         cases.ended("a server that had no handle for a while", server)
 
 
-def exhausted(cases):
+def exhausted(cases: Cases) -> None:
     """No file handle comes free any more: the server ends with its reason, and the desk is kept."""
     folder = cases.folder()
     with cases.server(folder, 3) as server:
@@ -208,7 +209,7 @@ def exhausted(cases):
 GROUPS = (silent, foreign, dripping, behind, taking, ends, lost, uncounted, starved, exhausted)
 
 
-def tried(program, work, group):
+def tried(program: str, work: str, group: Callable[[Cases], None]) -> Cases:
     """The cases of a group, once all were tried."""
     os.mkdir(f"{work}/{group.__name__}")
     cases = Cases(program, f"{work}/{group.__name__}")

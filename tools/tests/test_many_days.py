@@ -9,7 +9,6 @@ behind it for each request, whose answers are those of the tables.
 import os
 import random
 import tempfile
-import unittest
 from concurrent.futures import ThreadPoolExecutor
 from dataclasses import dataclass
 from functools import partial
@@ -23,7 +22,7 @@ from model.rows import ROWS, Request, Tables, empty_tables, move_line, places_by
 from model.sound import why_unsound
 from model.tables import opened_moves
 from tests.asked import ASKED
-from tests.runs import Ran, run_kept, write_files, write_lines
+from tests.runs import Ran, Tried, run_kept, write_files, write_lines
 
 SEED = 20311126
 DESKS, DAYS = 10, 5
@@ -148,7 +147,7 @@ def run_desk(program: str, work: str, number: int) -> Told:
     return told
 
 
-class ManyDays(unittest.TestCase):
+class ManyDays(Tried):
     """Days at desks."""
 
     def test_days(self) -> None:
@@ -159,5 +158,5 @@ class ManyDays(unittest.TestCase):
         faults, days = [fault for it in told for fault in it.faults], sum(it.days for it in told)
         print(f"many days: {days} days, {sum(it.answered for it in told)} lines answered, {sum(it.refused for it in told)} refused,"
               f" {len(faults)} faults")
-        self.assertFalse(faults, "\n".join(faults))
+        self.no_faults(faults)
         self.assertEqual(count * DAYS, days, "days")

@@ -1,8 +1,8 @@
 """The desk over a link beside a plain desk, which asks the program nothing.
 
 The plain desk answers each line of a script from the requirements: FOP-1 and FARM-1 as literal tables, two carriers that are lists or
-rings, the spacecraft, its schedule and the mirror, and where each request stands. The program runs long scripts that fit how the link stands, with losses, starts of
-every kind, windows K from 1 to 127 and W from 2 to 254, rings of 1 to 4,096, lockout and the way back; every line that it prints, and
+rings, the spacecraft, its schedule and the mirror, and where each request stands. The program runs long scripts that fit
+how the link stands, with losses, starts of every kind, windows K from 1 to 127 and W from 2 to 254, rings of 1 to 4,096, lockout and the way back; every line that it prints, and
 its status, are those of the plain desk. Each cell of the two tables that a desk can reach has to be met, and each ring has to be full both ways.
 
 Then longer scripts, in which after each act is asked where the requests stand. Of what is printed alone (link_promise.py, without the
@@ -12,7 +12,6 @@ those that may come. The first fault of each script is told.
 """
 import subprocess
 import tempfile
-import unittest
 from collections import Counter
 from concurrent.futures import ProcessPoolExecutor
 from functools import partial
@@ -28,6 +27,7 @@ from model.facts import LAWFUL, Cause
 from model.schedule import MIRRORED
 from tests.asked import ASKED
 from tests.link_promise import Judge
+from tests.runs import Tried
 
 class Told(NamedTuple):
     """What came of one script."""
@@ -150,7 +150,7 @@ def hardly(told: list[Told], met: Counter[Any]) -> list[str]:
     return unmet(met) + few + [f"only {alerts[what]} {what}" for what, least in LEAST_ALERTS.items() if alerts[what] < least]
 
 
-class PlainLink(unittest.TestCase):
+class PlainLink(Tried):
     """The link, and the spacecraft behind it."""
 
     def test_scripts(self) -> None:
@@ -170,4 +170,4 @@ class PlainLink(unittest.TestCase):
               f" times; {seen['confirmed while kept']} confirmed while the premise was kept, {seen['places']} counts of places; alerts of"
               f" services that had started: {told_alerts(alerts, 'kept')} while the premise was kept, {told_alerts(alerts, 'broken')} where"
               f" it was broken; {len(faults)} faults")
-        self.assertFalse(faults, "\n".join(faults))
+        self.no_faults(faults)

@@ -9,18 +9,21 @@ import re
 import subprocess
 from contextlib import closing
 from pathlib import Path
+from typing import Optional, Sequence
 
 from generate.days import day_script
 from model.kept import connect, tables_of
-from model.rows import empty_tables, move_line
+from model.rows import Tables, empty_tables, move_line
 from tests.asked import TOOLS
-from tests.report_cases import (ALL, ENTRY, LAST, LINK, REPORTS, WORKED, Reported, change, difference, digests, changed, questions, unless,
-                                unlike)
-from tests.report_printer import TIMES, moves_in, places_of, report_of
+from tests.report_cases import (ALL, ENTRY, LAST, LINK, REPORTS, WORKED, Cases, Reported, Shift, change, changed, difference, digests, questions,
+                                unless, unlike)
+from tests.report_printer import TIMES, Moved, moves_in, places_of, report_of
 from tests.runs import write_files, write_lines
 
 SEED = 20311127
 LONG = "op00000000000016"
+# A desk in memory, and one in a file: the options of its run.
+WHERE: tuple[tuple[str, tuple[str, ...]], ...] = (("in memory", ()), ("in a file", ("--db", "desk.db")))
 # How many moves a shift has whose last page of 1,000 is just not full, is full, or is of one move.
 PAGES = [count + more for count in (1000, 2000, 3000, 4000) for more in (-1, 0, 1)]
 ANSWERS = """\
@@ -56,7 +59,7 @@ class Worked(Reported):
         """The worked example, early shifts after later moves, and a desk of no moves."""
         cases = self.cases
         folder, words, early = cases.folder(), ["desk.db", "100", "120"], [(0, 105), (100, 120), ALL]
-        for name, more in (("in memory", []), ("in a file", ["--db", "desk.db"])):
+        for name, more in WHERE:
             ran = cases.run(folder, WORKED + ["130 ann report 100 120"], *more)
             cases.tell(f"the worked example, {name}", *unlike(ran, ANSWERS + KEPT + STAND, "", 0))
         cases.ask("the worked example", folder, words, REPORT)
@@ -96,11 +99,11 @@ class Worked(Reported):
                      "1969-12-31T23:59:59Z", "100s", "0x64", ""):
             for words in (["desk.db", word, "120"], ["desk.db", "100", word], ["missing.db", word, "120"]):
                 cases.ask("a word that is none", folder, words, "", None, 2)
-        for words in ([], ["desk.db"], ["desk.db", "100"], ["desk.db", "100", "120", "140"], ["desk.db", "100", "120", "--colour"]):
-            cases.ask("words", folder, words, "", None, 2)
+        for text in ("", "desk.db", "desk.db 100", "desk.db 100 120 140", "desk.db 100 120 --colour"):
+            cases.ask("words", folder, text.split(), "", None, 2)
 
 
-def lines_of(dice, folder):
+def lines_of(dice: random.Random, folder: str) -> list[str]:
     """Some 400 random lines by several persons, at moments spread over years, a few of them earlier than those before. None asks for a
     history."""
     script, moment, lines = day_script(dice, empty_tables(), 0, 1, 400), 700_000_000, []
@@ -113,14 +116,14 @@ def lines_of(dice, folder):
     return lines
 
 
-def some_shifts(dice, moves, count):
+def some_shifts(dice: random.Random, moves: Sequence[Moved], count: int) -> list[Shift]:
     """All, one that is turned, and so many random shifts, most of which begin or end at a move."""
     moments = [it.moment for it in moves]
     bounds = [dice.choice([it, it, it + 1, dice.randrange(min(moments), max(moments))]) for it in dice.choices(moments, k=2 * count)]
-    return [ALL, (max(moments), min(moments))] + [tuple(sorted(it)) for it in zip(bounds[::2], bounds[1::2])]
+    return [ALL, (max(moments), min(moments))] + [(min(it), max(it)) for it in zip(bounds[::2], bounds[1::2])]
 
 
-def outputs(cases, folder):
+def outputs(cases: Cases, folder: str) -> None:
     """Outputs that take nothing: closed, full, or with nobody who reads. There the signal of the system may have ended the program."""
     reader, writer = os.pipe()
     os.close(reader)
@@ -147,7 +150,7 @@ class Histories(Reported):
         shifts, at = some_shifts(dice, moves, 20), len(lines) // 3
         one, two = shifts[:4], shifts[4:8]
         script = lines[:at] + questions(*one) + lines[at:2 * at] + questions(*two) + lines[2 * at:] + questions(*shifts)
-        for name, more in (("in memory", []), ("in a file", ["--db", "desk.db"])):
+        for name, more in WHERE:
             ran = cases.run(folder, script, *more)
             moves = cases.asked(f"a random history, {name}", ran, one + two + shifts)
             stood, rest = ("".join(line for line in REPORTS.sub("", it.out).splitlines(True) if not line.startswith(LINK)) for it in (plain, ran))
@@ -165,7 +168,7 @@ class Histories(Reported):
         script = Path(__file__).resolve().parent.parent / "cases/bad-start.tc"
         lines = [f"5 ann {ENTRY}"] + questions(ALL) + script.read_text("ascii").splitlines() + questions(ALL, (5, 5))
         folder = cases.folder()
-        for name, more in (("in memory", []), ("in a file", ["--db", "desk.db"])):
+        for name, more in WHERE:
             ran = cases.run(folder, lines, *more)
             moves = cases.asked(f"a bad start, {name}", ran, [ALL, ALL, (5, 5)])
             told = [it.split("\n")[3] for it in REPORTS.findall(ran.out)]
@@ -190,20 +193,21 @@ class Histories(Reported):
 
 # ---- files
 
-def hold(cases, folder, lines):
+def hold(cases: Cases, folder: str, lines: list[str]) -> tuple[subprocess.Popen[bytes], list[Moved]]:
     """Begins a run on the desk of a folder that waits for its reader, and so has the file. Gives it, and its moves: all lines are answered."""
     write_lines(f"{folder}/held.tc", lines + ["2000 zed places"] * 6000)
     words, out, piece = [cases.program, "run", "--db", "desk.db", "--at", "500", "held.tc"], b"", b"-"
     held = subprocess.Popen(words, cwd=folder, stdin=subprocess.DEVNULL, stdout=subprocess.PIPE, stderr=subprocess.DEVNULL, bufsize=0)
+    assert held.stdout
     while piece and b"\nplaces " not in out:
         piece = held.stdout.read(4096)
         out += piece
     return held, moves_in(out.decode("latin-1"))
 
 
-def left(cases, name, folder, moves=None):
+def left(cases: Cases, name: str, folder: str, moves: Optional[Sequence[Moved]] = None) -> None:
     """Asks of a desk that was not closed, which has these moves, or those that SQLite finds; it is opened then as if nobody had asked."""
-    def found(where):
+    def found(where: str) -> Tables:
         with closing(connect(f"{cases.copy(where, '-wal')}/desk.db")) as it:
             return tables_of(it)
     twin, stood = cases.copy(folder, "-wal"), moves_in("\n".join(move_line(it) for it in found(folder).move))

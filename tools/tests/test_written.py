@@ -5,7 +5,6 @@ written out below, by hand, beside the lines that put it there; nothing of it is
 """
 import os
 import tempfile
-import unittest
 from dataclasses import dataclass, field
 from itertools import zip_longest
 
@@ -13,7 +12,7 @@ from model.facts import SCHEMA
 from model.kept import connect, sqlite3
 from model.rows import ROWS
 from tests.asked import ASKED
-from tests.runs import run_kept, write_lines
+from tests.runs import Tried, run_kept, write_lines
 
 NO_TALLY = "\n".join(f"{place}|0" for place in range(1, 16))
 
@@ -48,9 +47,9 @@ class Case:
     """A desk: the lines of its days, each day behind its moment; what is refused of them; and the rows of its tables, of which none stand here
     that are those of an empty desk."""
     name: str
-    days: list
+    days: list[tuple[int, str]]
     refused: int
-    rows: dict = field(default_factory=dict)
+    rows: dict[str, str] = field(default_factory=dict)
 
 
 # Requests of every kind, with the least and the greatest of each number. The last four lines enter nothing.
@@ -355,7 +354,7 @@ TEXTS = {"name", "outcome", "author", "stack", "person", "procedure", "body", "s
 
 # ---- what differs
 
-def row_faults(case, connection, name):
+def row_faults(case: Case, connection: sqlite3.Connection, name: str) -> tuple[list[str], int, int]:
     """How a table's rows differ from those that are written out; they stand in the order in which they were written."""
     wanted = case.rows.get(name, {"meta": "schema|1", "tally": NO_TALLY}.get(name, "")).splitlines()
     cursor = connection.execute(f"SELECT * FROM {name} ORDER BY rowid")
@@ -368,7 +367,7 @@ def row_faults(case, connection, name):
     return faults[:1], len(rows), len(rows) * len(columns)
 
 
-def schema_faults(connection):
+def schema_faults(connection: sqlite3.Connection) -> tuple[list[str], int]:
     """How the statements that made the tables differ from those that are written out; and whether all is STRICT and in order."""
     made = [sql for sql, in connection.execute("SELECT sql FROM sqlite_schema WHERE sql IS NOT NULL ORDER BY rowid")]
     faults = [f"made by {got}, and not by {want}" for want, got in zip_longest(SCHEMA, made) if want != got]
@@ -377,7 +376,7 @@ def schema_faults(connection):
     return faults[:1], len(made)
 
 
-def desk_faults(program, case, folder):
+def desk_faults(program: str, case: Case, folder: str) -> list[str]:
     """Runs the days of a desk; what its lines are refused, and how often."""
     refused, faults = 0, []
     for at, (moment, lines) in enumerate(case.days):
@@ -388,7 +387,7 @@ def desk_faults(program, case, folder):
     return faults + ([f"{refused} lines were refused, and not {case.refused}"] if refused != case.refused else [])
 
 
-def try_case(program, case, work):
+def try_case(program: str, case: Case, work: str) -> tuple[list[str], int, int, int]:
     """A desk: its faults, its rows, its values and its statements."""
     folder = f"{work}/{case.name}"
     os.mkdir(folder)
@@ -408,7 +407,7 @@ def try_case(program, case, work):
     return [f"{case.name}: {it}" for it in faults + of_schema], rows, values, statements
 
 
-class Written(unittest.TestCase):
+class Written(Tried):
     """The tables, column by column."""
 
     def test_desks(self) -> None:
@@ -416,6 +415,6 @@ class Written(unittest.TestCase):
         with tempfile.TemporaryDirectory(prefix="written-") as work:
             told = [try_case(ASKED.program, case, work) for case in CASES]
         faults = [it for found, *_ in told for it in found]
-        rows, values, statements = (sum(it[at] for it in told) for at in (1, 2, 3))
+        rows, values, statements = sum(it[1] for it in told), sum(it[2] for it in told), sum(it[3] for it in told)
         print(f"written cases: {len(CASES)} desks, {rows} rows, {values} values, {statements} statements, {len(faults)} differ")
-        self.assertFalse(faults, "\n".join(faults))
+        self.no_faults(faults)
