@@ -12,8 +12,10 @@ from functools import partial
 
 # Attributes that count what was met, for those who ask whether enough was tried.
 COUNTED = {"visits", "met", "refusals", "dropped", "seen"}
+# How a value in a text is laid out.
+WIDTH = re.compile(r"[<>^]?0?[0-9]+[a-z]?")
 # Calls whose texts only a person reads.
-WORDS_OF = {"need", "Unsound", "AssertionError", "ValueError", "SystemExit", "exit"}
+WORDS_OF = {"need", "Unsound", "AssertionError", "ValueError", "ImportError", "TypeVar"}
 
 
 @dataclass(frozen=True)
@@ -223,6 +225,9 @@ def constants(spot: Spot) -> Iterator[Change]:
     elif isinstance(value, bytes) and value:
         for part in by_one(value.decode("latin-1")):
             yield spot.change("a number in a pattern", ast.Constant(part.encode("latin-1")))
+    elif isinstance(value, str) and isinstance(into, ast.JoinedStr) and WIDTH.fullmatch(value):
+        for text in by_one(value):
+            yield spot.change("a width", ast.Constant(text))
     elif isinstance(value, str) and spelled(value) != value and not is_table(value):
         yield spot.change("a word", ast.Constant(spelled(value)))
 

@@ -23,9 +23,8 @@ from tests.full_desks import make_desks
 from tests.http_peer import Server
 from tests.test_broken import changes_of
 
-TURNS = 700  # of a script of each style
+TURNS = 1000  # of a script of each style
 BOOKS, BOOK_LINES = 4, 1200
-LONG = 3000  # lines: what is longer, is looked at last
 TEXTS, CHANGES = 1200, 400
 KEPT = ("stacks of 200 rows", "borders")
 
@@ -100,7 +99,7 @@ def recorded_by(program: str, seed: int) -> Recorded:
     """All of it."""
     made = Recorded()
     with tempfile.TemporaryDirectory(prefix="planted-", dir="/dev/shm" if os.access("/dev/shm", os.W_OK) else None) as work:
-        made.scripts = sorted([*link_scripts(seed), *book_scripts(seed)], key=lambda it: len(it.lines) > LONG)
+        made.scripts = [*book_scripts(seed), *link_scripts(seed)]
         for script in made.scripts:
             record(program, script, tempfile.mkdtemp(dir=work))
         record_texts(program, work, seed, made)

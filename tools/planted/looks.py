@@ -10,6 +10,8 @@ from itertools import zip_longest
 
 from planted.recorded import Opening, Recorded, Rows, Script, Served
 
+# Scripts that fill a desk, which take seconds: they are for the file of the limits and the one of the book.
+FULL = ("book identities run out", "book a desk that stacks fill")
 ORDERED = ("request", "move", "tally", "execution")
 TOOLS = os.path.dirname(os.path.dirname(os.path.realpath(__file__)))
 
@@ -165,9 +167,14 @@ def differences(file: str, recorded: Recorded) -> Iterator[str]:
     if file == "model/kept.py":
         return
     for script in recorded.scripts:
-        yield script_fault(script)
+        if script.title not in FULL:
+            yield script_fault(script)
     for opening in recorded.openings:
         yield opening_fault(opening)
+    if file in ("", "model/facts.py", "model/book.py"):
+        for script in recorded.scripts:
+            if script.title in FULL:
+                yield script_fault(script)
 
 
 def first_difference(file: str, recorded: Recorded) -> str:

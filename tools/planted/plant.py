@@ -37,16 +37,14 @@ MOST_MISSED = 0.06  # of those that are planted
 LEAST_SECONDS = 30.0  # that a fault has
 
 
-def known_same() -> dict[str, str]:
-    """The changes that make the same program, each with the reason."""
-    known, why = dict[str, str](), ""
-    with open(f"{TOOLS}/planted/same.txt", encoding="utf-8") as file:
-        for line in file.read().splitlines():
-            if line.startswith("# "):
-                why = line.removeprefix("# ")
-            elif line:
-                known[line] = why
-    return known
+def known_same() -> list[str]:
+    """The names of changes that make the same program; one that ends in * stands for all that begin so."""
+    return [it for it in text_of("planted/same.txt").splitlines() if it and not it.startswith("#")]
+
+
+def is_named(trial: Trial, names: Sequence[str]) -> bool:
+    """Whether a change is one of these."""
+    return any(trial.key == it or it.endswith("*") and trial.key.startswith(it[:-1]) for it in names)
 
 
 def all_trials() -> list[Trial]:
@@ -54,7 +52,7 @@ def all_trials() -> list[Trial]:
     trees = {it: ast.parse(text_of(it)) for it in files_of_readings(TOOLS)}
     following, same = groups_in(list(trees.values())), known_same()
     trials = [Trial(file, tree, it) for file, tree in trees.items() for it in changes_in(tree, following)]
-    return [it for it in trials if it.key not in same]
+    return [it for it in trials if not is_named(it, same)]
 
 
 def text_of(file: str) -> str:
