@@ -36,7 +36,8 @@ def link_scripts(seed: int) -> list[Script]:
     scenes = {name: words for name, *words in SCENES if name != "same_name"}
     writers += [getattr(link_scenes, name)(seed, *words) for name, words in scenes.items()]
     writers.append(Planner(seed).write())
-    return [Script(f"link {it.style.name}", it.lines, {"w": it.w, "vc": it.vc, **({"ring": it.style.ring} if it.style.ring else {})}) for it in writers]
+    options = [{"w": it.w, "vc": it.vc, **({"ring": it.style.ring} if it.style.ring else {})} for it in writers]
+    return [Script(f"link {it.style.name}", it.lines, words) for it, words in zip(writers, options)]
 
 
 def by_written(it: Written, is_kept: bool) -> Script:
@@ -93,7 +94,8 @@ def record_left(program: str, work: str, made: Recorded) -> None:
             is_changed = not statement or change_file(f"{folder}/copy.db", changed_by(statement))
             # (other tables and other statements are not for a reading of rows)
             if is_changed and schema_of(f"{folder}/copy.db") == made.files[-1].schema:
-                made.openings.append(opening(program, folder, f"{folder}/copy.db", f"{left.name}, {statement or 'as it was left'}", left.days[0].moment))
+                title = f"{left.name}, {statement or 'as it was left'}"
+                made.openings.append(opening(program, folder, f"{folder}/copy.db", title, left.days[0].moment))
         for title, statements in limit_changes(made.files[-1].rows).items() if left is WHOLE else ():
             shutil.copy(f"{folder}/kept.db", f"{folder}/copy.db")
             if change_file(f"{folder}/copy.db", changed_by(*statements)):

@@ -1,6 +1,6 @@
 #!/usr/bin/env python3
-"""Plants faults into the plain desk, one at a time, and looks whether the comparisons find them: tools/run.py --planted, or this file by itself, at any
-place.
+"""Plants faults into the plain desk, one at a time, and looks whether the comparisons find them: tools/run.py --planted, or this file by itself, at
+any place.
 
     tools/planted/plant.py                     some hundreds of them, over all files of tools/model
     tools/planted/plant.py --count 20          so many
