@@ -48,7 +48,8 @@ def case_faults() -> Iterator[str]:
     for name in sorted(it.removesuffix(".tc") for it in os.listdir(folder) if it.endswith(".tc")):
         case = f"{folder}/{name}"
         told, status = answers(text_of(f"{case}.tc"), files, tuple(text_of(f"{case}.args").split()))
-        yield first_other(f"the case {name}", [*told, str(status)], [*text_of(f"{case}.stdout").split("\n")[:-1], text_of(f"{case}.status").strip() or "0"])
+        wanted = [*text_of(f"{case}.stdout").split("\n")[:-1], text_of(f"{case}.status").strip() or "0"]
+        yield first_other(f"the case {name}", [*told, str(status)], wanted)
 
 
 def text_faults(recorded: Recorded) -> Iterator[str]:

@@ -1,6 +1,6 @@
 #!/usr/bin/env python3
-"""Plants faults into the plain desk, one at a time, and looks whether the comparisons find them: tools/run.py --planted, or this file by itself, at any
-place.
+"""Plants faults into the plain desk, one at a time, and looks whether the comparisons find them: tools/run.py --planted, or this file by itself, at
+any place.
 
     tools/planted/plant.py                     some hundreds of them, over all files of tools/model
     tools/planted/plant.py --count 20          so many
@@ -17,8 +17,8 @@ where the plain desk itself, with no fault in it, differs from the program.
 """
 import argparse
 import ast
+import hashlib
 import os
-import random
 import sys
 import time
 from collections import defaultdict
@@ -61,14 +61,16 @@ def text_of(file: str) -> str:
         return it.read()
 
 
+def drawn(trial: Trial, seed: int) -> bytes:
+    """By what a seed puts changes in order, so that a change more or less leaves the order of the others as it is."""
+    return hashlib.sha256(f"{seed} {trial.key}".encode()).digest()
+
+
 def chosen(trials: Sequence[Trial], count: int, seed: int) -> list[Trial]:
-    """So many of these, from every file and of every kind in turn."""
-    dice, piles = random.Random(seed), defaultdict[str, dict[str, list[Trial]]](dict)
-    for it in trials:
+    """So many of these: of every file in turn, and of every kind in turn."""
+    piles = defaultdict[str, dict[str, list[Trial]]](dict)
+    for it in sorted(trials, key=lambda it: (it.file, it.change.kind, drawn(it, seed))):
         piles[it.file].setdefault(it.change.kind, []).append(it)
-    for kinds in piles.values():
-        for pile in kinds.values():
-            dice.shuffle(pile)
     made, turns = list[Trial](), 0
     while len(made) < min(count, len(trials)):
         for kinds in piles.values():

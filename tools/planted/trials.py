@@ -1,5 +1,5 @@
-"""Tries changes of the readings, each in a process of its own: there the module of the changed file is made of the changed tree, and every reading that
-stands on it uses it. What differs, fails, or does not end in time has been found.
+"""Tries changes of the readings, each in a process of its own: there the module of the changed file is made of the changed tree, and every reading
+that stands on it uses it. What differs, fails, or does not end in time has been found.
 """
 import ast
 import gc
