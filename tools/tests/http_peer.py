@@ -16,6 +16,7 @@ from model.facts import status_of
 from model.http import Acts, Asks, Loads, Refused, answer_to, refused_response, reply_response
 
 PATIENCE = float(os.environ.get("PATIENCE", "20"))  # seconds for one exchange, or for the program to begin or to end
+SLOW = PATIENCE / 4  # seconds in which a request that comes a byte at a time has to be answered: 5, where nobody asks for more patience
 HERE = "127.0.0.1"
 RST = struct.pack("ii", 1, 0)  # a socket that is closed resets its connection
 

@@ -18,12 +18,11 @@ from generate import http_posts as posts, http_requests as requests
 from generate.http_words import BODY, ENTRY, PLACES, Case, act, entry, get, load, post
 from model.http import decided
 from tests.http_cases import Cases, Served
-from tests.http_peer import PATIENCE, Ended, Server, free_port, received, reset, run, send
+from tests.http_peer import PATIENCE, SLOW, Ended, Server, free_port, received, reset, run, send
 from tests.runs import bytes_of
 
 SEED = 20311126
 FULL = {8, 18}  # the refusals of a desk that is full, which one test alone meets
-SLOW = 5.0  # seconds in which a request that comes a byte at a time has to be answered
 
 
 class Pieces(Served):
