@@ -1,11 +1,12 @@
 #!/bin/bash
 # The gate, from nothing: the layout of files, every proof, all tests and the program as two compilers build it, with the few edits of
-# must-fail/ (`rt ci`); the edits of wrong/, many in a check, and the test of the tool that tries them; then the built
-# program's words, files, statuses, every line of long random scripts beside a plain desk in Python, what lies in its tables, desks that are kept in a file,
-# faulty streams, each of its requests for memory refused in turn, a stop at each of its calls on the files of a desk, and the desk over HTTP, by real sockets;
-# and what ./tcdesk says and does at its first run, over a toy.
-# It stops at the first part that fails. At its end it prints what each part took: docs/GATE.md has that table as it was seen last. A part that does without
-# something says so in a line `not tried: ..`; these are told again at the end, and the last line counts them.
+# must-fail/ (`rt ci`); the program that is kept in dist/; and then all tests of tools/run.py: the edits of wrong/, many in a check, and the
+# built program's words, files, statuses, every line of long random scripts beside a plain desk in Python, what lies in its tables, desks that are
+# kept in a file, faulty streams, each of its requests for memory refused in turn, a stop at each of its calls on the files of a desk, and the
+# desk over HTTP, by real sockets.
+# It stops at the first of its own parts that fails; of the tests all are run. At its end it prints what each part took: docs/GATE.md has that table
+# as it was seen last. A test that does without something says so in a line `not tried: ..`; these are told again at the end, and counted. The
+# last line is `N passed, N failed`, of its own parts and of the tests.
 #
 # tools/gate.sh [--all] [--record] [--keep]: --all tries the edits of every crate, also of those that tools/edits.tried has as they
 # stand; --record writes that file anew, and --keep puts the program that rt ci built into dist/, for the landing's commit.
@@ -25,9 +26,12 @@ for word in "$@"; do
 done
 parts=()
 untried=()
+passed=0
+failed=0
 began=$(date +%s)
 
-# part NAME COMMAND..: runs the command, and notes what it took: minutes by the clock, and of processors.
+# part NAME COMMAND..: runs the command, and notes what it took, minutes by the clock and of processors, and what it counts as: by its last line, if
+# that is `N passed, N failed`, else as one.
 part() {
     local name=$1 status
     shift
@@ -37,11 +41,23 @@ part() {
     status=$?
     mapfile -t -O ${#untried[@]} untried < <(grep '^not tried: ' "$said")
     parts+=("$(awk -v name="$name" '{ printf "%-44s %6.1f %10.1f", name, $1 / 60, ($2 + $3) / 60 }' "$times")")
-    if ((status != 0)); then
-        table
-        echo "gate: $name failed"
-        exit 1
+    if [[ $(tail -n 1 "$said") =~ ^([0-9]+)\ passed,\ ([0-9]+)\ failed$ ]]; then
+        passed=$((passed + BASH_REMATCH[1])) failed=$((failed + BASH_REMATCH[2]))
+    elif ((status == 0)); then
+        passed=$((passed + 1))
+    else
+        failed=$((failed + 1))
     fi
+    ((status == 0)) || end "$name failed" 1
+}
+
+# end TEXT STATUS: tells what was seen, and ends with this status.
+end() {
+    table
+    ((${#untried[@]} == 0)) || printf '%s\n' "${untried[@]}"
+    echo "gate: $1; not tried: ${#untried[@]}"
+    echo "$passed passed, $failed failed"
+    exit "$2"
 }
 
 # What each part took.
@@ -68,35 +84,5 @@ rm -rf crates/*/out
 part "the layout of files" layout
 part "rt ci" rt ci
 part "the program that is kept" tools/kept_program.sh "${keep[@]}"
-part "the test of the tool for edits" tools/edits_test.py
-part "edits of wrong/, many in a check" tools/edits.py "${asked[@]}"
-part "where nothing is" tools/bare_cases.sh
-part "which program is run" tools/first_run_cases.sh
-part "program cases" tools/program_cases.sh
-part "what cannot be read or written" tools/status_cases.sh
-part "the manual and the rehearsals" tools/manual.sh
-part "the page of the manual" tools/man_cases.sh
-part "check" tools/check_cases.py
-part "desks that are kept" tools/kept_cases.sh
-part "the shift report" tools/report_cases.py
-part "a plain desk: acts on the book" tools/plain_book.py
-part "a plain desk: the link" tools/plain_link.py
-part "what lies in the tables" tools/written_cases.py
-part "what was left, and changed" tools/changed_cases.py
-part "tables that no desk wrote" tools/broken_cases.py
-part "desks opened again and again" tools/many_days.py
-part "streams that fail" tools/stream_cases.sh
-part "memory refused" tools/fail_alloc.sh
-part "memory refused to a load" tools/fail_load.sh
-part "memory refused to a check" tools/fail_check.sh
-part "memory refused to a desk that is kept" tools/fail_kept.sh
-part "stopped at each call on its files" tools/stop_kept.py
-part "HTTP over sockets" tools/http_cases.py
-part "a server that nobody stalls" tools/http_stalls.py
-part "HTTP that fails" tools/fail_http.py
-part "loop beside run" tools/loop_cases.sh
-part "the curl lines of the manual" tools/curl_cases.sh
-part "the proxy of the manual" tools/proxy_cases.py
-table
-((${#untried[@]} == 0)) || printf '%s\n' "${untried[@]}"
-echo "gate: all parts passed; not tried: ${#untried[@]}"
+part "the tests, by tools/run.py" tools/run.py --program crates/tc_cli/out/tc_cli "${asked[@]}"
+end "all parts passed" 0

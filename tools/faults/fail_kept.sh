@@ -1,0 +1,89 @@
+#!/bin/bash
+# tools/faults/fail_kept.sh [PROGRAM [STEP]] refuses the built program its requests for memory, every STEPth of them (the 11th where none is given), one a
+# run, on a desk that is kept in a file: the opening of what examples/monday.tc left, and the lines of examples/tuesday.tc. Each run may end as a
+# run in memory does, or with `cannot use` the file or memory; and then the file is opened again, where all that was left and all that was
+# printed stands. So it is of a report of the file, of which a front is printed, or all where memory was not wanted after all; the file stays as it is, and
+# no log comes beside it. Status 1 where that is not so.
+set -u
+
+top=$(cd "$(dirname "${BASH_SOURCE[0]}")/../.." && pwd) || exit 1
+program=$(readlink -m "${1:-$top/crates/tc_cli/out/tc_cli}")
+step=${2:-11}
+[[ -x $program ]] || { echo "fail_kept: $program is not built" >&2; exit 1; }
+
+work=$(mktemp -d) || exit 1
+trap 'rm -rf "$work"' EXIT
+cd "$work" || exit 1
+"$top/tools/faults/make_shim.sh" fail_malloc . || exit 1
+"$program" run --db left.db "$top/examples/monday.tc" >left.out || exit 1
+for request in 1 2 3 4; do
+    echo "99999 zed history $request 0"
+done >histories
+
+runs=0
+unharmed=0
+bad=0
+
+# Runs the next shift with request $1 refused, and then looks at the file. False where that request was not made.
+try() {
+    cp left.db kept.db
+    rm -f kept.db-wal
+    : >mark
+    FAIL_AT=$1 LD_PRELOAD=$work/fail_malloc.so \
+        "$program" run --db kept.db --at 86400 "$top/examples/tuesday.tc" >out 2>err 9>mark </dev/null
+    local status=$?
+    [[ -s mark ]] || return 1
+    runs=$((runs + 1))
+    [[ $status != 0 ]] || unharmed=$((unharmed + 1))
+    local how=bad
+    case $status in
+    0 | 1) [[ -s err ]] || how=told ;;
+    2) grep -qxE 'tcdesk: cannot use (memory|kept\.db)' err && how=told ;;
+    esac
+    "$program" run --db kept.db --at 99998 histories >seen 2>>err
+    [[ $? -le 1 ]] && ! grep -h '^move ' left.out out | sort -u | grep -qvxFf seen || how=bad
+    if [[ $how == bad ]]; then
+        bad=$((bad + 1))
+        echo "fail_kept: request $1: status $status" >&2
+        cat out err seen >&2
+    fi
+    return 0
+}
+
+# Reports the file with request $1 refused, and then looks at the file. False where that request was not made.
+try_report() {
+    cp left.db kept.db
+    rm -f kept.db-wal
+    : >mark
+    FAIL_AT=$1 LD_PRELOAD=$work/fail_malloc.so "$program" report kept.db 0 4102444799 >out 2>err 9>mark </dev/null
+    local status=$?
+    [[ -s mark ]] || return 1
+    reports=$((reports + 1))
+    local how=bad
+    case $status in
+    0) cmp -s report out && [[ ! -s err ]] && how=told ;;
+    2) cmp -s <(head -c "$(wc -c <out)" report) out && grep -qxE 'tcdesk: cannot use (memory|kept\.db)' err && how=told ;;
+    esac
+    cmp -s left.db kept.db && [[ ! -e kept.db-wal ]] || how=bad
+    if [[ $how == bad ]]; then
+        bad=$((bad + 1))
+        echo "fail_kept: a report, request $1: status $status" >&2
+        cat out err >&2
+    fi
+    return 0
+}
+
+at=1
+while try "$at"; do
+    at=$((at + step))
+done
+
+"$program" report left.db 0 4102444799 >report || exit 1
+reports=0
+at=1
+while try_report "$at"; do
+    at=$((at + step))
+done
+
+echo "fail_kept: $runs runs, $unharmed unharmed, and $reports reports, $bad bad"
+((bad == 0 && runs * step > 5000 && reports * step > 200))

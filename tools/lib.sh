@@ -1,0 +1,48 @@
+# What the tests that are scripts of the shell share. Each reads this file with its own name in $me and its folder in $work; it counts its cases in
+# $passed and $failed.
+passed=0
+failed=0
+server=
+
+# end_cases: ends the server whose process is in $server, where there is one, and removes the folder. It is for a trap on EXIT.
+end_cases() {
+    [[ -z $server ]] || kill "$server" 2>/dev/null
+    rm -rf "$work"
+}
+
+# tell NAME: counts a case by the status of the command before; where it failed, what stands in the files out and err of $work is shown.
+tell() {
+    if [[ $? == 0 ]]; then
+        passed=$((passed + 1))
+    else
+        failed=$((failed + 1))
+        echo "$me: $1" >&2
+        head -n 40 "$work/out" "$work/err" >&2 2>/dev/null
+    fi
+}
+
+# same NAME WANTED GOT: counts a case, in which two texts have to be the same.
+same() {
+    [[ $2 == "$3" ]]
+    tell "$1:"$'\n'"-- wanted:"$'\n'"$2"$'\n'"-- got:"$'\n'"$3"
+}
+
+# check NAME STATUS STDOUT STDERR WORD..: runs the program on the words in the folder $work, with its file `input` as standard input. STDERR
+# is a piece that standard error holds; nothing at all is wanted there where it is empty.
+check() {
+    local name=$1 status=$2 out=$3 err=$4
+    shift 4
+    "$program" "$@" <input >out 2>err
+    local got=$?
+    [[ $got == "$status" && $(cat out; echo .) == "$out." ]] &&
+        { [[ -z $err && ! -s err ]] || { [[ -n $err ]] && grep -qF -- "$err" err; }; }
+    tell "$name: status $got"
+}
+
+# free_port: prints a port that nobody listens at.
+free_port() {
+    local port
+    for ((port = 20000 + RANDOM % 9000; ; port++)); do
+        (: <>"/dev/tcp/127.0.0.1/$port") 2>/dev/null || { echo "$port"; return; }
+    done
+}

@@ -1,0 +1,242 @@
+"""A plain reading of the desk's HTTP side: which front of an input decides an answer, and what; what a body posts; and the exact bytes of a
+response to what the desk replies. It is written from the definitions (HTTP/1.1 by RFC 9112, JSON by RFC 8259, and this desk's own limits), and
+asks no server.
+"""
+import csv
+import io
+import json
+import math
+import re
+from typing import Any, NamedTuple, NoReturn, Optional, Sequence, Union
+
+from model.facts import (LAST_MOMENT, LAST_NUMBER, LONGEST_ACT, LONGEST_BODY, LONGEST_HEAD, LONGEST_TEXT, MARK, MOST_ANSWERED, MOST_FIELDS,
+                         MOST_LINE_ENDS, MOST_ROWS, MOST_STEPS, NAME, NO_PATH_STATUS, OTHER_METHOD_STATUS, PHRASES, THE_DESK, Refusal, status_of)
+
+MOST_RECORDS = {"stack": MOST_ROWS, "procedure": MOST_STEPS}
+
+
+class Refused(NamedTuple):
+    """An answer that needs no desk: the status, and the number of the refusal."""
+    status: int
+    refusal: int
+
+
+class Asks(NamedTuple):
+    """A question for the desk, as a script spells it."""
+    act: str
+
+
+class Acts(NamedTuple):
+    """An act, or a question, that a person posts."""
+    by: str
+    moment: int
+    act: str
+
+
+class Loads(NamedTuple):
+    """A stack or a procedure that a person posts."""
+    by: str
+    moment: int
+    kind: str
+    name: str
+    csv: str
+
+
+class Post(NamedTuple):
+    """What a head posts to: its kind, and how many bytes of a body belong to it."""
+    kind: str
+    size: int
+
+
+Asked = Union[Refused, Asks, Acts, Loads]
+Headers = Sequence[tuple[bytes, bytes]]
+BAD, LARGE = (Refused(status_of(it), it) for it in (Refusal.BAD_TEXT, Refusal.TOO_LONG))
+NO_PATH, OTHER_METHOD = (Refused(it, Refusal.BAD_TEXT) for it in (NO_PATH_STATUS, OTHER_METHOD_STATUS))
+
+
+# ---- a front of an input
+
+TOKEN = rb"[!#$%&'*+\-.^_`|~0-9A-Za-z]+"
+FIELD = rb"(" + TOKEN + rb"):([\t -~\x80-\xff]*)\r?\n"
+HEAD = re.compile(rb"(" + TOKEN + rb") ([!-~\x80-\xff]+) HTTP/1\.[01]\r?\n((?:" + FIELD + rb")*)\r?\n")
+EMPTY_LINE = re.compile(rb"\n\r?\n")
+NUMBER = re.compile(rb"0|[1-9][0-9]*")
+POSTS = {b"/acts": "act", b"/stacks": "stack", b"/procedures": "procedure"}
+# The questions: the form of the path, the word of the act, and the greatest number that the path may hold.
+QUESTIONS = [(re.compile(rb"/places"), "places", 0), (re.compile(rb"/requests/([^/]+)"), "request", LAST_NUMBER),
+             (re.compile(rb"/history/([^/]+)/([^/]+)"), "history", LAST_NUMBER), (re.compile(rb"/report/([^/]+)/([^/]+)"), "report", LAST_MOMENT)]
+
+
+def head_end(text: bytes) -> Optional[int]:
+    """How many bytes the first head text takes, with the CR and LF bytes before it; none where no empty line has ended one."""
+    found = EMPTY_LINE.search(text, len(text) - len(text.lstrip(b"\r\n")))
+    return found.end() if found else None
+
+
+def is_utf8(text: bytes) -> bool:
+    """Whether these bytes are UTF-8."""
+    try:
+        text.decode("utf-8")
+    except UnicodeDecodeError:
+        return False
+    return True
+
+
+def values(fields: Headers, name: bytes) -> list[bytes]:
+    """The values of the header lines with this name, without the spaces and tabs round them."""
+    return [value.strip(b" \t") for found, value in fields if found.lower() == name]
+
+
+def posted_to(kind: str, lengths: list[bytes]) -> Union[Refused, Post]:
+    """What a head asks that posts to a route, and has these Content-Lengths."""
+    if len(lengths) != 1 or not NUMBER.fullmatch(lengths[0]):
+        return BAD
+    is_large = len(lengths[0]) > len(str(LONGEST_BODY)) or int(lengths[0]) > LONGEST_BODY
+    return LARGE if is_large else Post(kind, int(lengths[0]))
+
+
+def asked(word: str, numbers: Sequence[bytes], last: int, lengths: list[bytes]) -> Union[Refused, Asks]:
+    """What a head asks that gets a question with these numbers, and has these Content-Lengths."""
+    def is_right(number: bytes) -> bool:
+        """Whether a number is spelled as one, and in range."""
+        return NUMBER.fullmatch(number) is not None and len(number) <= len(str(last)) and int(number) <= last
+    if lengths not in ([], [b"0"]) or not all(is_right(it) for it in numbers):
+        return BAD
+    return Asks(" ".join([word] + [it.decode() for it in numbers]))
+
+
+def judged(head: bytes) -> Union[Refused, Asks, Post]:
+    """What a head text asks, in the order of the tests."""
+    found = HEAD.fullmatch(head)
+    fields = re.findall(FIELD, found[3]) if found else []
+    if not found or len(fields) > MOST_FIELDS or not is_utf8(found[2]):
+        return LARGE if head.count(b"\n") > MOST_LINE_ENDS else BAD
+    method, target = found[1], found[2]
+    question = next(((match.groups(), word, last) for match, word, last in ((form.fullmatch(target), word, last) for form, word, last in QUESTIONS)
+                     if match), None)
+    if target not in POSTS and not question:
+        return NO_PATH
+    if method != (b"POST" if target in POSTS else b"GET"):
+        return OTHER_METHOD
+    if values(fields, b"transfer-encoding"):
+        return BAD
+    lengths = values(fields, b"content-length")
+    return asked(question[1], question[0], question[2], lengths) if question else posted_to(POSTS[target], lengths)
+
+
+def decided(front: bytes) -> Optional[Asked]:
+    """What a front of an input decides by itself; none where it decides nothing."""
+    end = head_end(front[:LONGEST_HEAD])
+    if end is None:
+        return LARGE if len(front) > LONGEST_HEAD else None
+    found = judged(front[:end].lstrip(b"\r\n"))
+    if not isinstance(found, Post):
+        return found
+    body = front[end:end + found.size]
+    return posted(found.kind, body) if len(body) == found.size else None
+
+
+def answer_to(text: bytes) -> Optional[Asked]:
+    """What the shortest front of an input that decides anything decides; none where no front does. A longer front of the same input decides what a
+    shorter one has decided: the tests try that on all fronts of some inputs."""
+    return decided(text)
+
+
+# ---- a body
+
+class Number(str):
+    """A number of JSON, as it is spelled."""
+
+
+class Members(list[tuple[str, Any]]):
+    """The members of an object of JSON, in order."""
+
+
+def depth_of(value: Any) -> int:
+    """How deep a value of JSON nests. A value error where it holds half of a surrogate pair, or a number past all floats."""
+    if isinstance(value, Members):
+        return 1 + max([0] + [depth_of(key) + depth_of(it) for key, it in value])
+    if isinstance(value, list):
+        return 1 + max([0] + [depth_of(it) for it in value])
+    if isinstance(value, Number) and math.isinf(float(value)):
+        raise ValueError("a number past all floats")
+    if isinstance(value, str):
+        value.encode("utf-8")
+    return 0
+
+
+def no_constant(word: str) -> NoReturn:
+    """Python's reader takes NaN and Infinity, which are no JSON."""
+    raise ValueError(word)
+
+
+def object_in(body: bytes) -> Optional[dict[str, Any]]:
+    """The members of the one JSON object that a body is, of a key that is named twice the last; none where it is no such thing."""
+    try:
+        value = json.loads(body.decode("utf-8"), parse_int=Number, parse_float=Number, parse_constant=no_constant, object_pairs_hook=Members)
+        return dict(value) if isinstance(value, Members) and depth_of(value) <= 127 else None
+    except (ValueError, RecursionError):
+        return None
+
+
+def is_name(text: str) -> bool:
+    """Whether a text is in the form of a name."""
+    return NAME.fullmatch(text) is not None
+
+
+def is_moment(number: str) -> bool:
+    """Whether a number of JSON is a moment: whole, spelled without a fraction, an exponent or a sign, and in range."""
+    return re.fullmatch("[0-9]+", number) is not None and len(number) <= len(str(LAST_MOMENT)) and int(number) <= LAST_MOMENT
+
+
+def is_too_long(kind: str, text: str) -> bool:
+    """Whether a text of comma-separated values has more than the rows that a stack or a procedure may have, or too many bytes."""
+    rows = [it for it in csv.reader(io.StringIO(text.removeprefix(MARK.decode("utf-8")), newline="")) if it]
+    return len(rows) > 1 + MOST_RECORDS[kind] or len(text.encode("utf-8")) > LONGEST_TEXT
+
+
+def posted(kind: str, body: bytes) -> Asked:
+    """What a whole body posts, in the order of the tests."""
+    keys = object_in(body)
+    texts = ("act", "by") if kind == "act" else ("by", "csv", "name")
+    if keys is None or type(keys.get("moment")) is not Number or not all(type(keys.get(it)) is str for it in texts):
+        return BAD
+    if not is_name(keys["by"]) or keys["by"] == THE_DESK:
+        return BAD
+    if len(keys["act"].encode("utf-8")) > LONGEST_ACT if kind == "act" else is_too_long(kind, keys["csv"]):
+        return LARGE
+    if not is_moment(keys["moment"]) or kind != "act" and not is_name(keys["name"]):
+        return BAD
+    if kind == "act":
+        return Acts(keys["by"], int(keys["moment"]), keys["act"])
+    return Loads(keys["by"], int(keys["moment"]), kind, keys["name"], keys["csv"])
+
+
+# ---- a response
+
+ESCAPES = {'"': '\\"', "\\": "\\\\", "\b": "\\b", "\f": "\\f", "\n": "\\n", "\r": "\\r", "\t": "\\t"}
+
+
+def quoted(text: str) -> str:
+    """A text as a string of JSON, with the shortest escapes, and none where none is needed."""
+    return '"' + "".join(ESCAPES.get(it) or (f"\\u{ord(it):04x}" if it < " " else it) for it in text) + '"'
+
+
+def response(status: int, lines: Sequence[str], refusal: int) -> bytes:
+    """The bytes of a response with these lines."""
+    shown, more = lines[:MOST_ANSWERED], max(0, len(lines) - MOST_ANSWERED)
+    body = f'{{"lines":[{",".join(quoted(it) for it in shown)}],"more":{more},"refusal":{int(refusal)}}}'.encode("utf-8")
+    head = [f"HTTP/1.1 {status} {PHRASES[status]}", "Content-Type: application/json", f"Content-Length: {len(body)}", "Connection: close", ""]
+    return "".join(f"{it}\r\n" for it in head).encode("ascii") + body
+
+
+def refused_response(refused: Refused) -> bytes:
+    """The bytes of a response that needs no desk."""
+    return response(refused.status, [Refusal(refused.refusal).line], refused.refusal)
+
+
+def reply_response(reply: Sequence[str]) -> bytes:
+    """The bytes of the response to what the desk replied, as a list of lines."""
+    refused = re.fullmatch("refused ([0-9]+) [A-Za-z]+", reply[0])
+    refusal = int(refused[1]) if refused and len(reply) == 1 else 0
+    return response(status_of(refusal), reply, refusal)

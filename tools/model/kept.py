@@ -1,0 +1,36 @@
+"""How the file of a desk is read, by Python's SQLite: the rows of its tables, without the program."""
+from model.rows import ROWS, Tables
+
+try:
+    import sqlite3
+except ImportError:
+    raise ImportError("python3 has no module sqlite3 (Debian: libpython3-stdlib)") from None
+if sqlite3.sqlite_version_info < (3, 37):
+    raise ImportError("python3 has a module sqlite3 that does not know STRICT tables: they came with SQLite 3.37 (Debian: libsqlite3-0)")
+
+
+def connect(path: str, words: str = "") -> sqlite3.Connection:
+    """The file as a database, each byte of a text as one character."""
+    connection = sqlite3.connect(f"file:{path}?{words}", uri=True, isolation_level=None)
+    connection.text_factory = lambda raw: raw.decode("latin-1")
+    return connection
+
+
+def columns_of(connection: sqlite3.Connection) -> dict[str, list[str]]:
+    """The columns of each table, as the schema of the file has them."""
+    names = [name for name, in connection.execute("SELECT name FROM sqlite_schema WHERE type = 'table' ORDER BY rowid")]
+    return {name: [row[1] for row in connection.execute(f"PRAGMA table_info({name})")] for name in names}
+
+
+def tables_of(connection: sqlite3.Connection) -> Tables:
+    """All rows of the desk's tables, each table in the order in which its rows were written."""
+    return Tables(*([make(*row) for row in connection.execute(f"SELECT * FROM {name} ORDER BY rowid")] for name, make in ROWS.items()))
+
+
+def read_tables(path: str) -> Tables:
+    """What the file alone holds, without what may lie beside it."""
+    connection = connect(path, "immutable=1")
+    try:
+        return tables_of(connection)
+    finally:
+        connection.close()

@@ -1,0 +1,177 @@
+#!/bin/bash
+# Serves a desk and sends it the lines of curl that docs/OPERATORS.md prints, in its section "The desk over HTTP": each has to give what stands behind it there.
+# Then what lines of curl do not send: requests that are cut short, peers that go away, and one that sends more than it said. Ends with how many passed;
+# status 1 where one failed. Wants curl (7.82 or later) and python3.
+set -u
+top=$(cd "$(dirname "${BASH_SOURCE[0]}")/../.." && pwd) || exit 1
+program=${1:-$top/crates/tc_cli/out/tc_cli}
+[[ -x $program ]] || { echo "curl_cases: $program is not built" >&2; exit 1; }
+command -v curl >/dev/null || { echo "curl_cases: curl is not installed (Debian: curl)" >&2; exit 1; }
+program=$(readlink -f "$program")
+work=$(mktemp -d) || exit 1
+me=curl_cases
+. "$top/tools/lib.sh"
+trap end_cases EXIT
+cd "$top" || exit 1
+
+# start FILE COUNT: serves the desk of a file, and waits until it says that it listens.
+start() {
+    port=$(free_port)
+    count=$2
+    "$program" serve "$1" "$port" "$count" >"$work/served" 2>"$work/served.err" &
+    server=$!
+    for ((i = 0; i < 200; i++)); do
+        grep -qxF "tcdesk: listening on 127.0.0.1:$port" "$work/served.err" && return
+        kill -0 "$server" 2>/dev/null || return
+        sleep 0.05
+    done
+}
+
+# ended NAME: the server that was started ends by itself, with status 0, and says where it listened and why it ended.
+ended() {
+    for ((i = 0; i < 200; i++)); do
+        kill -0 "$server" 2>/dev/null || break
+        sleep 0.05
+    done
+    kill "$server" 2>/dev/null
+    wait "$server"
+    local status=$?
+    server=
+    cp "$work/served" "$work/out"
+    cp "$work/served.err" "$work/err"
+    [[ $status == 0 && $(<"$work/err") == "tcdesk: listening on 127.0.0.1:$port"$'\n'"tcdesk: ended after $count connections" ]]
+    tell "$1: status $status"
+}
+
+# raw BYTES..: sends these bytes, by printf, ends its sending, and prints what comes back.
+raw() {
+    # shellcheck disable=SC2059
+    printf "$@" | python3 -c '
+import socket, sys
+s = socket.create_connection(("127.0.0.1", int(sys.argv[1])))
+s.sendall(sys.stdin.buffer.read())
+s.shutdown(socket.SHUT_WR)
+while True:
+    piece = s.recv(65536)
+    if not piece:
+        break
+    sys.stdout.buffer.write(piece)
+' "$port" >"$work/out" 2>"$work/err"
+}
+
+# ---- the lines that are printed
+
+# each block of a shell with curl in it, and the block behind it
+awk -v work="$work" '
+    /^## / { inside = $0 == "## The desk over HTTP" }
+    !inside { next }
+    /^```/ {
+        if (kind != "") { close(file); kind = ""; next }
+        kind = $0 == "```sh" ? "sh" : $0 == "```" ? "out" : "other"
+        if (kind == "sh") n++
+        file = sprintf("%s/case-%03d.%s", work, n, kind)
+        next
+    }
+    kind == "sh" || kind == "out" { print >file }
+' docs/OPERATORS.md
+cases=()
+for case in "$work"/case-*.sh; do
+    [[ -e ${case%.sh}.out ]] && grep -q curl "$case" && cases+=("$case")
+done
+((${#cases[@]} >= 10))
+tell "the section has its lines: ${#cases[@]}"
+start "$work/desk.db" "${#cases[@]}"
+for case in "${cases[@]}"; do
+    sed "s/:8080/:$port/g" "$case" >"$work/line"
+    bash "$work/line" >"$work/out" 2>"$work/err"
+    [[ $(<"$work/out") == "$(<"${case%.sh}.out")" && ! -s $work/err ]]
+    tell "$(<"$case")"
+done
+ended "a server of ${#cases[@]} connections"
+"$program" run --db "$work/desk.db" /dev/null >"$work/out" 2>"$work/err"
+[[ $(<"$work/out") == "places 4: 4 0 0 0 0 0 0 0 0 0 0 0 0 0 0" && ! -s $work/err ]]
+tell "the desk that is left"
+
+# ---- what curl does not send
+
+start "$work/raw.db" 9
+raw ''
+[[ ! -s $work/out && ! -s $work/err ]]
+tell "a connection that ends at once"
+raw 'POST /acts HTTP/1.1\r\nContent-Length: 50\r\n\r\n{"act":"places","by'
+[[ ! -s $work/out && ! -s $work/err ]]
+tell "a body that is cut short"
+raw 'GET /places HTTP/1.0\n\n'
+[[ $(head -n 1 "$work/out") == $'HTTP/1.1 200 OK\r' && $(tail -n 1 "$work/out") == '{"lines":["places 0: 0 0 0 0 0 0 0 0 0 0 0 0 0 0 0"],"more":0,"refusal":0}' ]]
+tell "a request of HTTP/1.0, whose lines end with LF"
+raw 'POST /acts HTTP/1.1\r\nContent-Length: 60\r\n\r\n{"act":"enter 5 a--c no 8 1 - - ok","by":"ann","moment":100}\r\nGET /places HTTP/1.1\r\n\r\n'
+[[ $(grep -c '^HTTP' "$work/out") == 1 && $(tail -n 1 "$work/out") == '{"lines":["ok request 1 5/0","move 1 100 ann 1 - Entered enter"],"more":0,"refusal":0}' ]]
+tell "a second request in the same connection is left out"
+raw 'POST /acts HTTP/1.1\r\nContent-Length: 65537\r\n\r\n%65537s' ''
+[[ $(head -n 1 "$work/out") == $'HTTP/1.1 413 Payload Too Large\r' || $(head -n 1 "$work/out") == $'HTTP/1.1 413 Content Too Large\r' ]]
+tell "a body of 65,537 bytes is refused, and the refusal comes whole"
+raw 'GET /places HTTP/1.1\r\nx: %8200s\r\n\r\n' ''
+[[ $(head -n 1 "$work/out") == 'HTTP/1.1 413 '* && $(tail -n 1 "$work/out") == '{"lines":["refused 17 TooLong"],"more":0,"refusal":17}' ]]
+tell "a head of more than 8,192 bytes"
+# a peer that resets its connection before it takes the answer
+python3 - "$port" <<'PY'
+import socket, struct, sys
+s = socket.create_connection(("127.0.0.1", int(sys.argv[1])))
+s.sendall(b'POST /acts HTTP/1.1\r\nContent-Length: 60\r\n\r\n{"act":"enter 5 a--c no 8 2 - - ok","by":"ann","moment":101}')
+s.setsockopt(socket.SOL_SOCKET, socket.SO_LINGER, struct.pack("ii", 1, 0))
+s.close()
+PY
+# one that keeps its connection after it was answered
+python3 - "$port" >"$work/out" 2>"$work/err" <<'PY'
+import socket, sys
+s = socket.create_connection(("127.0.0.1", int(sys.argv[1])))
+s.sendall(b"GET /requests/1 HTTP/1.1\r\n\r\n")
+while s.recv(65536):
+    pass
+t = socket.create_connection(("127.0.0.1", int(sys.argv[1])), timeout=30)
+t.sendall(b"GET /places HTTP/1.1\r\n\r\n")
+got = b""
+while piece := t.recv(65536):
+    got += piece
+print(got.decode().splitlines()[-1])
+PY
+[[ $(<"$work/out") == '{"lines":["places '[12]': '*'"],"more":0,"refusal":0}' ]]
+tell "a peer that goes, and one that stays: each costs its connection alone"
+ended "a server that met them"
+"$program" run --db "$work/raw.db" /dev/null >"$work/out" 2>"$work/err"
+[[ $(<"$work/out") == "places "[12]": "* && ! -s $work/err ]]
+tell "the desk that they leave"
+
+# ---- faults, in their order: usage, file, port
+
+"$program" serve "$work/none/new.db" 0 1 >"$work/out" 2>"$work/err"
+[[ $? == 2 && ! -s $work/out ]] && grep -qF "1..=65535" "$work/err"
+tell "port 0"
+"$program" serve "$work/none/new.db" 65536 1 >"$work/out" 2>"$work/err"
+[[ $? == 2 && ! -s $work/out ]] && grep -qF "1..=65535" "$work/err"
+tell "port 65,536"
+"$program" serve "$work/none/new.db" 1 0 >"$work/out" 2>"$work/err"
+[[ $? == 2 && ! -s $work/out ]] && grep -qF "1..=1000000" "$work/err"
+tell "no connection"
+start "$work/first.db" 1
+"$program" serve "$work/none/new.db" "$port" 1 >"$work/out" 2>"$work/err"
+[[ $? == 2 && ! -s $work/out && $(<"$work/err") == "tcdesk: cannot use $work/none/new.db" ]]
+tell "a file that cannot be made, and a port that is taken"
+"$program" serve "$work/second.db" "$port" 1 >"$work/out" 2>"$work/err"
+[[ $? == 2 && ! -s $work/out && $(<"$work/err") == "tcdesk: cannot use port $port" && ! -e $work/second.db && ! -e $work/second.db-wal ]]
+tell "a port that is taken, and no file"
+# its next opening would put what is Sent in doubt
+"$program" run --db "$work/second.db" examples/monday.tc >/dev/null && cp "$work/second.db" "$work/stood.db"
+"$program" serve "$work/second.db" "$port" 1 >"$work/out" 2>"$work/err"
+[[ $? == 2 && ! -s $work/out && $(<"$work/err") == "tcdesk: cannot use port $port" ]] && cmp "$work/stood.db" "$work/second.db" >>"$work/err" 2>&1
+tell "a port that is taken, and a desk"
+"$program" serve "$work/first.db" "$(free_port)" 1 >"$work/out" 2>"$work/err"
+[[ $? == 2 && ! -s $work/out && $(<"$work/err") == "tcdesk: cannot use $work/first.db" ]]
+tell "a desk that is served already"
+curl -s "http://127.0.0.1:$port/places" >"$work/out" 2>"$work/err"
+[[ $(<"$work/out") == '{"lines":["places 0: '* ]]
+tell "the server that was there first"
+ended "that server"
+
+echo "curl cases: $passed passed, $failed failed"
+[[ $failed == 0 ]]

@@ -1,0 +1,217 @@
+#!/bin/bash
+# Runs what the manual of the desk shows, and the rehearsals of examples/: tools/pages/manual.sh [PROGRAM], at any place.
+#
+# The fenced blocks of docs/OPERATORS.md are taken in order. A block ```sh is run by bash, in a new folder that has the program as
+# ./tcdesk and a copy of examples/ and of tools/views.sql; what it prints, on both its outputs, has to be the block without a word that
+# stands next behind it, or nothing where none does. A block ```csv PATH is the whole file PATH; a block ```text is a form, and not run.
+# The section "The desk over HTTP" is left to tools/pages/curl_cases.sh.
+#
+# Then each examples/NAME.tc is run, by the command of its line `# ./tcdesk ..`, else by `./tcdesk run examples/NAME.tc`, in another
+# such folder, in order of name. It has to print NAME.out and nothing on standard error, its status is 1 where a line is refused, else
+# 0, and the manual has to name it.
+#
+# Then the commands of README.md, but for the gate, in a third, in their order. Each ends with 0, or with 1 where a line is refused, says nothing
+# on standard error, and prints the block that stands behind it, where one does: behind the first one does. The server is started at a port that
+# nobody uses, for one connection, which is the line of curl behind it. README.md has at most 150 lines.
+#
+# The first difference ends it with status 1. The last line counts what was as it is shown.
+set -u
+top=$(cd "$(dirname "${BASH_SOURCE[0]}")/../.." && pwd) || exit 1
+program=$(readlink -m "${1:-$top/crates/tc_cli/out/tc_cli}")
+manual=$top/docs/OPERATORS.md
+[[ -x $program ]] || { echo "manual: $program is not built" >&2; exit 1; }
+command -v curl >/dev/null || { echo "manual: curl is not installed (Debian: curl)" >&2; exit 1; }
+work=$(mktemp -d) || exit 1
+server=
+trap '[[ -z $server ]] || kill "$server" 2>/dev/null; rm -rf "$work"' EXIT
+mkdir "$work/blocks" "$work/page" || exit 1
+
+# fail WORDS..: says what is wrong, and ends.
+fail() {
+    echo "manual: $*" >&2
+    exit 1
+}
+
+# compare WHAT WANTED PRINTED: ends with the first difference where the two files differ.
+compare() {
+    cmp -s "$2" "$3" && return
+    diff -U 2 --label wanted "$2" --label printed "$3" | head -n 30 >&2
+    fail "$1 is otherwise than it is shown"
+}
+
+# folder NAME: a new folder as the top of the repository is to a person who types commands there; it is then the current one.
+folder() {
+    mkdir -p "$work/$1/tools" && cp -r "$top/examples" "$work/$1" && cp "$top/tools/views.sql" "$work/$1/tools" || exit 1
+    printf '#!/bin/bash\nexec -a tcdesk %q "$@"\n' "$program" >"$work/$1/tcdesk" && chmod +x "$work/$1/tcdesk" || exit 1
+    cd "$work/$1" || exit 1
+}
+
+# blocks PAGE FOLDER SECTION: puts each block of a page into a file of FOLDER that has the number of its line, and prints a list of their lines,
+# kinds and paths ('-' where a fence has no such word). Those of SECTION are left out.
+blocks() {
+    awk -v folder="$2" -v section="$3" '
+        !inside && /^## / { skipped = $0 == section }
+        /^```/ {
+            if (inside) { close(file); inside = 0; next }
+            inside = 1
+            if (skipped) { file = "/dev/null"; next }
+            file = sprintf("%s/%d", folder, NR)
+            printf "" >file
+            sub(/^```/, "")
+            print NR, $1 == "" ? "-" : $1, $2 == "" ? "-" : $2
+            next
+        }
+        inside { print >file }
+        END { if (inside) print NR, "open", "-" }
+    ' "$1"
+}
+blocks "$manual" "$work/blocks" "## The desk over HTTP" >"$work/list" || exit 1
+
+commands=0
+files=0
+forms=0
+# 1 where a command was run and what it prints was not compared yet, 2 where a command was left out
+is_waiting=0
+empty=$work/empty
+: >"$empty"
+
+# settle WANTED: compares what the last command printed, where it was not compared yet.
+settle() {
+    ((is_waiting != 1)) || compare "what the command of docs/OPERATORS.md, line $command, prints" "$1" "$work/printed"
+    is_waiting=0
+}
+
+folder shift
+while read -r line kind path; do
+    block=$work/blocks/$line
+    if [[ $kind == - && $is_waiting != 0 ]]; then
+        settle "$block"
+        continue
+    fi
+    settle "$empty"
+    case $kind in
+    sh)
+        if grep -q '^sqlite3 ' "$block" && ! command -v sqlite3 >/dev/null; then
+            echo "not tried: the shell sqlite3 is not installed: docs/OPERATORS.md, line $line, is not run"
+            is_waiting=2
+            continue
+        fi
+        timeout 300 bash "$block" >"$work/printed" 2>&1 </dev/null
+        [[ $? != 124 ]] || fail "the command of docs/OPERATORS.md, line $line, does not end"
+        command=$line
+        is_waiting=1
+        commands=$((commands + 1))
+        ;;
+    csv)
+        [[ -f $top/$path ]] || fail "docs/OPERATORS.md, line $line: there is no file $path"
+        compare "$path, docs/OPERATORS.md, line $line," "$top/$path" "$block"
+        files=$((files + 1))
+        ;;
+    text) forms=$((forms + 1)) ;;
+    *) fail "docs/OPERATORS.md, line $line: a block that is no command, no output of one, no file and no form" ;;
+    esac
+done <"$work/list"
+settle "$empty"
+((commands > 0)) || fail "docs/OPERATORS.md has no command"
+
+rehearsals=0
+folder rehearsal
+for script in examples/*.tc; do
+    wanted=$top/${script%.tc}.out
+    [[ -f $wanted ]] || fail "$script has no ${script%.tc}.out"
+    grep -qF "$script" "$manual" || fail "docs/OPERATORS.md does not name $script"
+    words=$(sed -n 's/^# \(\.\/tcdesk .*\)/\1/p' "$script" | head -n 1)
+    words=${words:-./tcdesk run $script}
+    [[ " $words " == *" $script "* ]] || fail "$script says that it is run by another command: $words"
+    timeout 300 bash -c "$words" >"$work/printed" 2>"$work/errors" </dev/null
+    status=$?
+    compare "what $words prints" "$wanted" "$work/printed"
+    compare "what $words says on standard error" "$empty" "$work/errors"
+    grep -q '^refused ' "$wanted"
+    refused=$((1 - $?))
+    ((status == refused)) || fail "$words ends with status $status"
+    rehearsals=$((rehearsals + 1))
+done
+for wanted in examples/*.out; do
+    [[ -f ${wanted%.out}.tc ]] || fail "$wanted is of no script"
+done
+
+# ---- README.md
+
+# run_command WORDS: runs a command of README.md. What it prints is in $work/printed.
+run_command() {
+    timeout 300 bash -c "$1" >"$work/printed" 2>"$work/errors" </dev/null
+    status=$?
+    grep -q '^refused ' "$work/printed"
+    refused=$((1 - $?))
+    compare "what README.md's $1 says on standard error" "$empty" "$work/errors"
+    ((status == refused)) || fail "README.md's $1 ends with status $status"
+}
+
+# start_server WORDS: starts the server of README.md, for one connection, and waits until it says that it listens.
+start_server() {
+    port=$(python3 -c 'import socket; s = socket.socket(); s.bind(("127.0.0.1", 0)); print(s.getsockname()[1])') || exit 1
+    bash -c "exec ${1/8080/$port} 1" >"$work/served" 2>"$work/said" </dev/null &
+    server=$!
+    for ((i = 0; i < 200; i++)); do
+        ! grep -qxF "tcdesk: listening on 127.0.0.1:$port" "$work/said" || return 0
+        kill -0 "$server" 2>/dev/null || break
+        sleep 0.05
+    done
+    fail "README.md's $1 does not listen: $(<"$work/said")"
+}
+
+# ask_server WORDS: sends a line of curl to the server, which ends then. What it prints is in $work/printed.
+ask_server() {
+    [[ -n $server ]] || fail "README.md's $1 stands before the server"
+    timeout 60 bash -c "${1/8080/$port}" >"$work/answer" 2>/dev/null </dev/null
+    [[ -s $work/answer ]] || fail "README.md's $1 is not answered"
+    printf '%s\n' "$(<"$work/answer")" >"$work/printed"
+    wait "$server"
+    status=$?
+    server=
+    ((status == 0)) || fail "the server of README.md ends with status $status"
+    printf 'tcdesk: listening on 127.0.0.1:%s\ntcdesk: ended after 1 connections\n' "$port" >"$work/wanted"
+    compare "what the server of README.md says on standard error" "$work/wanted" "$work/said"
+}
+
+page=$top/README.md
+lines=$(wc -l <"$page")
+((lines <= 150)) || fail "README.md has $lines lines: more than 150"
+blocks "$page" "$work/page" - >"$work/list" || exit 1
+folder readme
+first=0
+shown=0
+# the command whose block may come next; - where that was left out
+words=
+while read -r line kind path; do
+    block=$work/page/$line
+    if [[ $kind == - ]]; then
+        [[ -n $words ]] || fail "README.md, line $line: a block behind no command"
+        [[ $words == - ]] || compare "what README.md's $words prints" "$block" "$work/printed"
+        words=
+        shown=$((shown + 1))
+        continue
+    fi
+    ((first == 0 || shown > 0)) || fail "README.md does not show what its first command prints"
+    words=
+    [[ $kind == sh ]] || continue
+    while IFS= read -r words; do
+        case $words in
+        tools/gate.sh)
+            last=-
+            continue
+            ;;
+        ./tcdesk\ serve\ *) start_server "$words" ;;
+        curl\ *) ask_server "$words" ;;
+        *) run_command "$words" ;;
+        esac
+        first=$((first + 1))
+        last=$words
+    done <"$block"
+    words=$last
+done <"$work/list"
+[[ -z $server ]] || fail "README.md has a server that nobody asks"
+((first > 1)) || fail "README.md has no commands"
+
+echo "manual: $first commands of README.md, $commands commands and $files files as they are shown, $forms forms, $rehearsals rehearsals"

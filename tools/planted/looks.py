@@ -1,0 +1,183 @@
+"""Holds the readings against what is written in tools/cases and against what the program did: the first answer that differs is told.
+
+Everything is imported where it is used, so that a process which has a changed module imports that one, and nothing before.
+"""
+import os
+import tempfile
+from collections import Counter
+from collections.abc import Iterator
+from itertools import zip_longest
+
+from planted.recorded import Opening, Recorded, Rows, Script, Served
+
+# Scripts that fill a desk, which take seconds: they are for the file of the limits and the one of the book.
+FULL = ("book identities run out", "book a desk that stacks fill")
+ORDERED = ("request", "move", "tally", "execution")
+TOOLS = os.path.dirname(os.path.dirname(os.path.realpath(__file__)))
+
+
+def files_of_readings(top: str) -> list[str]:
+    """The files of the plain desk, below tools/."""
+    names = sorted(it for it in os.listdir(f"{top}/model") if it.endswith(".py"))
+    return [f"model/{it}" for it in names if os.path.getsize(f"{top}/model/{it}") and it != "__init__.py"]
+
+
+def text_of(path: str) -> str:
+    """A text, each byte of which is one character; nothing where there is no file."""
+    if not os.path.exists(path):
+        return ""
+    with open(path, encoding="latin-1", newline="") as file:
+        return file.read()
+
+
+def first_other(title: str, got: list[str], wanted: list[str]) -> str:
+    """The first line that differs."""
+    for at, (one, two) in enumerate(zip_longest(got, wanted), 1):
+        if one != two:
+            return f"{title}, line {at}: {one!r:.150}, and not {two!r:.150}"
+    return ""
+
+
+# ---- what is written
+
+def case_faults() -> Iterator[str]:
+    """The written scripts: what a desk answers to each, and its status."""
+    from model.desk import answers
+    folder = f"{TOOLS}/cases"
+    files = {it: text_of(f"{folder}/data/{it}").encode("latin-1") for it in sorted(os.listdir(f"{folder}/data"))}
+    for name in sorted(it.removesuffix(".tc") for it in os.listdir(folder) if it.endswith(".tc")):
+        case = f"{folder}/{name}"
+        told, status = answers(text_of(f"{case}.tc"), files, tuple(text_of(f"{case}.args").split()))
+        wanted = [*text_of(f"{case}.stdout").split("\n")[:-1], text_of(f"{case}.status").strip() or "0"]
+        yield first_other(f"the case {name}", [*told, str(status)], wanted)
+
+
+def text_faults(recorded: Recorded) -> Iterator[str]:
+    """Texts of stacks and of procedures: what `check` tells, and with what their load is refused."""
+    from model.check import told_of
+    for it in recorded.texts:
+        told = told_of(it.kind, it.data)
+        if told.line != it.told:
+            yield f"check {it.kind} {it.data!r:.80}: {told.line!r}, and not {it.told!r}"
+        if (told.refusal != 0) != (it.told != "ok"):
+            yield f"check {it.kind} {it.data!r:.80}: its load is refused with {told.refusal}"
+
+
+# ---- what the program did
+
+def rows_by(tables: object) -> Rows:
+    """The rows of tables, as a file has them."""
+    return {name: [tuple(row) for row in rows] for name, rows in vars(tables).items()}
+
+
+def script_fault(script: Script) -> str:
+    """A script: what is answered to each line, the status, and the tables."""
+    from model.desk import desk_by
+    desk = desk_by([word for name, value in script.options.items() for word in (f"--{name}", str(value))], script.files)
+    at = 0
+    for line in script.lines:
+        told = desk.line(line.removesuffix("\r"))
+        if script.printed[at:at + len(told)] != told:
+            return first_other(f"{script.title}, {line!r:.100}", told, script.printed[at:at + len(told)])
+        at += len(told)
+    fault = first_other(script.title, [desk.places(), str(desk.status())], [*script.printed[at:], str(script.status)])
+    return fault or (table_fault(script.title, rows_by(desk.tables()), script.tables) if script.tables else "")
+
+
+def table_fault(title: str, got: Rows, wanted: Rows) -> str:
+    """The first table that differs. A table that has no number as its key may have its rows in another order, where they were moved by hand."""
+    for name in wanted:
+        one, two = got.get(name, []), wanted[name]
+        if one != two and (name in ORDERED or Counter(one) != Counter(two)):
+            return f"{title}, the table {name}: {[it for it in one if it not in two][:1]}, and not {[it for it in two if it not in one][:1]}"
+    return ""
+
+
+def opening_fault(it: Opening) -> str:
+    """A file that is opened: whether a desk could have written it, and what the opening makes of it."""
+    from model.desk import Desk
+    from model.rows import ROWS, Tables
+    from model.sound import why_unsound
+    tables = Tables(**{name: [ROWS[name](*row) for row in it.before.get(name, [])] for name in ROWS})
+    why = why_unsound(tables)
+    if it.printed is None or it.after is None:
+        return "" if why else f"{it.title}: the file is taken for sound"
+    if why:
+        return f"{it.title}: {why}"
+    desk = Desk.opened(tables, it.moment)
+    fault = first_other(it.title, [*(move.line() for move in desk.opening), desk.places()], it.printed)
+    return fault or table_fault(it.title, rows_by(desk.tables()), it.after)
+
+
+def file_faults(recorded: Recorded) -> Iterator[str]:
+    """Files as they are read, and the statements that made them."""
+    from model.facts import COLUMNS, SCHEMA
+    from model.kept import columns_of, connect, read_tables
+    for at, it in enumerate(recorded.files):
+        yield first_other(f"the statements of file {at}", list(SCHEMA), it.schema)
+        with tempfile.NamedTemporaryFile(suffix=".db") as file:
+            file.write(it.data)
+            file.flush()
+            yield table_fault(f"file {at}", rows_by(read_tables(file.name)), it.rows)
+            connection = connect(file.name, "immutable=1")
+            try:
+                columns = columns_of(connection)
+            finally:
+                connection.close()
+            yield "" if columns == {name: [*those] for name, those in COLUMNS.items()} else f"the columns of file {at}"
+
+
+def served_faults(served: Served) -> Iterator[str]:
+    """What a peer is answered."""
+    from model.desk import Desk
+    from model.http import Acts, Asks, Loads, Refused, answer_to, refused_response, reply_response
+    desk = Desk(files=served.files)
+    for line in served.before:
+        desk.line(line)
+    for at, it in enumerate(served.exchanges, 1):
+        asked = answer_to(it.raw)
+        if asked is None:
+            response = b""
+        elif isinstance(asked, Refused):
+            response = refused_response(asked)
+        elif isinstance(asked, Asks):
+            response = reply_response(desk.line(f"0 zed {asked.act}"))
+        elif isinstance(asked, Acts):
+            response = reply_response(desk.acts(asked.by, asked.moment, asked.act))
+        else:
+            assert isinstance(asked, Loads)
+            response = reply_response(desk.loads(asked.by, asked.moment, asked.kind, asked.name, asked.csv.encode()))
+        if response != it.response:
+            yield f"{served.title}, {at}, {it.raw!r:.80}: {response!r:.120}, and not {it.response!r:.120}"
+
+
+# ---- all of it
+
+def differences(file: str, recorded: Recorded) -> Iterator[str]:
+    """What differs, and what does not (nothing), where this file is changed; of no file, all."""
+    if file not in ("model/check.py", "model/http.py"):
+        yield from case_faults()
+    if file != "model/http.py":
+        yield from text_faults(recorded)
+    if file != "model/check.py":
+        for served in recorded.served:
+            yield from served_faults(served)
+    if file in ("model/check.py", "model/http.py"):
+        return
+    yield from file_faults(recorded)
+    if file == "model/kept.py":
+        return
+    for script in recorded.scripts:
+        if script.title not in FULL:
+            yield script_fault(script)
+    for opening in recorded.openings:
+        yield opening_fault(opening)
+    if file in ("", "model/facts.py", "model/book.py"):
+        for script in recorded.scripts:
+            if script.title in FULL:
+                yield script_fault(script)
+
+
+def first_difference(file: str, recorded: Recorded) -> str:
+    """The first thing that differs; nothing where nothing does."""
+    return next((it for it in differences(file, recorded) if it), "")

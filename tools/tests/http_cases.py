@@ -1,0 +1,108 @@
+"""How cases of the desk over HTTP are counted and played: each is sent to a server, and each byte of its answer is looked at."""
+import os
+import shutil
+import tempfile
+import unittest
+from itertools import count
+from typing import Any, Iterable, Optional, Sequence
+
+from generate.http_words import PLACES, Case, act, get
+from model.desk import Desk
+from tests.asked import ASKED
+from tests.http_peer import Ended, Expected, Fault, Server, run
+from tests.runs import quick_folder, write_files
+
+MOST_FAULTS = 20
+MOST_ASKED = 300  # requests whose histories are asked for in the end
+LAST_QUESTIONS = ["link", "schedule", "report 0 4102444799"]
+
+
+class Cases:
+    """The program, a folder to work in, and how many cases passed."""
+
+    def __init__(self, program: str, work: str) -> None:
+        self.program, self.work, self.passed, self.failed, self.numbers = program, work, 0, 0, count(1)
+        self.refusals: set[int] = set()
+
+    def tell(self, name: str, want: object, got: object) -> None:
+        """Counts a case, and prints it where what came is not what is wanted."""
+        is_right = got == want
+        self.passed += is_right
+        self.failed += not is_right
+        if not is_right:
+            print(f"{name}:\n  wanted {want!r:.600}\n  came   {got!r:.600}", flush=True)
+            if self.failed >= MOST_FAULTS:
+                raise Fault("too many cases failed")
+
+    def folder(self) -> str:
+        """A new folder."""
+        made = f"{self.work}/{next(self.numbers)}"
+        os.mkdir(made)
+        return made
+
+    def server(self, folder: str, connections: Optional[int], *words: str, **more: Any) -> Server:
+        """The server of desk.db in this folder."""
+        return Server(self.program, folder, "desk.db", connections, words, **more)
+
+    def ended(self, name: str, server: Server, out: str = "") -> None:
+        """Waits for a server's end, which has to be a good one."""
+        self.tell(f"{name}: the program's end", Ended(0, out, server.says), server.end())
+
+    def expected(self, folder: str, cases: Sequence[Case], desk: Optional[Desk] = None) -> Expected:
+        """The responses that these cases have to be given by a new desk or by this one; a case whose writer and the plain reading disagree has
+        failed."""
+        made = Expected(folder, cases, desk)
+        for case, found in made.disputed:
+            self.tell(f"{case.name}, by the plain reading", case.want, found)
+        self.refusals |= made.refusals
+        return made
+
+    def play(self, name: str, cases: Iterable[Case], before: Sequence[str] = (), files: Optional[dict[str, str]] = None, looks: bool = True) -> None:
+        """Sends these cases to a new desk, or to one that answered the lines before, which may load these files, with questions behind them, and
+        looks at the file in the end."""
+        folder = self.folder()
+        told: list[Case] = []
+        data = {file: text.encode() for file, text in (files or {}).items()}
+        write_files(folder, data)
+        for case in cases:
+            told += [case, Case(f"the places after {case.name}", PLACES, 0)] if looks else [case]
+        if before:
+            run(self.program, folder, before, "--db", "desk.db")
+            shutil.copy(f"{folder}/desk.db", f"{folder}/plain.db")
+        desk = Desk(files=data)
+        for line in before:
+            desk.line(line)
+        desk = Desk.opened(desk.tables(), 0)
+        made = self.expected(folder, told, desk)
+        numbers = range(1, 2 + min(MOST_ASKED, sum(" Entered enter" in it for it in made.told)))
+        behind = [Case(f"{path} at the end", get(path)) for it in numbers for path in (f"/requests/{it}", f"/history/{it}/0")]
+        behind += [Case(f"{it} at the end", act(it, "zed", 0), 0) for it in LAST_QUESTIONS]
+        asked = self.expected(folder, behind, desk)
+        with self.server(folder, len(told) + len(behind)) as server:
+            for case, response in zip(told + behind, made.responses + asked.responses):
+                self.tell(f"{name}: {case.name}: {case.raw!r:.300}", response, server.exchange(case.raw, shuts=not response))
+            self.ended(name, server)
+        run(self.program, folder, made.lines, "--db", "plain.db")
+        self.same_file(name, folder, numbers)
+
+    def same_file(self, name: str, folder: str, numbers: range) -> None:
+        """Looks whether the file that was served is that of the acts as a script."""
+        lines = [f"0 zed {it} {at}" for at in numbers for it in ("request", "history")]
+        lines = [f"{it} 0" if " history " in it else it for it in lines] + [f"0 zed {it}" for it in LAST_QUESTIONS] + ["0 zed log 1"]
+        left, plain = (run(self.program, folder, lines, "--db", it, "--at", "4102444799") for it in ("desk.db", "plain.db"))
+        self.tell(f"{name}: the file that was served", plain, left)
+
+
+class Served(unittest.TestCase):
+    """Groups of cases, each in a folder of its own; a case that failed is printed as it comes."""
+
+    def setUp(self) -> None:
+        """A folder to work in, and no case yet."""
+        folder = tempfile.TemporaryDirectory(prefix="http-", dir=quick_folder())
+        self.addCleanup(folder.cleanup)
+        self.cases = Cases(ASKED.program, folder.name)
+
+    def tearDown(self) -> None:
+        """How many cases passed; none may have failed."""
+        print(f"{self.id().split('.')[-1]}: {self.cases.passed} passed, {self.cases.failed} failed")
+        self.assertEqual(0, self.cases.failed, "cases failed")

@@ -1,0 +1,242 @@
+"""How the tools for HTTP start the built program's server, speak to it over real sockets, and know what it has to answer: a response is what
+model/http.py makes of what the plain desk replies.
+"""
+import os
+import random
+import re
+import socket
+import struct
+import subprocess
+import time
+from typing import Callable, Iterable, NamedTuple, Optional, Sequence, Union
+
+from generate.http_words import NOTHING, Case
+from model.desk import Desk
+from model.facts import status_of
+from model.http import Acts, Asks, Loads, Refused, answer_to, refused_response, reply_response
+
+PATIENCE = float(os.environ.get("PATIENCE", "20"))  # seconds for one exchange, or for the program to begin or to end
+SLOW = PATIENCE / 4  # seconds in which a request that comes a byte at a time has to be answered: 5, where nobody asks for more patience
+HERE = "127.0.0.1"
+RST = struct.pack("ii", 1, 0)  # a socket that is closed resets its connection
+
+
+class Fault(Exception):
+    """What goes no further."""
+
+
+class Ended(NamedTuple):
+    """How the program ended."""
+    status: int
+    out: str
+    err: str
+
+
+# ---- the server
+
+def free_port() -> int:
+    """A port that nobody has, below those that the system gives to those who connect."""
+    while True:
+        port = random.randrange(20000, 32000)
+        with socket.socket() as asked:
+            try:
+                asked.bind((HERE, port))
+                return port
+            except OSError:
+                pass
+
+
+class Server:
+    """The program as it serves a desk in a file, for so many connections. It is killed at the end of the block, if it has not ended."""
+
+    def __init__(self, program: str, folder: str, database: str, count: Optional[int], words: Sequence[str] = (),
+                 env: Optional[dict[str, str]] = None, first: Optional[Callable[[], None]] = None, port: Optional[int] = None, told: Optional[str] = None) -> None:
+        """Starts it, without a word for how many connections where that is None, with these variables beside those of this process, after that
+        call. What it writes to descriptor 9 comes into the file
+        `told`."""
+        def begin() -> None:
+            if told:
+                os.dup2(os.open(told, os.O_WRONLY | os.O_CREAT | os.O_TRUNC), 9)
+            if first:
+                first()
+        self.port, self.count = port or free_port(), count
+        self.files = [open(f"{folder}/served.{it}", "w+b") for it in ("out", "err")]
+        words = [program, "serve", database, str(self.port), *([] if count is None else [str(count)]), *words]
+        self.process = subprocess.Popen(words, cwd=folder, stdin=subprocess.DEVNULL, stdout=self.files[0], stderr=self.files[1], close_fds=False,
+                                        preexec_fn=begin, env={**os.environ, **(env or {})})
+
+    def __enter__(self) -> "Server":
+        return self
+
+    def __exit__(self, *_: object) -> None:
+        if self.process.poll() is None:
+            self.process.kill()
+        self.process.wait()
+        for file in self.files:
+            file.close()
+
+    @property
+    def listens(self) -> str:
+        """What it says on the standard error once it listens."""
+        return f"tcdesk: listening on {HERE}:{self.port}\n"
+
+    @property
+    def says(self) -> str:
+        """All that it says there, where every connection was served."""
+        return f"{self.listens}tcdesk: ended after {self.count} connections\n"
+
+    def connect(self) -> socket.socket:
+        """A connection to it. Before it listens a connection is refused, so that none is counted."""
+        end = time.monotonic() + PATIENCE
+        while True:
+            peer = socket.socket()
+            peer.settimeout(PATIENCE)
+            peer.setsockopt(socket.IPPROTO_TCP, socket.TCP_NODELAY, 1)
+            try:
+                peer.connect((HERE, self.port))
+                return peer
+            except ConnectionRefusedError:
+                peer.close()
+                if self.process.poll() is not None:
+                    raise Fault(f"the server has ended: {self.said()}") from None
+                if time.monotonic() > end:
+                    raise Fault("the server does not listen") from None
+                time.sleep(0.002)
+
+    def said(self) -> Ended:
+        """How the program ended and what it printed, once it has ended."""
+        texts = []
+        for file in self.files:
+            file.seek(0)
+            texts.append(file.read().decode("latin-1"))
+        return Ended(self.process.returncode, *texts)
+
+    def end(self) -> Ended:
+        """Waits for the program to end by itself."""
+        try:
+            self.process.wait(PATIENCE)
+        except subprocess.TimeoutExpired:
+            raise Fault("the server does not end after its last connection") from None
+        return self.said()
+
+    def exchange(self, raw: bytes, size: Optional[int] = None, pause: float = 0.0, shuts: bool = False) -> bytes:
+        """Sends these bytes, in pieces of this size, and reads the answer to its end; what came of it where the time is over."""
+        with self.connect() as peer:
+            try:
+                send(peer, raw, size, pause)
+                if shuts:
+                    peer.shutdown(socket.SHUT_WR)
+            except (BrokenPipeError, ConnectionResetError):
+                pass
+            except OSError as fault:
+                if fault.errno != 107:  # the peer has closed by now
+                    raise
+            return received(peer)
+
+
+def send(peer: socket.socket, raw: bytes, size: Optional[int] = None, pause: float = 0.0) -> None:
+    """Sends these bytes in pieces of this size, with so many seconds between them."""
+    size = size or max(1, len(raw))
+    for at in range(0, len(raw), size):
+        if at and pause:
+            time.sleep(pause)
+        peer.sendall(raw[at:at + size])
+
+
+def received(peer: socket.socket) -> bytes:
+    """What comes until the peer closes. A reset behind the last byte is an end too: so a system closes where bytes were left unread."""
+    got, end = b"", time.monotonic() + PATIENCE
+    while time.monotonic() < end:
+        try:
+            more = peer.recv(65536)
+        except ConnectionResetError:
+            return got
+        except TimeoutError:
+            break
+        if not more:
+            return got
+        got += more
+    return got + b"[and no end within the time]"
+
+
+def reset(peer: socket.socket) -> None:
+    """Closes a connection by a reset."""
+    peer.setsockopt(socket.SOL_SOCKET, socket.SO_LINGER, RST)
+    peer.close()
+
+
+# ---- what has to be answered
+
+def run(program: str, folder: str, lines: Iterable[str], *words: str) -> str:
+    """Runs a script of these lines."""
+    with open(f"{folder}/script.tc", "w", encoding="ascii", newline="") as file:
+        file.write("".join(f"{it}\n" for it in lines))
+    ran = subprocess.run([program, "run", *words, "script.tc"], cwd=folder, stdin=subprocess.DEVNULL, capture_output=True, timeout=900, check=False)
+    ended = Ended(ran.returncode, ran.stdout.decode("latin-1"), ran.stderr.decode("latin-1"))
+    if ended.status > 1 or ended.err:
+        raise Fault(f"a run of a script: {ended}")
+    return ended.out
+
+
+def reply_of(desk: Desk, asked: Union[Asks, Acts, Loads]) -> list[str]:
+    """What the plain desk replies to what is asked."""
+    if isinstance(asked, Asks):
+        return desk.acts("zed", 0, asked.act)
+    if isinstance(asked, Loads):
+        return desk.loads(asked.by, asked.moment, asked.kind, asked.name, asked.csv.encode("utf-8"))
+    return desk.acts(asked.by, asked.moment, asked.act)
+
+
+def line_of(asked: Union[Asks, Acts, Loads], folder: str, number: int) -> Optional[str]:
+    """The script's line that asks the same of the desk; none where no line can, and the desk cannot read the act."""
+    if isinstance(asked, Asks):
+        return f"0 zed {asked.act}"
+    if isinstance(asked, Loads):
+        with open(f"{folder}/load{number}.csv", "w", encoding="utf-8", newline="") as file:
+            file.write(asked.csv)
+        return f"{asked.moment} {asked.by} {asked.kind} {asked.name} load{number}.csv"
+    is_line = re.fullmatch("[ -~]*", asked.act) and asked.act.split(" ")[0] not in ("stack", "procedure")
+    return f"{asked.moment} {asked.by} {asked.act}" if is_line else None
+
+
+def wanted(want: Union[int, Refused]) -> tuple[str, int]:
+    """The status and the refusal of what a case wants by its writer."""
+    if isinstance(want, Refused):
+        return f"{want.status}", int(want.refusal)
+    return f"{status_of(want)}", want
+
+
+class Expected:
+    """The responses that a list of cases has to be given, one after the other, by a new desk or by this one, which goes on; the lines of a script
+    that asks the same, whose files are written to a folder; and what the writer of a case and the plain reading dispute."""
+
+    def __init__(self, folder: str, cases: Sequence[Case], desk: Optional[Desk] = None) -> None:
+        """Asks the plain desk."""
+        desk = desk or Desk()
+        self.lines: list[str] = []
+        self.told: list[str] = []
+        self.responses: list[bytes] = []
+        self.refusals: set[int] = set()
+        self.disputed: list[tuple[Case, object]] = []
+        for at, case in enumerate(cases):
+            asked = answer_to(case.raw)
+            self.add(case, b"" if asked is None else refused_response(asked) if isinstance(asked, Refused) else self.answer(desk, asked, folder, at))
+
+    def answer(self, desk: Desk, asked: Union[Asks, Acts, Loads], folder: str, at: int) -> bytes:
+        """The response of the desk."""
+        line, reply = line_of(asked, folder, at), reply_of(desk, asked)
+        self.lines += [line] if line else []
+        self.told += reply
+        return reply_response(reply)
+
+    def add(self, case: Case, response: bytes) -> None:
+        """One response more, none where nothing is answered."""
+        self.responses.append(response)
+        found: object = NOTHING
+        if response:
+            status, refusal = response.split(b" ")[1].decode(), int(response.rsplit(b":", 1)[1][:-1])
+            self.refusals.add(refusal)
+            found = (status, refusal)
+        want = case.want
+        if want is not None and found != (NOTHING if isinstance(want, str) else wanted(want)):
+            self.disputed.append((case, found))

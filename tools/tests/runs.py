@@ -1,0 +1,63 @@
+"""How the tests run the program on files, and look at what it leaves there."""
+import os
+import subprocess
+import unittest
+from dataclasses import dataclass
+from typing import Iterable, Optional, Sequence
+
+from tests.asked import TOOLS
+
+
+@dataclass
+class Ran:
+    """What a run of the program left."""
+    status: int
+    lines: list[str]
+    errors: str
+
+
+def write_lines(path: str, lines: Iterable[str]) -> None:
+    """Writes a text of lines."""
+    with open(path, "w", encoding="ascii") as file:
+        file.write("".join(f"{line}\n" for line in lines))
+
+
+def write_files(folder: str, files: dict[str, bytes]) -> None:
+    """Writes the files that a script loads."""
+    for name, data in files.items():
+        with open(f"{folder}/{name}", "wb") as file:
+            file.write(data)
+
+
+def bytes_of(path: str) -> bytes:
+    """All bytes of a file."""
+    with open(path, "rb") as file:
+        return file.read()
+
+
+def run_kept(program: str, folder: str, path: str, moment: int, script: str) -> Ran:
+    """Runs a script, a file of the folder, on the desk that is kept in another, opened at this moment."""
+    words = [program, "run", "--db", path, "--at", str(moment), script]
+    done = subprocess.run(words, cwd=folder, stdin=subprocess.DEVNULL, capture_output=True, timeout=900, check=False)
+    return Ran(done.returncode, done.stdout.decode("latin-1").splitlines(), done.stderr.decode("latin-1"))
+
+
+def quick_folder() -> Optional[str]:
+    """A folder in memory, where the system has one, for files of which nobody asks whether they come to a disk; else none."""
+    return "/dev/shm" if os.access("/dev/shm", os.W_OK) else None
+
+
+def made_shim(name: str, folder: str) -> str:
+    """Makes NAME.so of tools/faults/NAME.c, which stands before calls of the C library, and gives its path."""
+    if subprocess.run([f"{TOOLS}/faults/make_shim.sh", name, folder], check=False).returncode:
+        raise AssertionError(f"{name}.so cannot be made (Debian: gcc, libc6-dev)")
+    return f"{folder}/{name}.so"
+
+
+class Tried(unittest.TestCase):
+    """Tests that find faults, and tell each in a line."""
+
+    def no_faults(self, faults: Sequence[str]) -> None:
+        """Fails where there are faults."""
+        if faults:
+            self.fail("\n".join(faults))

@@ -1,0 +1,119 @@
+#!/bin/bash
+# What becomes of the program where it cannot read, write or go on: tools/tests/status_cases.sh [PROGRAM], at any place.
+#
+# Each command is run with an output that takes nothing: a full disk (/dev/full), one that is closed, and a pipe whose reader is gone.
+# Each has to end with status 2 and one line on standard error. Where that takes nothing either the status is the same. A standard
+# input that is closed, or is a folder, is one that cannot be used, and is nothing to a command that does not read it. Then the disk under
+# the file that keeps the desk: a limit on the size of files, and a small file system, where one may be mounted.
+#
+# Each case that fails is printed, and makes the status 1. The last line counts them.
+set -u
+top=$(cd "$(dirname "${BASH_SOURCE[0]}")/../.." && pwd) || exit 1
+program=$(readlink -m "${1:-$top/crates/tc_cli/out/tc_cli}")
+[[ -x $program ]] || { echo "status_cases: $program is not built" >&2; exit 1; }
+work=$(mktemp -d) || exit 1
+trap 'umount "$work/disk" 2>/dev/null; rm -rf "$work"' EXIT
+cp -r "$top/examples" "$work" && cd "$work" || exit 1
+me=status_cases
+. "$top/tools/lib.sh"
+
+# The commands that write to their output, in words.
+commands=(
+    "run examples/first-run.tc"
+    "run --db kept.db examples/first-run.tc"
+    "report kept.db 0 86400"
+    "check stack examples/stack.csv"
+    "check procedure examples/stack.csv"
+    "loop other.db examples/first-run.tc"
+    "--help"
+    "run --help"
+    "help report"
+    "--version"
+)
+
+# A pipe whose reader is gone, as descriptor 8.
+mkfifo pipe
+exec 7<>pipe 8>pipe 7>&-
+
+unusable=$'tcdesk: cannot use output\n2'
+for command in "${commands[@]}"; do
+    read -ra words <<<"$command"
+    same "$command, on a full disk" "$unusable" "$("$program" "${words[@]}" 2>&1 >/dev/full; echo $?)"
+    same "$command, its output closed" "$unusable" "$("$program" "${words[@]}" 2>&1 >&-; echo $?)"
+    same "$command, the reader of its pipe gone" "$unusable" "$("$program" "${words[@]}" 2>&1 >&8; echo $?)"
+    same "$command, nothing to be told to" 2 "$("$program" "${words[@]}" >/dev/full 2>&-; echo $?)"
+done
+exec 8>&-
+
+# A word that is wrong, and a script that cannot be read, where standard error takes nothing.
+same "a wrong word, told to nobody" 2 "$("$program" fly 2>&-; echo $?)"
+same "no such script, told to a full disk" 2 "$("$program" run none.tc 2>/dev/full; echo $?)"
+
+mkdir folder
+same "a script from a standard input that is closed" $'tcdesk: cannot use -\n2' "$("$program" run - 2>&1 <&-; echo $?)"
+same "a script from a folder" $'tcdesk: cannot use -\n2' "$("$program" 2>&1 <folder; echo $?)"
+same "a check of a standard input that is closed" $'tcdesk: cannot use -\n2' "$("$program" check stack - 2>&1 <&-; echo $?)"
+same "a check of a folder" $'tcdesk: cannot use folder\n2' "$("$program" check stack folder 2>&1; echo $?)"
+same "a check of the standard input" $'ok\n0' "$("$program" check stack - 2>&1 <examples/stack.csv; echo $?)"
+for command in "run examples/approval.tc" "check stack examples/stack.csv" "--version"; do
+    read -ra words <<<"$command"
+    same "$command, its input closed" "$("$program" "${words[@]}" </dev/null; echo $?)" "$("$program" "${words[@]}" <&-; echo $?)"
+done
+same "a run whose reader has all it wants" 0 "$("$program" run examples/approval.tc | cat >/dev/null; echo "${PIPESTATUS[0]}")"
+
+# ---- the disk under the file that keeps the desk
+
+mkdir disk
+for ((n = 0; n < 400; n++)); do
+    echo "100 ann enter $((n % 7)) a--c no 8 1 - - ok"
+done >many.tc
+
+# filled NAME STATUS: of a run of many.tc on disk/desk.db that ended so, where not all could be kept: some lines were answered, the next 31, and
+# all others 32. What was answered stands once there is room.
+filled() {
+    local name=$1 status=$2 moves wanted=
+    moves=$(grep -c '^move ' out)
+    [[ $status == 1 ]] || wanted="tcdesk: cannot use disk/desk.db"
+    same "$name: its end" "${status/[!12]/1 or 2} $wanted" "$status $(<err)"
+    same "$name: what is refused" "refused 31 Store refused 32 Stopped" "$(grep '^refused ' out | uniq | paste -sd ' ')"
+    same "$name: the lines that are answered, where some are as ever" 400 "$((moves > 0 ? $(head -n -1 out | grep -c '^ok request\|^refused') : 0))"
+    [[ ! -e disk/room ]] || mount -o remount,size=4m disk
+    same "$name: what stands" "places $moves: $moves 0 0 0 0 0 0 0 0 0 0 0 0 0 0" "$("$program" run --db disk/desk.db /dev/null 2>&1)"
+}
+
+# unopened NAME STATUS: of a run on a disk that takes not even the tables of a desk.
+unopened() {
+    same "$1: its end" "2 tcdesk: cannot use disk/desk.db" "$2 $(<err)$(<out)"
+    [[ ! -e disk/room ]] || mount -o remount,size=4m disk
+    same "$1: what stands" "places 0: 0 0 0 0 0 0 0 0 0 0 0 0 0 0 0" "$("$program" run --db disk/desk.db /dev/null 2>&1)"
+}
+
+# small KIB: runs many.tc where no file may be larger.
+small() {
+    rm -f disk/desk.db*
+    (trap '' XFSZ && ulimit -f "$1" && exec "$program" run --db disk/desk.db many.tc >out 2>err)
+}
+
+# on_disk KIB: the same on a file system of that size.
+on_disk() {
+    mount -t tmpfs -o "size=${1}k" none disk && : >disk/room && "$program" run --db disk/desk.db many.tc >out 2>err
+}
+
+small 100
+unopened "files of 100 KiB" $?
+small 300
+filled "files of 300 KiB" $?
+mounted="file systems of 96 and 384 KiB were filled"
+if mount -t tmpfs -o size=8k none disk 2>/dev/null && umount disk; then
+    on_disk 96
+    unopened "a file system of 96 KiB" $?
+    umount disk
+    on_disk 384
+    filled "a file system of 384 KiB" $?
+    umount disk
+else
+    mounted="no file system may be mounted here, so none was filled"
+fi
+
+echo "status cases: $passed passed, $failed failed; $mounted"
+[[ $failed == 0 ]]

@@ -1,0 +1,50 @@
+"""The plain desk answers the scripts of tools/cases as persons wrote it; the program is asked nothing (test `program` runs them)."""
+import os
+from typing import Iterator, NamedTuple, Optional
+
+from model.desk import answers
+from tests.asked import TOOLS
+from tests.runs import Tried
+
+FOLDER = f"{TOOLS}/cases"
+
+
+class Case(NamedTuple):
+    """A script with its options, and what it prints with which status."""
+    name: str
+    script: str
+    options: tuple[str, ...]
+    printed: str
+    status: int
+
+
+def text_of(path: str, default: Optional[str] = None) -> str:
+    """The text of a file; the default where there is none."""
+    if default is not None and not os.path.exists(path):
+        return default
+    with open(path, encoding="latin-1", newline="") as file:
+        return file.read()
+
+
+def all_cases() -> Iterator[Case]:
+    """All scripts, in order of name."""
+    for name in sorted(it[:-3] for it in os.listdir(FOLDER) if it.endswith(".tc")):
+        path = f"{FOLDER}/{name}"
+        options = tuple(text_of(f"{path}.args", "").split())
+        yield Case(name, text_of(f"{path}.tc"), options, text_of(f"{path}.stdout"), int(text_of(f"{path}.status", "0")))
+
+
+class Cases(Tried):
+    """The written cases, and the plain desk."""
+
+    def test_cases(self) -> None:
+        """Each line and the status of each."""
+        files = {name: text_of(f"{FOLDER}/data/{name}").encode("latin-1") for name in os.listdir(f"{FOLDER}/data")}
+        faults: list[str] = []
+        count = 0
+        for case in all_cases():
+            lines, status = answers(case.script, files, case.options)
+            is_right = ("".join(f"{it}\n" for it in lines), status) == (case.printed, case.status)
+            faults, count = faults + ([] if is_right else [f"the plain desk answers {case.name} otherwise"]), count + 1
+        print(f"cases: {count} written scripts, {len(faults)} that the plain desk answers otherwise")
+        self.no_faults(faults)

@@ -1,0 +1,269 @@
+"""Texts of stacks and of procedures, checked by `tcdesk check`.
+
+Each line that the program prints is compared with one that was written by hand beside its text (check_texts.py, tools/cases/checks/), or, of
+random texts by their numbers (check_random.py), with what model/check.py tells, a reading of the rules that asks the program
+nothing; that reading has to tell of the others what was written. Its status has to be 0 or 1, standard error empty, and the file as before. A
+share of the texts comes by the standard input too, and of a share the load is tried, by a script: it has to be refused where the check finds a
+fault, as the rule says, and else not. Then the words of the command line, files that give no text, and outputs that take none. Where all are
+run, each line has to be told of some random texts.
+
+Not known to the reading, and not tried, is what may stand in brackets behind an instant (RFC 9557).
+"""
+import os
+import re
+import shutil
+import signal
+import subprocess
+import tempfile
+from collections import Counter
+from concurrent.futures import ProcessPoolExecutor
+from functools import partial
+from subprocess import PIPE
+from typing import NamedTuple, Union
+
+from generate.check_random import random_text
+from generate.check_texts import NO_STACK, ROW, STACK, Text, all_texts
+from model.check import told_of
+from model.desk import Desk
+from model.facts import Refusal
+from tests.asked import ASKED
+from tests.runs import Tried
+
+TEXTS, LEAST, LONGEST = 6000, 20, 60
+LOAD_EACH, INPUT_EACH = 3, 7
+# All lines that may be told, N being the number of a row; each has to be met by random texts.
+LINES = """\
+stack ok
+stack file: more than 65536 bytes
+stack line 201: more than 200 lines
+stack header: not line,apid,service,subtype,target,time,ack,critical,after,outcome
+stack line 1: missing
+stack line N: not 10 fields
+stack line N, field line: not the number of the line
+stack line N, field apid: not 0 to 2047 in plain digits
+stack line N, field service: not 1 to 255 in plain digits
+stack line N, field subtype: not 1 to 255 in plain digits
+stack line N, field subtype: not 1, 2, 3, 4, 5, 7, 15 or 17, which service 11 has
+stack line N, field target: not an earlier line
+stack line N, field target: not empty
+stack line N, field time: not an instant of whole seconds
+stack line N, field time: not seconds, -4102444799 to 4102444799
+stack line N, field time: not empty
+stack line N, field ack: not aspc, with - for each report that is not wanted
+stack line N, field ack: not aspc, with - for each report that is not wanted; service 11 wants c
+stack line N, field critical: neither yes nor no
+stack line N, field after: neither empty nor an earlier line
+stack line N, field outcome: not an outcome, such as ok or halt/2/17, where a code is 16 to 255
+stack line N, field outcome: not ok, which service 11 wants
+stack line N, field target: a line of service 11, or one whose ack has no a
+stack line N, field target: a line of service 11
+procedure ok
+procedure file: more than 65536 bytes
+procedure step 101: more than 100 steps
+procedure header: not step,text,second,request
+procedure step 1: missing
+procedure step N: not 4 fields
+procedure step N, field step: not the number of the step
+procedure step N, field text: not 1 to 80 printable characters of ASCII
+procedure step N, field second: neither yes nor no
+procedure step N, field request: neither empty nor a number
+""".splitlines()
+
+
+class Found(NamedTuple):
+    """What became of a text: the line that was wanted of it, without the number of its row; how it came and was loaded; and what differs."""
+    line: str
+    is_loaded: bool
+    is_input: bool
+    faults: list[str]
+
+
+# ---- a text
+
+def run(words: list[str], folder: str, given: bytes = b"") -> tuple[Union[int, str], bytes, bytes]:
+    """The status of a run in a folder, what it printed, and its errors."""
+    with subprocess.Popen(words, cwd=folder, stdin=PIPE, stdout=PIPE, stderr=PIPE, start_new_session=True) as ran:
+        try:
+            out, err = ran.communicate(given, timeout=LONGEST)
+        except subprocess.TimeoutExpired:
+            os.killpg(ran.pid, signal.SIGKILL)
+            return "none in time", b"", b""
+    return ran.returncode, out, err
+
+
+def differs(what: str, wanted: object, got: object) -> list[str]:
+    """A line of what was wanted and what was got; none where they are the same."""
+    return [] if wanted == got else [f"{what}: wanted {wanted!r:.300}, and got {got!r:.300}"]
+
+
+def load_of(text: Text) -> tuple[int, str]:
+    """With what the load of a text is refused for its text, 0 where it is not; and the answer to it, on a desk where nothing was entered."""
+    answer = Desk().loads("ann", 0, text.kind, "s1", text.data)[0]
+    refusal = int(answer.split(" ")[1]) if answer.startswith("refused ") else 0
+    return 0 if (text.kind, refusal) == ("procedure", Refusal.UNKNOWN_REQUEST) else refusal, answer
+
+
+def check_by(program: str, folder: str, text: Text, wanted: str, path: str, given: bytes = b"") -> list[str]:
+    """How the check of a text, by its file or by the standard input, differs from a line."""
+    answer = (int(wanted != "ok"), f"{wanted}\n".encode(), b"")
+    return differs(f"check {text.kind} {path}", answer, run([program, "check", text.kind, path], folder, given))
+
+
+def left_by(folder: str, text: Text) -> list[str]:
+    """How the folder of a text differs from what it was."""
+    with open(f"{folder}/text.csv", "rb") as file:
+        return differs("the folder after the checks", (["text.csv"], text.data), (os.listdir(folder), file.read()))
+
+
+def load_by(program: str, folder: str, text: Text) -> list[str]:
+    """How the load of a text differs from what the reading of loads answers."""
+    answer = load_of(text)[1]
+    status, out, err = run([program, "run", "-"], folder, f"0 ann {text.kind} s1 text.csv\n".encode())
+    return differs("load", (int(answer.startswith("refused")), answer, b""), (status, out.decode("latin-1").split("\n")[0], err))
+
+
+def try_text(program: str, work: str, job: tuple[int, Union[Text, int]]) -> Found:
+    """Writes a text, one by hand or the random one of a number, to a folder of its own, and has it checked and perhaps loaded."""
+    at, given = job
+    is_hand = isinstance(given, Text)
+    text = given if isinstance(given, Text) else numbered(given)
+    told = told_of(text.kind, text.data)
+    wanted = text.wanted or told.line
+    faults = differs("the reading", wanted, told.line) + differs("the refusal by two readings", told.refusal, load_of(text)[0])
+    is_loaded, is_input = is_hand or at % LOAD_EACH == 0, at % INPUT_EACH == 0
+    folder = tempfile.mkdtemp(dir=work)
+    try:
+        with open(f"{folder}/text.csv", "wb") as file:
+            file.write(text.data)
+        faults += check_by(program, folder, text, wanted, "text.csv")
+        if is_input:
+            faults += check_by(program, folder, text, wanted, "-", text.data)
+        faults += left_by(folder, text)
+        if is_loaded:
+            faults += load_by(program, folder, text)
+    finally:
+        shutil.rmtree(folder)
+    return Found(template(text.kind, wanted), is_loaded, is_input, [f"{text.kind} {text.name}: {it}" for it in faults])
+
+
+def numbered(number: int) -> Text:
+    """The random text of a number."""
+    kind, data = random_text(number)
+    return Text(kind, f"number {number}, {data!r:.600}", data, "")
+
+
+def template(kind: str, line: str) -> str:
+    """A line without the number of its row, where it is of a row by its number."""
+    return f"{kind} " + re.sub(r"^(line|step) [0-9]+(?=,|: not)", r"\1 N", line)
+
+
+def try_all(program: str, work: str, jobs: list[Union[Text, int]]) -> list[Found]:
+    """What became of all texts, four at a time."""
+    with ProcessPoolExecutor(4) as pool:
+        return list(pool.map(partial(try_text, program, work), enumerate(jobs), chunksize=32))
+
+
+# ---- words, files and outputs
+
+USAGE = re.compile(rb"(?s).+")
+OUTPUT = b"tcdesk: cannot use output\n"
+# Each case: words of a shell, in which "$0" is the program, and the status, the output and the errors that are wanted. The files are good.csv, which
+# is a stack, bad.csv, which is none, and folder.
+CASES: list[tuple[str, int, Union[bytes, re.Pattern[bytes]], Union[bytes, re.Pattern[bytes]]]] = [
+    ('"$0" check', 2, b"", USAGE),
+    ('"$0" check stack', 2, b"", re.compile(rb"(?s).*FILE")),
+    ('"$0" check procedure', 2, b"", re.compile(rb"(?s).*FILE")),
+    ('"$0" check shift good.csv', 2, b"", re.compile(rb"(?s).*shift")),
+    ('"$0" check stacks good.csv', 2, b"", re.compile(rb"(?s).*stacks")),
+    ('"$0" check Stack good.csv', 2, b"", re.compile(rb"(?s).*Stack")),
+    ('"$0" check good.csv', 2, b"", USAGE),
+    ('"$0" check good.csv stack', 2, b"", USAGE),
+    ('"$0" check "" good.csv', 2, b"", USAGE),
+    ('"$0" check stack good.csv more.csv', 2, b"", re.compile(rb"(?s).*more\.csv")),
+    ('"$0" check --w 20 stack good.csv', 2, b"", re.compile(rb"(?s).*--w")),
+    ('"$0" check --db desk.db stack good.csv', 2, b"", re.compile(rb"(?s).*--db")),
+    ('"$0" check --help', 0, re.compile(rb"(?s).+"), b""),
+    ('"$0" check stack good.csv', 0, b"ok\n", b""),
+    ('"$0" check stack ./good.csv', 0, b"ok\n", b""),
+    ('"$0" check stack folder/../good.csv', 0, b"ok\n", b""),
+    ('"$0" check stack "$PWD/good.csv"', 0, b"ok\n", b""),
+    ('"$0" check stack good.csv <bad.csv', 0, b"ok\n", b""),
+    ('cp good.csv "a b.csv"; "$0" check stack "a b.csv"', 0, b"ok\n", b""),
+    ('cp good.csv ./-; "$0" check stack ./- <bad.csv', 0, b"ok\n", b""),
+    ('ln -s good.csv link.csv; "$0" check stack link.csv', 0, b"ok\n", b""),
+    ('"$0" check stack - <good.csv', 0, b"ok\n", b""),
+    ('"$0" check stack bad.csv', 1, b"line 2, field apid: not 0 to 2047 in plain digits\n", b""),
+    ('"$0" check stack - <bad.csv', 1, b"line 2, field apid: not 0 to 2047 in plain digits\n", b""),
+    ('"$0" check procedure good.csv', 1, b"header: not step,text,second,request\n", b""),
+    ('"$0" check stack /dev/null', 1, NO_STACK.encode() + b"\n", b""),
+    ('"$0" check stack - </dev/null', 1, NO_STACK.encode() + b"\n", b""),
+    ('{ head -c 70 bad.csv; sleep 0.3; tail -c +71 bad.csv; } | "$0" check stack -', 1, b"line 2, field apid: not 0 to 2047 in plain digits\n", b""),
+    ('ulimit -v 2000000; "$0" check stack /dev/zero', 1, b"file: more than 65536 bytes\n", b""),
+    ('ulimit -v 2000000; yes | "$0" check stack -', 1, b"file: more than 65536 bytes\n", b""),
+    ('"$0" check stack missing.csv', 2, b"", b"tcdesk: cannot use missing.csv\n"),
+    ('"$0" check procedure missing/steps.csv', 2, b"", b"tcdesk: cannot use missing/steps.csv\n"),
+    ('"$0" check stack good.csv/', 2, b"", b"tcdesk: cannot use good.csv/\n"),
+    ('"$0" check stack folder', 2, b"", b"tcdesk: cannot use folder\n"),
+    ('"$0" check stack - <folder', 2, b"", b"tcdesk: cannot use -\n"),
+    ('"$0" check stack good.csv >/dev/full', 2, b"", OUTPUT),
+    ('"$0" check stack bad.csv >/dev/full', 2, b"", OUTPUT),
+    ('"$0" check stack - >/dev/full <good.csv', 2, b"", OUTPUT),
+    ('"$0" check stack good.csv >&-', 2, b"", OUTPUT),
+    ('"$0" check stack bad.csv >&-', 2, b"", OUTPUT),
+    ('"$0" check stack missing.csv >/dev/full', 2, b"", b"tcdesk: cannot use missing.csv\n"),
+    ('"$0" check stack missing.csv >&-', 2, b"", b"tcdesk: cannot use missing.csv\n"),
+    ('{ sleep 0.2; "$0" check stack good.csv; echo "status $?" >&2; } | true; sleep 0.4', 0, b"", OUTPUT + b"status 2\n"),
+    ('"$0" check stack good.csv 2>&-', 0, b"ok\n", b""),
+    ('"$0" check stack missing.csv 2>&-', 2, b"", b""),
+]
+
+
+def is_like(wanted: Union[bytes, re.Pattern[bytes]], got: bytes) -> bool:
+    """Whether some bytes are these, or are matched."""
+    return wanted == got if isinstance(wanted, bytes) else bool(wanted.match(got))
+
+
+def try_words(program: str, work: str) -> list[str]:
+    """A line for each case of words that differs."""
+    faults = []
+    for shell, status, out, err in CASES:
+        folder = tempfile.mkdtemp(dir=work)
+        for name, rows in (("good.csv", ROW), ("bad.csv", ROW + b"2,x,8,1,,,---c,no,,ok\n")):
+            with open(f"{folder}/{name}", "wb") as file:
+                file.write(STACK + rows)
+        os.mkdir(f"{folder}/folder")
+        got = run(["bash", "-c", shell, program], folder)
+        if got[0] != status or not is_like(out, got[1]) or not is_like(err, got[2]):
+            faults.append(f"{shell}: wanted {status}, {out!r}, {err!r}, and got {got[0]}, {got[1]!r:.300}, {got[2]!r:.300}")
+    return faults
+
+
+def lacks(written: list[Found], others: list[Found], least: int) -> list[str]:
+    """Which lines no text has that is written by hand, or hardly any other; and which are told and are none of all lines."""
+    by_hand, told = Counter(it.line for it in written), Counter(it.line for it in others)
+    hardly = [f"told of {by_hand[it]} texts by hand, and of {told[it]} others: {it}" for it in LINES if not by_hand[it] or told[it] < least]
+    return hardly + [f"no line that may be told: {it}" for it in sorted((by_hand.keys() | told.keys()) - set(LINES))]
+
+
+class Check(Tried):
+    """The command `check`."""
+
+    def test_texts(self) -> None:
+        """Each text, those by hand and the random ones, is told as it is judged, and loaded where it is good; with a seed or a number, those random
+        ones alone."""
+        written, first = all_texts() if ASKED.is_whole else [], ASKED.seed_or(1)
+        with tempfile.TemporaryDirectory(prefix="check-") as work:
+            found = try_all(ASKED.program, work, [*written, *range(first, first + ASKED.count_or(TEXTS))])
+        faults = [fault for it in found for fault in it.faults]
+        lacking = lacks(found[:len(written)], found[len(written):], LEAST) if ASKED.is_whole else []
+        print(f"check cases: {len(found)} texts, {len(written)} written, {sum(it.line.endswith(' ok') for it in found)} ok,"
+              f" {sum(it.is_loaded for it in found)} loads, {sum(it.is_input for it in found)} by standard input,"
+              f" {sum(bool(it.faults) for it in found)} differ")
+        self.no_faults(faults + lacking)
+
+    def test_words(self) -> None:
+        """Words, files and outputs of the command."""
+        with tempfile.TemporaryDirectory(prefix="check-") as work:
+            faults = try_words(ASKED.program, work)
+        print(f"check cases: {len(CASES)} cases of words, {len(faults)} differ")
+        self.no_faults(faults)

@@ -1,0 +1,78 @@
+"""The plain desk itself, which the other tests stand beside the program: it has to answer the days, and to leave the rows, that persons wrote by
+hand. The program is not run.
+"""
+import unittest
+
+from generate.left_desks import EVERYWHERE, FILES, FIVE, FULL, GOING, OTHERS, RIDERS, WHOLE, Left
+from model.desk import Desk
+from model.facts import MOST_HISTORY, Cause, Place
+from model.rows import ROWS, Move, Tables
+from model.sound import why_unsound
+from tests.test_written import CASES, NO_TALLY, Case
+from tests.test_written import FILES as WRITTEN_FILES
+
+
+def data_of(texts: dict[str, str]) -> dict[str, bytes]:
+    """The files that scripts load."""
+    return {name: text.encode("latin-1") for name, text in texts.items()}
+
+
+def filled(tables: Tables) -> None:
+    """Rows are put behind the history of the desk FULL, until one alone is wanting: request 1 is released and given back, again and again."""
+    for seq in range(len(tables.move) + 1, MOST_HISTORY):
+        is_released = seq % 2 == 0
+        places = (Place.APPROVED, Place.QUEUED) if is_released else (Place.QUEUED, Place.APPROVED)
+        tables.move.append(Move(seq, 1, *places, Cause.RELEASE if is_released else Cause.GIVEBACK, "x", 6))
+
+
+def rows_of(case: Case) -> tuple[Tables, int]:
+    """The rows that the plain desk leaves after the days of a case, and how many lines it refused."""
+    tables, refused, files = Desk().tables(), 0, data_of(WRITTEN_FILES)
+    for moment, lines in case.days:
+        desk = Desk.opened(tables, moment, files=files)
+        refused += sum(desk.line(line)[0].startswith("refused ") for line in lines.splitlines())
+        tables = desk.tables()
+    return tables, refused
+
+
+class PlainDesk(unittest.TestCase):
+    """The plain desk beside what is written by hand."""
+
+    def test_days(self) -> None:
+        """It answers each opening of the desks that were left, and each line behind it, up to the last row of a history."""
+        count = 0
+        for left in (FIVE, RIDERS, OTHERS, EVERYWHERE, GOING, WHOLE, FULL):
+            tables = self.tables_left(left)
+            for day in left.days:
+                with self.subTest(f"{left.name} at {day.moment}"):
+                    desk = Desk.opened(tables, day.moment, files=data_of(FILES))
+                    told = [it.line() for it in desk.opening] + [it for line in day.lines() for it in desk.line(line)] + [desk.places()]
+                    self.assertEqual(day.answers(), told)
+                    tables, count = desk.tables(), count + len(told)
+        print(f"plain desk: {count} lines of days that are written by hand")
+
+    def tables_left(self, left: Left) -> Tables:
+        """The tables of a desk after its first day."""
+        desk = Desk(files=data_of(FILES))
+        for line in left.lines.splitlines():
+            self.assertFalse(desk.line(line)[0].startswith("refused "), line)
+        tables = desk.tables()
+        self.assertIsNone(why_unsound(tables))
+        if left is FULL:
+            filled(tables)
+        return tables
+
+    def test_rows(self) -> None:
+        """It leaves the rows that are written by hand, in the order in which they were written."""
+        count = 0
+        for case in CASES:
+            tables, refused = rows_of(case)
+            self.assertEqual(case.refused, refused, case.name)
+            self.assertIsNone(why_unsound(tables), case.name)
+            for name in ROWS:
+                with self.subTest(f"{case.name}, {name}"):
+                    wanted = case.rows.get(name, {"meta": "schema|1", "tally": NO_TALLY}.get(name, "")).splitlines()
+                    rows = ["|".join(str(int(it) if isinstance(it, int) else it) for it in row) for row in getattr(tables, name)]
+                    self.assertEqual(wanted, rows)
+                    count += len(rows)
+        print(f"plain desk: {count} rows that are written by hand")
