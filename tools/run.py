@@ -125,7 +125,8 @@ def table(rows: list[Took]) -> None:
 def print_list() -> None:
     """Prints all entries: their names, what they look for, and what they need."""
     for it in ENTRIES:
-        words = [f"needs {it.needs}" if it.needs else "", "takes --seed and --count" if it.takes_seed else "", "only where it is named" if it.by_hand else ""]
+        words = [f"needs {it.needs}" if it.needs else "", "takes --seed and --count" if it.takes_seed else "",
+                 "only where it is named" if it.by_hand else ""]
         print(f"{it.name:16} {it.looks_for}")
         print("".join(f"{'':16} {'; '.join(word for word in words if word)}\n" if any(words) else ""), end="")
 
@@ -136,8 +137,9 @@ def parsed(words: list[str]) -> argparse.Namespace:
     parser = argparse.ArgumentParser(prog="tools/run.py", description=__doc__, formatter_class=argparse.RawDescriptionHelpFormatter)
     parser.add_argument("--list", action="store_true", help="print what there is to run, and what it needs installed")
     parser.add_argument("--only", action="append", choices=names, metavar="NAME", help="run this entry; may stand several times")
-    parser.add_argument("--seed", type=int, metavar="N", help="of the entries that take one: begin with this seed")
-    parser.add_argument("--count", type=int, metavar="N", help="of the entries that take one: run so many seeds, scripts or texts, and no more")
+    parser.add_argument("--seed", type=int, metavar="N", help="of the entries that take one, and of --planted: begin with this seed")
+    parser.add_argument("--count", type=int, metavar="N",
+                        help="of the entries that take one, and of --planted: so many seeds, scripts, texts or faults")
     parser.add_argument("--program", metavar="PATH", help="the program that is run")
     parser.add_argument("--planted", action="store_true", help="plant faults into the plain desk, and print how many are found")
     parser.add_argument("--cells", action="store_true", help="plain-link: print how often each cell of FOP-1 and FARM-1 was met")
@@ -145,7 +147,7 @@ def parsed(words: list[str]) -> argparse.Namespace:
     parser.add_argument("--record", action="store_true", help="edits: write tools/edits.tried anew")
     asked = parser.parse_args(words)
     chosen = [it for it in ENTRIES if it.name in asked.only] if asked.only else [it for it in ENTRIES if not it.by_hand]
-    if (asked.seed is not None or asked.count is not None) and not any(it.takes_seed for it in chosen):
+    if (asked.seed is not None or asked.count is not None) and not asked.planted and not any(it.takes_seed for it in chosen):
         parser.error("none of these entries takes --seed or --count")
     asked.chosen = chosen
     return asked
@@ -170,7 +172,8 @@ def main() -> int:
         return 0
     ASKED.program, ASKED.seed, ASKED.count, ASKED.cells = program_of(asked.program), asked.seed, asked.count, asked.cells
     if asked.planted:
-        return subprocess.run([sys.executable, f"{TOOLS}/planted.py"], check=False).returncode
+        words = [f"--{name}={value}" for name, value in (("seed", asked.seed), ("count", asked.count)) if value is not None]
+        return subprocess.run([sys.executable, f"{TOOLS}/planted/plant.py", "--program", ASKED.program, *words], check=False).returncode
     print(f"the program is {ASKED.program}")
     told = Told()
     of_edits = ["--all"] * asked.all + ["--record"] * asked.record

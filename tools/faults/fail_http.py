@@ -21,12 +21,11 @@ from generate import http_posts as posts, http_requests as requests
 from generate.http_words import BODY, ENTRY, PLACES, Case, Want, act, get, load, post
 from model.http import LARGE, NO_PATH, OTHER_METHOD, reply_response
 from tests.asked import ASKED
-from tests.http_peer import PATIENCE, Ended, Expected, Fault, Server, run
+from tests.http_peer import PATIENCE, SLOW, Ended, Expected, Fault, Server, run
 from tests.runs import made_shim, quick_folder
 
 MOST_BAD = 10
 MOST_BEHIND = 1000  # reads behind an answer
-SLOW = 5.0  # seconds in which a request that is read a byte at a time has to be answered
 MEMORY, STORE, STOPPED = (reply_response([it]) for it in ("refused 30 Memory", "refused 31 Store", "refused 32 Stopped"))
 
 
@@ -267,7 +266,8 @@ class HttpFaults(unittest.TestCase):
         """How many runs there were; none may have been bad."""
         counts = self.runs.counts
         seen = ", ".join(f"{count} {name}" for name, count in sorted(self.runs.seen.items()))
-        print(f"fail http: {counts['streams']} stream runs, {counts['memory']} memory runs ({seen}), {counts['disk']} of the disk, {counts['bad']} bad")
+        print(f"fail http: {counts['streams']} stream runs, {counts['memory']} memory runs ({seen}),"
+              f" {counts['disk']} of the disk, {counts['bad']} bad")
         self.assertEqual(0, counts["bad"], "runs were bad")
 
     def test_streams(self) -> None:

@@ -1,5 +1,5 @@
 #!/bin/bash
-# tools/faults/fail_kept.sh [STEP [PROGRAM]] refuses the built program its requests for memory, every STEPth of them (the 11th where none is given), one a
+# tools/faults/fail_kept.sh [PROGRAM [STEP]] refuses the built program its requests for memory, every STEPth of them (the 11th where none is given), one a
 # run, on a desk that is kept in a file: the opening of what examples/monday.tc left, and the lines of examples/tuesday.tc. Each run may end as a
 # run in memory does, or with `cannot use` the file or memory; and then the file is opened again, where all that was left and all that was
 # printed stands. So it is of a report of the file, of which a front is printed, or all where memory was not wanted after all; the file stays as it is, and
@@ -7,8 +7,8 @@
 set -u
 
 top=$(cd "$(dirname "${BASH_SOURCE[0]}")/../.." && pwd) || exit 1
-step=${1:-11}
-program=$(readlink -m "${2:-$top/crates/tc_cli/out/tc_cli}")
+program=$(readlink -m "${1:-$top/crates/tc_cli/out/tc_cli}")
+step=${2:-11}
 [[ -x $program ]] || { echo "fail_kept: $program is not built" >&2; exit 1; }
 
 work=$(mktemp -d) || exit 1

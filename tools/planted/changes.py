@@ -12,8 +12,10 @@ from functools import partial
 
 # Attributes that count what was met, for those who ask whether enough was tried.
 COUNTED = {"visits", "met", "refusals", "dropped", "seen"}
+# How a value in a text is laid out.
+WIDTH = re.compile(r"[<>^]?0?[0-9]+[a-z]?")
 # Calls whose texts only a person reads.
-WORDS_OF = {"need", "Unsound", "AssertionError", "ValueError", "SystemExit", "exit"}
+WORDS_OF = {"need", "Unsound", "AssertionError", "ValueError", "ImportError", "TypeVar"}
 
 
 @dataclass(frozen=True)
@@ -223,6 +225,9 @@ def constants(spot: Spot) -> Iterator[Change]:
     elif isinstance(value, bytes) and value:
         for part in by_one(value.decode("latin-1")):
             yield spot.change("a number in a pattern", ast.Constant(part.encode("latin-1")))
+    elif isinstance(value, str) and isinstance(into, ast.JoinedStr) and WIDTH.fullmatch(value):
+        for text in by_one(value):
+            yield spot.change("a width", ast.Constant(text))
     elif isinstance(value, str) and spelled(value) != value and not is_table(value):
         yield spot.change("a word", ast.Constant(spelled(value)))
 
@@ -237,16 +242,22 @@ def is_kept_by_name(node: ast.AST) -> bool:
     return isinstance(node, ast.AnnAssign) or isinstance(node, ast.Assign) and isinstance(node.targets[0], ast.Name)
 
 
-def members(spot: Spot) -> Iterator[Change]:
-    """A member left out of a set, or of a list of facts that is searched or stands for itself; and a word of a list of words."""
+def is_of_members(spot: Spot) -> bool:
+    """Whether a node is a set of facts, or a list of them that is searched or has a name."""
     node, into = spot.node, spot.parent
-    if isinstance(node, ast.Set) or isinstance(node, (ast.Tuple, ast.List)) and (
-            isinstance(into, ast.Compare) and spot.field == "comparators" or is_kept_by_name(into) and "." not in spot.place and spot.place.isupper()):
-        if len(node.elts) > 1 and all(is_of_facts(it) for it in node.elts):
-            for at in range(len(node.elts)):
-                rest = [*node.elts[:at], *node.elts[at + 1:]]
-                made = ast.Set(rest) if isinstance(node, ast.Set) else ast.Tuple(rest, ast.Load()) if isinstance(node, ast.Tuple) else ast.List(rest, ast.Load())
-                yield spot.change("a member left out", made)
+    if not isinstance(node, (ast.Set, ast.Tuple, ast.List)) or len(node.elts) < 2 or not all(is_of_facts(it) for it in node.elts):
+        return False
+    is_named = is_kept_by_name(into) and spot.place.isupper() and "." not in spot.place
+    return isinstance(node, ast.Set) or isinstance(into, ast.Compare) and spot.field == "comparators" or is_named
+
+
+def members(spot: Spot) -> Iterator[Change]:
+    """A member left out of a set, or of a list of facts; and two words of a list of words exchanged."""
+    node, into = spot.node, spot.parent
+    if isinstance(node, (ast.Set, ast.Tuple, ast.List)) and is_of_members(spot):
+        for at in range(len(node.elts)):
+            rest = [*node.elts[:at], *node.elts[at + 1:]]
+            yield spot.change("a member left out", ast.Set(rest) if isinstance(node, ast.Set) else type(node)(rest, ast.Load()))
     if isinstance(node, ast.Constant) and isinstance(node.value, str) and isinstance(into, ast.Attribute) and into.attr == "split":
         words = node.value.split(" ")
         for at in range(len(words) - 1):
@@ -328,11 +339,12 @@ def cells(spot: Spot) -> Iterator[Change]:
         for row, parts in enumerate(rows):
             for at in range(1, len(parts)):
                 column = [it[at].strip() for it in rows]
-                other = next((it.strip() for it in [*parts[at + 1:], *parts[1:at], *column] if it.strip() not in (parts[at].strip(), "-")), "")
-                if other and parts[at].strip() != "-":
+                cell = parts[at].strip()
+                other = next((it.strip() for it in [*parts[at + 1:], *parts[1:at], *column] if it.strip() not in (cell, "-")), "")
+                if other and cell != "-":
                     made = [" | ".join([*it[:at], other, *it[at + 1:]] if it is parts else it) for it in rows]
                     change = spot.change("a cell", ast.Constant("\n".join(made)))
-                    yield Change(line_of(node) + row + 1, spot.place, "a cell", f"{parts[0].strip()}, column {at}: {parts[at].strip()}", other, change.make)
+                    yield Change(line_of(node) + row + 1, spot.place, "a cell", f"{parts[0].strip()}, column {at}: {cell}", other, change.make)
     if isinstance(node, ast.Dict) and all(isinstance(it, ast.Tuple) and all(is_words(of) for of in it.elts) for it in node.values):
         yield from dictionary_cells(spot, node)
 
@@ -346,9 +358,8 @@ def dictionary_cells(spot: Spot, node: ast.Dict) -> Iterator[Change]:
             beside = [*value.elts, *(it.elts[at] for it in node.values if isinstance(it, ast.Tuple) and at < len(it.elts))]
             other = next((it for it in beside if ast.dump(it) != ast.dump(cell)), None)
             if other is not None:
-                elts = [*value.elts[:at], other, *value.elts[at + 1:]]
-                made = Spot(cell, value, "elts", at, spot.place)
-                yield Change(line_of(cell), spot.place, "a cell", f"{told(row)}, column {at + 1}: {told(cell)}", told(other), partial(made.put, other))
+                old, make = f"{told(row)}, column {at + 1}: {told(cell)}", Spot(cell, value, "elts", at, spot.place).put
+                yield Change(line_of(cell), spot.place, "a cell", old, told(other), partial(make, other))
 
 
 # ---- names of facts

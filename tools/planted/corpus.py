@@ -16,16 +16,16 @@ from generate.link_plans import Planner
 from generate.link_scripts import SCENES, STYLES, TOLD
 from generate.link_writers import Writer
 from generate.scripts import Written, book_script
+from model.facts import MOST_EXECUTIONS, MOST_PROCEDURES, MOST_STEPS
 from model.http import answer_to
-from planted.recorded import Exchange, Recorded, Script, Served, Text, file_of, opening, record, run_in, schema_of
+from planted.recorded import Exchange, Recorded, Rows, Script, Served, Text, file_of, opening, record, run_in, schema_of
 from tests.changes import change_file, changed_by
 from tests.full_desks import make_desks
 from tests.http_peer import Server
 from tests.test_broken import changes_of
 
-TURNS = 700  # of a script of each style
+TURNS = 1000  # of a script of each style
 BOOKS, BOOK_LINES = 4, 1200
-LONG = 3000  # lines: what is longer, is looked at last
 TEXTS, CHANGES = 1200, 400
 KEPT = ("stacks of 200 rows", "borders")
 
@@ -36,7 +36,8 @@ def link_scripts(seed: int) -> list[Script]:
     scenes = {name: words for name, *words in SCENES if name != "same_name"}
     writers += [getattr(link_scenes, name)(seed, *words) for name, words in scenes.items()]
     writers.append(Planner(seed).write())
-    return [Script(f"link {it.style.name}", it.lines, {"w": it.w, "vc": it.vc, **({"ring": it.style.ring} if it.style.ring else {})}) for it in writers]
+    options = [{"w": it.w, "vc": it.vc, **({"ring": it.style.ring} if it.style.ring else {})} for it in writers]
+    return [Script(f"link {it.style.name}", it.lines, words) for it, words in zip(writers, options)]
 
 
 def by_written(it: Written, is_kept: bool) -> Script:
@@ -59,6 +60,27 @@ def record_texts(program: str, work: str, seed: int, made: Recorded) -> None:
         made.texts.append(Text(kind, data, run_in(work, [program, "check", kind, "text.csv"])[1][0]))
 
 
+def counted(least: int, most: int) -> str:
+    """The front of a statement in which n has these numbers as i."""
+    return f"WITH RECURSIVE n(i) AS (SELECT {least} UNION ALL SELECT i + 1 FROM n WHERE i < {most})"
+
+
+def limit_changes(rows: Rows) -> dict[str, list[str]]:
+    """What fills a file up to a limit, and past it by one: with procedures, with the steps of one, with executions."""
+    procedures, executions = len(rows["procedure"]), len(rows["execution"])
+    steps = "INSERT INTO step {} SELECT 'x1', i, 'look', 0, 0 FROM n"
+    made: dict[str, list[str]] = {}
+    for more in (0, 1):
+        added = counted(1, MOST_PROCEDURES - procedures + more)
+        made[f"{MOST_PROCEDURES + more} procedures"] = [
+            f"INSERT INTO procedure {added} SELECT 'x' || i, 'ann' FROM n", f"INSERT INTO step {added} SELECT 'x' || i, 1, 'look', 0, 0 FROM n"]
+        one = ["INSERT INTO procedure VALUES ('x1', 'ann')", steps.format(counted(1, 1))]
+        made[f"{MOST_EXECUTIONS + more} executions"] = [
+            *one, f"INSERT INTO execution {counted(executions + 1, MOST_EXECUTIONS + more)} SELECT i, 'x1', 'ann', 0 FROM n"]
+        made[f"{MOST_STEPS + more} steps"] = [one[0], steps.format(counted(1, MOST_STEPS + more))]
+    return made
+
+
 def record_left(program: str, work: str, made: Recorded) -> None:
     """Desks as their first day left them, opened as they are and as statements by hand changed them."""
     changes = {"five": OF_FIVE, "whole": OF_WHOLE}
@@ -72,7 +94,12 @@ def record_left(program: str, work: str, made: Recorded) -> None:
             is_changed = not statement or change_file(f"{folder}/copy.db", changed_by(statement))
             # (other tables and other statements are not for a reading of rows)
             if is_changed and schema_of(f"{folder}/copy.db") == made.files[-1].schema:
-                made.openings.append(opening(program, folder, f"{folder}/copy.db", f"{left.name}, {statement or 'as it was left'}", left.days[0].moment))
+                title = f"{left.name}, {statement or 'as it was left'}"
+                made.openings.append(opening(program, folder, f"{folder}/copy.db", title, left.days[0].moment))
+        for title, statements in limit_changes(made.files[-1].rows).items() if left is WHOLE else ():
+            shutil.copy(f"{folder}/kept.db", f"{folder}/copy.db")
+            if change_file(f"{folder}/copy.db", changed_by(*statements)):
+                made.openings.append(opening(program, folder, f"{folder}/copy.db", f"{left.name}, {title}", left.days[0].moment))
 
 
 def record_broken(program: str, work: str, seed: int, made: Recorded) -> None:
@@ -100,7 +127,7 @@ def recorded_by(program: str, seed: int) -> Recorded:
     """All of it."""
     made = Recorded()
     with tempfile.TemporaryDirectory(prefix="planted-", dir="/dev/shm" if os.access("/dev/shm", os.W_OK) else None) as work:
-        made.scripts = sorted([*link_scripts(seed), *book_scripts(seed)], key=lambda it: len(it.lines) > LONG)
+        made.scripts = [*book_scripts(seed), *link_scripts(seed)]
         for script in made.scripts:
             record(program, script, tempfile.mkdtemp(dir=work))
         record_texts(program, work, seed, made)

@@ -10,6 +10,8 @@ from itertools import zip_longest
 
 from planted.recorded import Opening, Recorded, Rows, Script, Served
 
+# Scripts that fill a desk, which take seconds: they are for the file of the limits and the one of the book.
+FULL = ("book identities run out", "book a desk that stacks fill")
 ORDERED = ("request", "move", "tally", "execution")
 TOOLS = os.path.dirname(os.path.dirname(os.path.realpath(__file__)))
 
@@ -46,7 +48,8 @@ def case_faults() -> Iterator[str]:
     for name in sorted(it.removesuffix(".tc") for it in os.listdir(folder) if it.endswith(".tc")):
         case = f"{folder}/{name}"
         told, status = answers(text_of(f"{case}.tc"), files, tuple(text_of(f"{case}.args").split()))
-        yield first_other(f"the case {name}", [*told, str(status)], [*text_of(f"{case}.stdout").split("\n")[:-1], text_of(f"{case}.status").strip() or "0"])
+        wanted = [*text_of(f"{case}.stdout").split("\n")[:-1], text_of(f"{case}.status").strip() or "0"]
+        yield first_other(f"the case {name}", [*told, str(status)], wanted)
 
 
 def text_faults(recorded: Recorded) -> Iterator[str]:
@@ -165,9 +168,14 @@ def differences(file: str, recorded: Recorded) -> Iterator[str]:
     if file == "model/kept.py":
         return
     for script in recorded.scripts:
-        yield script_fault(script)
+        if script.title not in FULL:
+            yield script_fault(script)
     for opening in recorded.openings:
         yield opening_fault(opening)
+    if file in ("", "model/facts.py", "model/book.py"):
+        for script in recorded.scripts:
+            if script.title in FULL:
+                yield script_fault(script)
 
 
 def first_difference(file: str, recorded: Recorded) -> str:

@@ -1,6 +1,6 @@
 #!/usr/bin/env python3
-"""Plants faults into the plain desk, one at a time, and looks whether the comparisons find them: tools/run.py --planted, or this file by itself, at any
-place.
+"""Plants faults into the plain desk, one at a time, and looks whether the comparisons find them: tools/run.py --planted, or this file by itself, at
+any place.
 
     tools/planted/plant.py                     some hundreds of them, over all files of tools/model
     tools/planted/plant.py --count 20          so many
@@ -17,8 +17,8 @@ where the plain desk itself, with no fault in it, differs from the program.
 """
 import argparse
 import ast
+import hashlib
 import os
-import random
 import sys
 import time
 from collections import defaultdict
@@ -37,16 +37,14 @@ MOST_MISSED = 0.06  # of those that are planted
 LEAST_SECONDS = 30.0  # that a fault has
 
 
-def known_same() -> dict[str, str]:
-    """The changes that make the same program, each with the reason."""
-    known, why = dict[str, str](), ""
-    with open(f"{TOOLS}/planted/same.txt", encoding="utf-8") as file:
-        for line in file.read().splitlines():
-            if line.startswith("# "):
-                why = line.removeprefix("# ")
-            elif line:
-                known[line] = why
-    return known
+def known_same() -> list[str]:
+    """The names of changes that make the same program; one that ends in * stands for all that begin so."""
+    return [it for it in text_of("planted/same.txt").splitlines() if it and not it.startswith("#")]
+
+
+def is_named(trial: Trial, names: Sequence[str]) -> bool:
+    """Whether a change is one of these."""
+    return any(trial.key == it or it.endswith("*") and trial.key.startswith(it[:-1]) for it in names)
 
 
 def all_trials() -> list[Trial]:
@@ -54,7 +52,7 @@ def all_trials() -> list[Trial]:
     trees = {it: ast.parse(text_of(it)) for it in files_of_readings(TOOLS)}
     following, same = groups_in(list(trees.values())), known_same()
     trials = [Trial(file, tree, it) for file, tree in trees.items() for it in changes_in(tree, following)]
-    return [it for it in trials if it.key not in same]
+    return [it for it in trials if not is_named(it, same)]
 
 
 def text_of(file: str) -> str:
@@ -63,14 +61,16 @@ def text_of(file: str) -> str:
         return it.read()
 
 
+def drawn(trial: Trial, seed: int) -> bytes:
+    """By what a seed puts changes in order, so that a change more or less leaves the order of the others as it is."""
+    return hashlib.sha256(f"{seed} {trial.key}".encode()).digest()
+
+
 def chosen(trials: Sequence[Trial], count: int, seed: int) -> list[Trial]:
-    """So many of these, from every file and of every kind in turn."""
-    dice, piles = random.Random(seed), defaultdict[str, dict[str, list[Trial]]](dict)
-    for it in trials:
+    """So many of these: of every file in turn, and of every kind in turn."""
+    piles = defaultdict[str, dict[str, list[Trial]]](dict)
+    for it in sorted(trials, key=lambda it: (it.file, it.change.kind, drawn(it, seed))):
         piles[it.file].setdefault(it.change.kind, []).append(it)
-    for kinds in piles.values():
-        for pile in kinds.values():
-            dice.shuffle(pile)
     made, turns = list[Trial](), 0
     while len(made) < min(count, len(trials)):
         for kinds in piles.values():

@@ -1,7 +1,8 @@
-"""Tries changes of the readings, each in a process of its own: there the module of the changed file is made of the changed tree, and every reading that
-stands on it uses it. What differs, fails, or does not end in time has been found.
+"""Tries changes of the readings, each in a process of its own: there the module of the changed file is made of the changed tree, and every reading
+that stands on it uses it. What differs, fails, or does not end in time has been found.
 """
 import ast
+import gc
 import importlib.abc
 import importlib.machinery
 import importlib.util
@@ -89,6 +90,7 @@ def done_apart(work: Callable[[], Any]) -> Any:
 
 def tried(trial: Trial, top: str, look: Callable[[str], str]) -> str:
     """What the readings find of a change, in this process."""
+    gc.disable()
     trial.change.make()
     path = f"{top}/{trial.file}"
     try:

@@ -16,6 +16,7 @@ from model.facts import status_of
 from model.http import Acts, Asks, Loads, Refused, answer_to, refused_response, reply_response
 
 PATIENCE = float(os.environ.get("PATIENCE", "20"))  # seconds for one exchange, or for the program to begin or to end
+SLOW = PATIENCE / 4  # seconds in which a request that comes a byte at a time has to be answered: 5, where nobody asks for more patience
 HERE = "127.0.0.1"
 RST = struct.pack("ii", 1, 0)  # a socket that is closed resets its connection
 
@@ -48,8 +49,8 @@ def free_port() -> int:
 class Server:
     """The program as it serves a desk in a file, for so many connections. It is killed at the end of the block, if it has not ended."""
 
-    def __init__(self, program: str, folder: str, database: str, count: Optional[int], words: Sequence[str] = (), env: Optional[dict[str, str]] = None,
-                 first: Optional[Callable[[], None]] = None, port: Optional[int] = None, told: Optional[str] = None) -> None:
+    def __init__(self, program: str, folder: str, database: str, count: Optional[int], words: Sequence[str] = (),
+                 env: Optional[dict[str, str]] = None, first: Optional[Callable[[], None]] = None, port: Optional[int] = None, told: Optional[str] = None) -> None:
         """Starts it, without a word for how many connections where that is None, with these variables beside those of this process, after that
         call. What it writes to descriptor 9 comes into the file
         `told`."""
@@ -206,8 +207,8 @@ def wanted(want: Union[int, Refused]) -> tuple[str, int]:
 
 
 class Expected:
-    """The responses that a list of cases has to be given, one after the other, by a new desk or by this one, which goes on; the lines of a script that
-    asks the same, whose files are written to a folder; and what the writer of a case and the plain reading dispute."""
+    """The responses that a list of cases has to be given, one after the other, by a new desk or by this one, which goes on; the lines of a script
+    that asks the same, whose files are written to a folder; and what the writer of a case and the plain reading dispute."""
 
     def __init__(self, folder: str, cases: Sequence[Case], desk: Optional[Desk] = None) -> None:
         """Asks the plain desk."""

@@ -127,9 +127,13 @@ class Cases:
 
     def ask(self, name: str, folder: str, words: Sequence[str], out: str, err: Optional[str] = "", status: int = 0) -> None:
         """Asks by the command, which has to end so, and to leave the files of the folder."""
+        self.tell(f"{name}: tcdesk report {' '.join(words)}", *self.why_not(folder, words, out, err, status))
+
+    def why_not(self, folder: str, words: Sequence[str], out: str, err: Optional[str] = "", status: int = 0) -> list[str]:
+        """In what the command does otherwise than to end so, and to leave the files of the folder."""
         before = digests(folder)
         ran = self.call(folder, ["report", *words])
-        self.tell(f"{name}: tcdesk report {' '.join(words)}", *unlike(ran, out, err, status), changed(before, folder))
+        return [*unlike(ran, out, err, status), changed(before, folder)]
 
     def closed(self, name: str, folder: str, moves: Sequence[Moved], *shifts: Shift) -> None:
         """Asks by the command for the reports of shifts, on a desk that has these moves."""

@@ -20,14 +20,15 @@ UNREADABLE = {
     "stack WHERE name = 'spare'": ["name = ''", "name = 'Spare'", "author = ''", "author = 'E ve'", "critical = 2", "critical = -1"],
     "stack_approval WHERE rowid = 1": ["stack = ''", "stack = 'H'", "person = ''", "person = 'B'"],
     "procedure WHERE name = 'panel'": ["name = ''", "name = 'Panel'", "author = ''", "author = 'C'"],
-    "step WHERE rowid = 1": ["procedure = ''", "procedure = 'P'", "step = -1", "body = ''", f"body = '{'x' * 81}'", "body = 'a\tb'", "countersign = 2",
-                             "request = 65536", "request = -1"],
-    "execution WHERE num = 1": ["num = -1", "num = 4294967296", "procedure = ''", "person = ''", "person = 'A'", "moment = 4102444800", "moment = -1"],
+    "step WHERE rowid = 1": ["procedure = ''", "procedure = 'P'", "step = -1", "body = ''", f"body = '{'x' * 81}'", "body = 'a\tb'",
+                             "countersign = 2", "request = 65536", "request = -1"],
+    "execution WHERE num = 1": ["num = -1", "num = 4294967296", "procedure = ''", "person = ''", "person = 'A'", "moment = 4102444800",
+                                "moment = -1"],
     "record WHERE rowid = 1": ["execution = -1", "step = -1", "verdict = 0", "verdict = 4", "person = ''", "person = 'A'", "second = 'B'",
                                "moment = 4102444800", "moment = -1"],
 }
-# Statements behind which all rows read, though no desk wrote them: a number that is left out, a row that is another's or gone, a place or a sum that is
-# another. A report of such a file is printed.
+# Statements behind which all rows read, though no desk wrote them: a number that is left out, a row that is another's or gone, a place or a sum
+# that is another. A report of such a file is printed.
 READABLE = [
     "DELETE FROM move WHERE seq = 3", "DELETE FROM move WHERE seq = 1", "DELETE FROM request", "DELETE FROM request WHERE num = 2",
     "DELETE FROM request_approval", "DELETE FROM stack", "DELETE FROM stack_approval", "DELETE FROM procedure", "DELETE FROM step",

@@ -30,7 +30,8 @@ def all_cases() -> Iterator[Case]:
     """All scripts, in order of name."""
     for name in sorted(it[:-3] for it in os.listdir(FOLDER) if it.endswith(".tc")):
         path = f"{FOLDER}/{name}"
-        yield Case(name, text_of(f"{path}.tc"), tuple(text_of(f"{path}.args", "").split()), text_of(f"{path}.stdout"), int(text_of(f"{path}.status", "0")))
+        options = tuple(text_of(f"{path}.args", "").split())
+        yield Case(name, text_of(f"{path}.tc"), options, text_of(f"{path}.stdout"), int(text_of(f"{path}.status", "0")))
 
 
 class Cases(Tried):

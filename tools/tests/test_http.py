@@ -18,19 +18,18 @@ from generate import http_posts as posts, http_requests as requests
 from generate.http_words import BODY, ENTRY, PLACES, Case, act, entry, get, load, post
 from model.http import decided
 from tests.http_cases import Cases, Served
-from tests.http_peer import PATIENCE, Ended, Server, free_port, received, reset, run, send
+from tests.http_peer import PATIENCE, SLOW, Ended, Server, free_port, received, reset, run, send
 from tests.runs import bytes_of
 
 SEED = 20311126
 FULL = {8, 18}  # the refusals of a desk that is full, which one test alone meets
-SLOW = 5.0  # seconds in which a request that comes a byte at a time has to be answered
 
 
 class Pieces(Served):
     """Requests that are cut, that come in pieces, and that come slowly."""
 
     def test_cut(self) -> None:
-        """The bytes of a request cut after each byte but the last: nothing is answered, and no act is made; and what a front decides stays decided."""
+        """The bytes of a request cut after each byte but the last: nothing is answered, and no act is made. What a front decides stays decided."""
         cases = self.cases
         for raw, closes in ((act(ENTRY), "a shut end"), (post("/acts", BODY, end="\n"), "a closed connection"), (act(ENTRY), "a reset"),
                             (get("/history/1/0"), "a shut end"), (b"\r\n\n" + load("stack", "s1", posts.rows(1)), "a shut end")):
@@ -78,7 +77,8 @@ class Pieces(Served):
         """The longest heads and bodies, a byte at a time."""
         cases = self.cases
         size = len(BODY)
-        told = [Case("a body of 65,536 bytes", post("/acts", BODY + " " * (65536 - size)), 0), Case("a head of 8,192 bytes", requests.padded(8192), 0),
+        told = [Case("a body of 65,536 bytes", post("/acts", BODY + " " * (65536 - size)), 0),
+                Case("a head of 8,192 bytes", requests.padded(8192), 0),
                 Case("a head of 8,192 bytes of line ends", b"\n" * (8192 - len(PLACES)) + PLACES, 0),
                 Case("8,193 bytes and no head", b"GET /" + b"a" * 8188, 17),
                 Case("a head of 64 lines and a body", post("/acts", BODY + " " * 30000, *["a: b"] * 61), 0),

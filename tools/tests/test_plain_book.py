@@ -139,7 +139,8 @@ class PlainBook(Tried):
             found = list(pool.map(partial(try_script, ASKED.program, work), jobs))
         faults = [it.fault for it in found if it.fault]
         moves: Counter[tuple[int, int, int]] = sum((it.moves for it in found), Counter())
-        print(f"plain book: {len(jobs)} scripts, {sum(it.lines for it in found)} lines answered, {sum(sum(it.refused.values()) for it in found)} refused,"
-              f" {sum(it.printed for it in found)} lines printed, {sum(moves.values())} moves of {len(moves)} kinds, {len(faults)} differ")
+        print(f"plain book: {len(jobs)} scripts, {sum(it.lines for it in found)} lines answered,"
+              f" {sum(sum(it.refused.values()) for it in found)} refused, {sum(it.printed for it in found)} lines printed,"
+              f" {sum(moves.values())} moves of {len(moves)} kinds, {len(faults)} differ")
         lacking = lacks(found) if ASKED.is_whole else []
         self.no_faults(faults + [f"hardly met: {it}" for it in lacking])

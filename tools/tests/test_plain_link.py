@@ -1,8 +1,8 @@
 """The desk over a link beside a plain desk, which asks the program nothing.
 
 The plain desk answers each line of a script from the requirements: FOP-1 and FARM-1 as literal tables, two carriers that are lists or
-rings, the spacecraft, its schedule and the mirror, and where each request stands. The program runs long scripts that fit how the link stands, with losses, starts of
-every kind, windows K from 1 to 127 and W from 2 to 254, rings of 1 to 4,096, lockout and the way back; every line that it prints, and
+rings, the spacecraft, its schedule and the mirror, and where each request stands. The program runs long scripts that fit
+how the link stands, with losses, starts of every kind, windows K from 1 to 127 and W from 2 to 254, rings of 1 to 4,096, lockout and the way back; every line that it prints, and
 its status, are those of the plain desk. Each cell of the two tables that a desk can reach has to be met, and each ring has to be full both ways.
 
 Then longer scripts, in which after each act is asked where the requests stand. Of what is printed alone (link_promise.py, without the

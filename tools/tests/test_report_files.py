@@ -3,6 +3,8 @@ printed, though no desk wrote them.
 """
 import os
 import random
+from concurrent.futures import ThreadPoolExecutor
+from functools import partial
 from pathlib import Path
 
 from model.kept import read_tables
@@ -55,12 +57,18 @@ class Files(Reported):
         desk = self.full_desk()
         statements = [f"UPDATE {table.replace(' WHERE', f' SET {it} WHERE')}" if " WHERE" in table else f"UPDATE {table} SET {it}"
                       for table, sets in UNREADABLE.items() for it in sets]
-        for statement in [*statements, "DELETE FROM meta", "INSERT INTO meta VALUES ('more', 1)"]:
-            folder = self.cases.copy(desk)
-            change(folder, statement)
-            # the row lies in the shift, or behind it: all moves are made before the moment 4000
-            for begin, end in ((0, LAST), (4000, LAST), (0, 0)):
-                self.cases.ask(statement, folder, ["desk.db", str(begin), str(end)], "", "tcdesk: cannot use desk.db\n", 2)
+        statements += ["DELETE FROM meta", "INSERT INTO meta VALUES ('more', 1)"]
+        with ThreadPoolExecutor(4) as pool:
+            for statement, faults in zip(statements, pool.map(partial(self.why_not_refused, desk), statements)):
+                self.cases.tell(statement, *faults)
+
+    def why_not_refused(self, desk: str, statement: str) -> list[str]:
+        """In what a report of a desk that was changed so is not refused, of shifts that the row lies in, and of one that it does not."""
+        folder = self.cases.copy(desk)
+        change(folder, statement)
+        # all moves are made before the moment 4000
+        return [fault for begin, end in ((0, LAST), (4000, LAST), (0, 0))
+                for fault in self.cases.why_not(folder, ["desk.db", str(begin), str(end)], "", "tcdesk: cannot use desk.db\n", 2)]
 
     def test_rows_that_read(self) -> None:
         """Rows that no desk wrote, and that read all the same: soundness is not judged, and the report is printed."""

@@ -14,5 +14,5 @@ class Types(unittest.TestCase):
         if not shutil.which("mypy"):
             self.skipTest("mypy is not installed (Debian: mypy)")
         ran = subprocess.run(["mypy", "--config-file", "tools/mypy.ini", "tools"], cwd=TOP, capture_output=True, text=True, check=False)
-        print(f"types: {ran.stdout.splitlines()[-1:]}")
+        print(f"types: {ran.stdout.strip()[-200:]}")
         self.assertEqual(0, ran.returncode, ran.stdout + ran.stderr)
