@@ -112,7 +112,9 @@ def run_entry(entry: Entry, told: Told, more: list[str]) -> Took:
     suite_of(entry, more).run(told)
     minutes, processor = (time.monotonic() - began) / 60, (processor_seconds() - processor) / 60
     passed, failed = told.passed - before[0], told.failed - before[1]
-    return Took(entry.name, minutes, processor, f"{failed} failed" if failed else f"{passed} passed" if passed else "not tried")
+    took = Took(entry.name, minutes, processor, f"{failed} failed" if failed else f"{passed} passed" if passed else "not tried")
+    print(f"{took.name}: {took.told}, in {minutes:.1f} minutes, {processor:.1f} of processors")
+    return took
 
 
 def table(rows: list[Took]) -> None:

@@ -92,7 +92,7 @@ class Board:
 
     def failure_of(self, form: Form) -> int:
         """The code of the first test that a command of the schedule fails; 0 where it passes all."""
-        times, target, time = self.schedule.times, form.target or 0, form.time or 0
+        times, target, time = self.schedule.times, form.target, form.time
         tests: dict[int, list[tuple[Callable[[], bool], Code]]] = {
             Subtype.INSERT: [(lambda: self.is_bad(time), Code.TOO_EARLY),
                              (lambda: self.identity(target) in map(self.identity, times), Code.THERE),

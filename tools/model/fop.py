@@ -108,8 +108,7 @@ class Fop:
         need(self.wait is None, Refusal.WAIT_QUEUE_FULL)
 
     def offer(self, request: int) -> None:
-        """A request is offered, which may be."""
-        self.check_offer()
+        """A request is offered, as `check_offer` lets it."""
         self.wait, self.cell = request, ()
         if self.state != "S3":
             self.do("look")

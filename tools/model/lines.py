@@ -118,8 +118,8 @@ def form(words: list[str], absent: str, read_moment: Reader, read_target: Reader
     need(not is_schedule or kind[1] in tuple(Subtype))
     need((target != absent) == has_target and (time != absent) == has_time)
     read_time = read_moment if kind[1] == Subtype.INSERT else offset
-    made = Form(number(apid, 0, LAST_APID), ack(asked), is_yes(critical), *kind, read_target(target) if has_target else None,
-                read_time(time) if has_time else None, outcome(behaves))
+    made = Form(number(apid, 0, LAST_APID), ack(asked), is_yes(critical), *kind, read_target(target) if has_target else 0,
+                read_time(time) if has_time else 0, outcome(behaves))
     need(not is_schedule or made.asks("c") and made.outcome == "ok")
     return made
 

@@ -14,14 +14,14 @@ class Identity(NamedTuple):
 
 
 class Form(NamedTuple):
-    """What is entered of a request. `time` is a moment or an offset; it and `target` are none where the command takes none."""
+    """What is entered of a request. `time` is a moment or an offset; it and `target` are 0 where the command takes none."""
     apid: int
     ack: str
     is_critical: bool
     service: int
     subtype: int
-    target: Optional[int]
-    time: Optional[int]
+    target: int
+    time: int
     outcome: str
 
     def is_plain(self) -> bool:
@@ -31,6 +31,14 @@ class Form(NamedTuple):
     def command(self) -> Optional[Subtype]:
         """The command of the schedule that it is; none of a plain request."""
         return None if self.is_plain() else Subtype(self.subtype)
+
+    def takes_target(self) -> bool:
+        """Whether it names a request."""
+        return takes_target(self.service, self.subtype)
+
+    def takes_time(self) -> bool:
+        """Whether it has a time, or an offset."""
+        return takes_time(self.service, self.subtype)
 
     def activity(self) -> Optional[int]:
         """The request that an insert puts into the schedule; none of any other."""

@@ -33,12 +33,12 @@ class Schedule:
         elif command is Subtype.RESET:
             self.is_enabled, self.times = False, {}
         elif command is Subtype.INSERT:
-            self.times[form.target or 0] = form.time or 0
+            self.times[form.target] = form.time
         elif command is Subtype.DELETE:
-            self.times.pop(form.target or 0, None)
+            self.times.pop(form.target, None)
         elif command in TAKES_OFFSET:
             for request in self.shifted(form):
-                self.times[request] = min(max(self.times[request] + (form.time or 0), 0), LAST_MOMENT)
+                self.times[request] = min(max(self.times[request] + form.time, 0), LAST_MOMENT)
 
     def shifted(self, form: Form) -> list[int]:
         """The activities that a command shifts."""
@@ -48,7 +48,7 @@ class Schedule:
         """What is told apart of a command: whether what it names stands, and whether a time would pass its limits."""
         command = form.command()
         if command is Subtype.SHIFT_ALL or command is Subtype.SHIFT and form.target in self.times:
-            times = [self.times[request] + (form.time or 0) for request in self.shifted(form)]
+            times = [self.times[request] + form.time for request in self.shifted(form)]
             is_past = max(times, default=0) > LAST_MOMENT
             return form.subtype, "before 0" if min(times, default=0) < 0 else "past the last" if is_past else ""
         return form.subtype, "there" if form.target in self.times else ""

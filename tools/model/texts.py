@@ -131,7 +131,7 @@ def read_stack(data: bytes) -> list[Row]:
         made = form([apid, asked, critical, service, subtype, target, time, behaves], "", instant, earlier(line))
         rows.append(Row(made, earlier(line)(after) if after else 0))
     for row in rows:
-        if row.form.target is not None:
+        if row.form.takes_target():
             check_target(row.form, rows[row.form.target - 1].form)
     return rows
 

@@ -26,7 +26,7 @@ from tests.test_broken import changes_of
 
 TURNS = 1000  # of a script of each style
 BOOKS, BOOK_LINES = 4, 1200
-TEXTS, CHANGES = 1200, 400
+TEXTS, CHANGES = 600, 300
 KEPT = ("stacks of 200 rows", "borders")
 
 
@@ -52,9 +52,9 @@ def book_scripts(seed: int) -> list[Script]:
 
 
 def record_texts(program: str, work: str, seed: int, made: Recorded) -> None:
-    """Texts that are judged by hand, and random ones: what `check` tells of each."""
-    texts = [(it.kind, it.data) for it in all_texts()] + [random_text(it) for it in range(seed, seed + TEXTS)]
-    for kind, data in texts:
+    """Texts that are judged by hand, and random ones, of which `check` tells what there is to tell."""
+    made.texts += [Text(it.kind, it.data, it.wanted) for it in all_texts()]
+    for kind, data in [random_text(it) for it in range(seed, seed + TEXTS)]:
         with open(f"{work}/text.csv", "wb") as file:
             file.write(data)
         made.texts.append(Text(kind, data, run_in(work, [program, "check", kind, "text.csv"])[1][0]))
@@ -89,6 +89,9 @@ def record_left(program: str, work: str, made: Recorded) -> None:
         files = {name: text.encode() for name, text in FILES.items()}
         record(program, Script(left.name, left.lines.splitlines(), files=files, is_kept=True), folder)
         made.files.append(file_of(f"{folder}/kept.db"))
+        shutil.copy(f"{folder}/kept.db", f"{folder}/copy.db")
+        change_file(f"{folder}/copy.db", changed_by(f"UPDATE request SET author = CAST(x'ff{len(left.name):02}' AS TEXT)"))
+        made.files.insert(0, file_of(f"{folder}/copy.db"))
         for statement, _ in [("", True), *changes.get(left.name, [])]:
             shutil.copy(f"{folder}/kept.db", f"{folder}/copy.db")
             is_changed = not statement or change_file(f"{folder}/copy.db", changed_by(statement))

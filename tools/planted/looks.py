@@ -125,6 +125,8 @@ def file_faults(recorded: Recorded) -> Iterator[str]:
             finally:
                 connection.close()
             yield "" if columns == {name: [*those] for name, those in COLUMNS.items()} else f"the columns of file {at}"
+        classes = {name: {tuple(type(value) for value in row) for row in rows} for name, rows in it.rows.items()}
+        yield "".join(f"the classes of {name} in file {at}" for name, those in COLUMNS.items() if classes[name] - {tuple(those.values())})
 
 
 def served_faults(served: Served) -> Iterator[str]:
