@@ -99,6 +99,10 @@ def record_left(program: str, work: str, made: Recorded) -> None:
             if is_changed and schema_of(f"{folder}/copy.db") == made.files[-1].schema:
                 title = f"{left.name}, {statement or 'as it was left'}"
                 made.openings.append(opening(program, folder, f"{folder}/copy.db", title, left.days[0].moment))
+        shutil.copy(f"{folder}/kept.db", f"{folder}/copy.db")
+        for day in left.days:
+            title = f"{left.name}, its day at {day.moment}"
+            made.openings.append(opening(program, folder, f"{folder}/copy.db", title, day.moment, day.lines(), files))
         for title, statements in limit_changes(made.files[-1].rows).items() if left is WHOLE else ():
             shutil.copy(f"{folder}/kept.db", f"{folder}/copy.db")
             if change_file(f"{folder}/copy.db", changed_by(*statements)):

@@ -104,8 +104,9 @@ def opening_fault(it: Opening) -> str:
         return "" if why else f"{it.title}: the file is taken for sound"
     if why:
         return f"{it.title}: {why}"
-    desk = Desk.opened(tables, it.moment)
-    fault = first_other(it.title, [*(move.line() for move in desk.opening), desk.places()], it.printed)
+    desk = Desk.opened(tables, it.moment, files=it.files)
+    told = [move.line() for move in desk.opening] + [told for line in it.lines for told in desk.line(line)]
+    fault = first_other(it.title, [*told, desk.places()], it.printed)
     return fault or table_fault(it.title, rows_by(desk.tables()), it.after)
 
 

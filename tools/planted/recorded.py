@@ -4,6 +4,7 @@ program runs any more. The scripts are written beside the plain desk as it stand
 import os
 import sqlite3
 import subprocess
+from collections.abc import Sequence
 from dataclasses import dataclass, field
 from typing import NamedTuple, Optional
 
@@ -25,12 +26,15 @@ class Script:
 
 
 class Opening(NamedTuple):
-    """The tables of a file, and what the program printed as it opened it at a moment, and left: none where it refused the file."""
+    """The tables of a file, and what the program printed as it opened it at a moment and was given some lines, and left: none where it refused the
+    file."""
     title: str
     before: Rows
     moment: int
     printed: Optional[list[str]]
     after: Optional[Rows]
+    lines: list[str]
+    files: dict[str, bytes]
 
 
 class File(NamedTuple):
@@ -103,13 +107,18 @@ def run_in(folder: str, words: list[str]) -> tuple[int, list[str]]:
     return ran.returncode, ran.stdout.decode("latin-1").split("\n")[:-1]
 
 
+def write_script(folder: str, lines: Sequence[str]) -> None:
+    """Writes a script, each character of which is a byte."""
+    with open(f"{folder}/script.tc", "w", encoding="latin-1", newline="") as text:
+        text.write("".join(f"{it}\n" for it in lines))
+
+
 def record(program: str, script: Script, folder: str) -> None:
     """Runs a script in a folder of its own, and puts down what came of it; the file `kept.db` stays there where it is kept."""
     for name, data in script.files.items():
         with open(f"{folder}/{name}", "wb") as file:
             file.write(data)
-    with open(f"{folder}/script.tc", "w", encoding="latin-1", newline="") as text:
-        text.write("".join(f"{it}\n" for it in script.lines))
+    write_script(folder, script.lines)
     words = [word for name, value in script.options.items() for word in (f"--{name}", str(value))]
     kept = ["--db", "kept.db"] if script.is_kept else []
     script.status, script.printed = run_in(folder, [program, "run", *words, *kept, "script.tc"])
@@ -118,9 +127,13 @@ def record(program: str, script: Script, folder: str) -> None:
 
 # ---- files that are opened again
 
-def opening(program: str, folder: str, path: str, title: str, moment: int) -> Opening:
-    """Opens a file at a moment, with no line behind, and puts down what came of it."""
+def opening(
+    program: str, folder: str, path: str, title: str, moment: int, lines: Sequence[str] = (), files: Optional[dict[str, bytes]] = None
+) -> Opening:
+    """Opens a file at a moment, with these lines behind, and puts down what came of it."""
     before = rows_of(path)
-    status, printed = run_in(folder, [program, "run", "--db", path, "--at", str(moment), "/dev/null"])
-    return Opening(title, before, moment, printed if status == 0 else None, rows_of(path) if status == 0 else None)
+    write_script(folder, lines)
+    status, printed = run_in(folder, [program, "run", "--db", path, "--at", str(moment), "script.tc"])
+    is_taken = status in (0, 1)
+    return Opening(title, before, moment, printed if is_taken else None, rows_of(path) if is_taken else None, [*lines], files or {})
 
