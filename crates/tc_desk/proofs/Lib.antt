@@ -31,7 +31,10 @@ pub mod FollowedActs
 pub mod LoadLemmas
 pub mod StandingLemmas
 pub mod FairRuns
+pub mod WindowRuns
 pub mod RunLemmas
+pub mod LinkOnce
+pub mod StepOnce
 pub mod WorkedCases
 pub mod FlownCases
 pub mod ProcedureCases

@@ -9,7 +9,9 @@ use Rattle.tc_farm.specs.Farm.{is_locked_out}
 use Rattle.tc_world.specs.declared.events.Event.TheVariants as event
 use Rattle.tc_world.specs.declared.events.Indication.{Indication}
 use Rattle.tc_world.specs.Links.{Kind}
+use Rattle.tc_world.specs.Abstraction.{seen}
 use Rattle.tc_world.specs.Telling.{TellsRequests}
+use Rattle.tc_world.specs.Window.{Follows}
 use Rattle.tc_world.specs.World.{Whole, Happens}
 use Rattle.tc_world.proofs.Stills.{fits_is}
 use Rattle.tc_desk.specs.Machine.{Happened, PutsDown}
@@ -18,15 +20,20 @@ use Rattle.tc_desk.specs.Machine.{Happened, PutsDown}
 abbrev IsOpenWhere : {U D : Type 0} → Whole U D → Type 0
 IsOpenWhere w = w.clean ≡ true → w.fits ≡ true → is_locked_out w.farm.state ≡ false
 
+-- where every start was good, an event is a run of the session that is on, or another begins
+abbrev IsFollowedBy : {U D : Type 0} → Kind U Frame → Kind D Report → Whole U D → Whole U D → Type 0
+IsFollowedBy up down old new = new.clean ≡ true → Follows (seen up down old) (seen up down new)
+
 -- of a put that was not refused nothing is told
 pub put_down : {U D : Type 0} (up : Kind U Frame) (down : Kind D Report) (item : Telemetry) (old new : Whole U D) (all : List Indication)
-    → Happens up down (event.Put item) old new all → TellsRequests (event.Put item) old new all → IsOpenWhere new → PutsDown up down (item ∷ []) old new
-put_down up down item old new all happens tells open_farm =
+    → Happens up down (event.Put item) old new all → TellsRequests (event.Put item) old new all → IsFollowedBy up down old new → IsOpenWhere new → PutsDown up down (item ∷ []) old new
+put_down up down item old new all happens tells follows open_farm =
     let none : all ≡ [] = happens.answered in (
       new,
       record {
         happens = subst (Happens up down (event.Put item) old new) none happens;
         tells = subst (TellsRequests (event.Put item) old new) none tells;
+        follows = follows;
         keeps_fitting = λ fits sets. fits_is up down (event.Put item) old new all happens ∙ fits;
         open_farm = open_farm;
         fair = λ clean fits. refl;
@@ -37,9 +44,9 @@ put_down up down item old new all happens tells open_farm =
 -- the same of an answer, which is there
 pub put_answered : {X U D : Type 0} (up : Kind U Frame) (down : Kind D Report) (item : Telemetry) (old new : Whole U D) (items : X → List Indication) (result : Result X Refusal)
     → IsOk result → IfOk result (λ (answer : X). Happens up down (event.Put item) old new (items answer)) → IfOk result (λ (answer : X). TellsRequests (event.Put item) old new (items answer))
-    → IsOpenWhere new → PutsDown up down (item ∷ []) old new
-put_answered up down item old new items (Ok answer) there happens tells open_farm = put_down up down item old new (items answer) happens tells open_farm
-put_answered up down item old new items (Err refused) there happens tells open_farm = cc
+    → IfOk result (λ (answer : X). IsFollowedBy up down old new) → IsOpenWhere new → PutsDown up down (item ∷ []) old new
+put_answered up down item old new items (Ok answer) there happens tells follows open_farm = put_down up down item old new (items answer) happens tells follows open_farm
+put_answered up down item old new items (Err refused) there happens tells follows open_farm = cc
 
 -- one more behind the others
 puts_push : {U D : Type 0} (up : Kind U Frame) (down : Kind D Report) (old mid new : Whole U D) (items : List Telemetry) (item : Telemetry)
@@ -56,14 +63,15 @@ puts_more up down old mid new items k d within all put =
 -- of a release that was not refused nothing is told
 pub free_answered : {X U D : Type 0} (up : Kind U Frame) (down : Kind D Report) (old new : Whole U D) (items : X → List Indication) (result : Result X Refusal)
     → IsOk result → IfOk result (λ (answer : X). Happens up down event.Release old new (items answer)) → IfOk result (λ (answer : X). TellsRequests event.Release old new (items answer))
-    → IsOpenWhere new → Happened up down event.Release old new []
-free_answered up down old new items (Ok answer) there happens tells open_farm =
+    → IfOk result (λ (answer : X). IsFollowedBy up down old new) → IsOpenWhere new → Happened up down event.Release old new []
+free_answered up down old new items (Ok answer) there happens tells follows open_farm =
     let none : items answer ≡ [] = happens.1 in
     record {
       happens = subst (Happens up down event.Release old new) none happens;
       tells = subst (TellsRequests event.Release old new) none tells;
+      follows = follows;
       keeps_fitting = λ fits sets. fits_is up down event.Release old new (items answer) happens ∙ fits;
       open_farm = open_farm;
       fair = λ clean fits. refl;
     }
-free_answered up down old new items (Err refused) there happens tells open_farm = cc
+free_answered up down old new items (Err refused) there happens tells follows open_farm = cc

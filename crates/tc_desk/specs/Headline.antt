@@ -89,12 +89,11 @@ pub data Deed : Type 0 where
   Acts : Act → Deed
   Loads : Loading → Deed
 
--- an act is answered as a desk answers it, whatever the answer is: a good book, and what is claimed of the link, are its clauses
+-- an act is answered as the desk machine answers it, whatever the answer is: that the book is good is a clause of its own
 pub record ActsOn {U D : Type 0} (up : Kind U Frame) (down : Kind D Report) (old : State U D) (stamp : Stamp) (given : Act) (new : State U D) : Type 0 where
   pub reply : Reply
   pub step : DeskStep up down old stamp given reply new
   pub good : IsGoodBook new.book
-  pub window : new.world.clean ≡ true → IsClaimed new.world
 
 -- a load likewise: a good book, and that it goes by steps from one good book to the next, are its clauses
 pub record LoadsOn {U D : Type 0} (old : State U D) (stamp : Stamp) (given : Loading) (new : State U D) : Type 0 where

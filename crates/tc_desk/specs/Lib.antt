@@ -18,3 +18,4 @@ pub mod Fair
 pub mod Headline
 pub mod Followed
 pub mod Standing
+pub mod Once

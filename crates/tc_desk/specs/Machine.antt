@@ -18,8 +18,10 @@ use Rattle.tc_world.specs.declared.events.Event.{Event}
 use Rattle.tc_world.specs.declared.events.Event.TheVariants as event
 use Rattle.tc_world.specs.declared.events.Indication.{Indication}
 use Rattle.tc_world.specs.Links.{Kind}
+use Rattle.tc_world.specs.Abstraction.{seen}
 use Rattle.tc_world.specs.Telling.{TellsRequests}
 use Rattle.tc_world.specs.Fair.{is_fair}
+use Rattle.tc_world.specs.Window.{Follows}
 use Rattle.tc_world.specs.World.{Whole, Happens, IsAsBefore, sets_fitting}
 use Rattle.tc_board.specs.Board.{work_reports, worked, ClockReports, clocked}
 use Rattle.tc_book.specs.declared.stamps.Stamp.{Stamp}
@@ -33,12 +35,13 @@ use Rattle.tc_desk.specs.Replies.{Reply, Replies, act_reply, refusal_reply}
 
 -- ---- what an act makes of the link and the spacecraft
 
--- One event happened to the link, by the link's own relation; and while every start was good and K fitted, the FARM is not
--- in Lockout, and no other alert came than those that may. It is a record, so that what it is stays closed where an act only
--- hands it on.
+-- One event happened to the link, by the link's own relation; while every start was good it is a run of the session that is on, or
+-- another session begins; and while K fitted too, the FARM is not in Lockout, and no other alert came than those that may. It is a
+-- record, so that what it is stays closed where an act only hands it on.
 pub record Happened {U D : Type 0} (up : Kind U Frame) (down : Kind D Report) (given : Event) (old new : Whole U D) (all : List Indication) : Type 0 where
   pub happens : Happens up down given old new all
   pub tells : TellsRequests given old new all
+  pub follows : new.clean ≡ true → Follows (seen up down old) (seen up down new)
   -- K moves where it is set, and fits still where the new one does
   pub keeps_fitting : old.fits ≡ true → sets_fitting given old.farm ≡ true → new.fits ≡ true
   pub open_farm : new.clean ≡ true → new.fits ≡ true → is_locked_out new.farm.state ≡ false

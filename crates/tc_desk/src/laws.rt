@@ -12,7 +12,10 @@ ghost use Rattle.tc_desk.specs.declared.configs.Config.{Config};
 ghost use Rattle.tc_desk.specs.State.{State, new_desk};
 ghost use Rattle.tc_desk.specs.Fair.{RepliesFairly};
 ghost use Rattle.tc_desk.specs.Headline.{Deed, DeedsRun, TellsTrue};
-ghost use Rattle.tc_desk.specs.Machine.{Carries};
+ghost use Rattle.tc_desk.specs.Acts.{is_question};
+ghost use Rattle.tc_desk.specs.Machine.{Carries, DeskStep};
+ghost use Rattle.tc_desk.specs.Once.{EndsOnce, HasOwnWords, ListDesk};
+ghost use Rattle.tc_world.specs.InFlight.{listed};
 ghost use Rattle.tc_desk.specs.Replies.{Reply};
 
 use tc_types::frames::Frame;
@@ -40,4 +43,11 @@ pub fn rows_tell_true_since<U: Carrier<Frame> + Drop, D: Carrier<Report> + Drop>
 pub fn alerts_are_fair<U: Carrier<Frame> + Drop, D: Carrier<Report> + Drop>()
     ensures replies { (config : Config) (book : Book) (up : U) (down : D) (deeds : List (Stamp × Deed)) (at : State U D) (stamp : Stamp) (given : Act) (reply : Reply) (new : State U D) → DeedsRun U.kind D.kind (record (new_desk config up down) { book = book }) deeds at → Carries U.kind D.kind at stamp given reply new → RepliesFairly at new reply }
     ensures started { (level : Bool) (state : FopState) → is_taking state ≡ true → (may_alert level state alert.Lockout ≡ false) × (may_alert level state alert.Synch ≡ false) × (may_alert level state alert.NnR ≡ false) × (may_alert level state alert.Clcw ≡ false) }
+{}
+
+/// Over links that are lists the desk machine is a function but for refused memory: two steps from one desk, of one person, moment and act,
+/// come to one reply and one desk, but for the room of its lists, or one of the two replies refuses for want of memory. Of a `clock` it is
+/// not said that the same flies down: activities that fall due under equal keys are reported in any order.
+pub fn a_step_is_one()
+    ensures { (at : ListDesk) (stamp : Stamp) (given : Act) (one other : Reply) (left right : ListDesk) → is_question given ≡ false → HasOwnWords at.world → DeskStep listed listed at stamp given one left → DeskStep listed listed at stamp given other right → EndsOnce given one other left right }
 {}

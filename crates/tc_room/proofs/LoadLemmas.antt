@@ -28,9 +28,9 @@ load_unread g old stamp kind name text refusal going why = λ held clean. rw goi
 -- what one spells that does
 load_read : {S : Type 0} (g : Ghosts S) (old new : Standing S) (stamp : Stamp) (kind : LoadKind) (name text : List ℕ) (given : Loading) (reply : Reply) → SpellsLoading kind name text given
     → LoadsRead g old stamp given reply new → LoadsText g old stamp kind name text reply new
-load_read g old new stamp kind name text given reply spells (inl steps) = inr (given, spells, inl (record { desk = steps.desk; tables = steps.tables; going = steps.going }))
+load_read g old new stamp kind name text given reply spells (inl steps) = inr (given, spells, inl (record { desk = steps.desk; tables = steps.tables; opened = steps.opened; whole = steps.whole; going = steps.going }))
 load_read g old new stamp kind name text given reply spells (inr fails) =
-    inr (given, spells, inr (record { free = fails.free; reply = fails.reply; stopped = fails.stopped; tables = fails.tables; crash = fails.crash }))
+    inr (given, spells, inr (record { free = fails.free; reply = fails.reply; stopped = fails.stopped; tables = fails.tables; crash = fails.crash; opened = fails.opened; whole = fails.whole }))
 
 -- and the answer to it
 pub load_answered : {X S : Type 0} (lines : X → Reply) (g : Ghosts S) (old new : Standing S) (stamp : Stamp) (kind : LoadKind) (name text : List ℕ) (given : Loading) (answer : Result X Refusal) → old.stopped ≡ false

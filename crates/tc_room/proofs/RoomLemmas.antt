@@ -47,21 +47,21 @@ goes_on {S} inside view told same is none = ap (λ (s : Standing S). s.stopped) 
 -- the desk machine's step, and the tables that hold its book
 pub steps : {S : Type 0} (g : Ghosts S) (old new : Standing S) (stamp : Stamp) (given : Act) (reply : Reply) → old.stopped ≡ false
     → DeskStep either either old.desk stamp given reply new.desk → (HoldsBook g old → HasCleanDisk (state g new.tables) → HasImage g new.tables (image_of new.desk.book))
-    → new.stopped ≡ false → RoomStep g old stamp given reply new
-steps g old new stamp given reply going step holds goes = λ held clean. rw going (inl (record { desk = step; tables = holds held clean; going = goes }))
+    → new.opened ≡ old.opened → new.stopped ≡ false → RoomStep g old stamp given reply new
+steps g old new stamp given reply going step holds opened goes = λ held clean. rw going (inl (record { desk = step; tables = holds held clean; opened = opened; going = goes }))
 
 -- so it is of what changes no table
 pub steps_same : {S : Type 0} (g : Ghosts S) (at : Standing S) (stamp : Stamp) (given : Act) (reply : Reply) → at.stopped ≡ false
     → DeskStep either either at.desk stamp given reply at.desk → RoomStep g at stamp given reply at
-steps_same g at stamp given reply going step = steps g at at stamp given reply going step (λ held clean. held going clean) going
+steps_same g at stamp given reply going step = steps g at at stamp given reply going step (λ held clean. held going clean) refl going
 
 -- the database failed
 pub fails : {S : Type 0} (g : Ghosts S) (old new : Standing S) (stamp : Stamp) (given : Act) → old.stopped ≡ false → refusal_of stamp old.desk given ≡ None → new.stopped ≡ true
     → (HoldsBook g old → HasCleanDisk (state g new.tables) → IsTrue (state g new.tables).is_open → Holds (state g new.tables).now (image_of old.desk.book))
     → (HoldsBook g old → HasCleanDisk (state g new.tables) → LeavesActs g new.tables old.desk.book (MakesBook old.desk stamp given))
-    → RoomStep g old stamp given (refusal_reply Store) new
-fails g old new stamp given going free stopped holds leaves = λ held clean.
-    rw going (inr (record { free = free; reply = refl; stopped = stopped; tables = holds held clean; crash = leaves held clean }))
+    → new.opened ≡ old.opened → RoomStep g old stamp given (refusal_reply Store) new
+fails g old new stamp given going free stopped holds leaves opened = λ held clean.
+    rw going (inr (record { free = free; reply = refl; stopped = stopped; tables = holds held clean; crash = leaves held clean; opened = opened }))
 
 -- the desk refused
 pub refused : (old new : LinkState) (stamp : Stamp) (given : Act) (refusal : Refusal) → Refuses either either stamp given old new refusal

@@ -42,6 +42,13 @@ module _ {S : Type 0} (g : Ghosts S) (old new : Held S) where
   pub leaves_or : {Leaves Made : Trees → Type 0} → Survives (state g old) (state g new) Leaves → HasCleanDisk (state g new) → ((trees : Trees) → Leaves trees → Made trees) → LeavesOr g old new Made
   leaves_or left clean makes = λ trees may. made_or (left.crash clean trees may) (makes trees)
 
+  -- one that commits nothing
+  pub leaves_none : Survives (state g old) (state g new) (λ _. ⊥) → HasCleanDisk (state g new) → LeavesOr g old new (λ _. ⊥)
+  leaves_none left clean = left.crash clean
+
+  pub leaves_more : (Made : Trees → Type 0) → Survives (state g old) (state g new) (λ _. ⊥) → HasCleanDisk (state g new) → LeavesOr g old new Made
+  leaves_more Made left clean = λ trees may. made_or (left.crash clean trees may) (λ none. absurd none)
+
   -- a call that commits nothing
   pub leaves_same : {May : Image → Type 0} → Survives (state g old) (state g new) (λ _. ⊥) → HasCleanDisk (state g new) → Leaves g old May → Leaves g new May
   leaves_same left clean leaves = λ trees may. left_by (made_or (left.crash clean trees may) (λ none. absurd none)) (leaves trees)

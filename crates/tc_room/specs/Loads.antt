@@ -53,6 +53,9 @@ IsNotRead kind text refusal = (refusal ≡ Memory) ⊎ ((fault : Fault) × IsTex
 pub record StepsLoad {S : Type 0} (g : Ghosts S) (old : Standing S) (stamp : Stamp) (given : Loading) (reply : Reply) (new : Standing S) : Type 0 where
   pub desk : LoadStep old.desk stamp given reply new.desk
   pub tables : HasImage g new.tables (image_of new.desk.book)
+  -- as many rows stood once the desk was made, and nothing more of the downlink is lost
+  pub opened : new.opened ≡ old.opened
+  pub whole : new.whole ≡ old.whole
   pub going : new.stopped ≡ false
 
 -- one load makes this book
@@ -67,6 +70,8 @@ pub record FailsLoad {S : Type 0} (g : Ghosts S) (old : Standing S) (stamp : Sta
   pub stopped : new.stopped ≡ true
   pub tables : IsTrue (state g new.tables).is_open → Holds (state g new.tables).now (image_of old.desk.book)
   pub crash : LeavesActs g new.tables old.desk.book (LoadsBook old.desk stamp given)
+  pub opened : new.opened ≡ old.opened
+  pub whole : new.whole ≡ old.whole
 
 -- what was read is loaded, or refused, or the database fails
 abbrev pub LoadsRead : {S : Type 0} → Ghosts S → Standing S → Stamp → Loading → Reply → Standing S → Type 0

@@ -38,6 +38,8 @@ pub record IsJustOpened {S : Type 0} (g : Ghosts S) (config : Config) (room : St
 pub record StepsDesk {S : Type 0} (g : Ghosts S) (old : Standing S) (stamp : Stamp) (given : Act) (reply : Reply) (new : Standing S) : Type 0 where
   pub desk : DeskStep either either old.desk stamp given reply new.desk
   pub tables : HasImage g new.tables (image_of new.desk.book)
+  -- as many rows stood once the desk was made
+  pub opened : new.opened ≡ old.opened
   pub going : new.stopped ≡ false
 
 -- one step of the desk machine makes this book
@@ -52,6 +54,7 @@ pub record FailsStore {S : Type 0} (g : Ghosts S) (old : Standing S) (stamp : St
   pub stopped : new.stopped ≡ true
   pub tables : IsTrue (state g new.tables).is_open → Holds (state g new.tables).now (image_of old.desk.book)
   pub crash : LeavesActs g new.tables old.desk.book (MakesBook old.desk stamp given)
+  pub opened : new.opened ≡ old.opened
 
 -- One step of a room whose tables hold its book, over a disk that gave back what was written: a room that has stopped says so and stays as it
 -- was; else an act or a question is answered as the desk machine answers it, or the database fails.

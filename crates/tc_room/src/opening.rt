@@ -12,7 +12,7 @@ ghost use Rattle.tc_desk.specs.State.{IsConfig};
 ghost use Rattle.tc_store.specs.Schema.{schema_1, Holds};
 ghost use Rattle.tc_store.specs.Told.{IsTold};
 ghost use Rattle.tc_room.specs.Crash.{HasRows, LeavesOr};
-ghost use Rattle.tc_room.specs.Opening.{KeepsTables, LeavesOpening, OpensAs, OpensLeft, OpensTo, ReadsLeft};
+ghost use Rattle.tc_room.specs.Opening.{IsWhyUnopened, KeepsTables, LeavesOpening, OpensAs, OpensLeft, OpensTo, ReadsFrom};
 ghost use Rattle.tc_room.specs.Room.{IsJustOpened};
 
 use crate::desks::{ReopenedDesk, is_fit, make_desk, reopen_desk};
@@ -21,6 +21,7 @@ use sqlite::{Alter, Connection, MemStore};
 use std::alloc::Global;
 use tc_desk::configs::Config;
 use tc_desk::desks::Reopened;
+use tc_images::images::Image;
 use tc_store::faults::StoreFault;
 use tc_store::tables::Tables;
 use tc_types::moves::Move;
@@ -36,28 +37,24 @@ pub struct Opened<S: Alter + Drop> {
     pub moves: Vec<Move>,
 }
 
-/// Opens a desk over what the tables tell. `Store` where they cannot be read, or no desk could have written them; else `Memory` where that
-/// is refused.
-fn reopen<S: Alter + Drop>(
+/// Opens a desk over what was read of the tables. `Store` where they could not be read, or no desk could have written what was; `Memory`
+/// where that is refused to the desk.
+fn reopen(
     alloc: Global,
-    tables: &mut Tables<S>,
+    loaded: Result<Image, StoreFault>,
     config: Config,
     moment: Moment,
 ) -> Result<ReopenedDesk, Refusal>
     requires fit { IsConfig config }
-    ensures read { HasCleanDisk (state S.Store tables.new) → IfOk result (λ opened. (image : Rows) → IsTold image → Holds (state S.Store tables.old).now image → ReadsLeft config moment image opened.desk.parts opened.done.moves.items opened.done.batch.items) }
+    ensures read { IfOk result (λ opened. ReadsFrom config moment loaded opened.desk.parts opened.done.moves.items opened.done.batch.items) }
     ensures opened { IfOk result (λ opened. opened.desk.opened ≡ length opened.desk.parts.book.history) }
     ensures whole { IfOk result (λ opened. opened.desk.whole ≡ true) }
     ensures good { IfOk result (λ opened. IsGoodBook opened.desk.parts.book) }
-    ensures same { HasCleanDisk (state S.Store tables.new) → OnOk result ((image : Rows) → Holds (state S.Store tables.old).now image → Holds (state S.Store tables.new).now image) }
-    ensures kept { HasCleanDisk (state S.Store tables.new) → IsTrue (state S.Store tables.new).is_open → (image : Rows) → Holds (state S.Store tables.old).now image → Holds (state S.Store tables.new).now image }
-    ensures clean { HasCleanDisk (state S.Store tables.new) → HasCleanDisk (state S.Store tables.old) }
-    ensures crash { HasCleanDisk (state S.Store tables.new) → (image : Rows) → Holds (state S.Store tables.old).now image → LeavesOr S.Store tables.old tables.new (λ _. ⊥) }
-    ensures kind { IfErr result (λ why. (why ≡ Memory) ⊎ (why ≡ Store)) }
+    ensures refused { IfErr result (λ why. IsWhyUnopened loaded why) }
 {
-    match tables.load() {
+    match loaded {
         Ok(image) => reopen_desk(alloc, &image, config, moment),
-        Err(_) => Err(Refusal::Store),
+        Err(_fault) => Err(Refusal::Store),
     }
 }
 
@@ -76,7 +73,8 @@ fn open_left<S: Alter + Drop>(
     ensures kind { IfErr result (λ e. (e.0 ≡ Memory) ⊎ (e.0 ≡ Store)) }
 {
     let mut tables = tables;
-    let Reopened { desk, done } = match reopen(alloc, &mut tables, config, moment) {
+    let loaded = tables.load();
+    let Reopened { desk, done } = match reopen(alloc, loaded, config, moment) {
         Ok(left) => left,
         Err(refusal) => return Err((refusal, tables.into_connection())),
     };

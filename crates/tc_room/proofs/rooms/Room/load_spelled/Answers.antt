@@ -12,7 +12,7 @@ returns-in_err-loaded-clause-answered g c =
     let going : c.self.inside.stopped ≡ false = ap (λ (s : Standing _). s.stopped) c.self.view_is ∙ c.requires.going in
     let why = c.in_err-loaded.ensures.answers in
     rw (gone, ← c.self.view_is)
-    (λ held clean. inl (record { desk = load_refused _ _ _ _ _ why; tables = subst (λ (at : LinkState). HasImage g.S.Store c.self.inside.tables (image_of at.book)) (sym why.same) (held going clean); going = going }))
+    (λ held clean. inl (record { desk = load_refused _ _ _ _ _ why; tables = subst (λ (at : LinkState). HasImage g.S.Store c.self.inside.tables (image_of at.book)) (sym why.same) (held going clean); opened = c.in_err-loaded.ensures.opened; whole = c.in_err-loaded.ensures.whole; going = going }))
 
 pub returns-in-Ok-clause-answered : goal.returns-in-Ok-clause-answered
 returns-in-Ok-clause-answered g c =
@@ -21,6 +21,8 @@ returns-in-Ok-clause-answered g c =
     (λ held clean. inl (record {
       desk = load_carried _ _ _ _ _ _ _ c.in_ok-loaded.ensures.answers c.in_ok-loaded.ensures.moves;
       tables = written g.S.Store c.self.inside.tables c.write.new.self (image_of c.self.inside.desk.parts.book) c.in_ok-loaded.loaded.batch.items _ c.in_ok-loaded.ensures.batch c.write.ensures.crash clean (λ was. (held going was).holds) (rw c.deref.ensures.value at (c.in-Ok.ensures.written clean)) (c.in-Ok.ensures.durable clean);
+      opened = c.in_ok-loaded.ensures.opened;
+      whole = c.in_ok-loaded.ensures.whole;
       going = going;
     }))
 
@@ -35,6 +37,8 @@ returns-in-Err-clause-answered g c =
       tables = not_written g.S.Store c.self.inside.tables c.write.new.self (image_of c.self.inside.desk.parts.book) c.write.ensures.crash clean (λ was. (held going was).holds) (c.in-Err.ensures.kept clean);
       crash = leaves_acts g.S.Store c.self.inside.tables c.write.new.self c.self.inside.desk.parts.book _ c.in_ok-loaded.loaded.batch.items _ (rw c.deref.ensures.value at c.write.ensures.crash) clean (held going) c.in_ok-loaded.ensures.batch
           (_, _, load_carried _ _ _ _ _ _ _ c.in_ok-loaded.ensures.answers c.in_ok-loaded.ensures.moves, refl);
+      opened = c.in_ok-loaded.ensures.opened;
+      whole = c.in_ok-loaded.ensures.whole;
     }))
 
 pub returns-in-Ok-clause-stops : goal.returns-in-Ok-clause-stops
