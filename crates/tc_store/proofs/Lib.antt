@@ -14,7 +14,10 @@ pub mod RecordLemmas
 pub mod ReadLemmas
 pub mod LoadLemmas
 pub mod TextLemmas
+pub mod ShowLemmas
 pub mod PageLemmas
+pub mod NumberLemmas
+pub mod ContentLemmas
 pub mod ShiftLemmas
 pub mod ToldLemmas
 pub mod HistoryLemmas

@@ -7,6 +7,7 @@ use Rattle.sqlite_value.specs.Order.{Row}
 use Rattle.sqlite_trees.specs.Tree.{IsTable}
 use Rattle.sqlite_trees.specs.declared.store.Store.{Ghosts}
 use Rattle.sqlite_sql.specs.Term.{Term, eval_all}
+use Rattle.sqlite.specs.Effect.{Database}
 use Rattle.sqlite.specs.Given.{IsPlain}
 use Rattle.sqlite.specs.Listing.{understood}
 use Rattle.sqlite.specs.State.{State, Shown, FailsToQuery, HasCleanDisk, Survives, CommitsShowing}
@@ -19,8 +20,12 @@ use Rattle.tc_sql.specs.Contents.{has_tree, rows_in}
 use Rattle.tc_sql.specs.Numbered.{numbered_from, numbered}
 use Rattle.tc_sql.specs.Lists.{passes, no_limit, ListsFrom}
 use Rattle.tc_sql.proofs.Changes.{matches_at}
-use Rattle.tc_sql.proofs.Selects.{listed, listed_as}
+use Rattle.tc_sql.proofs.Selects.{listed, listed_as, unchanged}
 use Rattle.tc_store.specs.Schema.{schema_1, contents, Holds}
+use Rattle.tc_store.specs.Meta.{meta_tree, version_shown}
+use Rattle.tc_store.specs.Loads.{all_version_columns}
+use Rattle.tc_store.specs.Told.{IsTold, IsToldRequest, IsToldStep, IsToldRecord}
+use Rattle.tc_store.specs.Shows.{ShowsRows, ShowsRequests, ShowsStacks, ShowsProcedures, ShowsAll}
 use Rattle.tc_store.specs.Reads.{Stays, Spares}
 use Rattle.tc_store.proofs.ReadLemmas.{rising, still_holds, fails_holding}
 
@@ -28,13 +33,14 @@ use Rattle.tc_store.proofs.ReadLemmas.{rising, still_holds, fails_holding}
 
 module _ {S : Type 0} (g : Ghosts S) where
   pub stays_same : (held : Held S) → Stays g held held
-  stays_same held = record { holds = λ image h. h }
+  stays_same held = record { same = λ has. refl; holds = λ image h. h }
 
   pub spares_same : (held : Held S) → Spares g held held
   spares_same held = record { kept = λ clean is_open image h. h; crash = search rules; outside = λ h. h }
 
   pub stays_then : (old mid new : Held S) → Stays g old mid → Stays g mid new → Stays g old new
-  stays_then old mid new one two = record { holds = λ image h. two.holds image (one.holds image h) }
+  stays_then old mid new one two =
+      record { same = λ has. two.same (ap (λ (db : Database). db.schema) (one.same has) ∙ has) ∙ one.same has; holds = λ image h. two.holds image (one.holds image h) }
 
   pub spares_then : (old mid new : Held S) → (HasCleanDisk (state g mid) → Stays g old mid) → Spares g old mid → Spares g mid new → Spares g old new
   spares_then old mid new stays one two = record {
@@ -44,6 +50,24 @@ module _ {S : Type 0} (g : Ghosts S) where
         (λ _. (image : Image) → Holds (state g old).now image → ⊥) (λ clean db none. none) (λ clean db none image h. none image ((stays (omega (arith, clean, two.crash.clean))).holds image h)) one.crash two.crash;
     outside = λ h. two.outside (one.outside h);
   }
+
+  -- one call after another, each of which reads on after an Ok
+  abbrev pub Went : Held S → Held S → Type 0
+  Went old new = Spares g old new × (HasCleanDisk (state g new) → Stays g old new)
+
+  pub went_then : (old mid new : Held S) → Went old mid → Spares g mid new → (HasCleanDisk (state g new) → Stays g mid new) → Went old new
+  went_then old mid new went left stays =
+      (spares_then old mid new went.1 went.0 left, λ clean. stays_then old mid new (went.1 (omega (arith, clean, left.crash.clean))) (stays clean))
+
+  pub went_left : (old mid new : Held S) → Went old mid → Spares g mid new → Spares g old new
+  went_left old mid new went left = spares_then old mid new went.1 went.0 left
+
+  pub clean_before : (mid new : Held S) → Spares g mid new → HasCleanDisk (state g new) → HasCleanDisk (state g mid)
+  clean_before mid new left clean = omega (arith, clean, left.crash.clean)
+
+  -- what a later call shows of the database, the first found
+  pub seen_before : (P : Database → Type 0) (old mid : Held S) → Stays g old mid → (state g old).now.schema ≡ schema_1 → ((state g mid).now.schema ≡ schema_1 → P (state g mid).now) → P (state g old).now
+  seen_before P old mid stays has shows = let there = stays.same has in subst P there (shows (ap (λ (db : Database). db.schema) there ∙ has))
 
   pub spares_in_crash : (old new : Held S) (image : Image) → Holds (state g old).now image → Spares g old new → Survives (state g old) (state g new) (λ _. ⊥)
   spares_in_crash old new image h it = survives_weaker (state g old) (state g new) _ _ (λ clean db none. none image h) it.crash
@@ -55,7 +79,10 @@ module _ {S : Type 0} (g : Ghosts S) where
         (λ _ db commits image held. never_commits text params (state g old) db (subst (λ s. IsPlain (understood s text)) (sym held.schema) plain) commits)
 
     pub stays_after : (rows : List Row) → Shown text params (state g old) (state g new) rows → Stays g old new
-    stays_after rows h = record { holds = λ image held. still_holds text plain params image (state g old) (state g new) held rows h }
+    stays_after rows h = record {
+      same = λ has. unchanged text params (state g old) (state g new) schema_1 has plain rows h;
+      holds = λ image held. still_holds text plain params image (state g old) (state g new) held rows h;
+    }
 
     pub spares_after : (rows : List Row) → (HasCleanDisk (state g new) → Shown text params (state g old) (state g new) rows) → Survives (state g old) (state g new) (CommitsShowing text params (state g old))
         → (old.in_transaction ≡ false → new.in_transaction ≡ false) → Spares g old new
@@ -75,7 +102,7 @@ module _ {S : Type 0} (g : Ghosts S) where
 
 -- ---- the rows of a table
 
-filter_true : {X : Type 0} (xs : List X) → filter (λ _. true) xs ≡ xs
+pub filter_true : {X : Type 0} (xs : List X) → filter (λ _. true) xs ≡ xs
 filter_true [] = refl
 filter_true (x ∷ xs) = ap (λ l. x ∷ l) (filter_true xs)
 
@@ -108,7 +135,7 @@ rows_numbered tree columns values text lists xs image old new rows named is show
     ∙ shown_numbered columns values showed 1 xs
 
 -- one row more was read
-all_at : {X : Type 0} (P : X → Type 0) (xs : List X) (k : ℕ) (d : X) → k < length xs → AllByRecursion P xs → P (get_or xs k d)
+pub all_at : {X : Type 0} (P : X → Type 0) (xs : List X) (k : ℕ) (d : X) → k < length xs → AllByRecursion P xs → P (get_or xs k d)
 all_at P [] k d within all = absurd (omega (arith, within))
 all_at P (x ∷ xs) zero d within all = all.0
 all_at P (x ∷ xs) (suc k) d within all = all_at P xs k d (omega (arith, within)) all.1
@@ -128,3 +155,24 @@ all_told (x ∷ xs) = (tt, all_told xs)
 pub on_ok : {T E : Type 0} (r : Result T E) (P Q : Type 0) → OnOk r P → (P → Q) → OnOk r Q
 on_ok (Ok x) P Q h f = f h
 on_ok (Err e) P Q h f = tt
+
+-- what was read of requests, of stacks and of procedures is one image
+pub joined : (db : Database) → ShowsRows (db.trees meta_tree) all_version_columns (version_shown ∷ [])
+    → ((a : Image) × ShowsRequests db a.requests a.moves a.tallies a.approvals × AllByRecursion IsToldRequest a.requests) → ((b : Image) × ShowsStacks db b.stacks b.stack_approvals)
+    → ((c : Image) × ShowsProcedures db c.procedures c.steps c.executions c.records × AllByRecursion IsToldStep c.steps × AllByRecursion IsToldRecord c.records) → (image : Image) × ShowsAll db image × IsTold image
+joined db version a b c =
+    let image : Image = record {
+      requests = a.0.requests;
+      moves = a.0.moves;
+      tallies = a.0.tallies;
+      approvals = a.0.approvals;
+      stacks = b.0.stacks;
+      stack_approvals = b.0.stack_approvals;
+      procedures = c.0.procedures;
+      steps = c.0.steps;
+      executions = c.0.executions;
+      records = c.0.records;
+    } in
+    let shows : ShowsAll db image = record { version = version; requests = a.1; stacks = b.1; procedures = c.1 } in
+    let told : IsTold image = record { requests = a.2; steps = c.2; records = c.3 } in
+    (image, shows, told)

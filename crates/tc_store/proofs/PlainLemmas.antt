@@ -2,7 +2,7 @@
 use Rattle.std.proofs.Common.{refl}
 use Rattle.sqlite_tied.specs.Compute.{everything}
 use Rattle.sqlite.specs.Listing.{understood}
-use Rattle.tc_sql.specs.Schemas.{IsPlainSchema, IsPlainTable}
+use Rattle.tc_sql.specs.Schemas.{IsPlainSchema}
 use Rattle.tc_store.specs.Schema.{schema_1}
 
 pub is_plain : IsPlainSchema schema_1

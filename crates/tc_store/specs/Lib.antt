@@ -15,3 +15,4 @@ pub mod Steps
 pub mod Told
 pub mod Reads
 pub mod Loads
+pub mod Shows

@@ -30,5 +30,9 @@ meta_put = codes "INSERT INTO meta (name, value) VALUES ('schema', 1)"
 abbrev pub version_row : Row
 version_row = Int (pos 1) ∷ Text (codes "schema") ∷ Int (pos 1) ∷ []
 
+-- as the text that reads all rows shows it
+abbrev pub version_shown : Row
+version_shown = Text (codes "schema") ∷ Int (pos 1) ∷ []
+
 abbrev pub meta_terms : List Term
 meta_terms = lit Null ∷ lit (Text (codes "schema")) ∷ lit (Int (pos 1)) ∷ []

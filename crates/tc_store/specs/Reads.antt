@@ -4,10 +4,11 @@ use Rattle.sqlite_trees.specs.declared.store.Store.{Ghosts}
 use Rattle.sqlite.specs.State.{HasCleanDisk, Survives}
 use Rattle.sqlite.specs.Held.{Held, state}
 use Rattle.tc_types.specs.Tables.{Image}
-use Rattle.tc_store.specs.Schema.{Holds}
+use Rattle.tc_store.specs.Schema.{schema_1, Holds}
 
--- the tables hold what they held
+-- The tables hold what they held. A database with the desk's schema is the very same, whatever its rows are.
 pub record Stays {S : Type 0} (g : Ghosts S) (old new : Held S) : Type 0 where
+  pub same : (state g old).now.schema ≡ schema_1 → (state g new).now ≡ (state g old).now
   pub holds : (image : Image) → Holds (state g old).now image → Holds (state g new).now image
 
 -- so they do, also after a fault, where the connection is open, and a crash leaves no other tables than before

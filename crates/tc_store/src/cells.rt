@@ -139,6 +139,7 @@ pub(crate) fn signed_at(row: &Row, at: usize) -> Result<i64, StoreFault>
 /// Whether something is so: 1 where it is, and 0 where it is not.
 pub(crate) fn flag_at(row: &Row, at: usize) -> Result<bool, StoreFault>
     ensures same { IfOk result (λ flag. (was : Bool) → column row.now at ≡ Int (if was then pos 1 else pos 0) → flag ≡ was) }
+    ensures reads { IfOk result (λ flag. column row.now at ≡ Int (if flag then pos 1 else pos 0)) }
     ensures kind { IfErr result (λ e. is_of_read e ≡ true) }
 {
     match number_at(row, at)? {
@@ -151,6 +152,7 @@ pub(crate) fn flag_at(row: &Row, at: usize) -> Result<bool, StoreFault>
 /// What became of a step, by its number.
 pub(crate) fn verdict_at(row: &Row, at: usize) -> Result<Verdict, StoreFault>
     ensures same { IfOk result (λ verdict. (was : SomeVerdict) → column row.now at ≡ Int (pos (verdict_number was)) → verdict ≡ was) }
+    ensures reads { IfOk result (λ verdict. column row.now at ≡ Int (pos (verdict_number verdict))) }
     ensures kind { IfErr result (λ e. is_of_read e ≡ true) }
 {
     match number_at(row, at)? {
@@ -164,6 +166,8 @@ pub(crate) fn verdict_at(row: &Row, at: usize) -> Result<Verdict, StoreFault>
 /// The number of a request, or none by 0.
 pub(crate) fn released_at(row: &Row, at: usize) -> Result<Option<RequestNumber>, StoreFault>
     ensures same { IfOk result (λ request. (was : Option ℕ) → was ≢ Some 0 → column row.now at ≡ Int (pos (released_number was)) → request ≡ was) }
+    ensures reads { IfOk result (λ request. column row.now at ≡ Int (pos (released_number request))) }
+    ensures told { IfOk result (λ request. request ≢ Some 0) }
     ensures kind { IfErr result (λ e. is_of_read e ≡ true) }
 {
     let number = number_at(row, at)?;
@@ -190,6 +194,8 @@ pub(crate) fn text_at(row: &Row, at: usize) -> Result<String, StoreFault>
 /// A name, or none by an empty text.
 pub(crate) fn second_at(row: &Row, at: usize) -> Result<Option<Name>, StoreFault>
     ensures same { IfOk result (λ name. (was : Option (List ℕ)) → was ≢ Some [] → column row.now at ≡ Text (second_text was) → name ≡ was) }
+    ensures reads { IfOk result (λ name. column row.now at ≡ Text (second_text name)) }
+    ensures told { IfOk result (λ name. name ≢ Some []) }
     ensures kind { IfErr result (λ e. is_of_read e ≡ true) }
 {
     let text = text_at(row, at)?;

@@ -1,11 +1,13 @@
 //! How all tables are read.
 ghost use Rattle.std.specs.Prelude.{◌≡◌, true, false, IsTrue, IfOk, IfErr, OnOk};
+ghost use Rattle.std.specs.List.{AllByRecursion};
 ghost use Rattle.sqlite.specs.State.{HasCleanDisk, Survives};
 ghost use Rattle.sqlite.specs.Held.{state};
 ghost use Rattle.tc_types.specs.Tables.{Image as Rows};
 ghost use Rattle.tc_images.specs.Images.{rows_in};
-ghost use Rattle.tc_store.specs.Schema.{Holds};
-ghost use Rattle.tc_store.specs.Told.{IsTold};
+ghost use Rattle.tc_store.specs.Schema.{schema_1, contents, Holds};
+ghost use Rattle.tc_store.specs.Told.{IsTold, IsToldRequest, IsToldStep, IsToldRecord};
+ghost use Rattle.tc_store.specs.Shows.{ShowsRequests, ShowsStacks, ShowsProcedures, ShowsAll};
 ghost use Rattle.tc_store.specs.Reads.{Stays, Spares};
 ghost use Rattle.tc_store.specs.Faults.{is_of_read};
 
@@ -13,6 +15,7 @@ mod approvals;
 mod bodies;
 mod commands;
 mod executions;
+pub(crate) mod judges;
 mod moves;
 mod procedures;
 mod records;
@@ -76,6 +79,8 @@ fn load_of_requests<S: Alter>(
     alloc: Global,
 ) -> Result<OfRequests, StoreFault>
     ensures rows { HasCleanDisk (state S.Store conn.new) → IfOk result (λ found. (image : Rows) → IsTold image → Holds (state S.Store conn.old).now image → (found.requests.items ≡ image.requests) × (found.moves.items ≡ image.moves) × (found.tallies.items ≡ image.tallies) × (found.approvals.items ≡ image.approvals)) }
+    ensures shown { HasCleanDisk (state S.Store conn.new) → IfOk result (λ found. (state S.Store conn.old).now.schema ≡ schema_1 → ShowsRequests (state S.Store conn.old).now found.requests.items found.moves.items found.tallies.items found.approvals.items) }
+    ensures told { IfOk result (λ found. AllByRecursion IsToldRequest found.requests.items) }
     ensures same { HasCleanDisk (state S.Store conn.new) → OnOk result (Stays S.Store conn.old conn.new) }
     ensures left { Spares S.Store conn.old conn.new }
     ensures kind { IfErr result (λ e. is_of_read e ≡ true) }
@@ -95,6 +100,7 @@ fn load_of_requests<S: Alter>(
 /// Reads what they tell of stacks.
 fn load_of_stacks<S: Alter>(conn: &mut Connection<S>, alloc: Global) -> Result<OfStacks, StoreFault>
     ensures rows { HasCleanDisk (state S.Store conn.new) → IfOk result (λ found. (image : Rows) → IsTold image → Holds (state S.Store conn.old).now image → (found.stacks.items ≡ image.stacks) × (found.approvals.items ≡ image.stack_approvals)) }
+    ensures shown { HasCleanDisk (state S.Store conn.new) → IfOk result (λ found. (state S.Store conn.old).now.schema ≡ schema_1 → ShowsStacks (state S.Store conn.old).now found.stacks.items found.approvals.items) }
     ensures same { HasCleanDisk (state S.Store conn.new) → OnOk result (Stays S.Store conn.old conn.new) }
     ensures left { Spares S.Store conn.old conn.new }
     ensures kind { IfErr result (λ e. is_of_read e ≡ true) }
@@ -110,6 +116,8 @@ fn load_of_procedures<S: Alter>(
     alloc: Global,
 ) -> Result<OfProcedures, StoreFault>
     ensures rows { HasCleanDisk (state S.Store conn.new) → IfOk result (λ found. (image : Rows) → IsTold image → Holds (state S.Store conn.old).now image → (found.procedures.items ≡ image.procedures) × (found.steps.items ≡ image.steps) × (found.executions.items ≡ image.executions) × (found.records.items ≡ image.records)) }
+    ensures shown { HasCleanDisk (state S.Store conn.new) → IfOk result (λ found. (state S.Store conn.old).now.schema ≡ schema_1 → ShowsProcedures (state S.Store conn.old).now found.procedures.items found.steps.items found.executions.items found.records.items) }
+    ensures told { IfOk result (λ found. AllByRecursion IsToldStep found.steps.items × AllByRecursion IsToldRecord found.records.items) }
     ensures same { HasCleanDisk (state S.Store conn.new) → OnOk result (Stays S.Store conn.old conn.new) }
     ensures left { Spares S.Store conn.old conn.new }
     ensures kind { IfErr result (λ e. is_of_read e ≡ true) }
@@ -129,6 +137,8 @@ fn load_of_procedures<S: Alter>(
 /// Reads all tables, where the schema is of version 1.
 fn load_tables<S: Alter>(conn: &mut Connection<S>, alloc: Global) -> Result<Image, StoreFault>
     ensures image { HasCleanDisk (state S.Store conn.new) → IfOk result (λ loaded. (image : Rows) → IsTold image → Holds (state S.Store conn.old).now image → rows_in loaded ≡ image) }
+    ensures told { IfOk result (λ loaded. IsTold (rows_in loaded)) }
+    ensures shown { HasCleanDisk (state S.Store conn.new) → IfOk result (λ loaded. (state S.Store conn.old).now.schema ≡ schema_1 → ShowsAll (state S.Store conn.old).now (rows_in loaded)) }
     ensures same { HasCleanDisk (state S.Store conn.new) → OnOk result (Stays S.Store conn.old conn.new) }
     ensures left { Spares S.Store conn.old conn.new }
     ensures kind { IfErr result (λ e. is_of_read e ≡ true) }
@@ -158,6 +168,9 @@ pub(crate) fn load_all<S: Alter>(
     alloc: Global,
 ) -> Result<Image, StoreFault>
     ensures image { HasCleanDisk (state S.Store conn.new) → IfOk result (λ loaded. (image : Rows) → IsTold image → Holds (state S.Store conn.old).now image → rows_in loaded ≡ image) }
+    ensures told { IfOk result (λ loaded. IsTold (rows_in loaded)) }
+    ensures shown { HasCleanDisk (state S.Store conn.new) → IfOk result (λ loaded. (state S.Store conn.old).now.schema ≡ schema_1 → ShowsAll (state S.Store conn.old).now (rows_in loaded)) }
+    ensures contents { HasCleanDisk (state S.Store conn.new) → IfOk result (λ loaded. (image : Rows) → Holds (state S.Store conn.old).now image → contents (rows_in loaded) ≡ contents image) }
     ensures same { HasCleanDisk (state S.Store conn.new) → (image : Rows) → Holds (state S.Store conn.old).now image → OnOk result (Holds (state S.Store conn.new).now image) }
     ensures kept { HasCleanDisk (state S.Store conn.new) → IsTrue (state S.Store conn.new).is_open → (image : Rows) → Holds (state S.Store conn.old).now image → Holds (state S.Store conn.new).now image }
     ensures crash { (image : Rows) → Holds (state S.Store conn.old).now image → Survives (state S.Store conn.old) (state S.Store conn.new) (λ _. ⊥) }

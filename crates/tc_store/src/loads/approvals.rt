@@ -1,10 +1,12 @@
 //! The table `request_approval`, in the order in which the approvals were given.
-ghost use Rattle.std.specs.Prelude.{◌≡◌, true, IfOk, IfErr, OnOk, ⊤};
+ghost use Rattle.std.specs.Prelude.{◌≡◌, true, map, IfOk, IfErr, OnOk, ⊤};
 ghost use Rattle.sqlite.specs.State.{HasCleanDisk};
 ghost use Rattle.sqlite.specs.Held.{state};
 ghost use Rattle.tc_types.specs.Tables.{Image};
-ghost use Rattle.tc_store.specs.Approvals.{approval_values};
-ghost use Rattle.tc_store.specs.Schema.{Holds};
+ghost use Rattle.tc_store.specs.Approvals.{approval_tree, approval_values};
+ghost use Rattle.tc_store.specs.Schema.{schema_1, Holds};
+ghost use Rattle.tc_store.specs.Loads.{all_approval_columns};
+ghost use Rattle.tc_store.specs.Shows.{ShowsRows};
 ghost use Rattle.tc_store.specs.Reads.{Stays, Spares};
 ghost use Rattle.tc_store.specs.Faults.{is_of_read};
 
@@ -34,6 +36,7 @@ pub(crate) fn load_approvals<S: Alter>(
     alloc: Global,
 ) -> Result<Vec<Approval>, StoreFault>
     ensures rows { HasCleanDisk (state S.Store conn.new) → IfOk result (λ found. (image : Image) → Holds (state S.Store conn.old).now image → found.items ≡ image.approvals) }
+    ensures shown { HasCleanDisk (state S.Store conn.new) → IfOk result (λ found. (state S.Store conn.old).now.schema ≡ schema_1 → ShowsRows ((state S.Store conn.old).now.trees approval_tree) all_approval_columns (map approval_values found.items)) }
     ensures same { HasCleanDisk (state S.Store conn.new) → OnOk result (Stays S.Store conn.old conn.new) }
     ensures left { Spares S.Store conn.old conn.new }
     ensures kind { IfErr result (λ e. is_of_read e ≡ true) }

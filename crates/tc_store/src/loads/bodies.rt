@@ -1,13 +1,14 @@
 //! What a row of the table `request` shows.
-ghost use Rattle.std.specs.Prelude.{◌≡◌, ◌==◌, ℕ, pos, true, if◌then◌else◌, Some, None, IfOk, IfErr};
+ghost use Rattle.std.specs.Prelude.{◌≡◌, ◌==◌, ℕ, pos, true, length, if◌then◌else◌, Some, None, IfOk, IfErr, IfSome};
 ghost use Rattle.sqlite_value.specs.declared.value.Value.TheVariants.{Int, Text};
 ghost use Rattle.sqlite_value.specs.Order.{column};
 ghost use Rattle.tc_types.specs.declared.requests.Ack.{Ack as SomeAck};
 ghost use Rattle.tc_types.specs.declared.requests.Outcome.{Outcome as SomeOutcome};
 ghost use Rattle.tc_types.specs.declared.rows.PlacedRequest.{PlacedRequest as Was};
-ghost use Rattle.tc_types.specs.Grammar.{IsOutcome, outcome_word};
-ghost use Rattle.tc_store.specs.Requests.{ack_number, request_given};
-ghost use Rattle.tc_store.specs.Told.{IsToldRequest};
+ghost use Rattle.tc_types.specs.Grammar.{IsCommand, IsOutcome, outcome_word};
+ghost use Rattle.tc_store.specs.Requests.{ack_number, stack_of, line_of, prior_of, request_given};
+ghost use Rattle.tc_store.specs.Told.{IsToldOrigin, IsToldRequest};
+ghost use Rattle.tc_store.specs.Shows.{ShowsBody};
 ghost use Rattle.tc_store.specs.Faults.{is_of_read};
 
 use crate::cells::{flag_at, name_at, number_at, place_at, request_at, second_at, text_at};
@@ -34,6 +35,7 @@ fn short_at(row: &Row, at: usize) -> Result<u16, StoreFault>
 /// The name on board, in the columns 1 and 2.
 fn identity_in(row: &Row) -> Result<Identity, StoreFault>
     ensures same { IfOk result (λ identity. (was : Was) → row.now ≡ request_given was → identity ≡ was.request.body.identity) }
+    ensures reads { IfOk result (λ identity. (column row.now 1 ≡ Int (pos identity.apid)) × (column row.now 2 ≡ Int (pos identity.count))) }
     ensures kind { IfErr result (λ e. is_of_read e ≡ true) }
 {
     let apid = short_at(row, 1)?;
@@ -47,6 +49,7 @@ fn identity_in(row: &Row) -> Result<Identity, StoreFault>
 /// The reports that are asked for: 8 for acceptance, 4 for start, 2 for progress, 1 for completion.
 fn ack_at(row: &Row, at: usize) -> Result<Ack, StoreFault>
     ensures same { IfOk result (λ ack. (was : SomeAck) → column row.now at ≡ Int (pos (ack_number was)) → ack ≡ was) }
+    ensures reads { IfOk result (λ ack. column row.now at ≡ Int (pos (ack_number ack))) }
     ensures kind { IfErr result (λ e. is_of_read e ≡ true) }
 {
     let number = number_at(row, at)?;
@@ -64,6 +67,8 @@ fn ack_at(row: &Row, at: usize) -> Result<Ack, StoreFault>
 /// How the rehearsal spacecraft will behave, by its word.
 fn outcome_at(row: &Row, at: usize) -> Result<Outcome, StoreFault>
     ensures same { IfOk result (λ outcome. (was : SomeOutcome) → IsOutcome was → column row.now at ≡ Text (outcome_word was) → outcome ≡ was) }
+    ensures reads { IfOk result (λ outcome. column row.now at ≡ Text (outcome_word outcome)) }
+    ensures told { IfOk result (λ outcome. IsOutcome outcome) }
     ensures kind { IfErr result (λ e. is_of_read e ≡ true) }
 {
     let text = text_at(row, at)?;
@@ -83,6 +88,8 @@ fn line_before(prior: u32) -> Option<u32>
 /// The row of a stack that a request was loaded with, in the columns 11 to 13.
 fn origin_in(row: &Row) -> Result<Option<Origin>, StoreFault>
     ensures same { IfOk result (λ origin. (was : Was) → IsToldRequest was → row.now ≡ request_given was → origin ≡ was.request.origin) }
+    ensures reads { IfOk result (λ origin. (column row.now 11 ≡ Text (stack_of origin)) × (column row.now 12 ≡ Int (pos (line_of origin))) × (column row.now 13 ≡ Int (pos (prior_of origin)))) }
+    ensures told { IfOk result (λ origin. IfSome origin IsToldOrigin) }
     ensures kind { IfErr result (λ e. is_of_read e ≡ true) }
 {
     let stack = second_at(row, 11)?;
@@ -107,6 +114,8 @@ fn origin_in(row: &Row) -> Result<Option<Origin>, StoreFault>
 /// What was asked for, in the columns 1 to 3 and 5 to 9.
 fn body_in(row: &Row) -> Result<Body, StoreFault>
     ensures same { IfOk result (λ body. (was : Was) → IsToldRequest was → row.now ≡ request_given was → body ≡ was.request.body) }
+    ensures reads { IfOk result (λ body. ShowsBody row.now body) }
+    ensures told { IfOk result (λ body. IsCommand body.command × IsOutcome body.outcome) }
     ensures kind { IfErr result (λ e. is_of_read e ≡ true) }
 {
     Ok(Body {
@@ -120,6 +129,8 @@ fn body_in(row: &Row) -> Result<Body, StoreFault>
 /// The request that a row shows, and where it stands.
 pub(crate) fn read_request(row: &Row) -> Result<PlacedRequest, StoreFault>
     ensures same { IfOk result (λ placed. (was : Was) → IsToldRequest was → row.now ≡ request_given was → placed ≡ was) }
+    ensures reads { IfOk result (λ placed. length row.now ≡ 15 → row.now ≡ request_given placed) }
+    ensures told { IfOk result (λ placed. IsToldRequest placed) }
     ensures kind { IfErr result (λ e. is_of_read e ≡ true) }
 {
     let number = request_at(row, 0)?;

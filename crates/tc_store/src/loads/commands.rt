@@ -1,7 +1,10 @@
 //! The command that a row of the table `request` shows.
 ghost use Rattle.std.specs.Prelude.{◌≡◌, pos, true, IfOk, IfErr, IfSome};
 ghost use Rattle.tc_types.specs.declared.rows.PlacedRequest.{PlacedRequest as Was};
-ghost use Rattle.tc_store.specs.Requests.{request_given};
+ghost use Rattle.sqlite_value.specs.declared.value.Value.TheVariants.{Int};
+ghost use Rattle.sqlite_value.specs.Order.{column};
+ghost use Rattle.tc_types.specs.Grammar.{IsCommand};
+ghost use Rattle.tc_store.specs.Requests.{request_given, service_of, subtype_of, target_of, time_of};
 ghost use Rattle.tc_store.specs.Told.{IsToldRequest, ShowsCommand};
 ghost use Rattle.tc_store.specs.Faults.{is_of_read};
 
@@ -23,7 +26,8 @@ fn moment_of(seconds: i64) -> Option<Moment>
 
 /// A command of any service but 11.
 fn plain_of(service: u32, subtype: u32, target: u32, time: i64) -> Option<Command>
-    ensures { IfSome result (ShowsCommand service subtype target time) }
+    ensures shows { IfSome result (ShowsCommand service subtype target time) }
+    ensures told { IfSome result IsCommand }
 {
     if target != 0 || time != 0 {
         return None;
@@ -39,7 +43,8 @@ fn plain_of(service: u32, subtype: u32, target: u32, time: i64) -> Option<Comman
 
 /// A command of service 11 that names neither a request nor a time.
 fn bare_of(subtype: u32) -> Option<Command>
-    ensures { IfSome result (ShowsCommand 11 subtype 0 (pos 0)) }
+    ensures shows { IfSome result (ShowsCommand 11 subtype 0 (pos 0)) }
+    ensures told { IfSome result IsCommand }
 {
     match subtype {
         1 => Some(Command::EnableSchedule),
@@ -52,7 +57,8 @@ fn bare_of(subtype: u32) -> Option<Command>
 
 /// A command of service 11.
 fn schedule_of(subtype: u32, target: u32, time: i64) -> Option<Command>
-    ensures { IfSome result (ShowsCommand 11 subtype target time) }
+    ensures shows { IfSome result (ShowsCommand 11 subtype target time) }
+    ensures told { IfSome result IsCommand }
 {
     if subtype == 4 {
         let time = moment_of(time)?;
@@ -80,7 +86,8 @@ fn schedule_of(subtype: u32, target: u32, time: i64) -> Option<Command>
 
 /// The command with these columns, if there is one.
 fn command_of(service: u32, subtype: u32, target: u32, time: i64) -> Option<Command>
-    ensures { IfSome result (ShowsCommand service subtype target time) }
+    ensures shows { IfSome result (ShowsCommand service subtype target time) }
+    ensures told { IfSome result IsCommand }
 {
     if service == 11 {
         schedule_of(subtype, target, time)
@@ -92,6 +99,8 @@ fn command_of(service: u32, subtype: u32, target: u32, time: i64) -> Option<Comm
 /// The command, in the columns 5 to 8.
 pub(crate) fn command_in(row: &Row) -> Result<Command, StoreFault>
     ensures same { IfOk result (λ command. (was : Was) → IsToldRequest was → row.now ≡ request_given was → command ≡ was.request.body.command) }
+    ensures reads { IfOk result (λ command. (column row.now 5 ≡ Int (pos (service_of command))) × (column row.now 6 ≡ Int (pos (subtype_of command))) × (column row.now 7 ≡ Int (pos (target_of command))) × (column row.now 8 ≡ Int (time_of command))) }
+    ensures told { IfOk result (λ command. IsCommand command) }
     ensures kind { IfErr result (λ e. is_of_read e ≡ true) }
 {
     let service = number_at(row, 5)?;

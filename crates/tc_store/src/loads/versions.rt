@@ -1,9 +1,14 @@
 //! The table `meta`: the version of the schema.
-ghost use Rattle.std.specs.Prelude.{◌≡◌, ℕ, pos, true, codes, length, get_or, IfOk, IfErr, OnOk};
+ghost use Rattle.std.specs.Prelude.{◌≡◌, pos, true, codes, length, [], ◌∷◌, IfOk, IfErr, OnOk};
+ghost use Rattle.std.specs.List.{AllByRecursion};
 ghost use Rattle.sqlite_value.specs.declared.value.Value.TheVariants.{Int, Text};
-ghost use Rattle.sqlite_value.specs.Order.{column};
+ghost use Rattle.sqlite_value.specs.Order.{Row as Values, column};
 ghost use Rattle.sqlite.specs.State.{HasCleanDisk};
 ghost use Rattle.sqlite.specs.Held.{state};
+ghost use Rattle.tc_store.specs.Meta.{meta_tree, version_shown};
+ghost use Rattle.tc_store.specs.Loads.{all_version_columns};
+ghost use Rattle.tc_store.specs.Schema.{schema_1};
+ghost use Rattle.tc_store.specs.Shows.{ShowsRows};
 ghost use Rattle.tc_store.specs.Reads.{Stays, Spares};
 ghost use Rattle.tc_store.specs.Faults.{is_of_read};
 
@@ -22,14 +27,27 @@ fn is_version(row: &Row) -> Result<bool, StoreFault>
     Ok(name.as_str() == "schema" && number == 1)
 }
 
+/// Whether these rows are the one that names version 1 of the schema.
+fn are_version(rows: &[Row]) -> Result<bool, StoreFault>
+    ensures told { IfOk result (λ told. told ≡ true → AllByRecursion (λ (row : Values). length row ≡ 2) rows.now → rows.now ≡ version_shown ∷ []) }
+    ensures kind { IfErr result (λ e. is_of_read e ≡ true) }
+{
+    let is_one = rows.len() == 1;
+    if is_one {
+        return is_version(&rows[0]);
+    }
+    Ok(false)
+}
+
 /// Finds that the one row of `meta` names version 1 of the schema, and fails where it does not. The tables stay.
 pub(crate) fn check_version<S: Alter>(conn: &mut Connection<S>) -> Result<(), StoreFault>
+    ensures shown { HasCleanDisk (state S.Store conn.new) → OnOk result ((state S.Store conn.old).now.schema ≡ schema_1 → ShowsRows ((state S.Store conn.old).now.trees meta_tree) all_version_columns (version_shown ∷ [])) }
     ensures same { HasCleanDisk (state S.Store conn.new) → OnOk result (Stays S.Store conn.old conn.new) }
     ensures left { Spares S.Store conn.old conn.new }
     ensures kind { IfErr result (λ e. is_of_read e ≡ true) }
 {
     let rows = rows_of(conn, "SELECT name, value FROM meta ORDER BY rowid", &[])?;
-    if rows.len() == 1 && is_version(&rows[0])? {
+    if are_version(rows.as_slice())? {
         Ok(())
     } else {
         Err(StoreFault::Damaged)
