@@ -1,5 +1,5 @@
 -- One exchange.
-use Rattle.std.proofs.Common.{◌≡◌, ◌∙◌, ◌⊎◌, inl, inr, ap, subst, refl, ℕ, List, [], ◌∷◌, arith, Option, Some, Result, Ok, Err, String, Global}
+use Rattle.std.proofs.Common.{◌≡◌, ◌∙◌, ◌⊎◌, inl, inr, ap, subst, refl, ℕ, List, [], ◌∷◌, arith, Option, Some, None, Result, Ok, Err, String, Global}
 use Rattle.std.specs.Prelude.{◌≢◌, IfErr, IfSome, OnOk}
 use Rattle.std.specs.Io.KnownBytes.{Appends, Consumes}
 use Rattle.std.specs.String.{string_bytes}
@@ -13,11 +13,12 @@ use Rattle.tc_desk.specs.Replies.{Reply}
 use Rattle.tc_front.specs.declared.read.FrontFault.{FrontFault}
 use Rattle.tc_front.specs.declared.read.FrontFault.TheVariants as faults
 use Rattle.tc_front.specs.Front.{Asked, IsDecided}
-use Rattle.tc_front.specs.Read.{HasStopped, NoFront}
+use Rattle.tc_front.specs.Read.{CanGoOn, HasStopped, NoFront}
 use Rattle.tc_room.specs.Joined.{Standing}
 use Rattle.tc_room.specs.Replies.{ended}
 use Rattle.tc_api.specs.declared.serving.Served.{Served}
-use Rattle.tc_api.specs.Exchange.{Answers, EndsUnanswered, EndsUnread, IsCutOff, IsRead, IsServed, IsUnanswered, IsUntouched, refusal_of, response_to}
+use Rattle.tc_api.specs.Exchange.{Answers, EndsUnanswered, EndsUnread, IsCutOff, IsRead, IsServed, IsUnanswered, IsUntold, IsUntouched, TellsEnd, refusal_of, response_to}
+use Rattle.tc_api.specs.Kept.{ServesRead}
 use Rattle.tc_api.specs.Responses.{response_bytes}
 use Rattle.tc_api.specs.Serving.{HasText, Outcome, Serves, outcome_of}
 
@@ -87,7 +88,7 @@ unexchanged g (Err w) read had left text bytes old new counts before after same 
     inr (record { asked = h.1.asked; outcome = h.0; read = was_read had left text h.1.asked taken whole (subst (λ (t : List ℕ). IsDecided t h.1.asked) same h.1.decided); serves = h.1.serves; unanswered = h.2 })
 
 pub ended_unread : {S : Type 0} (g : Ghosts S) (why : Refusal) (read : Counts) (had left : Option (List ℕ)) (text : List ℕ) (at : Standing S) (counts : Counts) (before : Option (List ℕ))
-    → ((why ≡ ReadFault) × HasStopped read) ⊎ (why ≡ Memory) → Consumes had left text → NoFront text → counts ≡ no_counts
+    → ((why ≡ ReadFault) × HasStopped read) ⊎ ((why ≡ Memory) × CanGoOn read) → Consumes had left text → NoFront text → counts ≡ no_counts
     → EndsUnread why read had left at at counts before before ⊎ EndsUnanswered g why had left at at counts before before
 ended_unread g why read had left text at counts before because taken fronts none =
     inl (record { why = because; unread = record { text = text; taken = taken; fronts = fronts }; room = refl; untouched = untouched counts before none })
@@ -96,10 +97,10 @@ abbrev unread_so : FrontFault → Result (Unit {0}) FrontFault
 unread_so fault = Err fault
 
 pub ended_by : {S : Type 0} (g : Ghosts S) (fault : FrontFault) (refused : Refusal) (read : Counts) (had left : Option (List ℕ)) (text : List ℕ) (at : Standing S) (counts : Counts) (before : Option (List ℕ))
-    → refused ≡ refusal_of fault → (unread_so fault ≡ Err faults.Unread → HasStopped read) → Consumes had left text → NoFront text → counts ≡ no_counts
+    → refused ≡ refusal_of fault → (unread_so fault ≡ Err faults.Unread → HasStopped read) → (unread_so fault ≡ Err faults.Memory → CanGoOn read) → Consumes had left text → NoFront text → counts ≡ no_counts
     → EndsUnread refused read had left at at counts before before ⊎ EndsUnanswered g refused had left at at counts before before
-ended_by g faults.Unread refused read had left text at counts before is stopped taken fronts none = ended_unread g refused read had left text at counts before (inl (is, stopped refl)) taken fronts none
-ended_by g faults.Memory refused read had left text at counts before is stopped taken fronts none = ended_unread g refused read had left text at counts before (inr is) taken fronts none
+ended_by g faults.Unread refused read had left text at counts before is stopped going taken fronts none = ended_unread g refused read had left text at counts before (inl (is, stopped refl)) taken fronts none
+ended_by g faults.Memory refused read had left text at counts before is stopped going taken fronts none = ended_unread g refused read had left text at counts before (inr (is, going refl)) taken fronts none
 
 abbrev refused_so : Refusal → Sent
 refused_so refusal = Err refusal
@@ -124,9 +125,43 @@ nothing_front [] rest asked e = nothing_decided asked
 nothing_front (byte ∷ front) rest asked e = absurd cc
 
 -- nothing was read at all
-pub ended_at_once : {S : Type 0} (g : Ghosts S) (read : Counts) (had : Option (List ℕ)) (at : Standing S) (counts : Counts) (before : Option (List ℕ)) → counts ≡ no_counts
+pub ended_at_once : {S : Type 0} (g : Ghosts S) (read : Counts) (had : Option (List ℕ)) (at : Standing S) (counts : Counts) (before : Option (List ℕ)) → read ≡ no_counts → counts ≡ no_counts
     → EndsUnread Memory read had had at at counts before before ⊎ EndsUnanswered g Memory had had at at counts before before
-ended_at_once g read had at counts before none = ended_unread g Memory read had had [] at counts before (inr refl) (Consumes-nil had) nothing_front none
+ended_at_once g read had at counts before fresh none =
+    ended_unread g Memory read had had [] at counts before
+    (inr (refl, record { faults = ap (λ (c : Counts). c.faults) fresh; ends = ap (λ (c : Counts). c.ends) fresh; reads = rw fresh (omega arith) }))
+    (Consumes-nil had) nothing_front none
 
 pub no_fault : {E : Type 0} (r : Result (Unit {0}) E) (why : E) (counts : Counts) → counts ≡ no_counts → counts.faults ≢ 0 → r ≡ Err why
 no_fault r why counts none h = absurd (h (ap (λ (c : Counts). c.faults) none))
+
+pub no_end : {E : Type 0} (r : Result (Unit {0}) E) (why : E) (counts : Counts) → counts ≡ no_counts → counts.ends ≢ 0 → r ≡ Err why
+no_end r why counts none h = absurd (h (ap (λ (c : Counts). c.ends) none))
+
+-- ---- what is told
+
+untold_end : (outcome : Outcome) (why : Refusal) → IsUntold outcome why → TellsEnd why
+untold_end outcome why (inl stands) = inr (inr stands.1)
+untold_end outcome why (inr none) = inr (inl none.1)
+
+end_told : {S : Type 0} (g : Ghosts S) (why : Refusal) (read : Counts) (had left : Option (List ℕ)) (old new : Standing S) (counts : Counts) (before after : Option (List ℕ))
+    → EndsUnread why read had left old new counts before after ⊎ EndsUnanswered g why had left old new counts before after → TellsEnd why
+end_told g why read had left old new counts before after (inl unread) = elim unread.why [ inl stopped ↦ inl stopped.0 | inr going ↦ inr (inl going.0) ]
+end_told g why read had left old new counts before after (inr ended) = elim ended.unanswered [ inl cut ↦ inr (inr cut.0) | inr untold ↦ untold_end ended.outcome why untold.0 ]
+
+-- no other refusal is told
+pub ends_told : {S : Type 0} (g : Ghosts S) (sent : Sent) (read : Counts) (had left : Option (List ℕ)) (old new : Standing S) (counts : Counts) (before after : Option (List ℕ))
+    → IfErr sent (λ why. EndsUnread why read had left old new counts before after ⊎ EndsUnanswered g why had left old new counts before after) → IfErr sent TellsEnd
+ends_told g (Ok u) read had left old new counts before after h = tt
+ends_told g (Err why) read had left old new counts before after h = end_told g why read had left old new counts before after h
+
+-- ---- what it made of the room
+
+-- what was read is served
+pub exchange_read : {S : Type 0} (g : Ghosts S) (sent : Sent) (read : Counts) (had left : Option (List ℕ)) (old new : Standing S) (counts : Counts) (before after : Option (List ℕ))
+    → OnOk sent (Answers g had left old new before after)
+    → IfErr sent (λ why. EndsUnread why read had left old new counts before after ⊎ EndsUnanswered g why had left old new counts before after)
+    → (asked : Option Asked) × ServesRead g old asked new
+exchange_read g (Ok u) read had left old new counts before after answers h = (Some answers.asked, (answers.outcome, answers.serves))
+exchange_read g (Err why) read had left old new counts before after answers (inl unread) = (None, unread.room)
+exchange_read g (Err why) read had left old new counts before after answers (inr ended) = (Some ended.asked, (ended.outcome, ended.serves))

@@ -1,5 +1,6 @@
 mod ActLemmas
 mod ExchangeLemmas
+mod KeptLemmas
 mod LineLemmas
 mod OneLemmas
 mod ResponseLemmas

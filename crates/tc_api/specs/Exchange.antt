@@ -1,19 +1,18 @@
 -- One exchange: what is read, what it makes of the room, and what is written.
-use Rattle.std.specs.Prelude.{◌≡◌, ◌≢◌, ◌⊎◌, ℕ, true, false, Option, IfSome, List}
+use Rattle.std.specs.Prelude.{◌≡◌, ◌⊎◌, ℕ, true, false, Option, IfSome, List}
 use Rattle.std.specs.Io.KnownBytes.{Appends, Consumes, Keeps}
 use Rattle.sqlite_trees.specs.declared.store.Store.{Ghosts}
 use Rattle.tc_types.specs.declared.counted.Counts.{Counts}
 use Rattle.tc_types.specs.Counts.{no_counts}
 use Rattle.tc_types.specs.declared.refusals.Refusal.{Refusal}
-use Rattle.tc_types.specs.declared.refusals.Refusal.TheVariants.{Memory, ReadFault, Store, WriteFault}
+use Rattle.tc_types.specs.declared.refusals.Refusal.TheVariants.{Memory, ReadFault, WriteFault}
 use Rattle.tc_front.specs.declared.read.FrontFault.{FrontFault}
 use Rattle.tc_front.specs.declared.read.FrontFault.TheVariants as fault
 use Rattle.tc_front.specs.Front.{Asked, IsDecided}
-use Rattle.tc_front.specs.Read.{HasStopped, NoFront}
+use Rattle.tc_front.specs.Read.{CanGoOn, HasStopped, NoFront}
 use Rattle.tc_front.specs.Write.{IsCutShort, one_fault}
 use Rattle.tc_room.specs.Joined.{Standing}
 use Rattle.tc_room.specs.Replies.{ended}
-use Rattle.tc_api.specs.declared.endings.Ending.TheVariants as ending
 use Rattle.tc_api.specs.Responses.{response_bytes}
 use Rattle.tc_api.specs.Serving.{Outcome, Serves}
 
@@ -57,12 +56,10 @@ pub record IsCutOff (bytes : List ℕ) (counts : Counts) (before after : Option 
   pub short : IsCutShort bytes part
   pub appended : Appends before after part
 
--- What is told where a response found no memory: that the database failed, that an act stands of which nothing could be written, or that there
--- was no memory and no act stands.
+-- What is told where a response found no memory: that an act stands of which nothing could be written, or that there was no memory and no act
+-- stands. So it is also where the database failed.
 abbrev pub IsUntold : Outcome → Refusal → Type 0
-IsUntold outcome refusal =
-    ((outcome.ending ≡ ending.Refused Store) × (refusal ≡ Store))
-    ⊎ ((outcome.ending ≢ ending.Refused Store) × (((outcome.stands ≡ true) × (refusal ≡ WriteFault)) ⊎ ((outcome.stands ≡ false) × (refusal ≡ Memory))))
+IsUntold outcome refusal = ((outcome.stands ≡ true) × (refusal ≡ WriteFault)) ⊎ ((outcome.stands ≡ false) × (refusal ≡ Memory))
 
 -- Why what was served is not answered: one write failed, or the response found no memory and nothing was written.
 abbrev pub IsUnanswered : Outcome → Refusal → Counts → Option (List ℕ) → Option (List ℕ) → Type 0
@@ -78,9 +75,10 @@ pub record Answers {S : Type 0} (g : Ghosts S) (had left : Option (List ℕ)) (o
   pub serves : Serves g old asked outcome new
   pub written : Appends before after (response_to outcome)
 
--- An exchange that ends before a request was read: the room is as it was, and nothing was written. The reader stopped, or there was no memory.
+-- An exchange that ends before a request was read: the room is as it was, and nothing was written. The reader failed or ended, or it did neither
+-- and there was no memory.
 pub record EndsUnread {S : Type 0} (refusal : Refusal) (read : Counts) (had left : Option (List ℕ)) (old new : Standing S) (counts : Counts) (before after : Option (List ℕ)) : Type 0 where
-  pub why : ((refusal ≡ ReadFault) × HasStopped read) ⊎ (refusal ≡ Memory)
+  pub why : ((refusal ≡ ReadFault) × HasStopped read) ⊎ ((refusal ≡ Memory) × CanGoOn read)
   pub unread : IsUnread had left
   pub room : new ≡ old
   pub untouched : IsUntouched counts before after
@@ -92,3 +90,7 @@ pub record EndsUnanswered {S : Type 0} (g : Ghosts S) (refusal : Refusal) (had l
   pub read : IsRead had left asked
   pub serves : Serves g old asked outcome new
   pub unanswered : IsUnanswered outcome refusal counts before after
+
+-- what is told of an exchange that has no whole response: nothing else
+abbrev pub TellsEnd : Refusal → Type 0
+TellsEnd refusal = (refusal ≡ ReadFault) ⊎ ((refusal ≡ Memory) ⊎ (refusal ≡ WriteFault))

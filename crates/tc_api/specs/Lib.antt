@@ -5,3 +5,4 @@ pub mod Acts
 pub mod Loads
 pub mod Serving
 pub mod Exchange
+pub mod Kept

@@ -1,15 +1,16 @@
 //! One exchange: a request is read, served, and answered.
-ghost use Rattle.std.specs.Prelude.{◌≡◌, ◌≢◌, ◌⊎◌, Err, IfErr, OnOk};
+ghost use Rattle.std.specs.Prelude.{◌≡◌, ◌≢◌, ◌⊎◌, Err, IfErr, OnOk, Option};
 ghost use Rattle.std.specs.Io.KnownBytes.{Appends};
 ghost use Rattle.tc_types.specs.Counts.{counts_of, inner_of, no_counts};
 ghost use Rattle.tc_types.specs.declared.refusals.Refusal.TheVariants as refusal;
+ghost use Rattle.tc_desk.specs.Headline.{TellsTrue};
 ghost use Rattle.tc_desk.specs.Replies.{Reply};
 ghost use Rattle.tc_front.specs.Front.{Asked, IsDecided};
 ghost use Rattle.tc_room.specs.Replies.{ended};
-ghost use Rattle.tc_api.specs.Exchange.{Answers, EndsUnanswered, EndsUnread, IsCutOff, IsServed, IsUnanswered, IsUntold, refusal_of, response_to};
+ghost use Rattle.tc_api.specs.Exchange.{Answers, EndsUnanswered, EndsUnread, IsCutOff, IsServed, IsUnanswered, IsUntold, TellsEnd, refusal_of, response_to};
+ghost use Rattle.tc_api.specs.Kept.{KeepsTables, ServesOne};
 ghost use Rattle.tc_api.specs.Serving.{HasText, Outcome, outcome_of};
 
-use crate::endings::Ending;
 use crate::responses::response;
 use crate::serving::{Served, serve_decision};
 use sqlite::Alter;
@@ -27,9 +28,6 @@ use tc_types::refusals::Refusal;
 fn untold(served: &Served) -> Refusal
     ensures { (reply : Reply) → IsUntold (outcome_of reply served.now) result }
 {
-    if served.ending == Ending::Refused(Refusal::Store) {
-        return Refusal::Store;
-    }
     if served.stands {
         Refusal::WriteFault
     } else {
@@ -100,6 +98,7 @@ fn answer<W: Write, S: Alter + Drop>(
     ensures failed { IfErr result (λ why. (outcome : Outcome) × IsServed S.Store text.now room.old outcome room.new
         × IsUnanswered outcome why (counts_of writer.new) (W.contents (inner_of writer.old)) (W.contents (inner_of writer.new))) }
     ensures unfailed { OnOk result (counts_of writer.new ≡ no_counts) }
+    ensures opened { room.new.opened ≡ room.old.opened }
 {
     match decide(routes, text) {
         Some(decision) => {
@@ -138,7 +137,9 @@ fn serve_with<R: Read, W: Write, S: Alter + Drop>(
         ⊎ EndsUnanswered S.Store why (R.remaining (inner_of reader.old)) (R.remaining (inner_of reader.new)) room.old room.new
         (counts_of writer.new) (W.contents (inner_of writer.old)) (W.contents (inner_of writer.new))) }
     ensures fault { (counts_of reader.new).faults ≢ 0 → result ≡ Err refusal.ReadFault }
+    ensures ended { (counts_of reader.new).ends ≢ 0 → result ≡ Err refusal.ReadFault }
     ensures unfailed { OnOk result (counts_of writer.new ≡ no_counts) }
+    ensures opened { room.new.opened ≡ room.old.opened }
 {
     let mut text = Vec::new(alloc);
     match read_front(routes, reader, &mut text) {
@@ -147,15 +148,41 @@ fn serve_with<R: Read, W: Write, S: Alter + Drop>(
     }
 }
 
+/// One exchange, with routes of its own.
+fn serve_first<R: Read, W: Write, S: Alter + Drop>(
+    alloc: Global,
+    reader: &mut Counted<R>,
+    writer: &mut Counted<W>,
+    room: &mut Room<S>,
+) -> Result<(), Refusal>
+    requires unread { counts_of reader.old ≡ no_counts }
+    requires unwritten { counts_of writer.old ≡ no_counts }
+    ensures answered { OnOk result (Answers S.Store (R.remaining (inner_of reader.old)) (R.remaining (inner_of reader.new)) room.old room.new
+        (W.contents (inner_of writer.old)) (W.contents (inner_of writer.new))) }
+    ensures failed { IfErr result (λ why.
+        EndsUnread why (counts_of reader.new) (R.remaining (inner_of reader.old)) (R.remaining (inner_of reader.new)) room.old room.new
+        (counts_of writer.new) (W.contents (inner_of writer.old)) (W.contents (inner_of writer.new))
+        ⊎ EndsUnanswered S.Store why (R.remaining (inner_of reader.old)) (R.remaining (inner_of reader.new)) room.old room.new
+        (counts_of writer.new) (W.contents (inner_of writer.old)) (W.contents (inner_of writer.new))) }
+    ensures fault { (counts_of reader.new).faults ≢ 0 → result ≡ Err refusal.ReadFault }
+    ensures ended { (counts_of reader.new).ends ≢ 0 → result ≡ Err refusal.ReadFault }
+    ensures unfailed { OnOk result (counts_of writer.new ≡ no_counts) }
+    ensures opened { room.new.opened ≡ room.old.opened }
+{
+    match Routes::new(alloc) {
+        Ok(routes) => serve_with(alloc, &routes, reader, writer, room),
+        Err(_) => Err(Refusal::Memory),
+    }
+}
+
 /// One exchange. A request is read until a front of the input decides what is asked; that is served once; and the response to it is
 /// written, all of it and nothing else. What the writer holds back is the caller's to flush.
 ///
 /// # Errors
 ///
-/// - `ReadFault`: the reader failed, ended or was read 100,000 times, and no front of what was read decides. The room is as it was, and
-///   nothing was written.
-/// - `Memory`: there was no memory for the routes or to read on, or for the response where no act stands. Nothing was written.
-/// - `Store`: the database failed, so that the room has stopped, and there was no memory for the response. Nothing was written.
+/// - `ReadFault`: the reader failed or ended, and no front of what was read decides. The room is as it was, and nothing was written.
+/// - `Memory`: there was no memory for the routes or to read on, or for the response where no act stands: also where the database failed,
+///   so that the room has stopped. Nothing was written.
 /// - `WriteFault`: one write failed, and a front of the response went out, and not all; or there was no memory for the response to an act
 ///   that was done, and nothing was written. An act that was done stands.
 pub fn serve_one<R: Read, W: Write, S: Alter + Drop>(
@@ -173,11 +200,21 @@ pub fn serve_one<R: Read, W: Write, S: Alter + Drop>(
         (counts_of writer.new) (W.contents (inner_of writer.old)) (W.contents (inner_of writer.new))
         ⊎ EndsUnanswered S.Store why (R.remaining (inner_of reader.old)) (R.remaining (inner_of reader.new)) room.old room.new
         (counts_of writer.new) (W.contents (inner_of writer.old)) (W.contents (inner_of writer.new))) }
+    // no other refusal is told
+    ensures only { IfErr result TellsEnd }
     ensures fault { (counts_of reader.new).faults ≢ 0 → result ≡ Err refusal.ReadFault }
+    ensures ended { (counts_of reader.new).ends ≢ 0 → result ≡ Err refusal.ReadFault }
     ensures unfailed { OnOk result (counts_of writer.new ≡ no_counts) }
+    // what the rows since the opening tell of the link is true, and while every start was good the FARM is not in Lockout
+    ensures opened { room.new.opened ≡ room.old.opened }
+    ensures told { TellsTrue room.new.opened room.new.desk }
+    // the tables hold the book, or the database failed at what was asked
+    ensures kept { KeepsTables S.Store room.old room.new }
+    // one step of a list of exchanges (`laws`)
+    ensures step { (read : Option Asked) × ServesOne S.Store room.old read room.new }
 {
-    match Routes::new(alloc) {
-        Ok(routes) => serve_with(alloc, &routes, reader, writer, room),
-        Err(_) => Err(Refusal::Memory),
-    }
+    let served = serve_first(alloc, reader, writer, room);
+    // read for the proof alone: what the rows tell is true
+    let _opened = room.opened();
+    served
 }

@@ -1,11 +1,17 @@
 //! What holds of any post and any reply. These functions do nothing: their clauses are the laws.
-ghost use Rattle.std.specs.Prelude.{◌≡◌, ℕ, List, Result};
+ghost use Rattle.std.specs.Prelude.{◌≡◌, ℕ, List, Option, Result};
 ghost use Rattle.std.specs.List.{All};
 ghost use Rattle.tc_types.specs.declared.loads.LoadKind.{LoadKind};
 ghost use Rattle.tc_types.specs.declared.refusals.Refusal.{Refusal};
+ghost use Rattle.tc_front.specs.Front.{Asked};
+ghost use Rattle.tc_room.specs.Joined.{Standing};
 ghost use Rattle.tc_room.specs.Replies.{ended};
+ghost use Rattle.tc_api.specs.Kept.{KeepsPromise, ServesAll};
 ghost use Rattle.tc_api.specs.Loads.{JudgesLoadPost, Load};
 ghost use Rattle.tc_api.specs.Responses.{LacksEnds, text_lines};
+
+use sqlite::Alter;
+use tc_room::rooms::Room;
 
 /// A body posts one load, or is refused in one way. (Of an act `read_act_post` says so itself, by its clause `only`.)
 pub fn a_load_post_is_one()
@@ -16,3 +22,13 @@ pub fn a_load_post_is_one()
 pub fn lines_come_back()
     ensures { (lines : List (List ℕ)) → All LacksEnds lines → text_lines (ended lines) ≡ lines }
 {}
+
+/// After any exchanges since a room was opened, one after the other as `serve_one` makes them (its clause `step`): what the rows since then tell
+/// of the link is true, and while every start was good the FARM is not in Lockout; and tables that held the book hold it, until the
+/// database failed.
+pub fn exchanges_keep_the_promise<S: Alter + Drop>(start: &Room<S>)
+    ensures { (read : List (Option Asked)) (end : Standing S) → ServesAll S.Store start.now read end → KeepsPromise S.Store start.now end }
+{
+    // read for the proof alone: what the rows tell is true
+    let _opened = start.opened();
+}

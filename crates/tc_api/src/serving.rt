@@ -84,7 +84,8 @@ fn refused(alloc: Global, ending: Ending, refusal: Refusal) -> Served
 
 /// Asks a question of the room.
 fn serve_query<S: Alter + Drop>(alloc: Global, room: &mut Room<S>, query: Query) -> Served
-    ensures { (reply : Reply) × ServesQuery S.Store room.old query (outcome_of reply result) room.new × HasText reply result }
+    ensures served { (reply : Reply) × ServesQuery S.Store room.old query (outcome_of reply result) room.new × HasText reply result }
+    ensures opened { room.new.opened ≡ room.old.opened }
 {
     answer_served(answer_query(alloc, room, query), false)
 }
@@ -101,7 +102,8 @@ fn is_question(act: Act) -> bool
 
 /// Asks an act or a question of the room, as it was posted.
 fn serve_line<S: Alter + Drop>(alloc: Global, room: &mut Room<S>, line: Line) -> Served
-    ensures { (reply : Reply) × ServesLine S.Store room.old (Ok line) (outcome_of reply result) room.new × HasText reply result }
+    ensures served { (reply : Reply) × ServesLine S.Store room.old (Ok line) (outcome_of reply result) room.new × HasText reply result }
+    ensures opened { room.new.opened ≡ room.old.opened }
 {
     let acts = !is_question(line.act);
     answer_served(answer_read(alloc, room, line), acts)
@@ -109,7 +111,8 @@ fn serve_line<S: Alter + Drop>(alloc: Global, room: &mut Room<S>, line: Line) ->
 
 /// Serves a body that is posted to `/acts`.
 fn serve_act<S: Alter + Drop>(alloc: Global, room: &mut Room<S>, body: &[u8]) -> Served
-    ensures { (reply : Reply) × ServesAct S.Store room.old body.now (outcome_of reply result) room.new × HasText reply result }
+    ensures served { (reply : Reply) × ServesAct S.Store room.old body.now (outcome_of reply result) room.new × HasText reply result }
+    ensures opened { room.new.opened ≡ room.old.opened }
 {
     match read_act_post(alloc, body) {
         Ok(line) => serve_line(alloc, room, line),
@@ -124,7 +127,8 @@ fn serve_value<S: Alter + Drop>(
     kind: LoadKind,
     value: &Value,
 ) -> Served
-    ensures { (reply : Reply) × ServesKeys S.Store room.old kind (load_keys (view value.now)) (outcome_of reply result) room.new × HasText reply result }
+    ensures served { (reply : Reply) × ServesKeys S.Store room.old kind (load_keys (view value.now)) (outcome_of reply result) room.new × HasText reply result }
+    ensures opened { room.new.opened ≡ room.old.opened }
 {
     match judge_load_value(alloc, kind, value) {
         Ok(post) => {
@@ -145,7 +149,8 @@ fn serve_load<S: Alter + Drop>(
     kind: LoadKind,
     body: &[u8],
 ) -> Served
-    ensures { (reply : Reply) × ServesText S.Store room.old kind body.now (outcome_of reply result) room.new × HasText reply result }
+    ensures served { (reply : Reply) × ServesText S.Store room.old kind body.now (outcome_of reply result) room.new × HasText reply result }
+    ensures opened { room.new.opened ≡ room.old.opened }
 {
     match value_of(alloc, body) {
         Ok(value) => serve_value(alloc, room, kind, &value),
@@ -155,7 +160,8 @@ fn serve_load<S: Alter + Drop>(
 
 /// Serves a body that is posted.
 fn serve_post<S: Alter + Drop>(alloc: Global, room: &mut Room<S>, post: Post, body: &[u8]) -> Served
-    ensures { (reply : Reply) × ServesPost S.Store room.old post body.now (outcome_of reply result) room.new × HasText reply result }
+    ensures served { (reply : Reply) × ServesPost S.Store room.old post body.now (outcome_of reply result) room.new × HasText reply result }
+    ensures opened { room.new.opened ≡ room.old.opened }
 {
     match post {
         Post::Acts => serve_act(alloc, room, body),
@@ -200,7 +206,8 @@ pub fn serve_decision<S: Alter + Drop>(
     room: &mut Room<S>,
     decision: &Decision<'_>,
 ) -> Served
-    ensures { (reply : Reply) × Serves S.Store room.old (asked_of decision.now) (outcome_of reply result) room.new × HasText reply result }
+    ensures served { (reply : Reply) × Serves S.Store room.old (asked_of decision.now) (outcome_of reply result) room.new × HasText reply result }
+    ensures opened { room.new.opened ≡ room.old.opened }
 {
     match *decision {
         Decision::Refused(why) => serve_refused(alloc, why),

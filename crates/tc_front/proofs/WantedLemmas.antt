@@ -16,7 +16,7 @@ use Rattle.tc_front.specs.Judge.{JudgesQuestion, JudgesGet, JudgesLength, Judges
 use Rattle.tc_front.specs.Ends.{head_end, skip_ends, HasSearched}
 use Rattle.tc_front.specs.Front.{Asked, refuses, asks, posts, Completes, IsDecidedAt, IsDecided, Waits, size_of, IsWantedAt, IsWanted}
 use Rattle.tc_front.specs.Watch.{Watches}
-use Rattle.tc_front.proofs.EndLemmas.{Stays, Within, head_end-append, searched_more}
+use Rattle.tc_front.proofs.EndLemmas.{Stays, Within, head_end-append, head_end-within, searched_more}
 use Rattle.tc_front.proofs.FrontLemmas.{end_within, front_more, one_judgement, opened, undecided}
 
 -- ---- no body is larger than one may be
@@ -99,6 +99,17 @@ pub wanted_enough : (text : List ℕ) (wanted : ℕ) → IsWanted text wanted �
 unfolding IsDecided
 wanted_enough text wanted is enough = enough_at (head_end (take 8192 text)) text wanted (end_within text) (unwrapped text wanted is) enough
 
+most_at : (found : Option ℕ) (text : List ℕ) (wanted : ℕ) → Within found (length (take 8192 text)) → IsWantedAt found text wanted → wanted ≤ 73728
+most_at None text wanted within is = omega arith
+most_at (Some end) text wanted within (j, judged, is) =
+    let cut : length (take 8192 text) ≡ min 8192 (length text) = length-take 8192 text in
+    let small : size_of j ≤ 65536 = small_judgement (skip_ends (take end text)) j judged in
+    omega arith
+
+-- No more are wanted than a head and a body may have.
+pub wanted_most : (text : List ℕ) (wanted : ℕ) → IsWanted text wanted → wanted ≤ 73728
+wanted_most text wanted is = most_at (head_end (take 8192 text)) text wanted (head_end-within (take 8192 text)) (unwrapped text wanted is)
+
 nothing : (xs : List ℕ) → length xs ≡ 0 → xs ≡ []
 nothing [] none = refl
 nothing (x ∷ xs) none = absurd (omega arith)
@@ -153,6 +164,7 @@ pub watches_nothing : (watch : Watch) (text : List ℕ) → HasSearched watch.se
 watches_nothing watch text searched one = record {
   searched = searched;
   needs = λ more few. waits_empty (text ++ more) (nothing (text ++ more) (omega arith));
+  most = omega arith;
 }
 
 -- What is known of a text is known of a longer one.
@@ -160,6 +172,7 @@ pub watches_more : (watch : Watch) (text more : List ℕ) → Watches watch text
 watches_more watch text more watches = record {
   searched = let (zs, cut, same) = front_more text more in rw cut (searched_more watch.search (take 8192 text) zs watches.searched);
   needs = λ others few. rw (append_assoc text more others) (watches.needs (more ++ others) (rw (append_assoc text more others) at few));
+  most = watches.most;
 }
 
 pub waits_now : (watch : Watch) (text : List ℕ) → Watches watch text → length text < watch.wanted → Waits text
@@ -174,4 +187,5 @@ pub watches_wanted : (watch : Watch) (text : List ℕ) → HasSearched watch.sea
 watches_wanted watch text searched is = record {
   searched = searched;
   needs = λ more few. wanted_needed text more watch.wanted is few;
+  most = wanted_most text watch.wanted is;
 }

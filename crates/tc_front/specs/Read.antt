@@ -7,12 +7,12 @@ use Rattle.tc_front.specs.Front.{Asked, IsDecided}
 abbrev pub NoFront : List ℕ → Type 0
 NoFront text = (front rest : List ℕ) (asked : Asked) → text ≡ front ++ rest → ¬ (IsDecided front asked)
 
--- the reader failed once, or ended once, or was read 100,000 times
+-- the reader failed once, or ended once
 abbrev pub HasStopped : Counts → Type 0
-HasStopped counts = (counts.faults ≡ 1) ⊎ ((counts.ends ≡ 1) ⊎ (counts.reads ≡ 100000))
+HasStopped counts = (counts.faults ≡ 1) ⊎ (counts.ends ≡ 1)
 
--- it did neither, and was read fewer times
+-- it did neither, and was read fewer times than there are bytes that always decide
 pub record CanGoOn (counts : Counts) : Type 0 where
   pub faults : counts.faults ≡ 0
   pub ends : counts.ends ≡ 0
-  pub reads : counts.reads < 100000
+  pub reads : counts.reads < 73728

@@ -22,6 +22,11 @@ pub fn what_is_wanted_is_needed()
     ensures { (text more : List ℕ) (wanted : ℕ) → IsWanted text wanted → length (text ++ more) < wanted → Waits (text ++ more) }
 {}
 
+/// No more are wanted than a head and a body may have, so that a text of so many bytes decides.
+pub fn what_is_wanted_is_bounded()
+    ensures { (text : List ℕ) (wanted : ℕ) → IsWanted text wanted → wanted ≤ 73728 }
+{}
+
 /// Where as many bytes are there as are wanted, the front decides.
 pub fn what_is_wanted_is_enough()
     ensures { (text : List ℕ) (wanted : ℕ) → IsWanted text wanted → wanted ≤ length text → (asked : Asked) × IsDecided text asked }

@@ -1,5 +1,5 @@
 //! The reading of a request.
-ghost use Rattle.std.specs.Prelude.{◌≡◌, ◌≢◌, ◌≤◌, [], Err, IfSome, OnErr, OnOk};
+ghost use Rattle.std.specs.Prelude.{◌≡◌, ◌≢◌, ◌≤◌, [], Err, IfSome, OnErr, OnOk, length};
 ghost use Rattle.std.specs.Io.KnownBytes.{Consumes};
 ghost use Rattle.tc_types.specs.Counts.{counts_of, inner_of, no_counts};
 ghost use Rattle.tc_front.specs.Front.{Asked, IsDecided, Waits};
@@ -11,13 +11,14 @@ use std::io::Read;
 use tc_routes::routes::Routes;
 use tc_types::counted::Counted;
 
-/// How many times a reader is read at most. It is this desk's own limit.
-pub const MOST_READS: u64 = 100_000;
+/// How many times a reader is read at most. Each read gives a byte, and a text of so many decides: a head has 8,192 at most, and a
+/// body 65,536.
+pub const MOST_READS: u64 = 73_728;
 
 /// Why no request was read.
 #[derive(Clone, Copy, Debug, PartialEq, Eq)]
 pub enum FrontFault {
-    /// The reader failed, ended or was read 100,000 times before a front of the input decided.
+    /// The reader failed or ended before a front of the input decided.
     Unread,
     /// There was no memory to read on.
     Memory,
@@ -40,8 +41,8 @@ impl From<AllocError> for FrontFault {
 ///
 /// # Errors
 ///
-/// `Unread` where the reader failed, ended or was read 100,000 times, and `Memory` where there was no memory for what would
-/// be read next. No front of what was read decides then.
+/// `Unread` where the reader failed or ended, and `Memory` where there was no memory for what would be read next. No front of
+/// what was read decides then.
 pub fn read_front<R: Read>(
     routes: &Routes,
     reader: &mut Counted<R>,
@@ -57,11 +58,12 @@ pub fn read_front<R: Read>(
     ensures waits { OnErr result (Waits text.new.items) }
     ensures fronts { OnErr result (NoFront text.new.items) }
     ensures failed { (counts_of reader.new).faults ≢ 0 → result ≡ Err FrontFault.Unread }
+    ensures ended { (counts_of reader.new).ends ≢ 0 → result ≡ Err FrontFault.Unread }
     ensures reads { (counts_of reader.new).reads ≤ MOST_READS }
 {
     let mut buffer = [0; 4096];
     let mut watch = Watch::new();
-    for _ in 0..MOST_READS {
+    'reads: loop {
         text.reserve(buffer.len())?;
         let Ok(count) = reader.read(&mut buffer) else {
             return Err(FrontFault::Unread);
@@ -74,5 +76,4 @@ pub fn read_front<R: Read>(
             return Ok(());
         }
     }
-    Err(FrontFault::Unread)
 }

@@ -1,5 +1,5 @@
 //! A text that grows, watched until it decides.
-ghost use Rattle.std.specs.Prelude.{◌≡◌, List, ℕ, true, false};
+ghost use Rattle.std.specs.Prelude.{◌≡◌, ◌<◌, List, ℕ, length, true, false};
 ghost use Rattle.tc_front.specs.Front.{Asked, IsDecided, Waits};
 ghost use Rattle.tc_front.specs.Watch.{Watches};
 
@@ -34,6 +34,7 @@ impl Watch {
         requires { Watches self.old text.now }
         ensures yes { result ≡ true → (asked : Asked) × IsDecided text.now asked }
         ensures no { result ≡ false → Waits text.now }
+        ensures short { result ≡ false → length text.now < 73728 }
         ensures watches { Watches self.new text.now }
     {
         if text.len() < self.wanted {

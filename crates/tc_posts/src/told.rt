@@ -1,12 +1,14 @@
 //! What a response says (RFC 9112; RFC 8259).
-ghost use Rattle.std.specs.Prelude.{◌≡◌, ℕ, List, Some, None, IfNone, IfOk, IfSome, OnOk, drop, map, option_map};
+ghost use Rattle.std.specs.Prelude.{◌≡◌, ◌↔◌, ℕ, List, Some, None, Err, IfErr, IfNone, IfOk, IfSome, OnOk, drop, map, option_map};
+ghost use Rattle.std.specs.Str.{IsUtf8};
 ghost use Rattle.std.specs.String.{string_bytes};
+ghost use Rattle.serde_json.specs.Errors.{IsMemory};
 ghost use Rattle.serde_json.specs.Read.{read};
 ghost use Rattle.serde_json.specs.View.{items_view, view};
-ghost use Rattle.tc_posts.specs.Told.{IsBody, IsTold, Says, lines_in, lines_text, refusal_in, text_of};
+ghost use Rattle.tc_posts.specs.Told.{IsBody, IsTold, IsUnsaid, IsUntold, Says, Tells, lines_in, lines_text, refusal_in, text_of};
 
 use bstr::ByteSlice;
-use serde_json::Value;
+use serde_json::{Error, Value};
 use std::alloc::{AllocError, Global};
 use std::str;
 use tc_report::texts::add_line;
@@ -31,7 +33,8 @@ pub enum Untellable {
 
 /// The body of a response, where it is a text.
 fn body_of(response: &[u8]) -> Option<&str>
-    ensures { IfSome result (λ body. IsBody response.now body.now) }
+    ensures some { IfSome result (λ body. IsBody response.now body.now × IsUtf8 body.now) }
+    ensures none { IfNone result ((body : List ℕ) → IsBody response.now body → ¬ (IsUtf8 body)) }
 {
     let end = response.find(b"\r\n\r\n")?;
     str::from_utf8(&response[end + 4..]).ok()
@@ -64,7 +67,8 @@ fn lines_in(value: &Value) -> Option<&Vec<Value>>
 
 /// What a body in JSON says.
 fn told_by(alloc: Global, value: &Value) -> Result<Told, Untellable>
-    ensures { IfOk result (λ told. IsTold (view value.now) (string_bytes told.text) told.refusal) }
+    ensures told { IfOk result (λ told. IsTold (view value.now) (string_bytes told.text) told.refusal) }
+    ensures untold { IfErr result (IsUnsaid (view value.now)) }
 {
     let Some(refusal) = refusal_in(value) else {
         return Err(Untellable::NoResponse);
@@ -78,20 +82,36 @@ fn told_by(alloc: Global, value: &Value) -> Result<Told, Untellable>
     }
 }
 
+/// Why a body says nothing that was not read as JSON.
+fn why_unread(error: &Error) -> Untellable
+    ensures { (result ≡ Untellable.Memory) ↔ IsMemory error.now }
+{
+    if error.is_memory() {
+        Untellable::Memory
+    } else {
+        Untellable::NoResponse
+    }
+}
+
 /// What a body says.
 fn told_in(alloc: Global, body: &str) -> Result<Told, Untellable>
-    ensures { IfOk result (λ told. Says body.now (string_bytes told.text) told.refusal) }
+    ensures told { IfOk result (λ told. Says body.now (string_bytes told.text) told.refusal) }
+    ensures untold { result ≡ Err Untellable.NoResponse → (text : List ℕ) (refusal : ℕ) → ¬ (Says body.now text refusal) }
 {
     match Value::from_str(alloc, body) {
         Ok(value) => told_by(alloc, &value),
-        Err(error) if error.is_memory() => Err(Untellable::Memory),
-        Err(_) => Err(Untellable::NoResponse),
+        Err(error) => Err(why_unread(&error)),
     }
 }
 
 /// What the response of a desk says: the lines of a reply, and what it is refused with.
+///
+/// # Errors
+///
+/// `NoResponse` where it is none: it has no body that is a text and says this. `Memory` where there was no memory to read its body.
 pub fn read_told(alloc: Global, response: &[u8]) -> Result<Told, Untellable>
-    ensures { IfOk result (λ told. (body : List ℕ) × IsBody response.now body × Says body (string_bytes told.text) told.refusal) }
+    ensures told { IfOk result (λ told. Tells response.now (string_bytes told.text) told.refusal) }
+    ensures untold { IfErr result (IsUntold response.now) }
 {
     match body_of(response) {
         Some(body) => told_in(alloc, body),

@@ -1,8 +1,16 @@
-use Rattle.tc_api.proofs.ExchangeLemmas.{ended_at_once, no_fault}
+use Rattle.tc_api.proofs.ExchangeLemmas.{ends_told, exchange_read}
+use Rattle.tc_api.proofs.KeptLemmas.{read_keeps}
 use Rattle.tc_api.proofs.exchange.serve_one.Goals as goal
 
-pub returns-in-Err-clause-failed : goal.returns-in-Err-clause-failed
-returns-in-Err-clause-failed g c = ended_at_once g.S.Store _ _ _ _ _ c.requires.unwritten
+pub returns-clause-only : goal.returns-clause-only
+returns-clause-only g c = ends_told g.S.Store c.serve_first-served.result _ _ _ _ _ _ _ _ c.serve_first-served.ensures.failed
 
-pub returns-in-Err-clause-fault : goal.returns-in-Err-clause-fault
-returns-in-Err-clause-fault g c = no_fault _ _ _ c.requires.unread
+pub returns-clause-kept : goal.returns-clause-kept
+returns-clause-kept g c =
+    let read = exchange_read g.S.Store c.serve_first-served.result _ _ _ _ _ _ _ _ c.serve_first-served.ensures.answered c.serve_first-served.ensures.failed in
+    read_keeps g.S.Store _ _ read.0 read.1
+
+pub returns-clause-step : goal.returns-clause-step
+returns-clause-step g c =
+    let read = exchange_read g.S.Store c.serve_first-served.result _ _ _ _ _ _ _ _ c.serve_first-served.ensures.answered c.serve_first-served.ensures.failed in
+    (read.0, record { served = read.1; opened = c.serve_first-served.ensures.opened; told = c.opened-opened.ensures.told })

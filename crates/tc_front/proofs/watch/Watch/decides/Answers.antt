@@ -1,5 +1,6 @@
+use Rattle.std.proofs.Common.{◌≤◌, ◌<◌, arith, length}
 use Rattle.std.proofs.lemmas.Bool.{leb-true, leb-false}
-use Rattle.tc_front.proofs.WantedLemmas.{waits_now, waits_wanted, wanted_enough, watches_wanted}
+use Rattle.tc_front.proofs.WantedLemmas.{waits_now, waits_wanted, wanted_enough, wanted_most, watches_wanted}
 use Rattle.tc_front.proofs.watch.Watch.decides.Goals as goal
 
 pub returns-then-text-self-clause-no : goal.returns-then-text-self-clause-no
@@ -10,6 +11,15 @@ returns-clause-yes c = λ is. wanted_enough c.args.text.now c.wanted-self.result
 
 pub returns-clause-no : goal.returns-clause-no
 returns-clause-no c = λ is. waits_wanted c.args.text.now c.wanted-self.result c.wanted-self.ensures.wanted (leb-false _ _ is)
+
+pub returns-then-text-self-clause-short : goal.returns-then-text-self-clause-short
+returns-then-text-self-clause-short c = λ _. omega (arith, c.requires.most, c.if-text-self.true)
+
+pub returns-clause-short : goal.returns-clause-short
+returns-clause-short c = λ is.
+    let few : length c.args.text.now < c.wanted-self.result = leb-false _ _ is in
+    let most : c.wanted-self.result ≤ 73728 = wanted_most c.args.text.now c.wanted-self.result c.wanted-self.ensures.wanted in
+    omega arith
 
 pub returns-clause-watches : goal.returns-clause-watches
 returns-clause-watches c =

@@ -1,0 +1,63 @@
+-- Why a response says nothing.
+use Rattle.std.proofs.Common.{Bor, ◌≡◌, ◌∙◌, ◌+◌, ◌-◌, ℕ, List, [], ◌∷◌, Option, Some, None, Result, Ok, Err, ap, drop, length, refl, subst, sym, take}
+use Rattle.std.proofs.Math.Seq.{take-length}
+use Rattle.std.proofs.lemmas.List.{length-drop}
+use Rattle.std.specs.Prelude.{IfErr, IfNone, MatchResult}
+use Rattle.std.specs.Result.{result_ok}
+use Rattle.std.specs.Str.{IsUtf8}
+use Rattle.memchr.specs.Find.{FindsNeedle}
+use Rattle.memchr.proofs.lemmas.ValueLemmas.{FindsNeedle-value}
+use Rattle.serde_json.specs.Data.{Data}
+use Rattle.serde_json.specs.Read.{read}
+use Rattle.tc_posts.specs.declared.told.Untellable.{Untellable}
+use Rattle.tc_posts.specs.declared.told.Untellable.TheVariants.{NoResponse, Memory}
+use Rattle.tc_posts.specs.Told.{IsBody, IsTold, IsUnsaid, IsUntold, Says}
+
+abbrev empty_line : List ℕ
+empty_line = 13 ∷ 10 ∷ 13 ∷ 10 ∷ []
+
+one_place : (response : List ℕ) (a b : Option ℕ) → FindsNeedle response empty_line 0 a → FindsNeedle response empty_line 0 b → a ≡ b
+one_place response a b h k = FindsNeedle-value response empty_line a h ∙ sym (FindsNeedle-value response empty_line b k)
+
+-- a response has one body
+pub one_body : (response a b : List ℕ) → IsBody response a → IsBody response b → a ≡ b
+one_body response a b (i, finds, is) (j, found, too) =
+    let e : Some i ≡ Some j = one_place response (Some i) (Some j) finds found in
+    let same : i ≡ j = cc in
+    is ∙ (ap (λ (n : ℕ). drop (n + 4) response) same ∙ sym too)
+
+-- and none where no empty line is found
+pub no_body : (response body : List ℕ) (r : Option ℕ) → FindsNeedle response empty_line 0 r → r ≡ None → ¬ (IsBody response body)
+no_body response body r finds none (i, found, is) = let e : r ≡ Some i = one_place response r (Some i) finds found in absurd cc
+
+pub if_none : {X : Type 0} (r : Option X) (P : Type 0) → P → IfNone r P
+if_none None P p = p
+if_none (Some x) P p = tt
+
+whole : (n : ℕ) (response : List ℕ) → take (length response - n) (drop n response) ≡ drop n response
+whole n response = ap (λ (m : ℕ). take m (drop n response)) (sym (length-drop n response)) ∙ take-length (drop n response)
+
+-- bytes behind an empty line that are no text
+pub no_text : {E : Type 0} (response : List ℕ) (end : ℕ) (bytes : List ℕ) (read : Result (Bor (List ℕ)) E) (r : Option (Bor (List ℕ))) (X : E → Type 0) → bytes ≡ take (length response - (end + 4)) (drop (end + 4) response)
+    → FindsNeedle response empty_line 0 (Some end) → MatchResult read (λ s. (s.now ≡ bytes) × IsUtf8 bytes) (λ e. ¬ (IsUtf8 bytes) × X e) → r ≡ result_ok read
+    → IfNone r ((body : List ℕ) → IsBody response body → ¬ (IsUtf8 body))
+no_text response end bytes (Ok text) r X behind finds read is = rw is tt
+no_text response end bytes (Err e) r X behind finds read is =
+    if_none r ((body : List ℕ) → IsBody response body → ¬ (IsUtf8 body))
+    (λ body found utf8. read.0 (subst (λ (b : List ℕ). IsUtf8 b) (one_body response body bytes found (end, finds, behind ∙ whole (end + 4) response)) utf8))
+
+-- a body that says nothing
+pub nothing_said : {X : Type 0} (r : Result X Untellable) (body : List ℕ) (value : Data) → read body ≡ Some value → IfErr r (IsUnsaid value) → r ≡ Err NoResponse
+    → (text : List ℕ) (refusal : ℕ) → ¬ (Says body text refusal)
+nothing_said {X} r body value is unsaid none text refusal (other, also, told) =
+    let nothing : IsUnsaid value NoResponse = subst (λ (r : Result X Untellable). IfErr r (IsUnsaid value)) none unsaid in
+    let same : other ≡ value = cc in
+    nothing text refusal (subst (λ (v : Data). IsTold v text refusal) same told)
+
+-- a response whose body is not told
+pub not_told : {X : Type 0} (r : Result X Untellable) (response body : List ℕ) → IsBody response body → IsUtf8 body
+    → (r ≡ Err NoResponse → (text : List ℕ) (refusal : ℕ) → ¬ (Says body text refusal)) → IfErr r (IsUntold response)
+not_told (Ok x) response body is utf8 none = tt
+not_told (Err NoResponse) response body is utf8 none =
+    λ text refusal tells. none refl text refusal (subst (λ (b : List ℕ). Says b text refusal) (one_body response tells.body body tells.found is) tells.said)
+not_told (Err Memory) response body is utf8 none = (body, is, utf8)
