@@ -14,7 +14,7 @@ returns-in-Ok-clause-stopped g c = IfErr-weaker c.run_opened-ended.result _ _
     (λ fault stops. inr (c.in-Ok.opened.room, c.in-Ok.opened.moves.items, c.run_opened-ended.new.room, c.in-Ok.ensures.opened, rw c.deref.ensures.value at stops, c.into_connection.ensures))
     c.run_opened-ended.ensures.stopped
 
-pub returns-clause-stopped : goal.returns-clause-stopped
-returns-clause-stopped g c =
+pub returns-in-Err-clause-stopped : goal.returns-in-Err-clause-stopped
+returns-in-Err-clause-stopped g c =
     let e = c.in-Err.ensures in
     rw c.from.ensures (inl (unopened _ _ e.refused e.kind, untouched _ _, stays g.S.Store _ _ _ _ e.kept e.crash e.foreign))
