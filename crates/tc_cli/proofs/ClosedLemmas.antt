@@ -1,6 +1,6 @@
 -- The report of tables alone, as it is written in pieces.
 use Rattle.std.proofs.Common.{◌≡◌, ◌∙◌, ◌++◌, ◌∷◌, ◌⊎◌, [], inl, inr, ℕ, List, refl, sym, ap, append_assoc, append-nil}
-use Rattle.std.specs.Prelude.{◌≢◌, codes, IfErr, IsErrAnd, OnErr, Result, Ok, Err}
+use Rattle.std.specs.Prelude.{◌≢◌, codes, IfErr, IsErrAnd, OnErr, OnOk, Result, Ok, Err}
 use Rattle.tc_types.specs.declared.moves.Move.{Move}
 use Rattle.tc_types.specs.History.{shift_rows}
 use Rattle.tc_types.specs.Tables.{Image}
@@ -49,6 +49,10 @@ ends_unread (Err fault) why (inr is) gives = inr (inr (gives ∙ ap fault_of is)
 pub on_err : {X E : Type 0} (result : Result X E) (P : Type 0) → P → OnErr result P
 on_err (Ok x) P p = tt
 on_err (Err e) P p = p
+
+pub on_ok : {X E : Type 0} (result : Result X E) (P : Type 0) → P → OnOk result P
+on_ok (Ok x) P p = p
+on_ok (Err e) P p = tt
 
 pub on_err_then : {X E : Type 0} (result : Result X E) (P Q : Type 0) → OnErr result P → (P → Q) → OnErr result Q
 on_err_then (Ok x) P Q p then = tt

@@ -15,6 +15,7 @@ use Rattle.tc_types.specs.Loads.{LoadLine, SpellsLoad, line_of}
 use Rattle.tc_types.specs.declared.loads.Load.{Load}
 use Rattle.tc_types.specs.declared.refusals.Refusal.{Refusal}
 use Rattle.tc_types.specs.declared.refusals.Refusal.TheVariants.{TooLong}
+use Rattle.tc_desk.specs.Headline.{TellsTrue}
 use Rattle.tc_desk.specs.Replies.{Reply}
 use Rattle.tc_desk.specs.declared.configs.Config as configs
 use Rattle.tc_room.specs.Answers.{AsksPlaces, RefusesWith}
@@ -124,8 +125,8 @@ module _ {S : Type 0} (g : Ghosts S) where
   -- the lines of a script, and the question at the end
   pub lines_run : (input : List ℕ) (start end after : Standing S) (refused last : Bool) (gave gives : Option (List FileAnswer)) (old mid new : Option (List ℕ))
       → CameAll start (script_lines input) end gave gives old mid refused → CameLast end after mid new last
-      → IsKept end.desk.book → RunsLines g start input (if refused || last then 1 else 0) gave gives old new after
-  lines_run input start end after refused last gave gives old mid new (replies, files, takes, given, written, refusals) (reply, asks, appends, is_reply) kept =
+      → IsKept end.desk.book → TellsTrue end.opened end.desk → end.opened ≡ start.opened → RunsLines g start input (if refused || last then 1 else 0) gave gives old new after
+  lines_run input start end after refused last gave gives old mid new (replies, files, takes, given, written, refusals) (reply, asks, appends, is_reply) kept told same =
       let all : flat_map ended (replies ++ reply ∷ []) ≡ flat_map ended replies ++ ended reply =
       flat_map-append ended replies (reply ∷ []) ∙ ap (λ bytes. flat_map ended replies ++ bytes) (append-nil (ended reply)) in
       let any : list_any is_refused (replies ++ reply ∷ []) ≡ (refused || last) =
@@ -141,6 +142,7 @@ module _ {S : Type 0} (g : Ghosts S) where
         written = rw all (Appends-trans _ _ _ _ _ written appends);
         status_is = ap (λ (b : Bool). if b then 1 else 0) (sym any);
         kept = kept;
+        tells = subst (λ (n : ℕ). TellsTrue n end.desk) same told;
         held = λ held. step_held g end after nobody (act.Ask query.Places) reply (asks nobody) (lines_held g start end (script_lines input) files replies takes held);
         failed = λ held going. question_failed g start end after (script_lines input) files replies reply (script_lines input, sym (append-nil (script_lines input)), takes) asks
             (lines_held g start end (script_lines input) files replies takes held)

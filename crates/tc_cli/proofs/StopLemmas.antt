@@ -94,10 +94,10 @@ module _ {S : Type 0} (g : Ghosts S) where
       → is_skipped line ≡ false → Unanswered old line gave gives after fault → Left fault old (line ∷ []) gave gives w w after
   stopped_unanswered Script old after line gave gives w goes_on why = absurd why.1
   stopped_unanswered Output old after line gave gives w goes_on why = absurd why.1
-  stopped_unanswered Memory old after line gave gives w goes_on (files, why, given) = (files, [], (refl, goes_on, why), given, Appends-nil w)
+  stopped_unanswered Memory old after line gave gives w goes_on (files, why, given) = (files, [], (refl, (goes_on, why)), given, Appends-nil w)
   stopped_unanswered Tables old after line gave gives w goes_on why = absurd why.1
   stopped_unanswered Config old after line gave gives w goes_on why = absurd why.1
-  stopped_unanswered Path old after line gave gives w goes_on (files, why, given) = (files, [], (refl, goes_on, why), given, Appends-nil w)
+  stopped_unanswered Path old after line gave gives w goes_on (files, why, given) = (files, [], (refl, (goes_on, why)), given, Appends-nil w)
 
   -- the reply to a line was cut short
   pub stopped_at_line : (old after : Standing S) (line : List ℕ) (gave gives : Option (List FileAnswer)) (bytes text : List ℕ) (why : Option Refusal) (mid new : Option (List ℕ)) (fault : ScriptFault)
@@ -112,7 +112,7 @@ module _ {S : Type 0} (g : Ghosts S) where
   -- its reply found no memory
   pub question_unanswered : (old after : Standing S) (reply : Reply) (w : Option (List ℕ)) → AsksPlaces g old reply after
       → (part : List ℕ) × LeavesPart g Memory old [] [] part after × Appends w w part
-  question_unanswered old after reply w asks = ([], (refl, (refl, (reply, (refl, asks)))), Appends-nil w)
+  question_unanswered old after reply w asks = ([], (refl, (refl, reply, (refl, asks))), Appends-nil w)
 
   -- its reply was cut short
   pub stopped_in_question : (end after : Standing S) (bytes text : List ℕ) (why : Option Refusal) (mid new : Option (List ℕ)) (fault : ScriptFault)
@@ -152,16 +152,16 @@ module _ {S : Type 0} (g : Ghosts S) where
 
   moves_held : (old after : Standing S) (left : List (List ℕ)) (files : List FileAnswer) → Moves old left files after → HoldsBook g old → HoldsBook g after
   moves_held old after left files (inl same) held = subst (HoldsBook g) (sym same) held
-  moves_held old after [] files (inr (reply, none, asks)) held = step_held g old after nobody (act.Ask query.Places) reply (asks nobody) held
-  moves_held old after (line ∷ lines) files (inr (reply, goes_on, answers)) held = line_held g old after line files (reply ∷ []) (next_taken old after line files reply goes_on answers) held
+  moves_held old after [] files (inr (reply, (none, asks))) held = step_held g old after nobody (act.Ask query.Places) reply (asks nobody) held
+  moves_held old after (line ∷ lines) files (inr (reply, (goes_on, answers))) held = line_held g old after line files (reply ∷ []) (next_taken old after line files reply goes_on answers) held
 
   moves_failed : (start old after : Standing S) (lines left : List (List ℕ)) (files more : List FileAnswer) (replies : List Reply) → TakesFront g start lines files replies old left
       → Moves old left more after → HoldsBook g old → Failed g start lines replies old → (told : List Reply) × Failed g start lines (replies ++ told) after
   moves_failed start old after lines left files more replies front (inl same) held failed =
       ([], subst (Failed g start lines (replies ++ [])) (sym same) (subst (λ (l : List Reply). Failed g start lines l old) (sym (append-nil replies)) failed))
-  moves_failed start old after lines [] files more replies front (inr (reply, none, asks)) held failed =
+  moves_failed start old after lines [] files more replies front (inr (reply, (none, asks))) held failed =
       (reply ∷ [], question_failed g start old after lines files replies reply front asks held failed)
-  moves_failed start old after lines (line ∷ others) files more replies front (inr (reply, goes_on, answers)) held failed =
+  moves_failed start old after lines (line ∷ others) files more replies front (inr (reply, (goes_on, answers))) held failed =
       (reply ∷ [], line_failed g start old after lines files replies line others more (reply ∷ []) front (next_taken old after line more reply goes_on answers) held failed)
 
   -- ---- all of it

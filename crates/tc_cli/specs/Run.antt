@@ -17,6 +17,7 @@ use Rattle.tc_types.specs.Loads.{LoadLine, SpellsLoad}
 use Rattle.tc_types.specs.Lines.{places_line}
 use Rattle.tc_book.specs.Book.{Book}
 use Rattle.tc_book.specs.declared.stamps.Stamp.{Stamp}
+use Rattle.tc_desk.specs.Headline.{TellsTrue}
 use Rattle.tc_desk.specs.Loads.{Loading}
 use Rattle.tc_desk.specs.Machine.{stamp_of}
 use Rattle.tc_desk.specs.Replies.{Reply}
@@ -123,6 +124,8 @@ pub record RunsLines {S : Type 0} (g : Ghosts S) (start : Standing S) (input : L
   pub written : Appends old new (flat_map ended (replies ++ last ∷ []))
   pub status_is : status ≡ status_of (replies ++ last ∷ [])
   pub kept : IsKept end.desk.book
+  -- what the rows since the room was opened tell of its link is true
+  pub tells : TellsTrue start.opened end.desk
   -- the tables hold the book in the end too, while the room goes on; else what the failure of the database left
   pub held : HoldsBook g start → HoldsBook g after
   pub failed : HoldsBook g start → start.stopped ≡ false → after.stopped ≡ true → HasCleanDisk (state g after.tables)

@@ -1,5 +1,5 @@
 //! The shift report of a desk that nobody has open, written from its tables.
-ghost use Rattle.std.specs.Prelude.{◌≡◌, ◌⊎◌, ℕ, List, [], IfErr, IsTrue, OnErr, OnOk};
+ghost use Rattle.std.specs.Prelude.{◌≡◌, ◌⊎◌, ℕ, List, [], IfErr, OnErr, OnOk};
 ghost use Rattle.std.specs.Io.KnownBytes.{Appends};
 ghost use Rattle.sqlite.specs.Held.{state};
 ghost use Rattle.sqlite.specs.State.{HasCleanDisk};
@@ -8,7 +8,7 @@ ghost use Rattle.tc_types.specs.History.{shift_rows};
 ghost use Rattle.tc_types.specs.Tables.{Image};
 ghost use Rattle.tc_report.specs.ShiftReport.{AreAdded};
 ghost use Rattle.tc_store.specs.Schema.{Holds};
-ghost use Rattle.tc_room.specs.Closed.{IsClosedReport, OnlyReads};
+ghost use Rattle.tc_room.specs.Closed.{AreJudged, IsClosedReport, LeavesTables, OnlyReads};
 ghost use Rattle.tc_cli.specs.Closed.{CutsReport, CutsRows};
 ghost use Rattle.tc_cli.specs.Script.{written_counts};
 
@@ -37,8 +37,7 @@ fn write_pages<S: Alter + Drop, W: Write>(
     ensures cut { HasCleanDisk (state S.Store tables.new) → OnErr result ((image : Image) → Holds (state S.Store tables.old).now image
         → (part : List ℕ) × CutsRows image from to part × Appends (W.contents (inner_of writer.old)) (W.contents (inner_of writer.new)) part) }
     ensures reads { OnOk result (OnlyReads S.Store tables.old tables.new) }
-    ensures kept { HasCleanDisk (state S.Store tables.new) → IsTrue (state S.Store tables.new).is_open → (image : Image) → Holds (state S.Store tables.old).now image → Holds (state S.Store tables.new).now image }
-    ensures clean { HasCleanDisk (state S.Store tables.new) → HasCleanDisk (state S.Store tables.old) }
+    ensures left { LeavesTables S.Store tables.old tables.new }
     ensures fault { IfErr result (λ fault. (fault ≡ ScriptFault.Output) ⊎ (fault ≡ ScriptFault.Memory) ⊎ (fault ≡ ScriptFault.Tables)) }
     ensures counted { counts_of writer.new ≡ written_counts result }
 {
@@ -69,12 +68,13 @@ pub fn closed_report<S: Alter + Drop, W: Write>(
     requires { counts_of writer.old ≡ no_counts }
     ensures told { HasCleanDisk (state S.Store tables.new) → OnOk result ((image : Image) → Holds (state S.Store tables.old).now image
         → (text : List ℕ) × IsClosedReport image from to text × Appends (W.contents (inner_of writer.old)) (W.contents (inner_of writer.new)) text) }
-    // so what a report that fails has written does not look whole
+    // it is told only of tables whose rows all read as rows that a desk writes
+    ensures judged { HasCleanDisk (state S.Store tables.new) → OnOk result (AreJudged S.Store tables.old) }
+    // what one that fails has written does not look whole
     ensures cut { HasCleanDisk (state S.Store tables.new) → OnErr result ((image : Image) → Holds (state S.Store tables.old).now image
         → (part : List ℕ) × CutsReport image from to part × Appends (W.contents (inner_of writer.old)) (W.contents (inner_of writer.new)) part) }
     ensures reads { OnOk result (OnlyReads S.Store tables.old tables.new) }
-    ensures kept { HasCleanDisk (state S.Store tables.new) → IsTrue (state S.Store tables.new).is_open → (image : Image) → Holds (state S.Store tables.old).now image → Holds (state S.Store tables.new).now image }
-    ensures clean { HasCleanDisk (state S.Store tables.new) → HasCleanDisk (state S.Store tables.old) }
+    ensures left { LeavesTables S.Store tables.old tables.new }
     ensures fault { IfErr result (λ fault. (fault ≡ ScriptFault.Output) ⊎ (fault ≡ ScriptFault.Memory) ⊎ (fault ≡ ScriptFault.Tables)) }
     ensures counted { counts_of writer.new ≡ written_counts result }
 {

@@ -103,6 +103,8 @@ pub(crate) fn run_room<S: Alter + Drop, P: Paths, W: Write>(
     ensures counted { counts_of writer.new ≡ written_counts result }
 {
     let refused = run_lines(alloc, room, text, paths, writer)?;
+    // read for the proof alone: what the rows tell is true
+    let _opened = room.opened();
     let last = run_places(alloc, room, writer)?;
     Ok(status_of(refused | last))
 }
@@ -157,6 +159,7 @@ fn answer_file<S: Alter + Drop, P: Paths>(
         ((reply : Reply) × (text : List ℕ) × RoomLoad S.Store room.old (loader_of (line_of load.now)) load.now.kind load.now.name text reply room.new
         × Gives (P.given paths.old) (P.given paths.new) (file_at load.now.path.now text ∷ []))
         ⊎ (Gives (P.given paths.old) (P.given paths.new) (none_at load.now.path.now path_fault.Memory ∷ []) × (room.new ≡ room.old)) }
+    ensures opened { room.new.opened ≡ room.old.opened }
 {
     match paths.load(alloc, load.path, MOST_FILE_BYTES) {
         Ok(text) => {
@@ -180,6 +183,7 @@ fn answer<S: Alter + Drop, P: Paths>(
         × (string_bytes answer.text ≡ ended reply) × RefusesWith reply answer.refusal) }
     ensures unanswered { IfErr result (λ fault. (files : List FileAnswer) × IsUnanswered S.Store fault room.old line.now files room.new
         × Gives (P.given paths.old) (P.given paths.new) files) }
+    ensures opened { room.new.opened ≡ room.old.opened }
 {
     match read_load(line) {
         Ok(load) => answer_file(alloc, room, &load, paths),
@@ -208,6 +212,7 @@ fn run_line<S: Alter + Drop, P: Paths, W: Write>(
         × Appends (W.contents (inner_of writer.old)) (W.contents (inner_of writer.new)) part) }
     ensures fault { IfErr result (λ fault. fault ≢ ScriptFault.Script) }
     ensures counted { counts_of writer.new ≡ written_counts result }
+    ensures opened { room.new.opened ≡ room.old.opened }
 {
     if is_skipped(line) {
         return Ok(false);
@@ -234,6 +239,7 @@ fn run_lines<S: Alter + Drop, P: Paths, W: Write>(
         (P.given paths.old) (P.given paths.new) (W.contents (inner_of writer.old)) (W.contents (inner_of writer.new)) room.new) }
     ensures fault { IfErr result (λ fault. fault ≢ ScriptFault.Script) }
     ensures counted { counts_of writer.new ≡ written_counts result }
+    ensures opened { room.new.opened ≡ room.old.opened }
 {
     let mut refused = false;
     for line in text.lines() {
@@ -257,6 +263,7 @@ fn run_places<S: Alter + Drop, W: Write>(
     ensures fault { IfErr result (λ fault. fault ≢ ScriptFault.Script) }
     ensures kept { IsKept room.old.desk.book }
     ensures counted { counts_of writer.new ≡ written_counts result }
+    ensures opened { room.new.opened ≡ room.old.opened }
 {
     let last = answer_places(alloc, room)?;
     put(writer, last.text.as_bytes())?;

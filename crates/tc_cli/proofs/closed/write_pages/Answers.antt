@@ -8,21 +8,22 @@ use Rattle.tc_types.specs.declared.moves.Move.{Move}
 use Rattle.tc_types.specs.History.{shift_rows}
 use Rattle.tc_report.specs.ShiftReport.{AreAdded}
 use Rattle.tc_report.proofs.RowLemmas.{none_added}
-use Rattle.tc_room.proofs.ReportLemmas.{left_behind, left_none, reads_same, reads_then}
+use Rattle.tc_room.proofs.ReportLemmas.{leaves_same, leaves_then, left_behind, left_none, reads_same, reads_then}
 use Rattle.tc_front.specs.Write.{IsCutShort}
 use Rattle.tc_cli.proofs.ClosedLemmas.{ends_unread, on_err, page_added, page_cut, rows_written}
 use Rattle.tc_cli.proofs.closed.write_pages.Goals as goal
 
 pub pages-init : goal.pages-init
-pages-init g c = (reads_same g.S.Store c.args.tables.now, (λ clean image held. ([], [], refl, none_added [], Appends-nil (g.W.Write.contents (inner_of c.args.writer.now)))), c.requires)
+pages-init g c = (reads_same g.S.Store c.args.tables.now, leaves_same g.S.Store c.args.tables.now, (λ clean image held. ([], [], refl, none_added [], Appends-nil (g.W.Write.contents (inner_of c.args.writer.now)))), c.requires)
 
 pub pages-preserved : goal.pages-preserved
 pages-preserved g c =
     let reads = c.in_ok-page.ensures.reads in (
       reads_then g.S.Store c.args.tables.now c.pages.tables c.closed_page.new.tables c.pages.invariant.0 reads,
+      leaves_then g.S.Store c.args.tables.now c.pages.tables c.closed_page.new.tables c.pages.invariant.0 c.pages.invariant.1 c.in_ok-page.ensures.left,
       (λ clean image held.
           let all : List Move = shift_rows c.args.from c.args.to image.moves in
-          let was = c.pages.invariant.1 (reads.clean clean) image held in
+          let was = c.pages.invariant.2 (reads.clean clean) image held in
           let page = c.in_ok-page.ensures.page clean image (c.pages.invariant.0.holds (reads.clean clean) image held) in
           let text : List ℕ = string_bytes c.in_ok-page.page.text in
           let put = subst (λ bytes. Appends (g.W.Write.contents (inner_of c.pages.writer)) (g.W.Write.contents (inner_of c.put.new.writer)) bytes) c.as_bytes.ensures.value c.in_ok-put.ensures.written in (
@@ -39,7 +40,7 @@ pub returns-then-is_none-clause-told : goal.returns-then-is_none-clause-told
 returns-then-is_none-clause-told g c clean image held =
     let all : List Move = shift_rows c.args.from c.args.to image.moves in
     let reads = c.in_ok-page.ensures.reads in
-    let was = c.pages.invariant.1 (reads.clean clean) image held in
+    let was = c.pages.invariant.2 (reads.clean clean) image held in
     let page = c.in_ok-page.ensures.page clean image (c.pages.invariant.0.holds (reads.clean clean) image held) in
     let text : List ℕ = string_bytes c.in_ok-page.page.text in
     let put = subst (λ bytes. Appends (g.W.Write.contents (inner_of c.pages.writer)) (g.W.Write.contents (inner_of c.put.new.writer)) bytes) c.as_bytes.ensures.value c.in_ok-put.ensures.written in
@@ -57,20 +58,22 @@ returns-in_err-page-clause-fault g c = ends_unread _ _ c.in_err-page.ensures.kin
 
 pub returns-in_err-page-clause-cut : goal.returns-in_err-page-clause-cut
 returns-in_err-page-clause-cut g c clean = on_err c.from_residual.result _ (λ image held.
-    let was = c.pages.invariant.1 (c.in_err-page.ensures.clean clean) image held in
+    let was = c.pages.invariant.2 (c.in_err-page.ensures.left.clean clean) image held in
     (was.1, rows_written image c.args.from c.args.to was.0 _ was.1 was.2 was.3, was.4))
 
-pub returns-in_err-page-clause-kept : goal.returns-in_err-page-clause-kept
-returns-in_err-page-clause-kept g c clean open_ image held =
-    c.in_err-page.ensures.kept clean open_ image (c.pages.invariant.0.holds (c.in_err-page.ensures.clean clean) image held)
+pub returns-in_err-page-clause-left : goal.returns-in_err-page-clause-left
+returns-in_err-page-clause-left g c = leaves_then g.S.Store c.args.tables.now c.pages.tables c.closed_page.new.tables c.pages.invariant.0 c.pages.invariant.1 c.in_err-page.ensures.left
 
-pub returns-in_err-page-clause-clean : goal.returns-in_err-page-clause-clean
-returns-in_err-page-clause-clean g c clean = c.pages.invariant.0.clean (c.in_err-page.ensures.clean clean)
+pub returns-in_err-put-clause-left : goal.returns-in_err-put-clause-left
+returns-in_err-put-clause-left g c = leaves_then g.S.Store c.args.tables.now c.pages.tables c.closed_page.new.tables c.pages.invariant.0 c.pages.invariant.1 c.in_ok-page.ensures.left
+
+pub returns-then-is_none-clause-left : goal.returns-then-is_none-clause-left
+returns-then-is_none-clause-left g c = leaves_then g.S.Store c.args.tables.now c.pages.tables c.closed_page.new.tables c.pages.invariant.0 c.pages.invariant.1 c.in_ok-page.ensures.left
 
 pub returns-in_err-put-clause-cut : goal.returns-in_err-put-clause-cut
 returns-in_err-put-clause-cut g c clean = on_err c.from_residual-in_err-put.result _ (λ image held.
     let reads = c.in_ok-page.ensures.reads in
-    let was = c.pages.invariant.1 (reads.clean clean) image held in
+    let was = c.pages.invariant.2 (reads.clean clean) image held in
     let page = c.in_ok-page.ensures.page clean image (c.pages.invariant.0.holds (reads.clean clean) image held) in
     let text : List ℕ = string_bytes c.in_ok-page.page.text in
     let cut = c.in_err-put.ensures.cut in (
@@ -81,5 +84,5 @@ returns-in_err-put-clause-cut g c clean = on_err c.from_residual-in_err-put.resu
 
 pub returns-clause-cut : goal.returns-clause-cut
 returns-clause-cut g c clean image held =
-    let was = c.pages.invariant.1 clean image held in
+    let was = c.pages.invariant.2 clean image held in
     (was.1, rows_written image c.args.from c.args.to was.0 _ was.1 was.2 was.3, was.4)

@@ -10,12 +10,13 @@ use Rattle.tc_types.specs.Tables.{Image}
 use Rattle.tc_report.specs.ShiftReport.{AreAdded}
 use Rattle.tc_store.specs.Loads.{moves_behind}
 use Rattle.tc_store.specs.Schema.{Holds}
-use Rattle.tc_room.specs.Closed.{OnlyReads}
+use Rattle.tc_room.specs.Closed.{LeavesTables, OnlyReads}
 use Rattle.tc_cli.proofs.closed.write_pages.Given as goal
 
 abbrev pub invariant-pages : goal.invariant-pages
 invariant-pages g l =
     OnlyReads g.S.Store l.fn.tables l.tables
+    × LeavesTables g.S.Store l.fn.tables l.tables
     × (HasCleanDisk (state g.S.Store l.tables) → (image : Image) → Holds (state g.S.Store l.fn.tables).now image → (before : List Move) × (text : List ℕ)
     × (before ++ moves_behind l.after (shift_rows l.from l.to image.moves) ≡ shift_rows l.from l.to image.moves)
     × AreAdded before [] text

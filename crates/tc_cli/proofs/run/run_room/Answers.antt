@@ -14,7 +14,7 @@ returns-in_err-last-clause-stopped g c =
     rw gone (lines_stopped g.S.Store _ _ _ _ _ _ _ _ _ _ _ c.in_ok-refused.ensures.taken c.in_err-last.ensures.stopped)
 
 pub returns-clause-answered : goal.returns-clause-answered
-returns-clause-answered g c = rw c.status_of.ensures (lines_run g.S.Store _ _ _ _ _ _ _ _ _ _ _ c.in_ok-refused.ensures.taken c.in_ok-last.ensures.taken c.in_ok-last.ensures.kept)
+returns-clause-answered g c = rw c.status_of.ensures (lines_run g.S.Store _ _ _ _ _ _ _ _ _ _ _ c.in_ok-refused.ensures.taken c.in_ok-last.ensures.taken c.in_ok-last.ensures.kept c.opened-opened.ensures.told c.in_ok-refused.ensures.opened)
 
 pub returns-in_err-last-clause-fault : goal.returns-in_err-last-clause-fault
 returns-in_err-last-clause-fault g c =
