@@ -1,6 +1,7 @@
 pub mod Book
 pub mod Targets
 pub mod Stacks
+pub mod Persons
 pub mod Good
 pub mod Conserved
 pub mod Records
