@@ -324,6 +324,22 @@ def changes_of(desk, dice):
     return changes
 
 
+def with_stacks(desk, most):
+    """So many stacks: those that stand, and of one row each as many as lack, whose requests were entered and nothing more."""
+    tables, author, apid = desk.tables, desk.tables.stack[0].author, 2047
+    count = sum(it.apid == apid for it in tables.request)
+    statements, lack = [], most - len(tables.stack)
+    for n in range(lack):
+        num, seq, name = len(tables.request) + n + 1, len(tables.move) + n + 1, f"more{n}"
+        statements += [
+            ("INSERT INTO request VALUES (?, ?, ?, 0, 0, 8, 1, 0, 0, 'ok', ?, ?, 1, 0, 1)", [num, apid, count + n, author, name]),
+            ("INSERT INTO move VALUES (?, ?, 0, 1, 1, ?, 0)", [seq, num, author]),
+            ("INSERT INTO stack VALUES (?, ?, 0)", [name, author]),
+        ]
+    statements.append(("UPDATE tally SET amount = amount + ? WHERE place = 1", [lack]))
+    return Change(desk, f"{most} stacks", statements)
+
+
 # ---- what becomes of a change
 
 def change_file(path, change):
@@ -431,6 +447,7 @@ def main():
             sys.exit(f"broken_cases: the desks are not as they should be: {lack}")
         dice = random.Random(SEED)
         changes = [change for desk in desks for change in changes_of(desk, dice)]
+        changes += [with_stacks(desks[0], most) for most in (1000, 1001)]
         found = judge_all(program, work, changes)
     counts = {kind: sum(it.kind == kind for it in found) for kind in ("refused", "taken", "skipped")}
     faults = sum(bool(it.fault) for it in found)

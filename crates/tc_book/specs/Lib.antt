@@ -7,6 +7,7 @@ pub mod Conserved
 pub mod Records
 pub mod Acts
 pub mod Loads
+pub mod Interlocks
 pub mod Logs
 pub mod Steps
 pub mod Tables

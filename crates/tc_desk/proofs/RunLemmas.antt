@@ -94,7 +94,7 @@ empty_good = record { names = tt; few = omega arith; steps = tt; of_known = tt; 
 
 -- nor of a book
 empty_book_good : IsGoodBook empty_book
-empty_book_good = record { history = tt; requests = tt; few = omega arith; entered = refl; named = tt; alone = tt; stacks_named = tt; approved = tt; stacks_approved = tt; log = empty_good; log_named = tt; complete = tt }
+empty_book_good = record { history = tt; requests = tt; few = omega arith; entered = refl; named = tt; alone = tt; stacks_named = tt; approved = tt; stacks_approved = tt; log = empty_good; log_named = tt; complete = tt; persons = record { authors = tt; approvers = tt; stack_approvers = tt; loaders = tt; beginners = tt; recorders = tt }; few_stacks = omega arith; numbers = omega arith }
 
 over_stands : {U D : Type 0} (config : Config) (book : Book) (up : U) (down : D) → IsGoodBook book → Stands (length book.history) (record (new_desk config up down) { book = book })
 over_stands config book up down good = record { tied = over_tied config book up down; good = good; claims = λ clean. new_claims config up down }

@@ -1,3 +1,4 @@
+mod ToldLemmas
 mod RoomLemmas
 mod TableLemmas
 mod OpeningLemmas
