@@ -20,7 +20,7 @@ use Rattle.tc_proc.specs.Logs.{LogState}
 use Rattle.tc_book.specs.declared.marks.Mark.{Mark}
 use Rattle.tc_book.specs.declared.stamps.Stamp.{Stamp}
 use Rattle.tc_book.specs.Batch.{GoesOn, mark_of}
-use Rattle.tc_book.specs.Book.{Book, place_in, stands, request_in, request_at, want, moved, row_of}
+use Rattle.tc_book.specs.Book.{Book, place_in, stands, request_at, want, moved, row_of}
 use Rattle.tc_book.specs.Good.{IsGoodRequest}
 use Rattle.tc_book.specs.Held.{held_by, has_number, opened_from, looked_at}
 use Rattle.tc_book.specs.Opening.{opened_places, inserts, is_held, opened_to, desk_stamp, opened_request, opened_book, count_opened, HasNumbers}
@@ -219,16 +219,6 @@ away_numbered stamp book to c r found here off numbers =
     by_zero false e =
         fewer (λ (x : Request). stands book x.number opened_places) (λ (x : Request). stands new x.number opened_places) book.requests (r.number - 1) r
         (λ x is. was x.number (r.number == x.number) refl is) e here gone
-
--- ---- what it leaves
-
--- and is found by it
-pub found_there : (requests : List Request) (k : ℕ) (row : Request) → AllAfter IsGoodRequest [] requests → k < length requests → row ≡ get_or requests k row → request_in requests row.number ≡ Some row
-found_there requests k row all low is =
-    let number = numbered_there requests k row all low is in
-    let some : (row.number == 0) ≡ false = grind (arith, nat_tests, number) in
-    let at : row.number - 1 ≡ k = omega (arith, number) in
-    rw (some, at) (slice_get_read requests (length requests) k row refl low is)
 
 -- what an opening leaves, and what it makes goes on
 abbrev Leaves : Book → Book → Type 0

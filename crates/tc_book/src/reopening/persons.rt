@@ -13,7 +13,8 @@ use tc_types::requests::Request;
 use tc_types::rows::{Approval, BegunExecution, LoadedProcedure, StackApproval, StepRecord};
 
 /// A row that names somebody.
-trait Naming {
+pub(crate) trait Naming {
+    /// Whom it names are persons.
     ghost names: { Self → Type 0 };
 
     /// Whether all whom it names are persons.
@@ -93,7 +94,7 @@ impl Naming for StepRecord {
 
 /// Whether all whom these rows name are persons.
 fn name_persons<T: Naming>(rows: &[T]) -> bool
-    ensures { IsTrue result ↔ AllByRecursion T.names rows.now }
+    ensures { IsTrue result ↔ AllByRecursion T.Naming.names rows.now }
 {
     for row in rows {
         if !row.names_persons() {
