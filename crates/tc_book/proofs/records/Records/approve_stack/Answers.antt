@@ -18,4 +18,4 @@ invariant_of-self g c =
 pub returns-clause-full : goal.returns-clause-full
 returns-clause-full g c = λ is.
     let book : Book = record { requests = c.self.inside.requests.items; history = c.self.inside.history.rows; approvals = c.self.inside.approvals.items; stack_approvals = c.self.inside.stack_approvals.items; log = c.self.inside.log.told } in
-    rw (c.push_within.ensures.items, c.name-person.ensures.value) (completed book c.args.name c.args.person (rw (← c.self.view_is) at (sym c.completes_stack-complete.ensures ∙ is)))
+    rw (c.push_within.ensures.items, c.name-person.ensures.value) (completed book c.args.name c.args.person (rw (← c.self.view_is, c.name-person.ensures.value) at (sym c.completes_stack-complete.ensures ∙ is)))
