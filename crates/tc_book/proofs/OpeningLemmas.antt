@@ -158,7 +158,10 @@ step_more false true m n so rest = let never : false ≡ true = so refl in cc
 step_more false false m n so rest = omega (arith, rest)
 
 not_more : {X : Type 0} (p q : X → Bool) (xs : List X) → ((y : X) → q y ≡ true → p y ≡ true) → count_by q xs ≤ count_by p xs
-not_more p q [] so = omega arith
+not_more p q [] so =
+    let before : count_by p [] ≡ 0 = refl in
+    let after : count_by q [] ≡ 0 = refl in
+    omega (arith, before, after)
 not_more p q (x ∷ xs) so =
     let ps : count_by p (x ∷ xs) ≡ cond (p x) 1 0 + count_by p xs = sum_by-cons (λ y. cond (p y) 1 0) x xs in
     let qs : count_by q (x ∷ xs) ≡ cond (q x) 1 0 + count_by q xs = sum_by-cons (λ y. cond (q y) 1 0) x xs in
