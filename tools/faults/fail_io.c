@@ -19,6 +19,8 @@
 #include <sys/types.h>
 #include <unistd.h>
 
+#include "setting.h"
+
 static int read_from;
 static int sockets;
 static unsigned long read_most;
@@ -30,11 +32,6 @@ static unsigned long write_nothing_at;
 
 static unsigned long reads;
 static unsigned long writes;
-
-static unsigned long setting(const char *name) {
-    const char *text = getenv(name);
-    return text == NULL ? 0 : strtoul(text, NULL, 10);
-}
 
 __attribute__((constructor)) static void read_settings(void) {
     read_from = (int)setting("READ_FROM");

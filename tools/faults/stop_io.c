@@ -16,6 +16,8 @@
 #include <sys/types.h>
 #include <unistd.h>
 
+#include "setting.h"
+
 enum { FILES = 2, NEITHER = -1, STOPPED = 137, NOTHING_TO_HALVE = 138 };
 
 // What a call took away: the bytes that stood at a place, and the length that the file had.
@@ -36,11 +38,6 @@ static unsigned long calls;
 static unsigned long stop_at;
 static unsigned long stop_half;
 static unsigned long stop_lost;
-
-static unsigned long setting(const char *name) {
-    const char *text = getenv(name);
-    return text == NULL ? 0 : strtoul(text, NULL, 10);
-}
 
 __attribute__((constructor)) static void read_settings(void) {
     const char *path = getenv("STOP_FILE");
