@@ -2,6 +2,7 @@ pub mod NameLaws
 pub mod StepTextLaws
 pub mod WordLaws
 pub mod NumberLaws
+pub mod OneLine
 pub mod LinkLaws
 pub mod Spellings
 mod WorkedCases

@@ -3,6 +3,7 @@ use crate::directives::Directive;
 use crate::entries::Entry;
 use crate::names::Name;
 use crate::numbers::Moment;
+use crate::persons::Person;
 use crate::verdicts::Verdict;
 
 /// A question, which changes nothing.
@@ -76,7 +77,7 @@ pub struct StepAct {
     /// What became of it.
     pub verdict: Verdict,
     /// Who is named as the second person, if anybody is.
-    pub second: Option<Name>,
+    pub second: Option<Person>,
 }
 
 /// An act of a person at the desk.
@@ -98,7 +99,7 @@ pub struct Line {
     /// When, as the line says: no clock is read.
     pub moment: Moment,
     /// Who.
-    pub by: Name,
+    pub by: Person,
     /// What.
     pub act: Act,
 }

@@ -1,8 +1,8 @@
 //! The words of the desk: requests and their places, the moves between places, acts and queries as text, the lines
 //! that are printed, refusals, the rows of the desk's tables, and readers and writers that are counted.
 //!
-//! Every type here but `Counted` is `Copy`, and none takes memory. A newtype keeps the range of its number, and a
-//! contract sees the number alone; a contract sees a `Name` as its bytes.
+//! Every type here but `Counted` and `Words` is `Copy`, and none takes memory. A newtype keeps the range of its number, and a
+//! contract sees the number alone; a contract sees a `Name`, and a `Person`, as its bytes.
 #![tactic(auto)]
 
 pub mod act_reader;
@@ -23,6 +23,7 @@ pub mod loads;
 pub mod moves;
 pub mod names;
 pub mod numbers;
+pub mod persons;
 pub mod places;
 pub mod procedure_texts;
 pub mod readers;

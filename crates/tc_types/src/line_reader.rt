@@ -7,7 +7,7 @@ ghost use Rattle.tc_types.specs.ActGrammar.{act_text, line_text, SpellsLine, act
 
 use crate::act_reader::{LONGEST_ACT, act_of};
 use crate::acts::Line;
-use crate::names::Name;
+use crate::persons::Person;
 use crate::readers::moment;
 use crate::refusals::Refusal;
 use crate::words::{Words, cut};
@@ -36,7 +36,7 @@ fn line_of(words: &mut Words<'_>) -> Option<Line>
     ensures { Reads line_words IsLine words.old result }
 {
     let moment = moment(words.next()?)?;
-    let by = Name::read_person(words.next()?)?;
+    let by = Person::read(words.next()?)?;
     let act = act_of(words)?;
     Some(Line { moment, by, act })
 }

@@ -9,6 +9,7 @@ ghost use Rattle.tc_types.specs.Loads.{LoadLine, line_of, IsPath, kind_word, loa
 use crate::line_reader::has_long_act;
 use crate::loads::{Load, LoadKind};
 use crate::names::Name;
+use crate::persons::Person;
 use crate::readers::{is, moment};
 use crate::refusals::Refusal;
 use crate::words::Words;
@@ -52,7 +53,7 @@ fn load_of<'a>(words: &mut Words<'a>) -> Option<Load<'a>>
     ensures { Reads load_words IsLoad words.old (option_map line_of result) }
 {
     let moment = moment(words.next()?)?;
-    let by = Name::read_person(words.next()?)?;
+    let by = Person::read(words.next()?)?;
     let kind = kind(words.next()?)?;
     let name = Name::read(words.next()?)?;
     let path = path(words.next()?)?;

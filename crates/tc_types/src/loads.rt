@@ -1,6 +1,7 @@
 //! Script lines that load a file.
 use crate::names::Name;
 use crate::numbers::Moment;
+use crate::persons::Person;
 
 /// What a file holds.
 #[derive(Clone, Copy, Debug, PartialEq, Eq)]
@@ -17,7 +18,7 @@ pub struct Load<'a> {
     /// When, as the line says: no clock is read.
     pub moment: Moment,
     /// Who.
-    pub by: Name,
+    pub by: Person,
     /// What the file holds.
     pub kind: LoadKind,
     /// The name that the stack or the procedure gets.

@@ -1,8 +1,7 @@
 //! Names of persons, stacks and procedures. A contract sees a `Name` as its bytes.
-ghost use Rattle.std.specs.Prelude.{◌≡◌, ◌≢◌, ◌↔◌, ℕ, List, IsTrue, IsSome, IfSome};
+ghost use Rattle.std.specs.Prelude.{◌≡◌, ◌↔◌, IsTrue, IsSome, IfSome};
 ghost use Rattle.std.specs.List.{list_all};
-ghost use Rattle.tc_types.specs.Names.{is_name_byte, IsName, IsPerson, is_same_name};
-ghost use Rattle.tc_types.specs.Grammar.{Reads};
+ghost use Rattle.tc_types.specs.Names.{is_name_byte, IsName, is_same_name};
 
 use std::marker::Model;
 use std::str;
@@ -12,7 +11,7 @@ pub const LONGEST_NAME: usize = 16;
 
 /// A name of a person, a stack or a procedure: 1 to 16 of the characters `a-z0-9`.
 ///
-/// The person `desk` is the desk itself. It is a name, but no line may be given by it.
+/// The name `desk` is the desk's own: no person has it (`Person`).
 #[derive(Clone, Copy, Debug, PartialEq, Eq)]
 pub struct Name {
     bytes: [u8; 16],
@@ -80,19 +79,17 @@ impl Name {
         })
     }
 
-    /// The name of a person with these bytes; `None` where they are no name, or the desk's own.
-    pub fn read_person(word: &[u8]) -> Option<Name>
-        ensures { Reads {X = List ℕ} (λ n. n) IsPerson word.now result }
+    /// A name has its form: its type keeps it. This does nothing; its clause is the law.
+    pub fn keeps_form(&self)
+        ensures { IsName self.now }
     {
-        if word == DESK {
-            return None;
-        }
-        Name::read(word)
+        let _length = self.len; // read for the proof alone
     }
 
-    /// The name as text.
+    /// The name as text, in its form.
     pub fn as_str(&self) -> &str
-        ensures { result.now ≡ self.now }
+        ensures text { result.now ≡ self.now }
+        ensures name { IsName result.now }
     {
         str::from_utf8(&self.bytes[..usize::from(self.len)]).unwrap()
     }

@@ -45,7 +45,7 @@ impl Moment {
     }
 }
 
-/// The greatest value that a `Offset` has.
+/// The greatest value that an `Offset` has.
 pub const LARGEST_OFFSET: i64 = 4_102_444_799;
 
 /// A time offset: -4,102,444,799 to 4,102,444,799 seconds.

@@ -1,7 +1,8 @@
 //! What an operator is told when the desk does not do what was asked.
-ghost use Rattle.std.specs.Prelude.{◌≡◌, ◌≤◌, IfOk};
+ghost use Rattle.std.specs.Prelude.{◌≡◌, ◌≤◌, IfOk, IsTrue};
 ghost use Rattle.std.specs.String.{string_bytes};
 ghost use Rattle.tc_types.specs.Lines.{refusal_number, refusal_name, refusal_line};
+ghost use Rattle.tc_types.specs.Words.{is_one_line};
 
 use std::alloc::{AllocError, Allocator};
 
@@ -57,6 +58,17 @@ pub enum Refusal {
     ReadFault,
     /// 34: the answer could not be written.
     WriteFault,
+}
+
+impl From<AllocError> for Refusal {
+    ghost use Rattle.std.specs.Prelude.{◌≡◌};
+    ghost use Rattle.tc_types.specs.declared.refusals.Refusal.TheVariants.{Memory};
+
+    ghost from_gives = { λ _ refusal. refusal ≡ Memory };
+
+    fn from(_error: AllocError) -> Refusal {
+        Refusal::Memory
+    }
 }
 
 impl Refusal {
@@ -127,8 +139,10 @@ impl Refusal {
     }
 
     /// Its line: `refused NUMBER NAME`. Fails where memory is refused.
+    #[tactic(auto, using(crate::proofs::OneLine::refusal_one))]
     pub fn text<A: Allocator + Copy>(self, alloc: A) -> Result<String<A>, AllocError>
-        ensures { IfOk result (λ t. string_bytes t ≡ refusal_line self) }
+        ensures text { IfOk result (λ t. string_bytes t ≡ refusal_line self) }
+        ensures one_line { IfOk result (λ t. IsTrue (is_one_line (refusal_line self))) }
     {
         let number = self.number();
         let name = self.name();

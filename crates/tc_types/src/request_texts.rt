@@ -1,10 +1,11 @@
 //! The line that tells a request, without its LF: what was entered, and where it stands.
-ghost use Rattle.std.specs.Prelude.{◌≡◌, [], ◌∷◌, ◌++◌, if◌then◌else◌, IfOk, OnOk, codes};
+ghost use Rattle.std.specs.Prelude.{◌≡◌, [], ◌∷◌, ◌++◌, if◌then◌else◌, IfOk, OnOk, codes, IsTrue};
 ghost use Rattle.std.specs.Fmt.{decimal};
 ghost use Rattle.std.specs.String.{string_bytes};
 ghost use Rattle.tc_types.specs.Grammar.{ack_word, yes_no};
 ghost use Rattle.tc_types.specs.Lines.{spaced};
 ghost use Rattle.tc_types.specs.RequestLine.{kind_word, target_words, request_line};
+ghost use Rattle.tc_types.specs.Words.{is_one_line};
 
 use crate::moves::from_name;
 use crate::places::Place;
@@ -120,14 +121,18 @@ fn end_line<A: Allocator + Copy>(
 
 /// The line of a request that stands at this place:
 /// `request N APID/COUNT SERVICE/SUBTYPE ACK CRIT TARGET TIME OUTCOME AUTHOR PLACE`. Fails where memory is refused.
+#[tactic(auto, using(crate::proofs::OneLine::request_one))]
 pub fn request_text<A: Allocator + Copy>(
     alloc: A,
     request: &Request,
     place: Option<Place>,
 ) -> Result<String<A>, AllocError>
-    ensures { IfOk result (λ t. string_bytes t ≡ request_line request.now place) }
+    ensures text { IfOk result (λ t. string_bytes t ≡ request_line request.now place) }
+    ensures one_line { IfOk result (λ t. IsTrue (is_one_line (request_line request.now place))) }
 {
     let body = request.body;
+    body.command.keeps_ranges();
+    body.outcome.keeps_ranges();
     let identity = body.identity.text(alloc)?;
     let kind = kind_text(alloc, body.command)?;
     let mut line = begun(

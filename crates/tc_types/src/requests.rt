@@ -1,9 +1,10 @@
 //! Telecommand requests.
-ghost use Rattle.std.specs.Prelude.{◌≡◌, IfOk};
+ghost use Rattle.std.specs.Prelude.{◌≡◌, IfOk, IsTrue};
 ghost use Rattle.std.specs.String.{string_bytes};
 ghost use Rattle.tc_types.specs.Lines.{identity_word, entered_line};
-ghost use Rattle.tc_types.specs.Grammar.{outcome_word};
+ghost use Rattle.tc_types.specs.Grammar.{IsCommand, IsOutcome, outcome_word};
 ghost use Rattle.tc_types.specs.Schedule.{is_schedule};
+ghost use Rattle.tc_types.specs.Words.{is_one_line};
 
 use crate::names::Name;
 use crate::numbers::{
@@ -134,9 +135,56 @@ impl Command {
     {
         !matches!(self, Command::Plain { .. })
     }
+
+    /// Its numbers are in their ranges: their types keep them. This does nothing; its clause is the law.
+    pub fn keeps_ranges(&self)
+        ensures { IsCommand self.now }
+    {
+        // read for the proof alone
+        match self {
+            Command::Plain { service, subtype } => {
+                let _numbers = (service.get(), subtype.get());
+            }
+            Command::InsertActivity { target, time } => {
+                let _numbers = (*target, time.get());
+            }
+            Command::DeleteActivity { target } => {
+                let _target = *target;
+            }
+            Command::ShiftActivity { target, offset } => {
+                let _numbers = (*target, offset.get());
+            }
+            Command::ShiftAll { offset } => {
+                let _offset = offset.get();
+            }
+            Command::EnableSchedule
+            | Command::DisableSchedule
+            | Command::ResetSchedule
+            | Command::SummarizeAll => {}
+        }
+    }
 }
 
 impl Outcome {
+    /// Its numbers are in their ranges: their types keep them. This does nothing; its clause is the law.
+    pub fn keeps_ranges(&self)
+        ensures { IsOutcome self.now }
+    {
+        // read for the proof alone
+        match self {
+            Outcome::Completes => {}
+            Outcome::CompletesInSteps(steps) => {
+                let _steps = steps.get();
+            }
+            Outcome::Refuses(code) | Outcome::StartFails(code) | Outcome::Fails(code) => {
+                let _code = code.get();
+            }
+            Outcome::Halts(steps, code) => {
+                let _numbers = (steps.get(), code.get());
+            }
+        }
+    }
+
     /// Its word, as an entry spells it: `ok`, `ok/STEPS`, `refuse/CODE` and so on. Fails where memory is refused.
     pub fn text<A: Allocator + Copy>(self, alloc: A) -> Result<String<A>, AllocError>
         ensures { IfOk result (λ t. string_bytes t ≡ outcome_word self) }
@@ -170,8 +218,10 @@ impl Outcome {
 
 impl Identity {
     /// Its word: `APID/COUNT`. Fails where memory is refused.
+    #[tactic(auto, using(crate::proofs::OneLine::identity_one))]
     pub fn text<A: Allocator + Copy>(self, alloc: A) -> Result<String<A>, AllocError>
-        ensures { IfOk result (λ t. string_bytes t ≡ identity_word self) }
+        ensures text { IfOk result (λ t. string_bytes t ≡ identity_word self) }
+        ensures one_line { IfOk result (λ t. IsTrue (is_one_line (identity_word self))) }
     {
         let apid = self.apid.get();
         let count = self.count.get();

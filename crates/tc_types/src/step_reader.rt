@@ -4,7 +4,7 @@ ghost use Rattle.tc_types.specs.Grammar.{Reads};
 ghost use Rattle.tc_types.specs.StepGrammar.{verdict_word, second_word, IsSecond, step_words, IsStepAct};
 
 use crate::acts::StepAct;
-use crate::names::Name;
+use crate::persons::Person;
 use crate::readers::{is, number};
 use crate::verdicts::Verdict;
 use crate::words::Words;
@@ -25,13 +25,13 @@ fn verdict(word: &[u8]) -> Option<Verdict>
 }
 
 /// The second person, or none.
-fn second(word: &[u8]) -> Option<Option<Name>>
+fn second(word: &[u8]) -> Option<Option<Person>>
     ensures { Reads second_word IsSecond word.now result }
 {
     if is(word, b"-") {
         return Some(None);
     }
-    let person = Name::read_person(word)?;
+    let person = Person::read(word)?;
     Some(Some(person))
 }
 
