@@ -1,9 +1,10 @@
 //! The lines before those of the moves.
-ghost use Rattle.std.specs.Prelude.{◌≡◌, ◌++◌, ◌∷◌, [], ℕ, List, IfOk, sum, codes};
+ghost use Rattle.std.specs.Prelude.{◌≡◌, ◌++◌, ◌∷◌, [], ℕ, List, IfOk, IsTrue, sum, codes};
 ghost use Rattle.std.specs.String.{string_bytes};
 ghost use Rattle.std.specs.Fmt.{decimal};
+ghost use Rattle.tc_types.specs.Words.{is_one_line};
 ghost use Rattle.tc_report.specs.ShiftReport.{IsReportHead};
-ghost use Rattle.tc_report.specs.Texts.{ended};
+ghost use Rattle.tc_report.specs.Texts.{ended, AreLines};
 
 use crate::texts::add_line;
 use crate::times::time_text;
@@ -26,8 +27,8 @@ fn moves_line<A: Allocator + Copy>(alloc: A, many: usize) -> Result<String<A>, A
     format!(in alloc; "moves {many}")
 }
 
-/// The lines before those of the moves: the shift from `from` on and before `to`, the word that says what holds of the link, how many requests
-/// were entered and how many stand at each place, and how many moves follow.
+/// The lines before those of the moves: the shift from `from` on and before `to`, the word that says what holds of the link, which has no LF, how
+/// many requests were entered and how many stand at each place, and how many moves follow.
 pub fn head_text<A: Allocator + Copy>(
     alloc: A,
     premise: &str,
@@ -37,8 +38,9 @@ pub fn head_text<A: Allocator + Copy>(
     from: Moment,
     to: Moment,
 ) -> Result<String<A>, AllocError>
-    requires { entered ≡ sum places.now }
-    ensures { IfOk result (λ t. (lines : List (List ℕ)) × IsReportHead premise.now places.now many from to lines × (string_bytes t ≡ ended lines)) }
+    requires counted { entered ≡ sum places.now }
+    requires one_line { IsTrue (is_one_line premise.now) }
+    ensures { IfOk result (λ t. (lines : List (List ℕ)) × IsReportHead premise.now places.now many from to lines × AreLines lines × (string_bytes t ≡ ended lines)) }
 {
     let begins = time_text(from);
     let ends = time_text(to);

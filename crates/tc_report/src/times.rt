@@ -1,4 +1,6 @@
 //! Moments as people read them.
+ghost use Rattle.std.specs.Prelude.{IsTrue};
+ghost use Rattle.tc_types.specs.Words.{is_one_line};
 ghost use Rattle.tc_report.specs.ShiftReport.{IsTimeText};
 
 use arrayvec::ArrayString;
@@ -8,8 +10,10 @@ use jiff::tz::Offset;
 use tc_types::numbers::Moment;
 
 /// What a clock at UTC shows at a moment: `YYYY-MM-DD hh:mm:ss`.
+#[tactic(auto, using(crate::proofs::LineLemmas::time_one))]
 pub fn time_text(moment: Moment) -> ArrayString<32>
-    ensures { IsTimeText moment result.bytes }
+    ensures text { IsTimeText moment result.bytes }
+    ensures one_line { IsTrue (is_one_line result.bytes) }
 {
     let instant = Timestamp::from_second(i64::from(moment.get())).unwrap();
     let shown = Offset::UTC.to_datetime(instant).to_plain();

@@ -5,8 +5,8 @@ use Rattle.jiff_core.proofs.SignedLemmas.{signed_arith}
 use Rattle.jiff_fmt.specs.Text.{datetime_text}
 use Rattle.tc_report.proofs.times.time_text.Goals as goal
 
-pub returns : goal.returns
-returns c =
+pub returns-clause-text : goal.returns-clause-text
+returns-clause-text c =
     let made : c.unwrap-instant.result.nanosecond ≡ pos c.args.moment *ℤ pos 1000000000 = search rules in (
       c.to_plain-shown.result,
       ap civil_nanos c.to_plain-shown.ensures ∙ c.to_datetime.ensures ∙ omega (arith, signed_arith, made),
