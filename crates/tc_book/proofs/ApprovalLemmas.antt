@@ -11,6 +11,7 @@ use Rattle.tc_types.specs.declared.rows.Approval.{Approval}
 use Rattle.tc_types.specs.declared.causes.Cause.TheVariants as cause
 use Rattle.tc_types.specs.declared.moves.Move.{Move}
 use Rattle.tc_types.specs.declared.requests.Origin.{Origin}
+use Rattle.tc_types.specs.Names.{IsPerson}
 use Rattle.tc_types.specs.Tests.{first_refusal}
 use Rattle.tc_stack.specs.Approvals.{ApprovalState, IsApproval, unapproved, wanted, is_complete, approved, refusal_of}
 use Rattle.tc_stack.proofs.ApprovalLemmas.{unapproved_sound, unrefused_sound}
@@ -229,9 +230,9 @@ all_so P Q [] so all = tt
 all_so P Q (x ∷ xs) so all = (so x all.0, all_so P Q xs so all.1)
 
 -- an approval that no test refuses keeps the book good
-pub approved_good : (book : Book) (n : ℕ) (person : List ℕ) → IsGoodBook book → is_unknown book n ≡ false → came_with_stack book n ≡ false → ((d : ApprovalState) → refusal_of person (get_or (map (approval_of book.approvals) book.requests) (n - 1) d) ≡ None)
+pub approved_good : (book : Book) (n : ℕ) (person : List ℕ) → IsGoodBook book → IsPerson person → is_unknown book n ≡ false → came_with_stack book n ≡ false → ((d : ApprovalState) → refusal_of person (get_or (map (approval_of book.approvals) book.requests) (n - 1) d) ≡ None)
     → IsGoodBook (with_approval book n person)
-approved_good book n person good known single may = record {
+approved_good book n person good is_one known single may = record {
   history = good.history;
   requests = good.requests;
   few = good.few;
@@ -245,6 +246,16 @@ approved_good book n person good known single may = record {
   log_named = good.log_named;
   complete = all_so (λ (m : Move). m.cause ≡ cause.Approve → is_fully_approved book m.request ≡ true) (λ (m : Move). m.cause ≡ cause.Approve → is_fully_approved (with_approval book n person) m.request ≡ true) book.history
       (λ m was is. by_found (request_at book m.request) (was is)) good.complete;
+  persons = record {
+    authors = good.persons.authors;
+    approvers = all_appended (λ (a : Approval). IsPerson a.person) book.approvals (given_by n person) good.persons.approvers is_one;
+    stack_approvers = good.persons.stack_approvers;
+    loaders = good.persons.loaders;
+    beginners = good.persons.beginners;
+    recorders = good.persons.recorders;
+  };
+  few_stacks = good.few_stacks;
+  numbers = good.numbers;
 }
   where
     by_itself : (found : Option Request) → IsSome found → option_map_or (λ (r : Request). is_some r.origin) found false ≡ false → option_map_or (λ (r : Request). is_none r.origin) found false ≡ true

@@ -19,6 +19,7 @@ pub mod StepLemmas
 pub mod LogLemmas
 pub mod LoadLemmas
 pub mod RowLemmas
+pub mod InterlockLemmas
 pub mod ApproveLemmas
 pub mod OpeningLemmas
 pub mod ReopenLemmas

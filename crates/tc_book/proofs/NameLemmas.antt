@@ -1,5 +1,5 @@
 -- The names of the stacks that were loaded: how many they are, and that a stack is among the requests where its name is among them.
-use Rattle.std.proofs.Common.{◌≡◌, ℕ, zero, suc, ◌+◌, ◌-◌, ◌==◌, Bool, true, false, ◌||◌, cond, if◌then◌else◌, Option, Some, None, List, [], ◌∷◌, ◌++◌, length, inl, inr, refl, sym, ◌∙◌, ap, subst, arith}
+use Rattle.std.proofs.Common.{◌≡◌, ℕ, zero, suc, ◌+◌, ◌-◌, ◌<◌, ◌==◌, Bool, true, false, ◌||◌, cond, if◌then◌else◌, Option, Some, None, List, [], ◌∷◌, ◌++◌, length, inl, inr, refl, sym, ◌∙◌, ap, subst, arith}
 use Rattle.std.specs.Prelude.{IfSome, IsSomeAnd, count_by}
 use Rattle.std.specs.List.{list_any, cons_option, slice_get}
 use Rattle.std.specs.Option.{option_map_or}
@@ -12,8 +12,9 @@ use Rattle.tc_types.specs.declared.requests.Request.{Request}
 use Rattle.tc_types.specs.declared.requests.Origin.{Origin}
 use Rattle.tc_types.specs.History.{AllAfter}
 use Rattle.tc_types.specs.Names.{is_same_name}
-use Rattle.tc_book.specs.Book.{request_in}
+use Rattle.tc_book.specs.Book.{Book, request_in}
 use Rattle.tc_book.specs.Good.{IsNextRow, IsGoodOrigin, IsGoodRequest}
+use Rattle.tc_book.specs.Loads.{has_all_stacks}
 use Rattle.tc_book.specs.Places.{begun_name, stack_names}
 use Rattle.tc_book.specs.Stacks.{is_row_of, is_in_stack, has_stack, begins_stack}
 
@@ -32,6 +33,17 @@ names_counted (r ∷ rs) =
     by_origin : (origin : Option Origin) → length (cons_option (begun_name origin) (stack_names rs)) ≡ cond (option_map_or (λ (o : Origin). o.line == 1) origin false) 1 0 + length (stack_names rs)
     by_origin None = omega arith
     by_origin (Some o) = by_line (o.line == 1) o.stack
+
+-- where no test of a load holds there is one stack less than there may be
+pub room_for_stack : (book : Book) (passes rows : Bool) → (has_all_stacks book || passes || rows) ≡ false → length (stack_names book.requests) < 1000
+room_for_stack book passes rows e = by_all (has_all_stacks book) refl e
+  where
+    by_all : (t : Bool) → has_all_stacks book ≡ t → (t || passes || rows) ≡ false → length (stack_names book.requests) < 1000
+    by_all true is never = cc
+    by_all false is none =
+        let named = names_counted book.requests in
+        let low : count_by begins_stack book.requests < 1000 = grind (arith, nat_tests, is) in
+        omega (arith, named, low)
 
 -- one more request
 pub names_more : (requests : List Request) (r : Request) → stack_names (requests ++ r ∷ []) ≡ stack_names requests ++ cons_option (begun_name r.origin) []

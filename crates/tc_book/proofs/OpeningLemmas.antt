@@ -1,25 +1,29 @@
 -- What an opening makes of the requests, one after the other.
-use Rattle.std.proofs.Common.{◌≡◌, ℕ, ◌+◌, ◌<◌, ◌≤◌, ◌==◌, Bool, true, false, ◌&&◌, ◌||◌, cond, if◌then◌else◌, is_some, Option, Some, None, Result, Ok, Err, IfOk, List, [], ◌∷◌, ◌++◌, length, take, get_or, fold, refl, sym, ◌∙◌, ap, arith}
+use Rattle.std.proofs.Common.{◌≡◌, ℕ, zero, suc, ◌+◌, ◌-◌, ◌<◌, ◌≤◌, ◌==◌, Bool, true, false, ◌&&◌, ◌||◌, cond, if◌then◌else◌, is_some, Option, Some, None, Result, Ok, Err, IfOk, List, [], ◌∷◌, ◌++◌, length, take, get_or, fold, refl, sym, ◌∙◌, ap, arith}
 use Rattle.std.specs.Prelude.{count_by}
-use Rattle.std.specs.List.{list_any, filter_map, cons_option}
+use Rattle.std.specs.List.{list_any, filter_map, cons_option, slice_get}
 use Rattle.std.specs.Option.{option_map_or}
 use Rattle.std.proofs.lemmas.List.{length-append, take_more}
 use Rattle.std.proofs.lemmas.List.Elements.{filter_map-append}
-use Rattle.std.proofs.lemmas.List.Sums.{count_by_more_yes, count_by_more_no, sum_by-take-le}
+use Rattle.std.proofs.lemmas.Bool.Decides.{nat_tests}
+use Rattle.std.proofs.lemmas.List.Sums.{count_by_more_yes, count_by_more_no, sum_by-take-le, sum_by-cons}
 use Rattle.std.proofs.lemmas.Option.{slice_get_read}
 use Rattle.tc_types.specs.declared.places.Place.{Place}
 use Rattle.tc_types.specs.declared.places.Place.TheVariants.{Entered, Approved, Queued, Sent, Confirmed, Riding, Scheduled, Accepted, Started, Completed, Failed, Doubtful, Withdrawn, Deleted, Closed}
+use Rattle.tc_types.specs.declared.causes.Cause.{Cause}
 use Rattle.tc_types.specs.declared.causes.Cause.TheVariants as cause
+use Rattle.tc_types.specs.declared.moves.Move.{Move}
 use Rattle.tc_types.specs.declared.requests.Request.{Request}
-use Rattle.tc_types.specs.Lawful.{is_lawful, is_among}
+use Rattle.tc_types.specs.Lawful.{is_lawful, is_among, is_one_of}
 use Rattle.tc_types.specs.History.{AllAfter}
 use Rattle.tc_proc.specs.Logs.{LogState}
 use Rattle.tc_book.specs.declared.marks.Mark.{Mark}
+use Rattle.tc_book.specs.declared.stamps.Stamp.{Stamp}
 use Rattle.tc_book.specs.Batch.{GoesOn, mark_of}
-use Rattle.tc_book.specs.Book.{Book, place_in, stands, want, moved, row_of}
+use Rattle.tc_book.specs.Book.{Book, place_in, stands, request_at, want, moved, row_of}
 use Rattle.tc_book.specs.Good.{IsGoodRequest}
 use Rattle.tc_book.specs.Held.{held_by, has_number, opened_from, looked_at}
-use Rattle.tc_book.specs.Opening.{opened_places, inserts, is_held, opened_to, desk_stamp, opened_request, opened_book}
+use Rattle.tc_book.specs.Opening.{opened_places, inserts, is_held, opened_to, desk_stamp, opened_request, opened_book, count_opened, HasNumbers}
 use Rattle.tc_book.specs.Targets.{is_insert, target_of}
 use Rattle.tc_book.proofs.GoesOnLemmas.{moved-goes_on, same-goes_on, on_and_on}
 use Rattle.tc_book.proofs.GoodLemmas.{numbers_known}
@@ -143,6 +147,81 @@ opened_front left requests k = sum_by-take-le (λ (r : Request). cond (stands le
 -- a request has the number of its place
 pub numbered_there : (requests : List Request) (k : ℕ) (row : Request) → AllAfter IsGoodRequest [] requests → k < length requests → row ≡ get_or requests k row → row.number ≡ k + 1
 numbered_there requests k row all low is = let number = numbers_known [] requests k row all (slice_get_read requests (length requests) k row refl low is) in omega (arith, number)
+
+-- ---- numbers
+
+-- no more of these pass one test than pass another that all of them pass
+step_more : (a b : Bool) (m n : ℕ) → (b ≡ true → a ≡ true) → m ≤ n → cond b 1 0 + m ≤ cond a 1 0 + n
+step_more true true m n so rest = omega (arith, rest)
+step_more true false m n so rest = omega (arith, rest)
+step_more false true m n so rest = let never : false ≡ true = so refl in cc
+step_more false false m n so rest = omega (arith, rest)
+
+not_more : {X : Type 0} (p q : X → Bool) (xs : List X) → ((y : X) → q y ≡ true → p y ≡ true) → count_by q xs ≤ count_by p xs
+not_more p q [] so =
+    let before : count_by p [] ≡ 0 = refl in
+    let after : count_by q [] ≡ 0 = refl in
+    omega (arith, before, after)
+not_more p q (x ∷ xs) so =
+    let ps : count_by p (x ∷ xs) ≡ cond (p x) 1 0 + count_by p xs = sum_by-cons (λ y. cond (p y) 1 0) x xs in
+    let qs : count_by q (x ∷ xs) ≡ cond (q x) 1 0 + count_by q xs = sum_by-cons (λ y. cond (q y) 1 0) x xs in
+    let step = step_more (p x) (q x) (count_by q xs) (count_by p xs) (so x) (not_more p q xs so) in
+    omega (arith, ps, qs, step)
+
+-- and fewer, where one passes that alone
+fewer : {X : Type 0} (p q : X → Bool) (xs : List X) (i : ℕ) (x : X) → ((y : X) → q y ≡ true → p y ≡ true) → slice_get xs i ≡ Some x → p x ≡ true → q x ≡ false → count_by q xs + 1 ≤ count_by p xs
+fewer p q [] i x so found is off = cc
+fewer p q (y ∷ xs) zero x so found is off =
+    let same : y ≡ x = cc in
+    let ps : count_by p (y ∷ xs) ≡ cond (p y) 1 0 + count_by p xs = sum_by-cons (λ z. cond (p z) 1 0) y xs in
+    let qs : count_by q (y ∷ xs) ≡ cond (q y) 1 0 + count_by q xs = sum_by-cons (λ z. cond (q z) 1 0) y xs in
+    let one : ◌≡◌ {A = ℕ} (cond (p y) 1 0) 1 = ap (λ t. cond t 1 0) (ap p same ∙ is) in
+    let none : ◌≡◌ {A = ℕ} (cond (q y) 1 0) 0 = ap (λ t. cond t 1 0) (ap q same ∙ off) in
+    let rest = not_more p q xs so in
+    omega (arith, ps, qs, one, none, rest)
+fewer p q (y ∷ xs) (suc i) x so found is off =
+    let ps : count_by p (y ∷ xs) ≡ cond (p y) 1 0 + count_by p xs = sum_by-cons (λ z. cond (p z) 1 0) y xs in
+    let qs : count_by q (y ∷ xs) ≡ cond (q y) 1 0 + count_by q xs = sum_by-cons (λ z. cond (q z) 1 0) y xs in
+    let step = step_more (p y) (q y) (count_by q xs + 1) (count_by p xs) (so y) (fewer p q xs i x so found is off) in
+    omega (arith, ps, qs, step)
+
+-- where an opening moves somebody nobody is moved by one
+pub opened_away : (at : Option Place) (held : Bool) → is_one_of opened_places (opened_from at held) ≡ false
+opened_away at held = by_test (is_among (Queued ∷ []) at || (is_among (Riding ∷ []) at && held))
+  where
+    by_test : (t : Bool) → is_one_of opened_places (if t then Approved else Doubtful) ≡ false
+    by_test true = refl
+    by_test false = refl
+
+-- a move away from the places of an opening leaves as many numbers as it found
+pub away_numbered : (stamp : Stamp) (book : Book) (to : Place) (c : Cause) (r : Request) → request_at book r.number ≡ Some r → stands book r.number opened_places ≡ true → is_one_of opened_places to ≡ false
+    → HasNumbers book → HasNumbers (moved stamp book (want r.number to c))
+away_numbered stamp book to c r found here off numbers =
+    let longer = length-append book.history (row ∷ []) in
+    let less = by_zero (r.number == 0) found in
+    omega (arith, longer, less, numbers)
+  where
+    new : Book
+    new = moved stamp book (want r.number to c)
+
+    row : Move
+    row = row_of stamp book.history (want r.number to c)
+
+    now_at : (m : ℕ) (t : Bool) → (r.number == m) ≡ t → stands new m opened_places ≡ is_among opened_places (if t then Some to else place_in book m)
+    now_at m t e = ap (is_among opened_places) (place_of-snoc book.history row m ∙ ap (λ b. if b then Some to else place_in book m) e)
+
+    was : (m : ℕ) (t : Bool) → (r.number == m) ≡ t → stands new m opened_places ≡ true → stands book m opened_places ≡ true
+    was m true e is = let never : false ≡ true = sym off ∙ sym (now_at m true e) ∙ is in cc
+    was m false e is = sym (now_at m false e) ∙ is
+
+    gone : stands new r.number opened_places ≡ false
+    gone = let same : (r.number == r.number) ≡ true = grind (arith, nat_tests) in now_at r.number true same ∙ off
+
+    by_zero : (t : Bool) → (if t then None else slice_get book.requests (r.number - 1)) ≡ Some r → count_opened new + 1 ≤ count_opened book
+    by_zero true e = cc
+    by_zero false e =
+        fewer (λ (x : Request). stands book x.number opened_places) (λ (x : Request). stands new x.number opened_places) book.requests (r.number - 1) r
+        (λ x is. was x.number (r.number == x.number) refl is) e here gone
 
 -- what an opening leaves, and what it makes goes on
 abbrev Leaves : Book → Book → Type 0

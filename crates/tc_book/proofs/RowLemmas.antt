@@ -10,7 +10,7 @@ use Rattle.tc_types.specs.declared.requests.Ack.{Ack}
 use Rattle.tc_types.specs.declared.requests.Command.{Command}
 use Rattle.tc_types.specs.declared.requests.Command.TheVariants as command
 use Rattle.tc_types.specs.declared.rows.StackApproval.{StackApproval}
-use Rattle.tc_types.specs.Names.{is_same_name}
+use Rattle.tc_types.specs.Names.{IsName, is_same_name}
 use Rattle.tc_types.specs.Schedule.{is_schedule, KeepsScheduleRule}
 use Rattle.tc_stack.specs.declared.stacks.StackRow.{StackRow}
 use Rattle.tc_stack.specs.Stacks.{IsEarlier, IsRow, AreRows, IsStack, named_line, at_line, is_barred, named_row, names_barred, first_barred}
@@ -174,11 +174,12 @@ module _ (stamp : Stamp) (name : List ℕ) (book : Book) (rows : List StackRow) 
       by_command command.SummarizeAll before ok = tt
 
   -- the next row goes on with its stack
-  pub next_origin : has_stack name book.requests ≡ false → IsGoodOrigin at.requests stamp.by (origin_of name (k + 1) d)
-  next_origin unused = subst (λ (row : StackRow). IsGoodOrigin at.requests stamp.by (origin_of name (k + 1) row)) (sym here) (record {
+  pub next_origin : has_stack name book.requests ≡ false → IsName name → IsGoodOrigin at.requests stamp.by (origin_of name (k + 1) d)
+  next_origin unused named = subst (λ (row : StackRow). IsGoodOrigin at.requests stamp.by (origin_of name (k + 1) row)) (sym here) (record {
     line = by_first (k == 0) refl;
     few = let most = stack.few in omega (arith, most, low);
     after = by_after (get_or rows k d).after is.after;
+    named = named;
   })
     where
       is : IsRow (1 + k) (get_or rows k d)

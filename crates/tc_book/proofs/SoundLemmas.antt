@@ -1,5 +1,5 @@
--- The parts of sound tables are the whole.
-use Rattle.std.proofs.Common.{◌≡◌, ◌+◌, ◌<◌, ◌^◌, Option, Some, None, List, [], ◌∷◌, length, map, cond, refl, sym, ◌∙◌, ap, arith}
+-- The parts of sound tables are the whole, and the tables of a good book are sound.
+use Rattle.std.proofs.Common.{◌≡◌, ◌+◌, Option, Some, None, List, [], ◌∷◌, map, cond, refl, sym, ◌∙◌, ap, subst}
 use Rattle.std.specs.Prelude.{count_by, unwrap_or}
 use Rattle.std.proofs.lemmas.List.Sums.{sum_by-cons}
 use Rattle.tc_types.specs.declared.places.Place.{Place}
@@ -16,7 +16,7 @@ use Rattle.tc_proc.specs.GoodLogs.{IsGoodLog}
 use Rattle.tc_book.specs.Book.{Book, stands}
 use Rattle.tc_book.specs.Good.{IsGoodBook}
 use Rattle.tc_book.specs.GoodApprovals.{AreGoodApprovals}
-use Rattle.tc_book.specs.Opening.{opened_places, is_opened}
+use Rattle.tc_book.specs.Opening.{opened_places, is_opened, count_opened}
 use Rattle.tc_book.specs.Sound.{IsSound, book_of}
 use Rattle.tc_book.specs.SoundParts.{IsSoundStart, IsSoundRest}
 use Rattle.tc_book.specs.Stacks.{stacks_of}
@@ -37,6 +37,9 @@ sound_book image start approvals rest log = record {
   log = log;
   log_named = rest.log_named;
   complete = rest.complete;
+  persons = rest.persons;
+  few_stacks = start.requests.few_stacks;
+  numbers = start.past.numbers;
 }
 
 pub sound_whole : (image : Image) → IsSoundStart image → AreGoodApprovals (book_of image).requests image.approvals → IsSoundRest image → IsGoodLog (book_of image).log → IsSound image
@@ -45,8 +48,6 @@ sound_whole image start approvals rest log = record {
   placed = start.past.placed;
   tallied = start.past.tallied;
   stacks = start.requests.stacks;
-  persons = rest.persons;
-  numbers = start.past.numbers;
 }
 
 -- sound tables are those of the book that they tell of
@@ -74,10 +75,25 @@ opened_counted book (r ∷ requests) =
     ∙ ap (λ n. cond (stands book r.number opened_places) 1 0 + n) (opened_counted book requests)
     ∙ sym (sum_by-cons (λ (x : Request). cond (stands book x.number opened_places) 1 0) r requests)
 
--- so the rows of an opening find numbers
-pub numbers_found : (image : Image) → IsSound image → length image.moves + count_by (λ (r : Request). stands (book_of image) r.number opened_places) (book_of image).requests < 2 ^ 32
-numbers_found image sound =
-    let same : count_by (λ (p : PlacedRequest). is_opened p.place) image.requests ≡ count_by (λ (r : Request). stands (book_of image) r.number opened_places) (book_of image).requests =
-    ap (count_by (λ (p : PlacedRequest). is_opened p.place)) sound.placed ∙ opened_counted (book_of image) (book_of image).requests in
-    let numbers = sound.numbers in
-    omega (arith, same, numbers)
+-- so the rows say how many they are
+pub opened_told : (image : Image) → image.requests ≡ map (placed image.moves) (book_of image).requests → count_by (λ (p : PlacedRequest). is_opened p.place) image.requests ≡ count_opened (book_of image)
+opened_told image are = ap (count_by (λ (p : PlacedRequest). is_opened p.place)) are ∙ opened_counted (book_of image) (book_of image).requests
+
+-- ---- the tables of a book
+
+requests_again : (history : List Move) (requests : List Request) → map (λ (p : PlacedRequest). p.request) (map (placed history) requests) ≡ requests
+requests_again history [] = refl
+requests_again history (r ∷ requests) = ap (λ (l : List Request). r ∷ l) (requests_again history requests)
+
+-- they tell of it
+pub book_again : (book : Book) → book_of (image_of book) ≡ book
+book_again book = ap (λ (l : List Request). record book { requests = l }) (requests_again book.history book.requests)
+
+-- and are sound where it is good
+pub good_sound : (book : Book) → IsGoodBook book → IsSound (image_of book)
+good_sound book good = record {
+  book = subst IsGoodBook (sym (book_again book)) good;
+  placed = ap (map (placed book.history)) (sym (requests_again book.history book.requests));
+  tallied = refl;
+  stacks = ap stacks_of (sym (requests_again book.history book.requests));
+}

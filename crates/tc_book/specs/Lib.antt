@@ -1,11 +1,13 @@
 pub mod Book
 pub mod Targets
 pub mod Stacks
+pub mod Persons
 pub mod Good
 pub mod Conserved
 pub mod Records
 pub mod Acts
 pub mod Loads
+pub mod Interlocks
 pub mod Logs
 pub mod Steps
 pub mod Tables

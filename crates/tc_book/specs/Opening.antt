@@ -1,6 +1,6 @@
 -- What an opening makes of a book that was left (this desk's own): of what was on its way nobody knows any more what became of it, and
 -- what never left the desk goes back.
-use Rattle.std.specs.Prelude.{ℕ, ◌==◌, Bool, false, ◌&&◌, ◌||◌, if◌then◌else◌, List, [], ◌∷◌, fold}
+use Rattle.std.specs.Prelude.{ℕ, ◌+◌, ◌<◌, ◌^◌, ◌==◌, Bool, false, ◌&&◌, ◌||◌, if◌then◌else◌, List, [], ◌∷◌, fold, length, count_by}
 use Rattle.std.specs.List.{list_any}
 use Rattle.std.specs.Option.{option_map_or}
 use Rattle.tc_types.specs.declared.places.Place.{Place}
@@ -46,3 +46,11 @@ opened_request moment left book r =
 -- the book once each request was looked at, in order of number
 abbrev pub opened_book : ℕ → Book → Book
 opened_book moment left = fold (opened_request moment left) left left.requests
+
+-- how many requests an opening moves
+abbrev pub count_opened : Book → ℕ
+count_opened book = count_by (λ (r : Request). stands book r.number opened_places) book.requests
+
+-- The rows of the history are numbered below 2^32, and those of an opening still find such numbers.
+abbrev pub HasNumbers : Book → Type 0
+HasNumbers book = length book.history + count_opened book < 2 ^ 32

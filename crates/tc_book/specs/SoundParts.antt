@@ -1,20 +1,20 @@
 -- Which tables a desk could have written, in three parts: the history and the requests with what is read from them, the approvals and the
 -- persons, and the log.
-use Rattle.std.specs.Prelude.{◌≡◌, ◌+◌, ◌<◌, ◌≤◌, ◌^◌, true, IfSome, [], length, map, count_by}
+use Rattle.std.specs.Prelude.{◌≡◌, ◌≤◌, true, IfSome, [], length, map, count_by}
 use Rattle.std.specs.List.{AllByRecursion}
 use Rattle.tc_types.specs.declared.causes.Cause.TheVariants.{Approve}
 use Rattle.tc_types.specs.declared.moves.Move.{Move}
 use Rattle.tc_types.specs.declared.requests.Request.{Request}
-use Rattle.tc_types.specs.declared.rows.PlacedRequest.{PlacedRequest}
 use Rattle.tc_types.specs.declared.rows.StackApproval.{StackApproval}
 use Rattle.tc_types.specs.History.{IsGoodHistory, AllAfter, entered, count_at}
 use Rattle.tc_types.specs.Tables.{Image, tallies_by}
 use Rattle.tc_stack.specs.Approvals.{IsApproval}
 use Rattle.tc_proc.specs.GoodLogs.{NamesEntered}
 use Rattle.tc_book.specs.Good.{IsGoodRequest}
-use Rattle.tc_book.specs.Opening.{is_opened}
-use Rattle.tc_book.specs.Sound.{NamesPersons, book_of}
-use Rattle.tc_book.specs.Stacks.{has_stack, stack_approval_at, is_fully_approved, stacks_of}
+use Rattle.tc_book.specs.Opening.{HasNumbers}
+use Rattle.tc_book.specs.Persons.{NamesPersons}
+use Rattle.tc_book.specs.Sound.{book_of}
+use Rattle.tc_book.specs.Stacks.{has_stack, stack_approval_at, is_fully_approved, stacks_of, begins_stack}
 use Rattle.tc_book.specs.Tables.{placed}
 
 -- the history is good; the requests' places and the tallies are as it leaves them; and the rows of an opening still find numbers
@@ -22,12 +22,14 @@ pub record IsSoundPast (image : Image) : Type 0 where
   pub history : IsGoodHistory image.moves
   pub placed : image.requests ≡ map (placed image.moves) (book_of image).requests
   pub tallied : image.tallies ≡ tallies_by (count_at image.moves)
-  pub numbers : length image.moves + count_by (λ (p : PlacedRequest). is_opened p.place) image.requests < 2 ^ 32
+  pub numbers : HasNumbers (book_of image)
 
--- each request may follow those before it, and the table of stacks says which they came with
+-- each request may follow those before it, there are no more of them, and no more stacks, than a desk takes, and the table of stacks says
+-- which they came with
 pub record HasSoundRequests (image : Image) : Type 0 where
   pub requests : AllAfter IsGoodRequest [] (book_of image).requests
   pub few : length (book_of image).requests ≤ 65535
+  pub few_stacks : count_by begins_stack (book_of image).requests ≤ 1000
   pub stacks : image.stacks ≡ stacks_of (book_of image).requests
 
 -- both, and the history enters the requests
@@ -43,4 +45,4 @@ pub record IsSoundRest (image : Image) : Type 0 where
   pub stacks_approved : AllByRecursion (λ (a : StackApproval). IfSome (stack_approval_at (book_of image) a.stack) IsApproval) image.stack_approvals
   pub complete : AllByRecursion (λ (m : Move). m.cause ≡ Approve → is_fully_approved (book_of image) m.request ≡ true) image.moves
   pub log_named : NamesEntered (length (book_of image).requests) (book_of image).log
-  pub persons : NamesPersons image
+  pub persons : NamesPersons (book_of image)

@@ -1,5 +1,5 @@
 //! The room that an act takes before it does anything: for its records, its moves and its batch.
-ghost use Rattle.std.specs.Prelude.{◌≡◌, ◌+◌, ◌<◌, ◌≤◌, ◌^◌, [], length, vec_len, vec_capacity, IfOk, IfErr, OnOk};
+ghost use Rattle.std.specs.Prelude.{◌≡◌, ◌+◌, ◌-◌, ◌<◌, ◌≤◌, ◌^◌, [], length, vec_len, vec_capacity, IfOk, IfErr, OnOk};
 ghost use Rattle.tc_book.specs.Batch.{HasRoomFor, batch_rows};
 ghost use Rattle.tc_book.specs.Places.{stack_names};
 
@@ -41,9 +41,10 @@ pub fn make_room<A: Allocator + Copy + Drop>(
     ensures requests { OnOk result (length records.new.book.requests + requests ≤ 65535 → length records.new.book.requests + requests ≤ records.new.most_requests) }
     ensures approvals { OnOk result (length records.new.book.approvals < records.new.most_approvals) }
     ensures stack_approvals { OnOk result (length records.new.book.stack_approvals < records.new.most_stack_approvals) }
-    ensures stacks { OnOk result (length (stack_names records.new.book.requests) < records.new.most_stacks) }
+    ensures stacks { OnOk result (length (stack_names records.new.book.requests) < 1000 → length (stack_names records.new.book.requests) < records.new.most_stacks) }
     ensures log { records.new.log ≡ records.old.log }
-    ensures rows { OnOk result (length records.new.book.history + rows < 2 ^ 32 → length records.new.book.history + rows ≤ records.new.most_rows) }
+    ensures rows { OnOk result (length records.new.book.history + rows ≤ 2 ^ 32 - 65536 → length records.new.book.history + rows ≤ records.new.most_rows) }
+    ensures numbered { OnOk result (length records.new.book.history + rows < 2 ^ 32 → length records.new.book.history + rows ≤ records.new.most_numbered) }
 {
     let Ok(moves) = Vec::with_capacity(alloc, rows) else {
         return Err(Refusal::Memory);

@@ -1,13 +1,11 @@
 //! How a book is opened over the tables that were left.
-ghost use Rattle.std.specs.Prelude.{◌≡◌, ◌⊎◌, ◌+◌, ◌<◌, ◌^◌, IfOk, IfErr, OnOk, count_by, drop, length};
+ghost use Rattle.std.specs.Prelude.{◌≡◌, ◌⊎◌, IfOk, IfErr, OnOk, drop, length};
 ghost use Rattle.tc_types.specs.declared.refusals.Refusal.TheVariants.{Memory, Store};
-ghost use Rattle.tc_types.specs.declared.requests.Request.{Request as SomeRequest};
 ghost use Rattle.tc_types.specs.Tables.{applied};
 ghost use Rattle.tc_images.specs.Images.{rows_in};
 ghost use Rattle.tc_book.specs.declared.firsts.First.TheVariants.{Plain};
-ghost use Rattle.tc_book.specs.Book.{stands};
 ghost use Rattle.tc_book.specs.Good.{IsGoodBook};
-ghost use Rattle.tc_book.specs.Opening.{opened_places, opened_book};
+ghost use Rattle.tc_book.specs.Opening.{opened_book};
 ghost use Rattle.tc_book.specs.Sound.{IsSound, book_of};
 ghost use Rattle.tc_book.specs.Tables.{image_of};
 
@@ -34,7 +32,6 @@ fn write_opening<A: Allocator + Copy + Drop>(
     alloc: A,
     moment: Moment,
 ) -> Result<Draft<A>, Refusal>
-    requires numbers { length records.old.book.history + count_by (λ (r : SomeRequest). stands records.old.book r.number opened_places) records.old.book.requests < 2 ^ 32 }
     ensures book { OnOk result (records.new.book ≡ opened_book moment records.old.book) }
     ensures good { OnOk result (IsGoodBook records.new.book) }
     ensures first { IfOk result (λ draft. draft.first ≡ Plain) }

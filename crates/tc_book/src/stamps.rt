@@ -1,12 +1,12 @@
 //! Who acts, and when.
-use tc_types::names::Name;
 use tc_types::numbers::Moment;
+use tc_types::persons::Person;
 
-/// What each row of an act carries.
+/// What each row of a person's act carries.
 #[derive(Clone, Copy, Debug, PartialEq, Eq)]
 pub struct Stamp {
-    /// Who gave the act, or the desk itself.
-    pub by: Name,
+    /// Who gave the act.
+    pub by: Person,
     /// When, as the act said: no clock is read.
     pub moment: Moment,
 }

@@ -157,6 +157,7 @@ fn enter_rows<A: Allocator + Copy + Drop>(
     ensures book { records.new.book ≡ loaded stamp.now name.now rows.now records.old.book }
     ensures steps { HasSteps stamp.now records.old.book records.new.book }
 {
+    name.keeps_form(); // read for the proof alone
     let start = records.count() + 1;
     for at in 0..rows.len() {
         enter_row(records, *stamp, *name, start, at as u32 + 1, &rows[at]);

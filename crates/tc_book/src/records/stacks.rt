@@ -19,6 +19,7 @@ use std::alloc::Allocator;
 use tc_stack::approvals::Approvals;
 use tc_types::causes::Cause;
 use tc_types::names::Name;
+use tc_types::persons::Person;
 use tc_types::places::Place;
 use tc_types::refusals::Refusal;
 use tc_types::requests::{Origin, Request};
@@ -99,10 +100,10 @@ impl<A: Allocator + Copy + Drop> Records<A> {
     }
 
     /// Why this person may not approve the stack with this name, if so.
-    pub fn stack_refusal(&self, name: &Name, person: &Name) -> Option<Refusal>
+    pub fn stack_refusal(&self, name: &Name, person: &Person) -> Option<Refusal>
         ensures { result ≡ first_refusal (approval_tests person.now (stack_approval_at self.now.book name.now)) }
     {
-        self.stack_approvals(name)?.refusal(person)
+        self.stack_approvals(name)?.refusal(&person.name())
     }
 
     /// How a reply to the next approval of the stack with this name begins.
@@ -130,7 +131,7 @@ impl<A: Allocator + Copy + Drop> Records<A> {
     }
 
     /// A person approves a stack: whether this approval is the last that is wanted.
-    pub fn approve_stack(&mut self, name: Name, person: Name) -> bool
+    pub fn approve_stack(&mut self, name: Name, person: Person) -> bool
         requires known { is_loaded self.old.book name ≡ true }
         requires may { first_refusal (approval_tests person (stack_approval_at self.old.book name)) ≡ None }
         requires room { length self.old.book.stack_approvals < self.old.most_stack_approvals }
@@ -140,6 +141,7 @@ impl<A: Allocator + Copy + Drop> Records<A> {
         ensures requests_kept { self.old.most_requests ≤ self.new.most_requests }
         ensures rows_kept { self.old.most_rows ≤ self.new.most_rows }
     {
+        let person = person.name();
         let complete = self.completes_stack(&name, person);
         push_within(
             &mut self.stack_approvals,

@@ -6,7 +6,7 @@ ghost use Rattle.tc_types.specs.declared.requests.Request.{Request as SomeReques
 ghost use Rattle.tc_types.specs.declared.rows.PlacedRequest.{PlacedRequest as SomePlaced};
 ghost use Rattle.tc_types.specs.History.{AllAfter};
 ghost use Rattle.tc_types.specs.Names.{is_same_name};
-ghost use Rattle.tc_types.specs.Schedule.{KeepsScheduleRule};
+ghost use Rattle.tc_types.specs.Grammar.{IsEntry};
 ghost use Rattle.tc_stack.specs.Stacks.{IsEarlier};
 ghost use Rattle.tc_book.specs.Book.{form_of, next_identity, request_in};
 ghost use Rattle.tc_book.specs.Good.{IsNextRow, IsGoodOrigin, IsGoodRequest};
@@ -49,9 +49,10 @@ fn is_next_identity(counts: &[u32], identity: &Identity) -> bool
     is_same_identity(identity, &next_identity(counts, identity.apid))
 }
 
-/// Whether a request, where it is a schedule command, asks for its completion and completes.
-fn keeps_schedule_rule(request: &Request) -> bool
-    ensures { IsTrue result ↔ KeepsScheduleRule (form_of request.now) }
+/// Whether what was written down of a request is an entry: a schedule command asks for its completion and completes. Its
+/// numbers are in their ranges by their types.
+fn is_entered(request: &Request) -> bool
+    ensures { IsTrue result ↔ IsEntry (form_of request.now) }
 {
     let form = Form {
         apid: request.body.identity.apid,
@@ -114,6 +115,7 @@ fn is_good_origin(requests: &[Request], stacks: &[Name], author: &Name, origin: 
     requires stacks { (name : List ℕ) → has_stack name requests.now ≡ list_any (λ known. is_same_name known name) stacks.now }
     ensures { IsTrue result ↔ IsGoodOrigin requests.now author.now origin.now }
 {
+    origin.stack.keeps_form(); // read for the proof alone
     let begins = origin.line == 1 && !has_name(stacks, &origin.stack);
     let follows = begins || goes_on(requests, author, origin);
     follows && origin.line <= MOST_LINES && is_earlier(origin.after, origin.line)
@@ -139,7 +141,7 @@ fn may_follow(requests: &[Request], counts: &[u32], stacks: &[Name], request: &R
 {
     let is_numbered = request.number.get() as usize == requests.len() + 1;
     let is_named = is_next_identity(counts, &request.body.identity);
-    let is_fit = keeps_schedule_rule(request) && has_good_target(requests, &request.body.command);
+    let is_fit = is_entered(request) && has_good_target(requests, &request.body.command);
     is_numbered && is_named && is_fit && may_come_from(requests, stacks, request)
 }
 

@@ -30,7 +30,7 @@ fn is_rest_sound(image: &Image, requests: &[Request], approved: &[Approvals]) ->
     }
     are_complete(requests, approved, &image.stack_approvals, &image.moves)
         && names_entered(requests.len(), &image.steps)
-        && names_persons(image)
+        && names_persons(image, requests)
 }
 
 /// Tests the approvals of stacks, the moves of those who were approved, the steps that name requests, and the persons. Answers `Store`

@@ -44,7 +44,7 @@ enter_row-requires-clause-target g c =
 pub enter_row-requires-clause-origin : goal.enter_row-requires-clause-origin
 enter_row-requires-clause-origin g c =
     rw (c.loop-at.invariant.0)
-    (next_origin c.args.stamp.now c.args.name.now c.args.records.now.book c.args.rows.now c.requires.stack c.loop-at.at c.index-rows-at.result c.loop-at-test.true c.index-rows-at.is c.requires.unused)
+    (next_origin c.args.stamp.now c.args.name.now c.args.records.now.book c.args.rows.now c.requires.stack c.loop-at.at c.index-rows-at.result c.loop-at-test.true c.index-rows-at.is c.requires.unused c.keeps_form.ensures)
 
 pub enter_row-requires-clause-unapproved : goal.enter_row-requires-clause-unapproved
 enter_row-requires-clause-unapproved g c =
