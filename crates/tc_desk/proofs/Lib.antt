@@ -1,3 +1,4 @@
+pub mod StatusLemmas
 pub mod GoesOnLemmas
 pub mod StillLemmas
 pub mod PutLemmas

@@ -17,8 +17,7 @@ use Rattle.tc_world.proofs.Bridge.{OnlyLoses}
 use Rattle.tc_book.specs.declared.stamps.Stamp.{Stamp}
 use Rattle.tc_book.specs.Book.{Book, empty_book}
 use Rattle.tc_book.specs.Good.{IsGoodBook}
-use Rattle.tc_proc.specs.GoodLogs.{IsGoodLog}
-use Rattle.tc_proc.specs.Logs.{empty_log}
+use Rattle.tc_book.proofs.GoodLemmas.{empty_good}
 use Rattle.tc_desk.specs.declared.configs.Config.{Config}
 use Rattle.tc_desk.specs.State.{State, new_desk, new_world}
 use Rattle.tc_desk.specs.Machine.{DeskStep, Serves, Carries}
@@ -106,14 +105,6 @@ over_tied config book up down =
 pub new_claims : {U D : Type 0} (config : Config) (up : U) (down : D) → IsClaimed (new_world config up down)
 new_claims config up down = record { prefixes = (record { accepted = refl; confirmed = refl }, tt); sent_once = tt; accepted_once = tt }
 
--- nothing of procedures is wrong where there is nothing
-empty_good : IsGoodLog empty_log
-empty_good = record { names = tt; few = omega arith; steps = tt; of_known = tt; some = tt; numbered = tt; few_executions = omega arith; of_loaded = tt; of_begun = tt; executions = tt }
-
--- nor of a book
-empty_book_good : IsGoodBook empty_book
-empty_book_good = record { history = tt; requests = tt; few = omega arith; entered = refl; named = tt; alone = tt; stacks_named = tt; approved = tt; stacks_approved = tt; log = empty_good; log_named = tt; complete = tt }
-
 over_stands : {U D : Type 0} (kind : Kind U Frame) (other : Kind D Report) (config : Config) (book : Book) (up : U) (down : D) → IsGoodBook book
     → Stands kind other (length book.history) (record (new_desk config up down) { book = book })
 over_stands kind other config book up down good = record { tied = over_tied config book up down; good = good; windowed = new_windowed kind other config up down }
@@ -135,4 +126,4 @@ run_tells_since kind other ul dl config book up down deeds at good run =
 -- all rows, where none stood before
 pub run_tells : {U D : Type 0} (kind : Kind U Frame) (other : Kind D Report) → OnlyLoses kind → OnlyLoses other → (config : Config) (up : U) (down : D) (deeds : List (Stamp × Deed)) (at : State U D)
     → DeedsRun kind other (new_desk config up down) deeds at → TellsTrue 0 at
-run_tells kind other ul dl config up down deeds at run = run_tells_since kind other ul dl config empty_book up down deeds at empty_book_good run
+run_tells kind other ul dl config up down deeds at run = run_tells_since kind other ul dl config empty_book up down deeds at empty_good run

@@ -58,6 +58,10 @@ fop_line v = spaced (codes "fop" ∷ fop_state_name v.state ∷ codes "vs" ∷ d
     ∷ codes "wait" ∷ decimal v.waiting ∷ codes "count" ∷ decimal v.count ∷ codes "timer" ∷ decimal v.timer
     ∷ codes "k" ∷ decimal v.k ∷ codes "t1" ∷ decimal v.t1 ∷ codes "limit" ∷ decimal v.limit ∷ [])
 
+-- its end: count E timer F k G t1 H limit I
+abbrev pub fop_end : ℕ → ℕ → ℕ → ℕ → ℕ → List ℕ
+fop_end count timer k t1 limit = spaced (codes "count" ∷ decimal count ∷ codes "timer" ∷ decimal timer ∷ codes "k" ∷ decimal k ∷ codes "t1" ∷ decimal t1 ∷ codes "limit" ∷ decimal limit ∷ [])
+
 -- farm STATE vr A b B flags LWR w W
 abbrev pub farm_line : FarmView → List ℕ
 farm_line farm = spaced (codes "farm" ∷ farm_state_name farm.state ∷ codes "vr" ∷ decimal farm.vr ∷ codes "b" ∷ decimal farm.farm_b

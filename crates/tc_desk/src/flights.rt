@@ -1,5 +1,5 @@
 //! An act that asks something of the link: the room that it takes, and the one event that may be refused.
-ghost use Rattle.std.specs.Prelude.{◌≡◌, ◌+◌, ◌<◌, ◌≤◌, ◌^◌, false, IfOk, OnOk, length};
+ghost use Rattle.std.specs.Prelude.{◌≡◌, ◌+◌, ◌-◌, ◌<◌, ◌≤◌, ◌^◌, false, IfOk, OnOk, length};
 ghost use Rattle.std.specs.List.{list_any};
 ghost use Rattle.tc_world.specs.World.{may_move, tells_move, puts_down};
 ghost use Rattle.tc_board.specs.Mirror.{MirrorState};
@@ -60,7 +60,7 @@ fn fly<U: Carrier<Frame> + Drop, D: Carrier<Report> + Drop, A: Allocator + Copy 
     ensures put { IfOk result (λ flight. flight.put ≡ 0) }
     ensures kept_room { puts_down event ≡ false → D.covered world.old.down ≤ D.covered world.new.down }
     ensures most { IfOk result (λ flight. length flight.said ≤ 258) }
-    ensures room { OnOk result (length records.new.book.history + rows < 2 ^ 32 → length records.new.book.history + rows ≤ records.new.most_rows) }
+    ensures room { OnOk result (length records.new.book.history + rows ≤ 2 ^ 32 - 65536 → length records.new.book.history + rows ≤ records.new.most_rows) }
     ensures moves { IfOk result (λ flight. HasRoomFor rows flight.draft.moves) }
     ensures batch { IfOk result (λ flight. HasRoomFor (batch_rows 0 rows + 1) flight.draft.batch) }
 {

@@ -1,9 +1,10 @@
 //! The lines that tell how the link stands, and what it told, without their LF.
-ghost use Rattle.std.specs.Prelude.{◌≡◌, ◌∷◌, [], if◌then◌else◌, IfOk, MatchOption, None, Some, codes};
+ghost use Rattle.std.specs.Prelude.{◌≡◌, ◌∷◌, ◌++◌, [], if◌then◌else◌, IfOk, IfSome, IsTrue, MatchOption, None, OnOk, Some, codes};
 ghost use Rattle.std.specs.Fmt.{decimal};
 ghost use Rattle.std.specs.String.{string_bytes};
 ghost use Rattle.tc_types.specs.Lines.{spaced};
-ghost use Rattle.tc_desk.specs.StatusLines.{fop_state_name, farm_state_name, alert_name, flags_word, premise_word, fop_line, farm_line, carriers_line, told_line};
+ghost use Rattle.tc_types.specs.Words.{is_one_line};
+ghost use Rattle.tc_desk.specs.StatusLines.{fop_state_name, farm_state_name, alert_name, flags_word, premise_word, fop_line, fop_end, farm_line, carriers_line, told_line};
 
 use crate::statuses::LinkStatus;
 use std::alloc::{AllocError, Allocator};
@@ -85,9 +86,30 @@ fn fop_begun<A: Allocator + Copy>(
     format!(in alloc; "fop {state} vs {vs} nn {nn} sent {sent} wait {waiting}")
 }
 
+/// Adds the end of the FOP's line: its counter, its timer and its settings.
+#[tactic(auto, using(crate::proofs::StatusLemmas::fop_end_one))]
+fn fop_ended<A: Allocator + Copy>(
+    line: &mut String<A>,
+    count: u8,
+    timer: u16,
+    k: u8,
+    t1: u16,
+    limit: u8,
+) -> Result<(), AllocError>
+    ensures text { OnOk result (string_bytes line.new ≡ string_bytes line.old ++ 32 ∷ fop_end count timer k t1 limit) }
+    ensures one_line { IsTrue (is_one_line (fop_end count timer k t1 limit)) }
+{
+    write!(
+        line,
+        " count {count} timer {timer} k {k} t1 {t1} limit {limit}"
+    )
+}
+
 /// How the FOP stands: `fop STATE vs A nn B sent C wait D count E timer F k G t1 H limit I`. Fails where memory is refused.
+#[tactic(auto, using(crate::proofs::StatusLemmas::fop_one))]
 pub fn fop_text<A: Allocator + Copy>(alloc: A, view: &FopView) -> Result<String<A>, AllocError>
-    ensures { IfOk result (λ t. string_bytes t ≡ fop_line view.now) }
+    ensures text { IfOk result (λ t. string_bytes t ≡ fop_line view.now) }
+    ensures one_line { IfOk result (λ t. IsTrue (is_one_line (fop_line view.now))) }
 {
     let FopView {
         state,
@@ -102,16 +124,15 @@ pub fn fop_text<A: Allocator + Copy>(alloc: A, view: &FopView) -> Result<String<
         limit,
     } = *view;
     let mut line = fop_begun(alloc, fop_state_name(state), vs, nn, sent, waiting)?;
-    write!(
-        line,
-        " count {count} timer {timer} k {k} t1 {t1} limit {limit}"
-    )?;
+    fop_ended(&mut line, count, timer, k, t1, limit)?;
     Ok(line)
 }
 
 /// How the FARM stands: `farm STATE vr A b B flags LWR w W`, a dash for each flag that is 0. Fails where memory is refused.
+#[tactic(auto, using(crate::proofs::StatusLemmas::farm_one))]
 pub fn farm_text<A: Allocator + Copy>(alloc: A, farm: &FarmView) -> Result<String<A>, AllocError>
-    ensures { IfOk result (λ t. string_bytes t ≡ farm_line farm.now) }
+    ensures text { IfOk result (λ t. string_bytes t ≡ farm_line farm.now) }
+    ensures one_line { IfOk result (λ t. IsTrue (is_one_line (farm_line farm.now))) }
 {
     let state = farm_state_name(farm.state);
     let flags = flags_text(alloc, farm)?;
@@ -127,17 +148,20 @@ pub fn farm_text<A: Allocator + Copy>(alloc: A, farm: &FarmView) -> Result<Strin
 
 /// What is said of the starts of the link: `kept` while every one was good.
 pub fn premise_name(clean: bool) -> &'static str
-    ensures { result.now ≡ premise_word clean }
+    ensures word { result.now ≡ premise_word clean }
+    ensures one_line { IsTrue (is_one_line result.now) }
 {
     if clean { "kept" } else { "broken" }
 }
 
 /// What is in flight, and whether every start was good: `link up A down B premise P`. Fails where memory is refused.
+#[tactic(auto, using(crate::proofs::StatusLemmas::carriers_one))]
 pub fn carriers_text<A: Allocator + Copy>(
     alloc: A,
     status: &LinkStatus,
 ) -> Result<String<A>, AllocError>
-    ensures { IfOk result (λ t. string_bytes t ≡ carriers_line status.now) }
+    ensures text { IfOk result (λ t. string_bytes t ≡ carriers_line status.now) }
+    ensures one_line { IfOk result (λ t. IsTrue (is_one_line (carriers_line status.now))) }
 {
     let LinkStatus {
         up,
@@ -150,11 +174,13 @@ pub fn carriers_text<A: Allocator + Copy>(
 }
 
 /// The line of what the link told, `started` or `alert NAME`; `None` for all else. Fails where memory is refused.
+#[tactic(auto, using(crate::proofs::StatusLemmas::told_one))]
 pub fn told_text<A: Allocator + Copy>(
     alloc: A,
     said: &Indication,
 ) -> Result<Option<String<A>>, AllocError>
-    ensures { IfOk result (λ text. MatchOption text (told_line said.now ≡ None) (λ t. told_line said.now ≡ Some (string_bytes t))) }
+    ensures text { IfOk result (λ text. MatchOption text (told_line said.now ≡ None) (λ t. told_line said.now ≡ Some (string_bytes t))) }
+    ensures one_line { IfOk result (λ text. IfSome (told_line said.now) (λ line. IsTrue (is_one_line line))) }
 {
     match said {
         Indication::Fop(signals::Indication::Started) => {

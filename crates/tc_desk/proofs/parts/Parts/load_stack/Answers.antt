@@ -1,5 +1,5 @@
 -- The batch is what came since the mark.
-use Rattle.std.proofs.Common.{◌∙◌, ap, subst}
+use Rattle.std.proofs.Common.{◌∙◌, ap, subst, sym}
 use Rattle.tc_types.specs.Tables.{applied}
 use Rattle.tc_book.specs.Batch.{mark_of, GoesOn}
 use Rattle.tc_book.specs.Good.{IsGoodBook}
@@ -17,3 +17,7 @@ returns-clause-batch g c =
 
 pub returns-clause-steps : goal.returns-clause-steps
 returns-clause-steps g c = subst (λ (at : State g.row.U.Denot g.row.D.Denot). HasSteps c.args.stamp at.book c.load.new.records.book) c.self.view_is c.in_ok-draft.ensures.steps
+
+-- a refusal changes nothing
+pub returns-in_err-draft-clause-good : goal.returns-in_err-draft-clause-good
+returns-in_err-draft-clause-good g c = subst IsGoodBook (sym c.in_err-draft.ensures.answers.1) c.mark-mark.ensures.good
