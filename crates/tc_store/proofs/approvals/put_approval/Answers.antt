@@ -8,6 +8,6 @@ returns-clause-put g c clean inside =
       c.params-to_sql.ensures,
       c.params-to_sql-2.ensures,
       c.get-request.ensures.value,
-      c.as_str.ensures,
+      c.as_str.ensures.text,
     ) at (c.run.ensures.ran clean inside)
     )

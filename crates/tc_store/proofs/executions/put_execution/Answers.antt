@@ -9,8 +9,8 @@ returns-clause-put g c clean inside =
       c.params-to_sql-2.ensures,
       c.params-to_sql-3.ensures,
       c.params-to_sql-4.ensures,
-      c.as_str.ensures,
-      c.as_str-2.ensures,
+      c.as_str.ensures.text,
+      c.as_str-2.ensures.text,
       c.get-moment.ensures.value,
     ) at (c.run.ensures.ran clean inside)
     )

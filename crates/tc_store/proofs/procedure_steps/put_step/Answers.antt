@@ -10,7 +10,7 @@ returns-clause-put g c clean inside =
       c.params-to_sql-3.ensures,
       c.params-to_sql-4.ensures,
       c.params-to_sql-5.ensures,
-      c.as_str.ensures,
+      c.as_str.ensures.text,
       c.as_str-2.ensures,
       c.request_code-request.ensures,
     ) at (c.run.ensures.ran clean inside)

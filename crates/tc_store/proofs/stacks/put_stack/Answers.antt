@@ -8,7 +8,7 @@ returns-clause-put g c clean inside =
       c.params-to_sql.ensures,
       c.params-to_sql-2.ensures,
       c.params-to_sql-3.ensures,
-      c.as_str.ensures,
-      c.as_str-2.ensures,
+      c.as_str.ensures.text,
+      c.as_str-2.ensures.text,
     ) at (c.run.ensures.ran clean inside)
     )
