@@ -1,7 +1,9 @@
+mod ToldLemmas
 mod RoomLemmas
 mod TableLemmas
 mod OpeningLemmas
 pub mod LoadLemmas
+mod ReplyLemmas
 mod LogLemmas
 mod StopLemmas
 pub mod ReportLemmas

@@ -26,6 +26,7 @@ use Rattle.tc_book.specs.declared.stamps.Stamp.{Stamp}
 use Rattle.tc_book.specs.Book.{Book, empty_book, is_unknown, place_in, request_at}
 use Rattle.tc_book.specs.Conserved.{IsConserved}
 use Rattle.tc_book.specs.Good.{IsGoodBook}
+use Rattle.tc_book.specs.Sound.{IsSound}
 use Rattle.tc_book.specs.Tables.{image_of}
 use Rattle.tc_desk.specs.declared.configs.Config.{Config}
 use Rattle.tc_desk.specs.declared.firsts.First.{First}
@@ -38,6 +39,7 @@ use Rattle.tc_room.specs.Crash.{LeavesActs}
 use Rattle.tc_room.specs.Joined.{HasImage, HoldsBook, IsKept, LinkState, Standing}
 use Rattle.tc_room.specs.Answers.{IsUnread}
 use Rattle.tc_room.proofs.TableLemmas.{only_image}
+use Rattle.tc_room.proofs.ToldLemmas.{good_told}
 use Rattle.tc_room.specs.Room.{IsNewDesk, MakesBook, RoomStep}
 
 -- a room goes on: its flag, as its view told it
@@ -111,8 +113,8 @@ pub good-few : (book : Book) → IsGoodBook book → length (entered book.histor
 good-few book good = rw (good.entered, length-map) good.few
 
 -- a good book is kept, for nobody is lost of any history
-pub kept_good : (book : Book) → ((history : List Move) → IsConserved history) → IsGoodBook book → IsKept book
-kept_good book nobody_is_lost good = record { good = good; conserved = nobody_is_lost book.history }
+pub kept_good : (book : Book) → ((history : List Move) → IsConserved history) → ((book : Book) → IsGoodBook book → IsSound (image_of book)) → IsGoodBook book → IsKept book
+kept_good book nobody_is_lost are_sound good = record { good = good; sound = are_sound book good; told = good_told book good; conserved = nobody_is_lost book.history }
 
 pub not_some : {X : Type 0} (o : Option X) → ((x : X) → o ≡ Some x → ⊥) → o ≡ None
 not_some None none = refl

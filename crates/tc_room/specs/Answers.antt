@@ -14,7 +14,7 @@ use Rattle.tc_desk.specs.Replies.{Reply, refusal_reply}
 use Rattle.tc_room.specs.declared.answers.Answer.{Answer}
 use Rattle.tc_room.specs.declared.answers.Untold.{Untold}
 use Rattle.tc_room.specs.Joined.{Standing}
-use Rattle.tc_room.specs.Replies.{ended, is_refused}
+use Rattle.tc_room.specs.Replies.{AreLines, ended, is_refused}
 use Rattle.tc_room.specs.Room.{RoomStep}
 
 -- A line that is refused as it is read: with TooLong exactly where its act is too long, and else with BadText, where no
@@ -39,7 +39,7 @@ abbrev pub RefusesWith : Reply → Option Refusal → Type 0
 RefusesWith reply None = is_refused reply ≡ false
 RefusesWith reply (Some refusal) = reply ≡ refusal_reply refusal
 
--- the text of a reply, or that there was no memory for it, and in either case what it refuses with
+-- the text of a reply, of which no line has an LF in it, or that there was no memory for it, and in either case what it refuses with
 abbrev pub Says : Reply → Result Answer Untold → Type 0
-Says reply (Ok answer) = (string_bytes answer.text ≡ ended reply) × RefusesWith reply answer.refusal
+Says reply (Ok answer) = (string_bytes answer.text ≡ ended reply) × AreLines reply × RefusesWith reply answer.refusal
 Says reply (Err untold) = RefusesWith reply untold.refusal

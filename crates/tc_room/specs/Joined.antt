@@ -13,10 +13,12 @@ use Rattle.tc_board.specs.Mirror.{mirror_of}
 use Rattle.tc_book.specs.Book.{Book}
 use Rattle.tc_book.specs.Conserved.{IsConserved}
 use Rattle.tc_book.specs.Good.{IsGoodBook}
+use Rattle.tc_book.specs.Sound.{IsSound}
 use Rattle.tc_book.specs.Tables.{image_of}
 use Rattle.tc_desk.specs.Followed.{mirror_through}
 use Rattle.tc_desk.specs.State.{DeskState, State}
 use Rattle.tc_store.specs.Schema.{Holds}
+use Rattle.tc_store.specs.Told.{IsTold}
 use Rattle.tc_room.specs.Crash.{Leaves}
 
 -- a direction of a room's link: a list or a ring
@@ -56,8 +58,10 @@ abbrev pub HoldsBook : {S : Type 0} → Ghosts S → Standing S → Type 0
 HoldsBook g room = room.stopped ≡ false → HasCleanDisk (state g room.tables) → HasImage g room.tables (image_of room.desk.book)
 
 -- A book that the desk could have written, with a history row for each move, numbered in order, that says where its
--- request stood; each request that was entered stands at a place, and the counts of the fifteen places sum to those
--- entered.
+-- request stood; its tables are such as an opening takes, and their columns tell their rows; each request that was entered
+-- stands at a place, and the counts of the fifteen places sum to those entered.
 pub record IsKept (book : Book) : Type 0 where
   pub good : IsGoodBook book
+  pub sound : IsSound (image_of book)
+  pub told : IsTold (image_of book)
   pub conserved : IsConserved book.history

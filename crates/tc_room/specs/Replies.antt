@@ -5,7 +5,7 @@ use Rattle.tc_types.specs.ProcedureLines.{execution_line, record_line}
 use Rattle.tc_types.specs.declared.rows.BegunExecution.{BegunExecution}
 use Rattle.tc_types.specs.declared.rows.StepRecord.{StepRecord}
 use Rattle.tc_desk.specs.Replies.{Reply}
-pub use Rattle.tc_report.specs.Texts.{ended}
+pub use Rattle.tc_report.specs.Texts.{AreLines, ended}
 
 -- whether a reply is a refusal
 abbrev pub is_refused : Reply → Bool

@@ -22,6 +22,7 @@ use tc_stack::stacks::Stack;
 use tc_types::loads::LoadKind;
 use tc_types::names::Name;
 use tc_types::numbers::Moment;
+use tc_types::persons::Person;
 use tc_types::refusals::Refusal;
 
 /// What a text spells.
@@ -96,7 +97,7 @@ pub fn is_too_long(alloc: Global, kind: LoadKind, text: &[u8]) -> Result<bool, R
 /// Loads what was read into a desk, under a name, as a person does at a moment.
 pub(crate) fn load_into(
     desk: &mut LinkDesk,
-    by: Name,
+    by: Person,
     moment: Moment,
     name: Name,
     spelled: &Spelled,
