@@ -15,12 +15,13 @@ use Rattle.tc_front.specs.declared.read.FrontFault.TheVariants as faults
 use Rattle.tc_front.specs.Front.{Asked, IsDecided}
 use Rattle.tc_front.specs.Read.{CanGoOn, HasStopped, NoFront}
 use Rattle.tc_room.specs.Joined.{Standing}
-use Rattle.tc_room.specs.Replies.{ended}
+use Rattle.tc_room.specs.Replies.{AreLines, ended}
 use Rattle.tc_api.specs.declared.serving.Served.{Served}
 use Rattle.tc_api.specs.Exchange.{Answers, EndsUnanswered, EndsUnread, IsCutOff, IsRead, IsServed, IsUnanswered, IsUntold, IsUntouched, TellsEnd, refusal_of, response_to}
 use Rattle.tc_api.specs.Kept.{ServesRead}
 use Rattle.tc_api.specs.Responses.{response_bytes}
 use Rattle.tc_api.specs.Serving.{HasText, Outcome, Serves, outcome_of}
+use Rattle.tc_api.proofs.LineLemmas.{lines_come_back}
 
 abbrev Sent : Type 0
 Sent = Result (Unit {0}) Refusal
@@ -40,24 +41,32 @@ pub cut_off : (sent : Sent) (counts : Counts) (before after : Option (List ℕ))
 cut_off (Ok u) counts before after bytes text served h e = tt
 cut_off (Err w) counts before after bytes text served h e = λ reply has. inl (h.0, subst (λ (b : List ℕ). IsCutOff b counts before after) (e ∙ ap (response_bytes served.ending) has) h.1)
 
+held_text : (held : Option (String Global)) (t : String Global) (reply : Reply) → held ≡ Some t → IfSome held (λ s. (string_bytes s ≡ ended reply) × AreLines reply) → (string_bytes t ≡ ended reply) × AreLines reply
+held_text held t reply is has = subst (λ (o : Option (String Global)). IfSome o (λ s. (string_bytes s ≡ ended reply) × AreLines reply)) is has
+
 pub text_written : (sent : Sent) (P : Reply → Type 0) (held : Option (String Global)) (t : String Global) (text : List ℕ) → held ≡ Some t → text ≡ string_bytes t
-    → OnOk sent ((reply : Reply) → text ≡ ended reply → P reply) → OnOk sent ((reply : Reply) → IfSome held (λ s. string_bytes s ≡ ended reply) → P reply)
-text_written (Ok u) P held t text is same h = λ reply has. h reply (same ∙ subst (λ (o : Option (String Global)). IfSome o (λ s. string_bytes s ≡ ended reply)) is has)
+    → OnOk sent ((reply : Reply) → text ≡ ended reply → P reply) → OnOk sent ((reply : Reply) → IfSome held (λ s. (string_bytes s ≡ ended reply) × AreLines reply) → P reply)
+text_written (Ok u) P held t text is same h = λ reply has. h reply (same ∙ (held_text held t reply is has).0)
 text_written (Err w) P held t text is same h = tt
 
 pub text_unwritten : (sent : Sent) (P : Refusal → Reply → Type 0) (held : Option (String Global)) (t : String Global) (text : List ℕ) → held ≡ Some t → text ≡ string_bytes t
-    → IfErr sent (λ why. (reply : Reply) → text ≡ ended reply → P why reply) → IfErr sent (λ why. (reply : Reply) → IfSome held (λ s. string_bytes s ≡ ended reply) → P why reply)
+    → IfErr sent (λ why. (reply : Reply) → text ≡ ended reply → P why reply) → IfErr sent (λ why. (reply : Reply) → IfSome held (λ s. (string_bytes s ≡ ended reply) × AreLines reply) → P why reply)
 text_unwritten (Ok u) P held t text is same h = tt
-text_unwritten (Err w) P held t text is same h = λ reply has. h reply (same ∙ subst (λ (o : Option (String Global)). IfSome o (λ s. string_bytes s ≡ ended reply)) is has)
+text_unwritten (Err w) P held t text is same h = λ reply has. h reply (same ∙ (held_text held t reply is has).0)
+
+-- its lines are lines
+pub lines_written : (sent : Sent) (held : Option (String Global)) (t : String Global) → held ≡ Some t → OnOk sent ((reply : Reply) → IfSome held (λ s. (string_bytes s ≡ ended reply) × AreLines reply) → AreLines reply)
+lines_written (Ok u) held t is = λ reply has. (held_text held t reply is has).1
+lines_written (Err w) held t is = tt
 
 -- ---- what was served
 
 pub was_answered : {S : Type 0} (g : Ghosts S) (sent : Sent) (text : List ℕ) (old new : Standing S) (asked : Asked) (reply : Reply) (served : Served) (before after : Option (List ℕ))
     → IsDecided text asked → Serves g old asked (outcome_of reply served) new → HasText reply served
-    → OnOk sent ((r : Reply) → HasText r served → Appends before after (response_to (outcome_of r served)))
-    → OnOk sent ((outcome : Outcome) × IsServed g text old outcome new × Appends before after (response_to outcome))
-was_answered g (Ok u) text old new asked reply served before after decided serves has h = (outcome_of reply served, record { asked = asked; decided = decided; serves = serves }, h reply has)
-was_answered g (Err w) text old new asked reply served before after decided serves has h = tt
+    → OnOk sent ((r : Reply) → HasText r served → Appends before after (response_to (outcome_of r served))) → OnOk sent ((r : Reply) → HasText r served → AreLines r)
+    → OnOk sent ((outcome : Outcome) × IsServed g text old outcome new × Appends before after (response_to outcome) × AreLines outcome.reply)
+was_answered g (Ok u) text old new asked reply served before after decided serves has h lines = (outcome_of reply served, record { asked = asked; decided = decided; serves = serves }, h reply has, lines reply has)
+was_answered g (Err w) text old new asked reply served before after decided serves has h lines = tt
 
 pub was_unanswered : {S : Type 0} (g : Ghosts S) (sent : Sent) (text : List ℕ) (old new : Standing S) (asked : Asked) (reply : Reply) (served : Served) (counts : Counts) (before after : Option (List ℕ))
     → IsDecided text asked → Serves g old asked (outcome_of reply served) new → HasText reply served
@@ -73,10 +82,10 @@ was_read had left text asked taken whole decided = record { text = text; taken =
 
 pub exchanged : {S : Type 0} (g : Ghosts S) (sent : Sent) (had left : Option (List ℕ)) (text bytes : List ℕ) (old new : Standing S) (before after : Option (List ℕ)) → bytes ≡ text
     → Consumes had left text → ((a : Asked) → IsDecided text a → IfSome had (λ input. IsDecided input a))
-    → OnOk sent ((outcome : Outcome) × IsServed g bytes old outcome new × Appends before after (response_to outcome))
+    → OnOk sent ((outcome : Outcome) × IsServed g bytes old outcome new × Appends before after (response_to outcome) × AreLines outcome.reply)
     → OnOk sent (Answers g had left old new before after)
 exchanged g (Ok u) had left text bytes old new before after same taken whole h =
-    record { asked = h.1.asked; outcome = h.0; read = was_read had left text h.1.asked taken whole (subst (λ (t : List ℕ). IsDecided t h.1.asked) same h.1.decided); serves = h.1.serves; written = h.2 }
+    record { asked = h.1.asked; outcome = h.0; read = was_read had left text h.1.asked taken whole (subst (λ (t : List ℕ). IsDecided t h.1.asked) same h.1.decided); serves = h.1.serves; written = h.2; lines = lines_come_back h.0.reply h.3 }
 exchanged g (Err w) had left text bytes old new before after same taken whole h = tt
 
 pub unexchanged : {S : Type 0} (g : Ghosts S) (sent : Sent) (read : Counts) (had left : Option (List ℕ)) (text bytes : List ℕ) (old new : Standing S) (counts : Counts) (before after : Option (List ℕ)) → bytes ≡ text

@@ -21,7 +21,7 @@ use Rattle.tc_front.specs.Front.{asked_of}
 use Rattle.tc_desk.specs.Replies.{Reply}
 use Rattle.tc_room.specs.Joined.{Standing}
 use Rattle.tc_room.specs.Loads.{RoomLoad}
-use Rattle.tc_room.specs.Replies.{ended}
+use Rattle.tc_room.specs.Replies.{AreLines, ended}
 use Rattle.tc_api.specs.declared.endings.Ending.{Ending}
 use Rattle.tc_api.specs.declared.serving.Served.{Served}
 use Rattle.tc_api.specs.Acts.{JudgesActPost}
@@ -30,7 +30,7 @@ use Rattle.tc_api.specs.Loads.{JudgesLoadKeys, JudgesLoadPost, Load, LoadKeys, l
 use Rattle.tc_api.specs.Serving.{EndsWith, HasText, IsOutcome, Outcome, Serves, ServesAct, ServesKeys, ServesLine, ServesPost, ServesQuery, ServesText, outcome_of, refused_front, refused_with}
 
 pub outcome_made : (acts : Bool) (reply : Reply) (ending : Ending) (text : Option (String Global)) (served : Served) → served ≡ record { ending = ending; stands = acts && is_done ending; text = text }
-    → EndsWith reply ending → IfSome text (λ t. string_bytes t ≡ ended reply) → IsOutcome acts (outcome_of reply served) × HasText reply served
+    → EndsWith reply ending → IfSome text (λ t. (string_bytes t ≡ ended reply) × AreLines reply) → IsOutcome acts (outcome_of reply served) × HasText reply served
 outcome_made acts reply ending text served made ends has = rw made (record { ends = ends; stands = refl }, has)
 
 -- ---- posts to /acts

@@ -13,7 +13,7 @@ use Rattle.tc_front.specs.Read.{CanGoOn, HasStopped, NoFront}
 use Rattle.tc_front.specs.Write.{IsCutShort, one_fault}
 use Rattle.tc_room.specs.Joined.{Standing}
 use Rattle.tc_room.specs.Replies.{ended}
-use Rattle.tc_api.specs.Responses.{response_bytes}
+use Rattle.tc_api.specs.Responses.{response_bytes, text_lines}
 use Rattle.tc_api.specs.Serving.{Outcome, Serves}
 
 -- A request was read: what was taken of the reader decides what is asked, and so does all that the reader had.
@@ -67,13 +67,15 @@ IsUnanswered outcome refusal counts before after =
     ((refusal ≡ WriteFault) × IsCutOff (response_to outcome) counts before after)
     ⊎ (IsUntold outcome refusal × IsUntouched counts before after)
 
--- An exchange: a request was read, it was served, and its response was written, all of it and nothing else.
+-- An exchange: a request was read, it was served, and its response was written, all of it and nothing else. The lines that the response is made
+-- of are the reply's.
 pub record Answers {S : Type 0} (g : Ghosts S) (had left : Option (List ℕ)) (old new : Standing S) (before after : Option (List ℕ)) : Type 0 where
   pub asked : Asked
   pub outcome : Outcome
   pub read : IsRead had left asked
   pub serves : Serves g old asked outcome new
   pub written : Appends before after (response_to outcome)
+  pub lines : text_lines (ended outcome.reply) ≡ outcome.reply
 
 -- An exchange that ends before a request was read: the room is as it was, and nothing was written. The reader failed or ended, or it did neither
 -- and there was no memory.

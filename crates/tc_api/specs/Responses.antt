@@ -1,6 +1,6 @@
 -- The bytes of a response.
-use Rattle.std.specs.Prelude.{◌≡◌, ℕ, false, ◌-◌, ◌==◌, List, [], ◌∷◌, ◌++◌, codes, length, map, take}
-use Rattle.std.specs.List.{All, slice_split}
+use Rattle.std.specs.Prelude.{ℕ, ◌-◌, ◌==◌, List, [], ◌∷◌, ◌++◌, codes, length, map, take}
+use Rattle.std.specs.List.{slice_split}
 use Rattle.std.specs.Option.{unwrap_or}
 use Rattle.std.specs.Fmt.{decimal}
 use Rattle.http.specs.StatusCode.{reason_phrase}
@@ -13,10 +13,6 @@ use Rattle.tc_api.specs.Endings.{refusal_number, status_number, status_of}
 -- the lines of a text, each of which ends in LF: what is left behind the last LF is none
 abbrev pub text_lines : List ℕ → List (List ℕ)
 text_lines text = take (length (slice_split (λ byte. byte == 10) text) - 1) (slice_split (λ byte. byte == 10) text)
-
--- no LF is in it
-abbrev pub LacksEnds : List ℕ → Type 0
-LacksEnds line = All (λ byte. (byte == 10) ≡ false) line
 
 -- how many lines a response shows at most
 abbrev pub most_lines : ℕ

@@ -20,7 +20,7 @@ use Rattle.tc_desk.specs.Machine.{stamp_of}
 use Rattle.tc_desk.specs.Replies.{Reply, refusal_reply}
 use Rattle.tc_room.specs.Joined.{Standing}
 use Rattle.tc_room.specs.Loads.{RoomLoad}
-use Rattle.tc_room.specs.Replies.{ended, is_refused}
+use Rattle.tc_room.specs.Replies.{AreLines, ended, is_refused}
 use Rattle.tc_room.specs.Room.{RoomStep}
 use Rattle.tc_api.specs.declared.endings.Ending.{Ending}
 use Rattle.tc_api.specs.declared.endings.Ending.TheVariants as ending
@@ -116,9 +116,9 @@ Serves g old (posts post body) outcome new = ServesPost g old post body outcome 
 abbrev pub outcome_of : Reply → Served → Outcome
 outcome_of reply served = record { reply = reply; ending = served.ending; stands = served.stands }
 
--- the text is the reply's, unless memory was refused to it
+-- the text is the reply's, of which no line has an LF in it, unless memory was refused to it
 abbrev pub HasText : Reply → Served → Type 0
-HasText reply served = IfSome served.text (λ text. string_bytes text ≡ ended reply)
+HasText reply served = IfSome served.text (λ text. (string_bytes text ≡ ended reply) × AreLines reply)
 
 -- what stands at the keys of a load
 pub record ServesKeys {S : Type 0} (g : Ghosts S) (old : Standing S) (kind : LoadKind) (keys : Option LoadKeys) (outcome : Outcome) (new : Standing S) : Type 0 where

@@ -11,8 +11,8 @@ use serde_json::Value;
 use std::alloc::Global;
 use tc_types::act_reader::{LONGEST_ACT, read_act};
 use tc_types::acts::{Act, Line};
-use tc_types::names::Name;
 use tc_types::numbers::Moment;
+use tc_types::persons::Person;
 use tc_types::refusals::Refusal;
 
 /// What stands at the keys of an act.
@@ -35,7 +35,7 @@ fn act_keys(value: &Value) -> Option<ActKeys<'_>>
 }
 
 /// The act that was read, by a person, at a moment.
-fn act_at(act: Result<Act, Refusal>, by: Name, moment: Moment) -> Result<Line, Refusal>
+fn act_at(act: Result<Act, Refusal>, by: Person, moment: Moment) -> Result<Line, Refusal>
     ensures { (text : List ℕ) → IsReadAs text act → length text ≤ 200 → JudgesAct text by moment result }
 {
     match act {
@@ -49,7 +49,7 @@ fn judge_read(keys: &ActKeys<'_>, act: Result<Act, Refusal>) -> Result<Line, Ref
     requires { IsReadAs keys.now.act.now act }
     ensures { JudgesActKeys (Some (act_keys_seen keys.now)) result }
 {
-    let Some(by) = Name::read_person(keys.by.as_bytes()) else {
+    let Some(by) = Person::read(keys.by.as_bytes()) else {
         return Err(Refusal::BadText);
     };
     if keys.act.len() > LONGEST_ACT {

@@ -6,7 +6,7 @@ ghost use Rattle.tc_types.specs.declared.refusals.Refusal.TheVariants as refusal
 ghost use Rattle.tc_desk.specs.Headline.{TellsTrue};
 ghost use Rattle.tc_desk.specs.Replies.{Reply};
 ghost use Rattle.tc_front.specs.Front.{Asked, IsDecided};
-ghost use Rattle.tc_room.specs.Replies.{ended};
+ghost use Rattle.tc_room.specs.Replies.{AreLines, ended};
 ghost use Rattle.tc_api.specs.Exchange.{Answers, EndsUnanswered, EndsUnread, IsCutOff, IsServed, IsUnanswered, IsUntold, TellsEnd, refusal_of, response_to};
 ghost use Rattle.tc_api.specs.Kept.{KeepsTables, ServesOne};
 ghost use Rattle.tc_api.specs.Serving.{HasText, Outcome, outcome_of};
@@ -73,6 +73,7 @@ fn respond<W: Write>(alloc: Global, served: &Served, writer: &mut Counted<W>) ->
     requires { counts_of writer.old ≡ no_counts }
     ensures written { OnOk result ((reply : Reply) → HasText reply served.now
         → Appends (W.contents (inner_of writer.old)) (W.contents (inner_of writer.new)) (response_to (outcome_of reply served.now))) }
+    ensures lines { OnOk result ((reply : Reply) → HasText reply served.now → AreLines reply) }
     ensures failed { IfErr result (λ why. (reply : Reply) → HasText reply served.now
         → IsUnanswered (outcome_of reply served.now) why (counts_of writer.new) (W.contents (inner_of writer.old)) (W.contents (inner_of writer.new))) }
     ensures unfailed { OnOk result (counts_of writer.new ≡ no_counts) }
@@ -94,7 +95,7 @@ fn answer<W: Write, S: Alter + Drop>(
     requires decided { (asked : Asked) × IsDecided text.now asked }
     requires unwritten { counts_of writer.old ≡ no_counts }
     ensures answered { OnOk result ((outcome : Outcome) × IsServed S.Store text.now room.old outcome room.new
-        × Appends (W.contents (inner_of writer.old)) (W.contents (inner_of writer.new)) (response_to outcome)) }
+        × Appends (W.contents (inner_of writer.old)) (W.contents (inner_of writer.new)) (response_to outcome) × AreLines outcome.reply) }
     ensures failed { IfErr result (λ why. (outcome : Outcome) × IsServed S.Store text.now room.old outcome room.new
         × IsUnanswered outcome why (counts_of writer.new) (W.contents (inner_of writer.old)) (W.contents (inner_of writer.new))) }
     ensures unfailed { OnOk result (counts_of writer.new ≡ no_counts) }

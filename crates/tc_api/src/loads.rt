@@ -11,6 +11,7 @@ use tc_room::loadings::is_too_long;
 use tc_types::loads::LoadKind;
 use tc_types::names::Name;
 use tc_types::numbers::Moment;
+use tc_types::persons::Person;
 use tc_types::refusals::Refusal;
 
 /// What stands at the keys of a load.
@@ -37,7 +38,7 @@ fn load_keys(value: &Value) -> Option<LoadKeys<'_>>
 /// A load that is to be made: who loads this text under this name, and when.
 #[derive(Clone, Copy)]
 pub(crate) struct LoadPost<'a> {
-    pub(crate) by: Name,
+    pub(crate) by: Person,
     pub(crate) moment: Moment,
     pub(crate) name: Name,
     pub(crate) csv: &'a str,
@@ -59,7 +60,7 @@ fn load_at<'a>(
     alloc: Global,
     kind: LoadKind,
     keys: &LoadKeys<'a>,
-    by: Name,
+    by: Person,
     moment: Moment,
 ) -> Result<LoadPost<'a>, Refusal>
     ensures { by ≡ keys.now.by.now → (load_outcome result ≡ Err Memory) ⊎ JudgesLoadMoment kind (load_keys_seen keys.now) (Some moment) (load_outcome result) }
@@ -83,7 +84,7 @@ fn judge_load<'a>(
 ) -> Result<LoadPost<'a>, Refusal>
     ensures { (load_outcome result ≡ Err Memory) ⊎ JudgesLoadKeys kind (Some (load_keys_seen keys.now)) (load_outcome result) }
 {
-    let Some(by) = Name::read_person(keys.by.as_bytes()) else {
+    let Some(by) = Person::read(keys.by.as_bytes()) else {
         return Err(Refusal::BadText);
     };
     match moment_in(keys.moment) {

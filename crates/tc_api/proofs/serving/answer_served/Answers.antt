@@ -8,7 +8,7 @@ use Rattle.tc_api.proofs.serving.answer_served.Goals as goal
 pub returns-in-Ok : goal.returns-in-Ok
 returns-in-Ok c = λ reply says.
     let said = subst (λ (r : Result Answer Untold). Says reply r) c.in-Ok.is says in
-    outcome_made _ reply _ _ _ c.make_served.ensures (c.ending_of.ensures reply said.1) said.0
+    outcome_made _ reply _ _ _ c.make_served.ensures (c.ending_of.ensures reply said.2) (said.0, said.1)
 
 pub returns-in-Err : goal.returns-in-Err
 returns-in-Err c = λ reply says.
