@@ -9,7 +9,7 @@ use Rattle.tc_types.specs.declared.refusals.Refusal.TheVariants as refusal
 use Rattle.tc_report.specs.ShiftReport.{AreAdded}
 use Rattle.tc_report.specs.Texts.{ended}
 use Rattle.tc_report.proofs.RowLemmas.{more_added, none_added}
-use Rattle.tc_report.proofs.TextLemmas.{ended-append}
+use Rattle.tc_report.proofs.TextLemmas.{ended-append, lines-append}
 use Rattle.tc_room.specs.Closed.{IsClosedHead, IsClosedReport}
 use Rattle.tc_front.specs.Write.{IsCutShort}
 use Rattle.tc_cli.specs.Closed.{CutsReport, CutsRows}
@@ -19,7 +19,7 @@ use Rattle.tc_cli.specs.Script.{fault_of}
 
 -- lines that were made by themselves, behind a text
 behind : (rows : List Move) (front text : List ℕ) → AreAdded rows [] text → AreAdded rows front (front ++ text)
-behind rows front text added = (added.0, added.1, ap (λ t. front ++ t) added.2)
+behind rows front text added = (added.0, added.1, added.2, ap (λ t. front ++ t) added.3)
 
 -- the lines of a page behind those that were written
 pub page_added : (before rows : List Move) (written text : List ℕ) → AreAdded before [] written → AreAdded rows [] text → AreAdded (before ++ rows) [] (written ++ text)
@@ -31,8 +31,9 @@ whole image from to head rows begins added =
     let last : List (List ℕ) = codes "END" ∷ [] in (
       begins.0 ++ added.0 ++ last,
       (begins.0, added.0, begins.1, added.1, refl),
-      ap (λ t. (t ++ rows) ++ ended last) begins.2
-          ∙ ap (λ t. (ended begins.0 ++ t) ++ ended last) added.2
+      lines-append (begins.0 ++ added.0) last (lines-append begins.0 added.0 begins.2 added.2) refl,
+      ap (λ t. (t ++ rows) ++ ended last) begins.3
+          ∙ ap (λ t. (ended begins.0 ++ t) ++ ended last) added.3
           ∙ ap (λ t. t ++ ended last) (sym (ended-append begins.0 added.0))
           ∙ sym (ended-append (begins.0 ++ added.0) last),
     )

@@ -20,7 +20,7 @@ use Rattle.tc_desk.specs.declared.configs.Config as configs
 use Rattle.tc_room.specs.Answers.{AsksPlaces, RefusesWith}
 use Rattle.tc_room.specs.Joined.{HoldsBook, Standing}
 use Rattle.tc_room.specs.Loads.{RoomLoad, loader_of}
-use Rattle.tc_room.specs.Replies.{ended}
+use Rattle.tc_room.specs.Replies.{AreLines, ended}
 use Rattle.tc_room.specs.Room.{IsJustOpened}
 use Rattle.tc_cli.specs.declared.paths.PathFault.TheVariants as path_fault
 use Rattle.tc_cli.specs.declared.script.ScriptFault.{ScriptFault}
@@ -116,10 +116,10 @@ module _ {S : Type 0} (g : Ghosts S) where
 
   -- its reply was cut short
   pub stopped_in_question : (end after : Standing S) (bytes text : List ℕ) (why : Option Refusal) (mid new : Option (List ℕ)) (fault : ScriptFault)
-      → (reply : Reply) × AsksPlaces g end reply after × ((text ≡ ended reply) × RefusesWith reply why)
+      → (reply : Reply) × AsksPlaces g end reply after × ((text ≡ ended reply) × AreLines reply × RefusesWith reply why)
       → bytes ≡ text → fault ≡ Output → (part : List ℕ) × IsCutShort bytes part × Appends mid new part
       → (part : List ℕ) × LeavesPart g fault end [] [] part after × Appends mid new part
-  stopped_in_question end after bytes text why mid new fault (reply, asks, (is_text, refuses)) are is_output (part, cut, written) =
+  stopped_in_question end after bytes text why mid new fault (reply, asks, (is_text, lines, refuses)) are is_output (part, cut, written) =
       (part, rw is_output (reply, (refl, asks), subst (λ (given : List ℕ). IsCutShort given part) (are ∙ is_text) cut), written)
 
   -- ---- the room behind it

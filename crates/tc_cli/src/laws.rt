@@ -1,8 +1,9 @@
 //! What is true of a desk's file from one run of the program to the next.
-ghost use Rattle.std.specs.Prelude.{◌≡◌, ◌⊎◌};
+ghost use Rattle.std.specs.Prelude.{◌≡◌, ◌⊎◌, IfOk};
 ghost use Rattle.sqlite_trees.specs.View.{IsClean};
 ghost use Rattle.sqlite_store.specs.FileStore.{view};
 ghost use Rattle.sqlite.specs.Files.{file_state, over_files};
+ghost use Rattle.sqlite.specs.State.{HasCleanDisk};
 ghost use Rattle.tc_types.specs.Tables.{Image};
 ghost use Rattle.tc_types.specs.declared.acts.Act.{Act};
 ghost use Rattle.tc_book.specs.Book.{Book};
@@ -10,7 +11,8 @@ ghost use Rattle.tc_book.specs.Tables.{image_of};
 ghost use Rattle.tc_book.specs.declared.stamps.Stamp.{Stamp};
 ghost use Rattle.tc_desk.specs.Loads.{Loading};
 ghost use Rattle.tc_room.specs.Crash.{Leaves, LeavesActs};
-ghost use Rattle.tc_room.specs.Joined.{LinkState};
+ghost use Rattle.tc_room.specs.Joined.{IsKept, LinkState};
+ghost use Rattle.tc_room.specs.Opening.{OpensLeft};
 ghost use Rattle.tc_room.specs.Loads.{LoadsBook};
 ghost use Rattle.tc_room.specs.Room.{MakesBook};
 ghost use Rattle.tc_cli.specs.Crash.{HoldsSome, IsReopened};
@@ -18,6 +20,21 @@ ghost use Rattle.tc_cli.specs.Crash.{HoldsSome, IsReopened};
 use sqlite::Connection;
 use sqlite_disk::Disk;
 use sqlite_store::FileStore;
+use std::alloc::Global;
+use tc_desk::configs::Config;
+use tc_room::opening::Opened;
+use tc_room::rooms::Room;
+use tc_types::numbers::Moment;
+use tc_types::refusals::Refusal;
+
+/// The room that comes next over a desk's files, and the store of the one before it.
+#[derive(Drop)]
+pub(crate) struct Next<D: Disk + Drop, E: Disk + Drop> {
+    /// The store of the connection before.
+    pub(crate) last: FileStore<D>,
+    /// What became of the opening.
+    pub(crate) opened: Result<Opened<FileStore<E>>, (Refusal, Connection<FileStore<E>>)>,
+}
 
 /// The law: a connection that was opened over what a crash left of another finds the desk's tables, those of the book that the other's tables held;
 /// where an act or a load was in progress, or the database failed at it, those of the book before or of the book that it makes. What a
@@ -35,4 +52,27 @@ pub(crate) fn a_crash_loses_nothing<D: Disk + Drop, E: Disk + Drop>(
         → HoldsSome (λ image. (image ≡ image_of old.book) ⊎ ((after : Book) × LoadsBook old stamp given after × (image ≡ image_of after))) (file_state found.now).now }
 {
     last.into_store()
+}
+
+/// The law of two rooms: what stood in one when a crash came, the next one opens. The tables of a book that a room keeps (`IsKept`, which each of its calls
+/// promises) are sound and told by their columns; where the next room opens over files that hold what the crash left, its desk is what an
+/// opening makes of that book. The first connection is taken apart here for the proof alone; its disk has to have given back what was
+/// written until then.
+pub(crate) fn what_stood_is_opened<D: Disk + Drop, E: Disk + Drop>(
+    alloc: Global,
+    last: Connection<FileStore<D>>,
+    found: Connection<FileStore<E>>,
+    config: Config,
+    moment: Moment,
+) -> Next<D, E>
+    ensures kept { IsClean (view result.last) → IsReopened last found → (book : Book) → IsKept book → Leaves over_files last (λ image. image ≡ image_of book)
+        → IfOk result.opened (λ opened. HasCleanDisk (file_state opened.room.tables) → ∥ OpensLeft over_files config moment (image_of book) opened.moves.items opened.room ∥₁) }
+    // where an act was in progress, of the book before or of the book that it makes, if that is one that a room keeps
+    ensures act { IsClean (view result.last) → IsReopened last found → (old : LinkState) (stamp : Stamp) (given : Act) → IsKept old.book → ((after : Book) → MakesBook old stamp given after → IsKept after)
+        → LeavesActs over_files last old.book (MakesBook old stamp given)
+        → IfOk result.opened (λ opened. HasCleanDisk (file_state opened.room.tables) → ∥ ((book : Book) × ((book ≡ old.book) ⊎ MakesBook old stamp given book) × OpensLeft over_files config moment (image_of book) opened.moves.items opened.room) ∥₁) }
+{
+    let last = last.into_store();
+    let opened = Room::open(alloc, found, config, moment);
+    Next { last, opened }
 }

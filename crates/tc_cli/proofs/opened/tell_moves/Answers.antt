@@ -24,7 +24,7 @@ returns-in_err-told-clause-counted g c =
     rw gone c.requires
 
 pub returns-clause-cut : goal.returns-clause-cut
-returns-clause-cut g c = opening_cut _ _ _ _ c.put.result (c.as_bytes.ensures.value ∙ c.in_ok-told.ensures) c.put.ensures.fault c.put.ensures.cut
+returns-clause-cut g c = opening_cut _ _ _ _ c.put.result (c.as_bytes.ensures.value ∙ c.in_ok-told.ensures.text) c.put.ensures.fault c.put.ensures.cut
 
 pub returns-clause-fault : goal.returns-clause-fault
 returns-clause-fault g c = IfErr-weaker c.put.result _ _ (λ fault is. output_is_other fault is) c.put.ensures.fault

@@ -29,4 +29,4 @@ returns-in_err-answer-in-Err-clause-unanswered g c =
 pub returns-in_ok-answer-in-Err-clause-answered : goal.returns-in_ok-answer-in-Err-clause-answered
 returns-in_ok-answer-in-Err-clause-answered g c =
     let h = c.in_ok-answer-in-Err.ensures.answered in
-    (h.0, [], inr (refl, loads_nothing c.args.line.now c.read_load.result _ c.in-Err.is c.read_load.ensures.only, h.1), gives_none _, h.2.0, h.2.1)
+    (h.0, [], inr (refl, loads_nothing c.args.line.now c.read_load.result _ c.in-Err.is c.read_load.ensures.only, h.1), gives_none _, h.2.0, h.2.2)

@@ -39,4 +39,4 @@ returns-in_err-put-clause-counted g c =
 pub returns-clause-taken : goal.returns-clause-taken
 returns-clause-taken g c =
     let h = c.in_ok-last.ensures.answered in
-    (h.0, h.1, subst (λ (bytes : List ℕ). Appends (g.W.Write.contents (inner_of c.args.writer.now)) (g.W.Write.contents (inner_of c.put.new.writer)) bytes) (c.as_bytes.ensures.value ∙ h.2.0) c.in_ok-put.ensures.written, c.refused.ensures h.0 h.2.1)
+    (h.0, h.1, subst (λ (bytes : List ℕ). Appends (g.W.Write.contents (inner_of c.args.writer.now)) (g.W.Write.contents (inner_of c.put.new.writer)) bytes) (c.as_bytes.ensures.value ∙ h.2.0) c.in_ok-put.ensures.written, c.refused.ensures h.0 h.2.2)
