@@ -1,7 +1,9 @@
 """Edits that must fail, and the functions whose bodies they change.
 
 An edit is a file of lines 'file: src/x.rt', 'old: TEXT' and 'new: TEXT', in the format of `rt must-fail`: each TEXT is one
-line, an old TEXT stands once in its file, and later pairs apply to what the earlier ones made.
+line, an old TEXT stands once in its file, and later pairs apply to what the earlier ones made. A line 'fn: NAME' behind the
+file, which `rt must-fail` does not know, names a function as a check does (`act`, `Room::act`): an old TEXT stands once in
+its body then.
 """
 import os
 import re
@@ -112,6 +114,17 @@ class Unreadable(Exception):
     """Why an edit is none."""
 
 
+def places_of(file: str, text: str, name: str | None, old: str) -> list[int]:
+    """Where an old text stands in a file, or in the body of the function of this name."""
+    found = [it.start() for it in re.finditer(re.escape(old), text)]
+    if name is None:
+        return found
+    named = [it for it in functions_of(file, text) if it.name == name]
+    if len(named) != 1:
+        raise Unreadable(f"there are {len(named)} functions {name} in {file}, and not one")
+    return [at for at in found if named[0].holds(at, len(old))]
+
+
 class Edit:
     """A wrong text of a crate: what it changes, the texts that it makes, and the functions that it changes alone."""
 
@@ -131,31 +144,36 @@ class Edit:
 
     def _read(self, lines: Sequence[str], folder: str) -> None:
         file: str | None = None
+        name: str | None = None
         old: str | None = None
         for line in lines:
             if line.startswith("file: "):
-                file = line.removeprefix("file: ").strip()
+                file, name = line.removeprefix("file: ").strip(), None
                 if os.path.normpath(file) != file or not file.startswith(("src/", "specs/", "proofs/")):
                     raise Unreadable("a 'file:' line names no file below src/, specs/ or proofs/")
+            elif line.startswith("fn: "):
+                name = line.removeprefix("fn: ").strip()
             elif line.startswith("old: "):
                 old = line.removeprefix("old: ")
             elif line.startswith("new:"):
                 if not file or not old:
                     raise Unreadable("a 'new:' line stands before any 'file:' or 'old:' line")
-                self._splice(file, old, line.removeprefix("new:").removeprefix(" "), folder)
+                self._splice(file, name, old, line.removeprefix("new:").removeprefix(" "), folder)
                 old = None
         if not self.splices:
             raise Unreadable("it has no 'old:' and 'new:' pair")
 
-    def _splice(self, file: str, old: str, new: str, folder: str) -> None:
+    def _splice(self, file: str, name: str | None, old: str, new: str, folder: str) -> None:
         if not os.path.isfile(f"{folder}/{file}"):
             raise Unreadable(f"there is no file {file}")
         was = text_of(f"{folder}/{file}")
         text = self.texts.get(file, was)
-        if text.count(old) != 1:
-            raise Unreadable(f"an 'old:' text is in {file} {text.count(old)} times, and not once")
-        self.texts[file] = text.replace(old, new)
-        self.splices.append(Splice(file, was.find(old) if was.count(old) == 1 else -1, old, new))
+        at = places_of(file, text, name, old)
+        if len(at) != 1:
+            raise Unreadable(f"an 'old:' text is in {name or file} {len(at)} times, and not once")
+        self.texts[file] = text[: at[0]] + new + text[at[0] + len(old) :]
+        before = places_of(file, was, name, old)
+        self.splices.append(Splice(file, before[0] if len(before) == 1 else -1, old, new))
 
     def _place(self, folder: str) -> None:
         """Finds the functions that the edit changes, if it changes bodies alone, and of no `const fn`."""

@@ -160,6 +160,9 @@ PLANTED = {
     "wrong_by_hand": (LIB, "    x + x\n", "    x\n", BY_HAND),
     # Wrong, beside another edit of the same function.
     "wrong_again": (LIB, "    x / 2\n", "    x / 2 + 1\n", REFUSED),
+    # Wrong, by a text that stands once in the body of the function that is named.
+    "wrong_in_a_named_function": (f"{LIB}\nfn: half", "x / 2", "x / 4", REFUSED),
+    "wrong_in_a_named_method": (f"{COUNTERS}\nfn: Counter::raise", "value", "value -= 1; self.value", REFUSED),
     # Wrong, and outside the bodies: of a constant, and of a function that a constant can rest on.
     "wrong_constant": (LIB, "pub const MOST: u8 = 10;", "pub const MOST: u8 = 11;", ALONE),
     "wrong_constant_function": (COUNTERS, "Counter { value: 0 }", "Counter { value: 1 }", ALONE),
@@ -175,6 +178,8 @@ PLANTED = {
     # No edits.
     "old_is_missing": (LIB, "x / 5", "x / 6", NO_EDIT + r"an 'old:' text is in src/lib.rt 0 times"),
     "old_stands_twice": (LIB, "result ≡ x / 2", "result ≡ x / 3", NO_EDIT + r"an 'old:' text is in src/lib.rt 2 times"),
+    "no_such_function": (f"{LIB}\nfn: third", "x / 2", "x / 3", NO_EDIT + "there are 0 functions third in src/lib.rt"),
+    "old_stands_outside": (f"{LIB}\nfn: most", "x / 2", "x / 3", NO_EDIT + r"an 'old:' text is in most 0 times"),
     "no_such_file": ("src/none.rt", "x", "y", NO_EDIT + "there is no file src/none.rt"),
     "outside": ("../crates.txt", "planted", "other", NO_EDIT + "a 'file:' line names no file below"),
 }

@@ -14,7 +14,7 @@ from dataclasses import dataclass
 from functools import partial
 from typing import Optional, Union
 
-from model.facts import LAST_MOMENT
+from model.facts import LAST_APID, LAST_MOMENT, MOST_STACKS
 from model.kept import read_tables
 from model.rows import ROWS, Tables
 from model.sound import is_name, is_outcome, why_unsound
@@ -130,6 +130,23 @@ def changes_of(desk: Desk, dice: random.Random) -> list[Change]:
     return changes
 
 
+def with_stacks(desk: Desk, most: int) -> Change:
+    """So many stacks: those that stand, and as many of one row each as lack, whose requests were entered and nothing more."""
+    tables, author, apid = desk.tables, desk.tables.stack[0].author, LAST_APID
+    count = sum(it.apid == apid for it in tables.request)
+    statements: list[tuple[str, list[Union[int, str]]]] = []
+    lack = most - len(tables.stack)
+    for n in range(lack):
+        num, seq, name = len(tables.request) + n + 1, len(tables.move) + n + 1, f"more{n}"
+        statements += [
+            ("INSERT INTO request VALUES (?, ?, ?, 0, 0, 8, 1, 0, 0, 'ok', ?, ?, 1, 0, 1)", [num, apid, count + n, author, name]),
+            ("INSERT INTO move VALUES (?, ?, 0, 1, 1, ?, 0)", [seq, num, author]),
+            ("INSERT INTO stack VALUES (?, ?, 0)", [name, author]),
+        ]
+    statements.append(("UPDATE tally SET amount = amount + ? WHERE place = 1", [lack]))
+    return Change(f"{most} stacks", statements)
+
+
 # ---- what becomes of a change
 
 def judge(program: str, work: str, job: tuple[Desk, Change]) -> Found:
@@ -167,6 +184,7 @@ class Broken(Tried):
             self.assertFalse(lacks(desks), "the desks are not as they should be")
             dice = random.Random(ASKED.seed_or(SEED))
             jobs = [(desk, change) for desk in desks for change in changes_of(desk, dice)]
+            jobs += [(desks[0], with_stacks(desks[0], most)) for most in (MOST_STACKS, MOST_STACKS + 1)]
             jobs = jobs if ASKED.count is None else dice.sample(jobs, min(len(jobs), ASKED.count))
             found = judge_all(ASKED.program, work, jobs)
         counts = {kind: sum(it.kind == kind for it in found) for kind in ("refused", "taken", "skipped")}
