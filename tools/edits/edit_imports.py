@@ -24,6 +24,8 @@ COMMENTS = {".rt": re.compile(r"\s*//"), ".antt": re.compile(r"\s*--(\s|$)"), ".
 # What begins a path in its own crate.
 OF_OWN = ("crate", "self", "super")
 MODULE = re.compile(r"(?:\bpub(?:\([^)]*\))?\s+)?\bmod\s+(\w+)(?:\s*;)?")
+# What a root file hands out from a module below it: its face.
+FACE = re.compile(r"^pub use (?!crate\b|self\b|super\b)(\w+)(?=::)([^;]*);", re.M)
 TYPE = re.compile(r"^\s*(?:pub(?:\([^)]*\))?\s+)?(?:unsafe\s+)?(?:struct|enum|union|trait)\s+(\w+)", re.M)
 IMPL = re.compile(r"(?:^|\])\s*(?:unsafe\s+)?impl\b([^{;]*)", re.M)
 NAME = re.compile(r"\s*([\w-]*)")
@@ -100,6 +102,7 @@ class Imports:
         self.folder, self.names = folder, tuple(sorted(known))
         self.files = {it: self.listed(it) for it in crates}
         self.texts: dict[File, str] = {}
+        self.faces = {it: self.face(it) for it in crates}
         self.carried: dict[File, set[File]] = {}
         for name in crates:
             self.carry(name)
@@ -108,6 +111,15 @@ class Imports:
         top = f"{self.folder}/{name}"
         found = [os.path.relpath(it, top) for part in PARTS for it in files_of(f"{top}/{part}")]
         return {it for it in found if not OF_ONE.fullmatch(it)}
+
+    def face(self, name: str) -> dict[str, Parts]:
+        """By each name that a crate's root hands out from a module below it, the path of what that is. A name that is no
+        plain one, as `*`, or is handed out under another, is none."""
+        if "src/lib.rt" not in self.files[name]:
+            return {}
+        found = FACE.finditer(self.words((name, "src/lib.rt")))
+        paths = [(it[1], *parts) for it in found if " as " not in it[2] for parts in tails(it[2], 0, "::")[0]]
+        return {it[-1]: it for it in paths if len(it) > 1}
 
     def words(self, file: File) -> str:
         """The lines of a file that are no comments; of a file that is in neither language none."""
@@ -147,6 +159,7 @@ class Imports:
     def led(self, name: str, parts: Parts) -> set[File]:
         """The files that a path below a crate leads to. What the prover makes of src/ is named by the paths of src/, in
         `specs.declared`, in `specs.contracts` and in `proofs`."""
+        parts = (*self.faces[name].get(parts[0], parts[:1]), *parts[1:]) if parts else parts
         places = [("src", parts)]
         if parts[:1] in (("specs",), ("proofs",)):
             places.append((parts[0], parts[1:]))
@@ -183,6 +196,7 @@ class Imports:
         return {(name, it) for it in (self.exact(name, stem) for stem in stems) if it}
 
     def beside_modules(self, file: File) -> str:
-        """What a file says beside its `mod` lines and comments."""
-        lines = MODULE.sub("", self.words(file)).splitlines()
+        """What a file says beside its `mod` lines, its face and comments. A face tells only where a path leads, and that
+        is followed."""
+        lines = FACE.sub("", MODULE.sub("", self.words(file))).splitlines()
         return "\n".join(it for it in lines if it.strip())

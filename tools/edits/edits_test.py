@@ -192,11 +192,13 @@ THREE = {
 use low::{
     deep::{inner::Inner, Deep},
     named::Thing as Other,
+    Shown,
 };
 ghost use Rattle.low.specs.declared.told.Told.TheVariants as told;
 """,
     "crates/planted/proofs/Mine.antt": "use Rattle.low.proofs.Laws.{law}\n",
-    "crates/low/src/lib.rt": "//! A lower crate.\n#![tactic(auto)]\npub mod apart;\npub mod named;\n",
+    "crates/low/src/lib.rt": "//! A lower crate.\n#![tactic(auto)]\npub mod apart;\npub mod named;\nmod shown;\npub use shown::{Aside, Shown};\n",
+    "crates/low/src/shown.rt": "pub struct Aside {}\npub struct Shown {}\n",
     "crates/low/src/named.rt": "use super::through::Hidden;\nghost use Rattle.low.specs.deep.Words.{word};\npub struct Thing {}\n",
     "crates/low/src/through.rt": "pub struct Hidden {}\n",
     "crates/low/src/told.rt": "pub enum Told {}\n",
@@ -225,6 +227,7 @@ CHANGES = {
     "an edit": ("crates/planted/wrong/wrong_method.edit", "\n", True),
     "an edit more": ("crates/planted/wrong/one_more.edit", "\n", True),
     "a lower module that code imports": ("crates/low/src/named.rt", "\n", True),
+    "one of which the root's face hands out what code imports": ("crates/low/src/shown.rt", "\n", True),
     "one that it imports in a group": ("crates/low/src/deep/inner.rt", "\n", True),
     "one that is imported by its place": ("crates/low/src/under.rt", "\n", True),
     "one that a ghost import names": ("crates/low/src/told.rt", "\n", True),
@@ -240,6 +243,7 @@ CHANGES = {
     "a lower definition that is not imported": ("crates/low/specs/Apart.antt", "\n", False),
     "a lower lemma that is not imported": ("crates/low/proofs/Apart.antt", "\n", False),
     "a lower list of modules": ("crates/low/src/lib.rt", "/// A module more.\npub mod more;\n", False),
+    "a lower face": ("crates/low/src/lib.rt", "pub use apart::Apart;\n", False),
     "a lower list of lemmas": ("crates/low/proofs/Lib.antt", "pub mod Base\n", False),
     "a lower module more": ("crates/low/src/acts.rt", "pub struct Act {}\n", False),
     "a lower proof": ("crates/low/proofs/half/Answers.antt", "\n", False),

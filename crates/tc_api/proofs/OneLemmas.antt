@@ -1,5 +1,6 @@
 -- A body posts one thing.
 use Rattle.std.proofs.Common.{◌≡◌, ◌∙◌, ◌≤◌, ◌⊎◌, inl, inr, ap, subst, refl, sym, ℕ, List, Option, Some, None, Result, Ok, Err, length}
+use Rattle.std.specs.Result.{result_ok}
 use Rattle.std.specs.Prelude.{IfOk, option_and_then}
 use Rattle.std.specs.Str.{IsUtf8}
 use Rattle.serde_json.specs.Data.{Data}
@@ -118,3 +119,11 @@ pub load_post_one : (kind : LoadKind) (body : List ℕ) (a b : Result Load Refus
 unfolding JudgesLoadPost
 load_post_one kind body a b h k =
     load_keys_one kind (option_and_then load_keys k.0) a b (subst (λ (v : Option Data). JudgesLoadKeys kind (option_and_then load_keys v) a) (json_one body h.0 k.0 h.1 k.1) h.2) k.2
+
+-- ---- what an `ok_or` found
+
+pub found_some : {X E : Type 0} (o : Option X) (r : Result X E) (x : X) → o ≡ result_ok r → r ≡ Ok x → o ≡ Some x
+found_some o r x ok is = ok ∙ ap result_ok is
+
+pub found_none : {X E : Type 0} (o : Option X) (r : Result X E) (e : E) → o ≡ result_ok r → r ≡ Err e → o ≡ None
+found_none o r e ok is = ok ∙ ap result_ok is

@@ -1,18 +1,17 @@
 -- One exchange: what is read, what it makes of the room, and what is written.
-use Rattle.std.specs.Prelude.{◌≡◌, ◌⊎◌, ℕ, true, false, Option, IfSome, List}
+use Rattle.std.specs.Prelude.{◌≡◌, ◌≢◌, ◌⊎◌, ℕ, true, false, Option, Result, Err, IfErr, IfSome, OnOk, List}
 use Rattle.std.specs.Io.KnownBytes.{Appends, Consumes, Keeps}
 use Rattle.sqlite_trees.specs.declared.store.Store.{Ghosts}
 use Rattle.tc_types.specs.declared.counted.Counts.{Counts}
 use Rattle.tc_types.specs.Counts.{no_counts}
 use Rattle.tc_types.specs.declared.refusals.Refusal.{Refusal}
 use Rattle.tc_types.specs.declared.refusals.Refusal.TheVariants.{Memory, ReadFault, WriteFault}
-use Rattle.tc_front.specs.declared.read.FrontFault.{FrontFault}
-use Rattle.tc_front.specs.declared.read.FrontFault.TheVariants as fault
 use Rattle.tc_front.specs.Front.{Asked, IsDecided}
+pub use Rattle.tc_front.specs.Read.{refusal_of}
 use Rattle.tc_front.specs.Read.{CanGoOn, HasStopped, NoFront}
-use Rattle.tc_front.specs.Write.{IsCutShort, one_fault}
+use Rattle.tc_front.specs.Write.{IsCutShort, Stream, one_fault}
 use Rattle.tc_room.specs.Joined.{Standing}
-use Rattle.tc_room.specs.Replies.{ended}
+use Rattle.tc_room.specs.Replies.{AreLines, ended}
 use Rattle.tc_api.specs.Responses.{response_bytes, text_lines}
 use Rattle.tc_api.specs.Serving.{Outcome, Serves}
 
@@ -28,17 +27,6 @@ pub record IsUnread (had left : Option (List ℕ)) : Type 0 where
   pub text : List ℕ
   pub taken : Consumes had left text
   pub fronts : NoFront text
-
--- what is told where none was read
-abbrev pub refusal_of : FrontFault → Refusal
-refusal_of fault.Unread = ReadFault
-refusal_of fault.Memory = Memory
-
--- A front of the input decided what is asked, and it was served.
-pub record IsServed {S : Type 0} (g : Ghosts S) (text : List ℕ) (old : Standing S) (outcome : Outcome) (new : Standing S) : Type 0 where
-  pub asked : Asked
-  pub decided : IsDecided text asked
-  pub serves : Serves g old asked outcome new
 
 -- the response to an outcome
 abbrev pub response_to : Outcome → List ℕ
@@ -67,6 +55,14 @@ IsUnanswered outcome refusal counts before after =
     ((refusal ≡ WriteFault) × IsCutOff (response_to outcome) counts before after)
     ⊎ (IsUntold outcome refusal × IsUntouched counts before after)
 
+-- The response to an outcome was written, all of it and nothing else, and its lines are the reply's; or the refusal says why it is not answered.
+pub record Responds {X : Type 0} (outcome : Outcome) (result : Result X Refusal) (old new : Stream) : Type 0 where
+  pub written : OnOk result (Appends old.bytes new.bytes (response_to outcome))
+  pub lines : OnOk result (AreLines outcome.reply)
+  -- of a writer that counted nothing before
+  pub failed : old.counts ≡ no_counts → IfErr result (λ why. IsUnanswered outcome why new.counts old.bytes new.bytes)
+  pub unfailed : old.counts ≡ no_counts → OnOk result (new.counts ≡ no_counts)
+
 -- An exchange: a request was read, it was served, and its response was written, all of it and nothing else. The lines that the response is made
 -- of are the reply's.
 pub record Answers {S : Type 0} (g : Ghosts S) (had left : Option (List ℕ)) (old new : Standing S) (before after : Option (List ℕ)) : Type 0 where
@@ -92,6 +88,19 @@ pub record EndsUnanswered {S : Type 0} (g : Ghosts S) (refusal : Refusal) (had l
   pub read : IsRead had left asked
   pub serves : Serves g old asked outcome new
   pub unanswered : IsUnanswered outcome refusal counts before after
+
+-- One exchange, over a reader and a writer that were not used before, whatever it answers.
+pub record Exchanges {X S : Type 0} (g : Ghosts S) (result : Result X Refusal) (input left : Stream) (old new : Standing S) (before after : Stream) : Type 0 where
+  pub answered : OnOk result (Answers g input.bytes left.bytes old new before.bytes after.bytes)
+  pub failed : IfErr result (λ why. EndsUnread why left.counts input.bytes left.bytes old new after.counts before.bytes after.bytes
+      ⊎ EndsUnanswered g why input.bytes left.bytes old new after.counts before.bytes after.bytes)
+  -- where the reader failed or ended, that is told
+  pub fault : left.counts.faults ≢ 0 → result ≡ Err ReadFault
+  pub ended : left.counts.ends ≢ 0 → result ≡ Err ReadFault
+  -- where all was written, no write failed
+  pub unfailed : OnOk result (after.counts ≡ no_counts)
+  -- as many rows of the history stood once the room was opened
+  pub opened : new.opened ≡ old.opened
 
 -- what is told of an exchange that has no whole response: nothing else
 abbrev pub TellsEnd : Refusal → Type 0

@@ -7,6 +7,7 @@ use Rattle.http.specs.StatusCode.{reason_phrase}
 use Rattle.serde_json.specs.Data.{Data, Items, array, member, no_members, number, object, string, unsigned}
 use Rattle.serde_json.specs.View.{items_of}
 use Rattle.serde_json.specs.Written.{compact_text}
+pub use Rattle.tc_front.specs.Lines.{length_line, line_end}
 use Rattle.tc_api.specs.declared.endings.Ending.{Ending}
 use Rattle.tc_api.specs.Endings.{refusal_number, status_number, status_of}
 
@@ -38,10 +39,6 @@ body_data lines refusal = reply_data (take most_lines lines) (length lines - mos
 abbrev pub body_bytes : Ending → List ℕ → List ℕ
 body_bytes ending text = compact_text (body_data (text_lines text) (refusal_number ending))
 
--- CR LF
-abbrev pub line_end : List ℕ
-line_end = 13 ∷ 10 ∷ []
-
 -- the phrase that the crate http gives to a status code
 abbrev pub phrase_of : ℕ → List ℕ
 phrase_of code = unwrap_or (reason_phrase code) []
@@ -49,10 +46,6 @@ phrase_of code = unwrap_or (reason_phrase code) []
 -- the status line (RFC 9112, section 4), without its end
 abbrev pub status_line : ℕ → List ℕ → List ℕ
 status_line code phrase = codes "HTTP/1.1 " ++ decimal code ++ codes " " ++ phrase
-
--- the line of the body's length (RFC 9110, section 8.6), without its end
-abbrev pub length_line : ℕ → List ℕ
-length_line size = codes "Content-Length: " ++ decimal size
 
 -- the status line, three header lines and an empty line
 abbrev pub head_text : ℕ → List ℕ → ℕ → List ℕ

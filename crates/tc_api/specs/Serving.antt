@@ -123,3 +123,10 @@ HasText reply served = IfSome served.text (λ text. (string_bytes text ≡ ended
 -- what stands at the keys of a load
 pub record ServesKeys {S : Type 0} (g : Ghosts S) (old : Standing S) (kind : LoadKind) (keys : Option LoadKeys) (outcome : Outcome) (new : Standing S) : Type 0 where
   pub served : FindsNoMemory old outcome new ⊎ ((given : Result Load Refusal) × JudgesLoadKeys kind keys given × ServesLoad g old kind given outcome new)
+
+-- What was served: an outcome of this kind, whose reply its text is; and as many rows of the history stood once the room was opened.
+pub record IsServedBy {S : Type 0} (Makes : Outcome → Standing S → Type 0) (old : Standing S) (served : Served) (new : Standing S) : Type 0 where
+  pub reply : Reply
+  pub makes : Makes (outcome_of reply served) new
+  pub text : HasText reply served
+  pub opened : new.opened ≡ old.opened

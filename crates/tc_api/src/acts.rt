@@ -9,11 +9,7 @@ ghost use Rattle.tc_api.specs.Acts.{IsReadAs, JudgesAct, JudgesActKeys, JudgesAc
 use crate::bodies::{moment_in, number_at, text_at, value_of};
 use serde_json::Value;
 use std::alloc::Global;
-use tc_types::act_reader::{LONGEST_ACT, read_act};
-use tc_types::acts::{Act, Line};
-use tc_types::numbers::Moment;
-use tc_types::persons::Person;
-use tc_types::refusals::Refusal;
+use tc_types::{Act, LONGEST_ACT, Line, Moment, Person, Refusal, read_act};
 
 /// What stands at the keys of an act.
 #[derive(Clone, Copy)]
@@ -49,16 +45,12 @@ fn judge_read(keys: &ActKeys<'_>, act: Result<Act, Refusal>) -> Result<Line, Ref
     requires { IsReadAs keys.now.act.now act }
     ensures { JudgesActKeys (Some (act_keys_seen keys.now)) result }
 {
-    let Some(by) = Person::read(keys.by.as_bytes()) else {
-        return Err(Refusal::BadText);
-    };
+    let by = Person::read(keys.by.as_bytes()).ok_or(Refusal::BadText)?;
     if keys.act.len() > LONGEST_ACT {
         return Err(Refusal::TooLong);
     }
-    match moment_in(keys.moment) {
-        Some(moment) => act_at(act, by, moment),
-        None => Err(Refusal::BadText),
-    }
+    let moment = moment_in(keys.moment).ok_or(Refusal::BadText)?;
+    act_at(act, by, moment)
 }
 
 /// What the keys of an act post.
@@ -74,10 +66,8 @@ fn judge_act_value(value: &Value) -> Result<Line, Refusal>
     ensures judged { JudgesActKeys (act_keys (view value.now)) result }
     ensures only { (outcome : Result SomeLine SomeRefusal) → JudgesActKeys (act_keys (view value.now)) outcome → result ≡ outcome }
 {
-    match act_keys(value) {
-        Some(keys) => judge_act(&keys),
-        None => Err(Refusal::BadText),
-    }
+    let keys = act_keys(value).ok_or(Refusal::BadText)?;
+    judge_act(&keys)
 }
 
 /// The act that a body posts, by whom, and when: a JSON object with the keys `act` and `by` (texts) and `moment` (a number). It is refused with
@@ -88,8 +78,6 @@ pub fn read_act_post(alloc: Global, body: &[u8]) -> Result<Line, Refusal>
     // a body posts one thing
     ensures only { (outcome : Result SomeLine SomeRefusal) → JudgesActPost body.now outcome → (result ≡ Err Memory) ⊎ (result ≡ outcome) }
 {
-    match value_of(alloc, body) {
-        Ok(value) => judge_act_value(&value),
-        Err(refusal) => Err(refusal),
-    }
+    let value = value_of(alloc, body)?;
+    judge_act_value(&value)
 }

@@ -8,8 +8,7 @@ ghost use Rattle.tc_api.specs.Bodies.{moment_in, number_at, text_at};
 
 use serde_json::{Number, Value};
 use std::alloc::Global;
-use tc_types::numbers::Moment;
-use tc_types::refusals::Refusal;
+use tc_types::{Moment, Refusal};
 
 /// The JSON value that a body is. It is refused with `BadText` where it is none, and with `Memory` where that was refused.
 pub(crate) fn value_of(alloc: Global, body: &[u8]) -> Result<Value, Refusal>

@@ -3,7 +3,7 @@ ghost use Rattle.std.specs.Prelude.{◌≡◌};
 ghost use Rattle.http.specs.StatusCode.{IsStatusCode};
 ghost use Rattle.tc_api.specs.Endings.{is_done, refusal_number, status_number, status_of, status_of_refusal};
 
-use tc_types::refusals::Refusal;
+use tc_types::Refusal;
 
 /// The statuses that the desk answers with (RFC 9110, section 15).
 #[derive(Clone, Copy, Debug, PartialEq, Eq)]

@@ -8,7 +8,7 @@ ghost use Rattle.tc_api.specs.Kept.{KeepsPromise, ServesAll};
 ghost use Rattle.tc_api.specs.Loads.{JudgesLoadPost, Load};
 
 use sqlite::Alter;
-use tc_room::rooms::Room;
+use tc_room::Room;
 
 /// A body posts one load, or is refused in one way. (Of an act `read_act_post` says so itself, by its clause `only`.)
 pub fn a_load_post_is_one()

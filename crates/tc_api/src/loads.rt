@@ -7,12 +7,8 @@ ghost use Rattle.tc_api.specs.Loads.{IsUnfit, JudgesLoadKeys, JudgesLoadMoment, 
 use crate::bodies::{moment_in, number_at, text_at};
 use serde_json::Value;
 use std::alloc::Global;
-use tc_room::loadings::is_too_long;
-use tc_types::loads::LoadKind;
-use tc_types::names::Name;
-use tc_types::numbers::Moment;
-use tc_types::persons::Person;
-use tc_types::refusals::Refusal;
+use tc_room::is_too_long;
+use tc_types::{LoadKind, Moment, Name, Person, Refusal};
 
 /// What stands at the keys of a load.
 #[derive(Clone, Copy)]
@@ -51,7 +47,7 @@ fn unfit(alloc: Global, kind: LoadKind, csv: &str) -> Refusal
     match is_too_long(alloc, kind, csv.as_bytes()) {
         Ok(true) => Refusal::TooLong,
         Ok(false) => Refusal::BadText,
-        Err(refusal) => refusal,
+        Err(_) => Refusal::Memory,
     }
 }
 
@@ -84,9 +80,7 @@ fn judge_load<'a>(
 ) -> Result<LoadPost<'a>, Refusal>
     ensures { (load_outcome result ≡ Err Memory) ⊎ JudgesLoadKeys kind (Some (load_keys_seen keys.now)) (load_outcome result) }
 {
-    let Some(by) = Person::read(keys.by.as_bytes()) else {
-        return Err(Refusal::BadText);
-    };
+    let by = Person::read(keys.by.as_bytes()).ok_or(Refusal::BadText)?;
     match moment_in(keys.moment) {
         Some(moment) => load_at(alloc, kind, keys, by, moment),
         None => Err(unfit(alloc, kind, keys.csv)),
@@ -101,8 +95,6 @@ pub(crate) fn judge_load_value(
 ) -> Result<LoadPost<'_>, Refusal>
     ensures { (load_outcome result ≡ Err Memory) ⊎ JudgesLoadKeys kind (load_keys (view value.now)) (load_outcome result) }
 {
-    match load_keys(value) {
-        Some(keys) => judge_load(alloc, kind, &keys),
-        None => Err(Refusal::BadText),
-    }
+    let keys = load_keys(value).ok_or(Refusal::BadText)?;
+    judge_load(alloc, kind, &keys)
 }

@@ -6,12 +6,13 @@ ghost use Rattle.std.specs.String.{string_bytes};
 ghost use Rattle.http.specs.StatusCode.{IsStatusCode};
 ghost use Rattle.serde_json.specs.View.{items_view, view};
 ghost use Rattle.serde_json.specs.Written.{compact_text};
-ghost use Rattle.tc_api.specs.Responses.{body_bytes, body_data, head_text, length_line, phrase_of, reply_data, response_bytes, response_head, status_line, strings, text_lines};
+ghost use Rattle.tc_api.specs.Responses.{body_bytes, body_data, head_text, phrase_of, reply_data, response_bytes, response_head, status_line, strings, text_lines};
 
 use crate::endings::Ending;
 use http::StatusCode;
 use serde_json::{Value, json};
 use std::alloc::{AllocError, Global};
+use tc_front::length_line;
 
 /// How many lines of a reply a response shows at most.
 pub const MOST_LINES: usize = 200;
@@ -97,13 +98,6 @@ fn status_line(alloc: Global, number: u16, phrase: &str) -> Result<String, Alloc
     let mut text = version_and_code(alloc, number)?;
     text.push_str(phrase)?;
     Ok(text)
-}
-
-/// The line of the body's length, without its end.
-fn length_line(alloc: Global, length: usize) -> Result<String, AllocError>
-    ensures { IfOk result (λ text. string_bytes text ≡ length_line length) }
-{
-    format!(in alloc; "Content-Length: {length}")
 }
 
 /// The bytes of a head with this code, phrase and length.

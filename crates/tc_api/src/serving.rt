@@ -7,7 +7,7 @@ ghost use Rattle.tc_front.specs.Front.{asked_of};
 ghost use Rattle.tc_room.specs.Answers.{RefusesWith, Says};
 ghost use Rattle.tc_api.specs.Endings.{is_done};
 ghost use Rattle.tc_api.specs.Loads.{load_keys};
-ghost use Rattle.tc_api.specs.Serving.{EndsWith, HasText, IsOutcome, Serves, ServesAct, ServesKeys, ServesLine, ServesPost, ServesQuery, ServesText, front_ending, front_refusal, outcome_of, refused_front, refused_so};
+ghost use Rattle.tc_api.specs.Serving.{EndsWith, HasText, IsOutcome, IsServedBy, Serves, ServesAct, ServesKeys, ServesLine, ServesPost, ServesQuery, ServesText, front_ending, front_refusal, outcome_of, refused_front, refused_so};
 
 use crate::acts::read_act_post;
 use crate::bodies::value_of;
@@ -16,14 +16,11 @@ use crate::loads::judge_load_value;
 use serde_json::Value;
 use sqlite::Alter;
 use std::alloc::Global;
-use tc_front::front::Decision;
-use tc_front::judge::Refused;
-use tc_room::answers::{Answer, Untold, answer_loading, answer_query, answer_read, refusal_answer};
-use tc_room::rooms::Room;
-use tc_routes::paths::Post;
-use tc_types::acts::{Act, Line, Query};
-use tc_types::loads::LoadKind;
-use tc_types::refusals::Refusal;
+use tc_book::Stamp;
+use tc_front::{Decision, Refused};
+use tc_room::{Answer, Room, Untold, answer_loading, answer_query, answer_read, refusal_answer};
+use tc_routes::Post;
+use tc_types::{Act, Line, LoadKind, Query, Refusal};
 
 /// What was served.
 #[derive(Drop)]
@@ -84,8 +81,7 @@ fn refused(alloc: Global, ending: Ending, refusal: Refusal) -> Served
 
 /// Asks a question of the room.
 fn serve_query<S: Alter + Drop>(alloc: Global, room: &mut Room<S>, query: Query) -> Served
-    ensures served { (reply : Reply) × ServesQuery S.Store room.old query (outcome_of reply result) room.new × HasText reply result }
-    ensures opened { room.new.opened ≡ room.old.opened }
+    ensures { IsServedBy (ServesQuery S.Store room.old query) room.old result room.new }
 {
     answer_served(answer_query(alloc, room, query), false)
 }
@@ -102,8 +98,7 @@ fn is_question(act: Act) -> bool
 
 /// Asks an act or a question of the room, as it was posted.
 fn serve_line<S: Alter + Drop>(alloc: Global, room: &mut Room<S>, line: Line) -> Served
-    ensures served { (reply : Reply) × ServesLine S.Store room.old (Ok line) (outcome_of reply result) room.new × HasText reply result }
-    ensures opened { room.new.opened ≡ room.old.opened }
+    ensures { IsServedBy (ServesLine S.Store room.old (Ok line)) room.old result room.new }
 {
     let acts = !is_question(line.act);
     answer_served(answer_read(alloc, room, line), acts)
@@ -111,8 +106,7 @@ fn serve_line<S: Alter + Drop>(alloc: Global, room: &mut Room<S>, line: Line) ->
 
 /// Serves a body that is posted to `/acts`.
 fn serve_act<S: Alter + Drop>(alloc: Global, room: &mut Room<S>, body: &[u8]) -> Served
-    ensures served { (reply : Reply) × ServesAct S.Store room.old body.now (outcome_of reply result) room.new × HasText reply result }
-    ensures opened { room.new.opened ≡ room.old.opened }
+    ensures { IsServedBy (ServesAct S.Store room.old body.now) room.old result room.new }
 {
     match read_act_post(alloc, body) {
         Ok(line) => serve_line(alloc, room, line),
@@ -127,14 +121,17 @@ fn serve_value<S: Alter + Drop>(
     kind: LoadKind,
     value: &Value,
 ) -> Served
-    ensures served { (reply : Reply) × ServesKeys S.Store room.old kind (load_keys (view value.now)) (outcome_of reply result) room.new × HasText reply result }
-    ensures opened { room.new.opened ≡ room.old.opened }
+    ensures { IsServedBy (ServesKeys S.Store room.old kind (load_keys (view value.now))) room.old result room.new }
 {
     match judge_load_value(alloc, kind, value) {
         Ok(post) => {
+            let stamp = Stamp {
+                by: post.by,
+                moment: post.moment,
+            };
             let text = post.csv.as_bytes();
             answer_served(
-                answer_loading(alloc, room, post.by, post.moment, kind, post.name, text),
+                answer_loading(alloc, room, stamp, kind, post.name, text),
                 true,
             )
         }
@@ -149,8 +146,7 @@ fn serve_load<S: Alter + Drop>(
     kind: LoadKind,
     body: &[u8],
 ) -> Served
-    ensures served { (reply : Reply) × ServesText S.Store room.old kind body.now (outcome_of reply result) room.new × HasText reply result }
-    ensures opened { room.new.opened ≡ room.old.opened }
+    ensures { IsServedBy (ServesText S.Store room.old kind body.now) room.old result room.new }
 {
     match value_of(alloc, body) {
         Ok(value) => serve_value(alloc, room, kind, &value),
@@ -160,8 +156,7 @@ fn serve_load<S: Alter + Drop>(
 
 /// Serves a body that is posted.
 fn serve_post<S: Alter + Drop>(alloc: Global, room: &mut Room<S>, post: Post, body: &[u8]) -> Served
-    ensures served { (reply : Reply) × ServesPost S.Store room.old post body.now (outcome_of reply result) room.new × HasText reply result }
-    ensures opened { room.new.opened ≡ room.old.opened }
+    ensures { IsServedBy (ServesPost S.Store room.old post body.now) room.old result room.new }
 {
     match post {
         Post::Acts => serve_act(alloc, room, body),
@@ -206,8 +201,7 @@ pub fn serve_decision<S: Alter + Drop>(
     room: &mut Room<S>,
     decision: &Decision<'_>,
 ) -> Served
-    ensures served { (reply : Reply) × Serves S.Store room.old (asked_of decision.now) (outcome_of reply result) room.new × HasText reply result }
-    ensures opened { room.new.opened ≡ room.old.opened }
+    ensures { IsServedBy (Serves S.Store room.old (asked_of decision.now)) room.old result room.new }
 {
     match *decision {
         Decision::Refused(why) => serve_refused(alloc, why),

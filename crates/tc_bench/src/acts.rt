@@ -5,7 +5,7 @@ use sqlite::Alter;
 use std::alloc::Global;
 use std::rt::Clock;
 use std::time::{Duration, Instant};
-use tc_store::tables::Tables;
+use tc_store::Tables;
 
 /// What is written of each request of the list.
 #[derive(Clone, Copy, Debug, PartialEq, Eq)]

@@ -1,11 +1,8 @@
 //! What is entered, and the rows that the desk writes for it: those of the batches of `tc_book`, in their order.
-use tc_types::causes::Cause;
-use tc_types::moves::Move;
-use tc_types::names::Name;
-use tc_types::numbers::{Apid, Moment, RequestNumber, SequenceCount, Service, Subtype};
-use tc_types::places::Place;
-use tc_types::requests::{Ack, Body, Command, Form, Identity, Outcome, Request};
-use tc_types::rows::{PlacedRequest, Row, Tally};
+use tc_types::{
+    Ack, Apid, Body, Cause, Command, Form, Identity, Moment, Move, Name, Outcome, Place,
+    PlacedRequest, Request, RequestNumber, Row, SequenceCount, Service, Subtype, Tally,
+};
 
 /// How many application processes there are, in turn.
 const PROCESSES: u32 = 10;

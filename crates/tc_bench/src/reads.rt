@@ -6,7 +6,7 @@ use sqlite::MemStore;
 use std::alloc::Global;
 use std::rt::Clock;
 use std::time::{Duration, Instant};
-use tc_store::tables::Tables;
+use tc_store::Tables;
 
 /// How often each question is asked.
 const CALLS: u32 = 2_000;

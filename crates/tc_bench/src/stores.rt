@@ -5,7 +5,7 @@ use sqlite_disk::Wary;
 use sqlite_std_file::FileFrom;
 use sqlite_store::FileStore;
 use std::alloc::Global;
-use tc_store::tables::Tables;
+use tc_store::Tables;
 
 /// How many moves of a request are told at most: as many as the room asks its tables for.
 pub const MOST_TOLD: u32 = 51;

@@ -5,14 +5,14 @@ use Rattle.std.specs.List.{list_any, AllByRecursion, IsDistinct, flat_map}
 use Rattle.std.proofs.lemmas.List.Elements.{All-from_recursion, recursion_from_All}
 use Rattle.std.proofs.lemmas.List.Sorted.{All-permutation, list_any-IsPermutation}
 use Rattle.std.proofs.lemmas.Bool.Decides.{nat_tests}
-use Rattle.tc_types.specs.declared.activities.Activity.{Activity}
-use Rattle.tc_types.specs.declared.activities.ListedActivity.{ListedActivity}
+use Rattle.tc_types.specs.declared.link.activities.Activity.{Activity}
+use Rattle.tc_types.specs.declared.link.activities.ListedActivity.{ListedActivity}
 use Rattle.tc_types.specs.declared.requests.Ack.{Ack}
 use Rattle.tc_types.specs.declared.requests.Outcome.{Outcome}
 use Rattle.tc_types.specs.declared.requests.Outcome.TheVariants.{Completes, CompletesInSteps, Refuses, StartFails, Halts, Fails}
-use Rattle.tc_types.specs.declared.reports.Telemetry.{Telemetry}
-use Rattle.tc_types.specs.declared.reports.Verification.{Verification}
-use Rattle.tc_types.specs.declared.reports.Verification.TheVariants as report
+use Rattle.tc_types.specs.declared.link.reports.Telemetry.{Telemetry}
+use Rattle.tc_types.specs.declared.link.reports.Verification.{Verification}
+use Rattle.tc_types.specs.declared.link.reports.Verification.TheVariants as report
 use Rattle.tc_board.specs.declared.outcomes.Reporter.{Reporter}
 use Rattle.tc_board.specs.Schedule.{ScheduleState, is_same_identity, IsSchedule, is_due, after_due, FallDue, listed}
 use Rattle.tc_board.specs.Reports.{tells, asked, later_reports, reports_of}

@@ -5,21 +5,21 @@ use Rattle.std.specs.List.{list_any, AllByRecursion}
 use Rattle.std.proofs.lemmas.List.{map-append}
 use Rattle.std.proofs.lemmas.List.Sums.{fold-append}
 use Rattle.std.proofs.lemmas.Bool.Decides.{nat_tests}
-use Rattle.tc_types.specs.declared.activities.Activity.{Activity}
-use Rattle.tc_types.specs.declared.activities.ListedActivity.{ListedActivity}
+use Rattle.tc_types.specs.declared.link.activities.Activity.{Activity}
+use Rattle.tc_types.specs.declared.link.activities.ListedActivity.{ListedActivity}
 use Rattle.tc_types.specs.declared.requests.Identity.{Identity}
 use Rattle.tc_types.specs.declared.requests.Outcome.{Outcome}
 use Rattle.tc_types.specs.declared.requests.Outcome.TheVariants.{Completes, CompletesInSteps, Refuses, StartFails, Halts, Fails}
-use Rattle.tc_types.specs.declared.reports.Telemetry.{Telemetry}
-use Rattle.tc_types.specs.declared.reports.Verification.{Verification}
-use Rattle.tc_types.specs.declared.reports.Verification.TheVariants as report
-use Rattle.tc_types.specs.declared.telecommands.ScheduleCommand.{ScheduleCommand}
-use Rattle.tc_types.specs.declared.telecommands.ScheduleCommand.TheVariants.{Enable, Disable, Reset, Insert, Delete, Shift, ShiftAll, Summarize}
-use Rattle.tc_types.specs.declared.telecommands.Task.{Task}
-use Rattle.tc_types.specs.declared.telecommands.Task.TheVariants.{Plain, Schedule}
-use Rattle.tc_types.specs.declared.telecommands.Telecommand.{Telecommand}
+use Rattle.tc_types.specs.declared.link.reports.Telemetry.{Telemetry}
+use Rattle.tc_types.specs.declared.link.reports.Verification.{Verification}
+use Rattle.tc_types.specs.declared.link.reports.Verification.TheVariants as report
+use Rattle.tc_types.specs.declared.link.telecommands.ScheduleCommand.{ScheduleCommand}
+use Rattle.tc_types.specs.declared.link.telecommands.ScheduleCommand.TheVariants.{Enable, Disable, Reset, Insert, Delete, Shift, ShiftAll, Summarize}
+use Rattle.tc_types.specs.declared.link.telecommands.Task.{Task}
+use Rattle.tc_types.specs.declared.link.telecommands.Task.TheVariants.{Plain, Schedule}
+use Rattle.tc_types.specs.declared.link.telecommands.Telecommand.{Telecommand}
 use Rattle.tc_board.specs.declared.outcomes.Reporter.{Reporter}
-use Rattle.tc_board.specs.declared.schedules.Fault.{Fault}
+use Rattle.tc_board.specs.declared.schedules.ScheduleFault.{ScheduleFault}
 use Rattle.tc_board.specs.Schedule.{ScheduleState, is_of, is_same_identity, has_identity, IsSchedule, listed, shifted, failure_of, commanded, after_command}
 use Rattle.tc_board.specs.Reports.{tells, asked, is_refused, first_reports, later_reports}
 use Rattle.tc_board.specs.Board.{BoardState, reporter_of, outcome_of, accept_reports, accepted, shown, command_reports, task_reports, after_task, work_reports, worked}
@@ -198,7 +198,7 @@ shown_read roll Summarize s is = same_mirror s.enabled _ _ (summary-told s.activ
 -- the reports of a command, failing or not, make the mirror of what it leaves
 command_follows : (roll : Roll) (now : ℕ) (r : Reporter) (command : ScheduleCommand) (s : ScheduleState) → roll.command_of r.request ≡ Some command
     → AllByRecursion (IsActivityOf roll) (inserted (Some command)) → IsAbsent r.request s.activities → AllByRecursion (IsActivityOf roll) s.activities → IsSchedule s.activities
-    → (failure : Option Fault) → failure_of now command s ≡ failure
+    → (failure : Option ScheduleFault) → failure_of now command s ≡ failure
     → read_all roll (mirror_of s) (command_reports r failure command s) ≡ mirror_of (after_command failure command s)
 command_follows roll now r command s named new absent all is (Some fault) e = without-absent r.request s absent
 command_follows roll now r command s named new absent all is None e =

@@ -4,17 +4,17 @@ use Rattle.std.specs.Prelude.{not, filter}
 use Rattle.std.specs.List.{AllByRecursion, flat_map, sum_by}
 use Rattle.std.proofs.lemmas.List.Concat.{length-flat_map}
 use Rattle.std.proofs.lemmas.List.Sorted.{sum_by-IsPermutation}
-use Rattle.tc_types.specs.declared.activities.Activity.{Activity}
-use Rattle.tc_types.specs.declared.reports.Telemetry.{Telemetry}
-use Rattle.tc_types.specs.declared.reports.Verification.{Verification}
-use Rattle.tc_types.specs.declared.reports.Verification.TheVariants as report
-use Rattle.tc_types.specs.declared.telecommands.ScheduleCommand.{ScheduleCommand}
-use Rattle.tc_types.specs.declared.telecommands.ScheduleCommand.TheVariants.{Enable, Disable, Reset, Insert, Delete, Shift, ShiftAll, Summarize}
-use Rattle.tc_types.specs.declared.telecommands.Task.{Task}
-use Rattle.tc_types.specs.declared.telecommands.Task.TheVariants.{Plain, Schedule}
-use Rattle.tc_types.specs.declared.telecommands.Telecommand.{Telecommand}
+use Rattle.tc_types.specs.declared.link.activities.Activity.{Activity}
+use Rattle.tc_types.specs.declared.link.reports.Telemetry.{Telemetry}
+use Rattle.tc_types.specs.declared.link.reports.Verification.{Verification}
+use Rattle.tc_types.specs.declared.link.reports.Verification.TheVariants as report
+use Rattle.tc_types.specs.declared.link.telecommands.ScheduleCommand.{ScheduleCommand}
+use Rattle.tc_types.specs.declared.link.telecommands.ScheduleCommand.TheVariants.{Enable, Disable, Reset, Insert, Delete, Shift, ShiftAll, Summarize}
+use Rattle.tc_types.specs.declared.link.telecommands.Task.{Task}
+use Rattle.tc_types.specs.declared.link.telecommands.Task.TheVariants.{Plain, Schedule}
+use Rattle.tc_types.specs.declared.link.telecommands.Telecommand.{Telecommand}
 use Rattle.tc_board.specs.declared.outcomes.Reporter.{Reporter}
-use Rattle.tc_board.specs.declared.schedules.Fault.{Fault}
+use Rattle.tc_board.specs.declared.schedules.ScheduleFault.{ScheduleFault}
 use Rattle.tc_board.specs.Schedule.{ScheduleState, failure_of, after_command, is_due}
 use Rattle.tc_board.specs.Reports.{tells, asked, is_refused, first_reports, later_reports}
 use Rattle.tc_board.specs.Board.{BoardState, reporter_of, reporter_at, outcome_of, accepted, shown, command_reports, task_reports, after_task, work_reports, worked, released, ClockReports, clocked}
@@ -54,7 +54,7 @@ shown_named K (ShiftAll offset) s = tt
 shown_named K Summarize s = (tt, tt)
 
 -- the reports of a command, failing or not, name its request
-command_reports_named : (K : ℕ → Type 0) (r : Reporter) (command : ScheduleCommand) (s : ScheduleState) → K r.request → (failure : Option Fault) → AllByRecursion (IsNamed K) (command_reports r failure command s)
+command_reports_named : (K : ℕ → Type 0) (r : Reporter) (command : ScheduleCommand) (s : ScheduleState) → K r.request → (failure : Option ScheduleFault) → AllByRecursion (IsNamed K) (command_reports r failure command s)
 command_reports_named K r command s known (Some fault) = (known, tt)
 command_reports_named K r command s known None =
     each_appended (IsNamed K) (start ++ shown command s) (tells r report.Completed) (each_joined (IsNamed K) start (shown command s) (told_named K r (asked r.ack.start (report.Started ∷ [])) known) (shown_named K command s)) known
@@ -88,7 +88,7 @@ task_kept : (K : ℕ → Type 0) (now : ℕ) (task : Task) (s : ScheduleState) �
 task_kept K now (Plain outcome) s new all = all
 task_kept K now (Schedule command) s new all = by_failure (failure_of now command s)
   where
-    by_failure : (failure : Option Fault) → AllByRecursion (λ (a : Activity). K a.request) (after_command failure command s).activities
+    by_failure : (failure : Option ScheduleFault) → AllByRecursion (λ (a : Activity). K a.request) (after_command failure command s).activities
     by_failure (Some fault) = all
     by_failure None = command_each (λ (a : Activity). K a.request) (λ offset a is. is) command s new all
 

@@ -1,6 +1,6 @@
 -- The places of a summary: those that activities take, and the others.
 use Rattle.std.proofs.Common.{◌≡◌, ℕ, ◌+◌, ◌<◌, ◌≤◌, zero, suc, Option, Some, None, List, [], ◌∷◌, ◌++◌, length, map, take, drop, set, get_or, replicate, add-one, refl, sym, ◌∙◌, ap, subst, arith}
-use Rattle.tc_types.specs.declared.activities.ListedActivity.{ListedActivity}
+use Rattle.tc_types.specs.declared.link.activities.ListedActivity.{ListedActivity}
 use Rattle.tc_board.specs.Schedule.{places_for}
 
 -- the list once the first i items of one took the first places of another

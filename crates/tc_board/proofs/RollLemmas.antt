@@ -1,11 +1,11 @@
 -- What the ground knows may grow: of what the spacecraft was given, it stays the same.
 use Rattle.std.proofs.Common.{◌≡◌, ℕ, List, [], ◌∷◌, refl, ◌∙◌, ap}
 use Rattle.std.specs.List.{AllByRecursion}
-use Rattle.tc_types.specs.declared.activities.Activity.{Activity}
-use Rattle.tc_types.specs.declared.reports.Report.TheVariants as report
-use Rattle.tc_types.specs.declared.reports.Telemetry.{Telemetry}
-use Rattle.tc_types.specs.declared.reports.Telemetry.TheVariants as telemetry
-use Rattle.tc_types.specs.declared.telecommands.Telecommand.{Telecommand}
+use Rattle.tc_types.specs.declared.link.activities.Activity.{Activity}
+use Rattle.tc_types.specs.declared.link.reports.Report.TheVariants as report
+use Rattle.tc_types.specs.declared.link.reports.Telemetry.{Telemetry}
+use Rattle.tc_types.specs.declared.link.reports.Telemetry.TheVariants as telemetry
+use Rattle.tc_types.specs.declared.link.telecommands.Telecommand.{Telecommand}
 use Rattle.tc_board.specs.Board.{BoardState}
 use Rattle.tc_board.specs.Mirror.{MirrorState, mirror_after}
 use Rattle.tc_board.specs.Follows.{Roll, IsActivityOf, command_in, inserted, IsRequestOf, IsBoardOf, with_command, read_all}

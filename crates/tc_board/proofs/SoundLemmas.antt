@@ -5,15 +5,15 @@ use Rattle.std.specs.List.{list_any, AllByRecursion, IsDistinct}
 use Rattle.std.proofs.lemmas.Bool.Decides.{nat_tests}
 use Rattle.std.proofs.lemmas.List.{length-append, length-map}
 use Rattle.std.proofs.lemmas.List.Sums.{length-filter, count_by-le-length}
-use Rattle.tc_types.specs.declared.activities.Activity.{Activity}
+use Rattle.tc_types.specs.declared.link.activities.Activity.{Activity}
 use Rattle.tc_types.specs.declared.requests.Identity.{Identity}
-use Rattle.tc_types.specs.declared.telecommands.ScheduleCommand.{ScheduleCommand}
-use Rattle.tc_types.specs.declared.telecommands.ScheduleCommand.TheVariants.{Enable, Disable, Reset, Insert, Delete, Shift, ShiftAll, Summarize}
-use Rattle.tc_types.specs.declared.telecommands.Task.{Task}
-use Rattle.tc_types.specs.declared.telecommands.Task.TheVariants.{Plain, Schedule}
-use Rattle.tc_types.specs.declared.telecommands.Telecommand.{Telecommand}
-use Rattle.tc_board.specs.declared.schedules.Fault.{Fault}
-use Rattle.tc_board.specs.declared.schedules.Fault.TheVariants.{Time, Full, IdentityInUse}
+use Rattle.tc_types.specs.declared.link.telecommands.ScheduleCommand.{ScheduleCommand}
+use Rattle.tc_types.specs.declared.link.telecommands.ScheduleCommand.TheVariants.{Enable, Disable, Reset, Insert, Delete, Shift, ShiftAll, Summarize}
+use Rattle.tc_types.specs.declared.link.telecommands.Task.{Task}
+use Rattle.tc_types.specs.declared.link.telecommands.Task.TheVariants.{Plain, Schedule}
+use Rattle.tc_types.specs.declared.link.telecommands.Telecommand.{Telecommand}
+use Rattle.tc_board.specs.declared.schedules.ScheduleFault.{ScheduleFault}
+use Rattle.tc_board.specs.declared.schedules.ScheduleFault.TheVariants.{Time, Full, IdentityInUse}
 use Rattle.tc_board.specs.Schedule.{ScheduleState, is_of, is_same_identity, has_identity, IsSchedule, shifted, first_failure, failure_of, commanded, after_command, is_due}
 use Rattle.tc_board.specs.Reports.{is_refused}
 use Rattle.tc_board.specs.Board.{BoardState, new_board, outcome_of, accepted, after_task, worked, clocked}
@@ -192,7 +192,7 @@ task_sound : (roll : Roll) (now : ℕ) (task : Task) (s : ScheduleState) → All
 task_sound roll now (Plain outcome) s new all is = (all, is)
 task_sound roll now (Schedule command) s new all is = by_failure (failure_of now command s) refl
   where
-    by_failure : (failure : Option Fault) → failure_of now command s ≡ failure
+    by_failure : (failure : Option ScheduleFault) → failure_of now command s ≡ failure
         → AllByRecursion (IsActivityOf roll) (after_command failure command s).activities × IsSchedule (after_command failure command s).activities
     by_failure (Some fault) e = (all, is)
     by_failure None e = (command_each (IsActivityOf roll) (shifted_named roll) command s new all, command_sound now command s is e)

@@ -1,8 +1,8 @@
 -- What the loop over the steps of a request has told so far.
 use Rattle.std.proofs.Common.{◌≡◌, ℕ, ◌+◌, ◌-◌, ◌≤◌, zero, suc, List, [], ◌∷◌, ◌++◌, map, sym, ◌∙◌, ap, arith}
 use Rattle.std.proofs.lemmas.List.{append_assoc, map-append}
-use Rattle.tc_types.specs.declared.reports.Verification.{Verification}
-use Rattle.tc_types.specs.declared.reports.Verification.TheVariants as report
+use Rattle.tc_types.specs.declared.link.reports.Verification.{Verification}
+use Rattle.tc_types.specs.declared.link.reports.Verification.TheVariants as report
 use Rattle.tc_board.specs.Reports.{steps_from}
 
 -- the last of the steps

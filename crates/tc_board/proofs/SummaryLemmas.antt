@@ -1,8 +1,8 @@
 -- A summary tells the schedule.
 use Rattle.std.proofs.Common.{◌≡◌, ℕ, ◌≤◌, zero, suc, List, [], ◌∷◌, length, map, refl, ap, arith}
 use Rattle.std.proofs.lemmas.List.{length-map}
-use Rattle.tc_types.specs.declared.activities.Activity.{Activity}
-use Rattle.tc_types.specs.declared.activities.ListedActivity.{ListedActivity}
+use Rattle.tc_types.specs.declared.link.activities.Activity.{Activity}
+use Rattle.tc_types.specs.declared.link.activities.ListedActivity.{ListedActivity}
 use Rattle.tc_board.specs.Schedule.{IsSchedule, listed, places_for}
 use Rattle.tc_board.specs.Mirror.{places_told}
 

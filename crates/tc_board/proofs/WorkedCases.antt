@@ -1,14 +1,14 @@
 -- The definitions carried out on worked cases.
 use Rattle.std.proofs.Common.{◌≡◌, ℕ, pos, negsuc, true, false, Some, None, [], ◌∷◌, refl}
-use Rattle.tc_types.specs.declared.activities.Activity.{Activity}
-use Rattle.tc_types.specs.declared.reports.Verification.TheVariants as report
-use Rattle.tc_types.specs.declared.reports.Telemetry.TheVariants.{Verification}
-use Rattle.tc_types.specs.declared.reports.Report.TheVariants.{Telemetry}
+use Rattle.tc_types.specs.declared.link.activities.Activity.{Activity}
+use Rattle.tc_types.specs.declared.link.reports.Verification.TheVariants as report
+use Rattle.tc_types.specs.declared.link.reports.Telemetry.TheVariants.{Verification}
+use Rattle.tc_types.specs.declared.link.reports.Report.TheVariants.{Telemetry}
 use Rattle.tc_types.specs.declared.requests.Ack.{Ack}
 use Rattle.tc_types.specs.declared.requests.Identity.{Identity}
 use Rattle.tc_types.specs.declared.requests.Outcome.TheVariants.{Completes, Halts}
-use Rattle.tc_types.specs.declared.telecommands.ScheduleCommand.TheVariants.{Insert, Delete, ShiftAll}
-use Rattle.tc_board.specs.declared.schedules.Fault.TheVariants.{Time, NotThere, IdentityInUse}
+use Rattle.tc_types.specs.declared.link.telecommands.ScheduleCommand.TheVariants.{Insert, Delete, ShiftAll}
+use Rattle.tc_board.specs.declared.schedules.ScheduleFault.TheVariants.{Time, NotThere, IdentityInUse}
 use Rattle.tc_board.specs.Schedule.{ScheduleState, failure_of, after_due, fault_code}
 use Rattle.tc_board.specs.Reports.{reports_of}
 use Rattle.tc_board.specs.Board.{released}

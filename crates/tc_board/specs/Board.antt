@@ -2,21 +2,21 @@
 -- falls due while the schedule is disabled are this desk's own.
 use Rattle.std.specs.Prelude.{◌≡◌, ℕ, Bool, true, false, if◌then◌else◌, Option, Some, None, List, [], ◌∷◌, ◌++◌, map}
 use Rattle.std.specs.List.{flat_map}
-use Rattle.tc_types.specs.declared.activities.Activity.{Activity}
-use Rattle.tc_types.specs.declared.reports.Verification.TheVariants as report
-use Rattle.tc_types.specs.declared.reports.Telemetry.{Telemetry}
-use Rattle.tc_types.specs.declared.reports.Telemetry.TheVariants as telemetry
+use Rattle.tc_types.specs.declared.link.activities.Activity.{Activity}
+use Rattle.tc_types.specs.declared.link.reports.Verification.TheVariants as report
+use Rattle.tc_types.specs.declared.link.reports.Telemetry.{Telemetry}
+use Rattle.tc_types.specs.declared.link.reports.Telemetry.TheVariants as telemetry
 use Rattle.tc_types.specs.declared.requests.Ack.{Ack}
 use Rattle.tc_types.specs.declared.requests.Identity.{Identity}
 use Rattle.tc_types.specs.declared.requests.Outcome.{Outcome}
 use Rattle.tc_types.specs.declared.requests.Outcome.TheVariants.{Completes}
-use Rattle.tc_types.specs.declared.telecommands.ScheduleCommand.{ScheduleCommand}
-use Rattle.tc_types.specs.declared.telecommands.ScheduleCommand.TheVariants.{Enable, Disable, Reset, Insert, Delete, Shift, ShiftAll, Summarize}
-use Rattle.tc_types.specs.declared.telecommands.Task.{Task}
-use Rattle.tc_types.specs.declared.telecommands.Task.TheVariants.{Plain, Schedule}
-use Rattle.tc_types.specs.declared.telecommands.Telecommand.{Telecommand}
+use Rattle.tc_types.specs.declared.link.telecommands.ScheduleCommand.{ScheduleCommand}
+use Rattle.tc_types.specs.declared.link.telecommands.ScheduleCommand.TheVariants.{Enable, Disable, Reset, Insert, Delete, Shift, ShiftAll, Summarize}
+use Rattle.tc_types.specs.declared.link.telecommands.Task.{Task}
+use Rattle.tc_types.specs.declared.link.telecommands.Task.TheVariants.{Plain, Schedule}
+use Rattle.tc_types.specs.declared.link.telecommands.Telecommand.{Telecommand}
 use Rattle.tc_board.specs.declared.outcomes.Reporter.{Reporter}
-use Rattle.tc_board.specs.declared.schedules.Fault.{Fault}
+use Rattle.tc_board.specs.declared.schedules.ScheduleFault.{ScheduleFault}
 use Rattle.tc_board.specs.Schedule.{ScheduleState, empty_schedule, failure_of, after_command, after_due, fault_code, summary_of, FallDue}
 use Rattle.tc_board.specs.Reports.{tells, asked, is_refused, first_reports, later_reports, reports_of}
 
@@ -71,7 +71,7 @@ shown Summarize s = telemetry.Summary (summary_of s) ∷ []
 
 -- A command of the schedule that fails makes TM[1,4] with its code alone. Else it makes its start where that is asked for,
 -- what it shows, and always its completion.
-abbrev pub command_reports : Reporter → Option Fault → ScheduleCommand → ScheduleState → List Telemetry
+abbrev pub command_reports : Reporter → Option ScheduleFault → ScheduleCommand → ScheduleState → List Telemetry
 command_reports r (Some fault) command s = tells r (report.StartFailed (fault_code fault)) ∷ []
 command_reports r None command s = map (tells r) (asked r.ack.start (report.Started ∷ [])) ++ shown command s ++ tells r report.Completed ∷ []
 

@@ -1,17 +1,17 @@
 -- That the mirror is the board's schedule while every report is read, in order.
 use Rattle.std.specs.Prelude.{◌≡◌, ℕ, Bool, true, false, Option, Some, None, List, [], ◌∷◌, ◌++◌, map, fold}
 use Rattle.std.specs.List.{AllByRecursion}
-use Rattle.tc_types.specs.declared.activities.Activity.{Activity}
+use Rattle.tc_types.specs.declared.link.activities.Activity.{Activity}
 use Rattle.tc_types.specs.declared.requests.Identity.{Identity}
-use Rattle.tc_types.specs.declared.reports.Report.{Report}
-use Rattle.tc_types.specs.declared.reports.Report.TheVariants as report
-use Rattle.tc_types.specs.declared.reports.Telemetry.{Telemetry}
-use Rattle.tc_types.specs.declared.reports.Telemetry.TheVariants as telemetry
-use Rattle.tc_types.specs.declared.telecommands.ScheduleCommand.{ScheduleCommand}
-use Rattle.tc_types.specs.declared.telecommands.ScheduleCommand.TheVariants.{Enable, Disable, Reset, Insert, Delete, Shift, ShiftAll, Summarize}
-use Rattle.tc_types.specs.declared.telecommands.Task.{Task}
-use Rattle.tc_types.specs.declared.telecommands.Task.TheVariants.{Plain, Schedule}
-use Rattle.tc_types.specs.declared.telecommands.Telecommand.{Telecommand}
+use Rattle.tc_types.specs.declared.link.reports.Report.{Report}
+use Rattle.tc_types.specs.declared.link.reports.Report.TheVariants as report
+use Rattle.tc_types.specs.declared.link.reports.Telemetry.{Telemetry}
+use Rattle.tc_types.specs.declared.link.reports.Telemetry.TheVariants as telemetry
+use Rattle.tc_types.specs.declared.link.telecommands.ScheduleCommand.{ScheduleCommand}
+use Rattle.tc_types.specs.declared.link.telecommands.ScheduleCommand.TheVariants.{Enable, Disable, Reset, Insert, Delete, Shift, ShiftAll, Summarize}
+use Rattle.tc_types.specs.declared.link.telecommands.Task.{Task}
+use Rattle.tc_types.specs.declared.link.telecommands.Task.TheVariants.{Plain, Schedule}
+use Rattle.tc_types.specs.declared.link.telecommands.Telecommand.{Telecommand}
 use Rattle.tc_board.specs.Schedule.{IsSchedule}
 use Rattle.tc_board.specs.Board.{BoardState, accept_reports, accepted, work_reports, worked, ClockReports, clocked}
 use Rattle.tc_board.specs.Mirror.{MirrorState, mirror_after}

@@ -1,10 +1,10 @@
 -- That every report names a request that the spacecraft was given.
 use Rattle.std.specs.Prelude.{◌≡◌, ℕ}
 use Rattle.std.specs.List.{AllByRecursion}
-use Rattle.tc_types.specs.declared.activities.Activity.{Activity}
-use Rattle.tc_types.specs.declared.reports.Telemetry.{Telemetry}
-use Rattle.tc_types.specs.declared.reports.Telemetry.TheVariants as telemetry
-use Rattle.tc_types.specs.declared.telecommands.Telecommand.{Telecommand}
+use Rattle.tc_types.specs.declared.link.activities.Activity.{Activity}
+use Rattle.tc_types.specs.declared.link.reports.Telemetry.{Telemetry}
+use Rattle.tc_types.specs.declared.link.reports.Telemetry.TheVariants as telemetry
+use Rattle.tc_types.specs.declared.link.telecommands.Telecommand.{Telecommand}
 use Rattle.tc_board.specs.Board.{BoardState}
 use Rattle.tc_board.specs.Follows.{Roll, command_in, inserted, Event, Accept, Work, Clock}
 

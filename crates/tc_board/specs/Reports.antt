@@ -1,17 +1,22 @@
 -- The reports of a request (ECSS-E-ST-70-41C, 6.1 and 8.1): a success is reported where it is asked for, a failure always.
-use Rattle.std.specs.Prelude.{ℕ, ◌+◌, ◌-◌, Bool, true, false, zero, suc, if◌then◌else◌, List, [], ◌∷◌, ◌++◌}
+use Rattle.std.specs.Prelude.{◌≡◌, ℕ, ◌+◌, ◌-◌, ◌≤◌, Bool, true, false, zero, suc, if◌then◌else◌, Result, OnOk, List, [], ◌∷◌, ◌++◌, map, Vec, vec_len}
 use Rattle.tc_types.specs.declared.requests.Ack.{Ack}
 use Rattle.tc_types.specs.declared.requests.Outcome.{Outcome}
 use Rattle.tc_types.specs.declared.requests.Outcome.TheVariants.{Completes, CompletesInSteps, Refuses, StartFails, Halts, Fails}
-use Rattle.tc_types.specs.declared.reports.Verification.{Verification}
-use Rattle.tc_types.specs.declared.reports.Verification.TheVariants as report
-use Rattle.tc_types.specs.declared.reports.Telemetry.{Telemetry}
-use Rattle.tc_types.specs.declared.reports.Telemetry.TheVariants as telemetry
+use Rattle.tc_types.specs.declared.link.reports.Verification.{Verification}
+use Rattle.tc_types.specs.declared.link.reports.Verification.TheVariants as report
+use Rattle.tc_types.specs.declared.link.reports.Telemetry.{Telemetry}
+use Rattle.tc_types.specs.declared.link.reports.Telemetry.TheVariants as telemetry
 use Rattle.tc_board.specs.declared.outcomes.Reporter.{Reporter}
 
 -- a report on this request
 abbrev pub tells : Reporter → Verification → Telemetry
 tells r verification = telemetry.Verification verification r.request r.identity
+
+-- Behind the reports that stand there come these of a reporter, where memory is not refused. At most so many come, however that ends.
+pub record Appends {A T E : Type 0} (r : Reporter) (said : List Verification) (most : ℕ) (old new : Vec Telemetry A) (result : Result T E) : Type 0 where
+  pub told : OnOk result (new.items ≡ old.items ++ map (tells r) said)
+  pub few : vec_len new ≤ vec_len old + most
 
 -- a request that the spacecraft does not accept
 abbrev pub is_refused : Outcome → Bool

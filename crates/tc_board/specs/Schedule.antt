@@ -1,16 +1,16 @@
 -- The on-board schedule (ECSS-E-ST-70-41C, 6.11 and 8.11): a set of activities, found by their requests' numbers, and a
 -- status. Limits, margin and codes are this desk's own.
-use Rattle.std.specs.Prelude.{◌≡◌, ℕ, ℤ, pos, negsuc, ◌+◌, ◌+ℤ◌, ◌==◌, ◌≤◌, nat_lt, nat_le, min, zero, suc, Bool, true, false, not, ◌&&◌, ◌||◌, if◌then◌else◌, Option, Some, None, Result, Ok, Err, List, [], ◌∷◌, ◌++◌, length, map, filter, IsPermutation, IsSortedBy}
+use Rattle.std.specs.Prelude.{◌≡◌, ℕ, ℤ, pos, negsuc, ◌+◌, ◌+ℤ◌, ◌==◌, ◌≤◌, nat_lt, nat_le, min, zero, suc, Bool, true, false, not, ◌&&◌, ◌||◌, if◌then◌else◌, Option, Some, None, Result, Ok, Err, OnOk, OnErr, List, [], ◌∷◌, ◌++◌, length, map, filter, IsPermutation, IsSortedBy, Vec, vec_capacity}
 use Rattle.std.specs.List.{list_any, IsDistinct}
 use Rattle.std.specs.Ordering.{ordering_then, nat_cmp, is_lt}
-use Rattle.tc_types.specs.declared.activities.Activity.{Activity}
-use Rattle.tc_types.specs.declared.activities.ListedActivity.{ListedActivity}
-use Rattle.tc_types.specs.declared.activities.Summary.{Summary}
+use Rattle.tc_types.specs.declared.link.activities.Activity.{Activity}
+use Rattle.tc_types.specs.declared.link.activities.ListedActivity.{ListedActivity}
+use Rattle.tc_types.specs.declared.link.activities.Summary.{Summary}
 use Rattle.tc_types.specs.declared.requests.Identity.{Identity}
-use Rattle.tc_types.specs.declared.telecommands.ScheduleCommand.{ScheduleCommand}
-use Rattle.tc_types.specs.declared.telecommands.ScheduleCommand.TheVariants.{Enable, Disable, Reset, Insert, Delete, Shift, ShiftAll, Summarize}
-use Rattle.tc_board.specs.declared.schedules.Fault.{Fault}
-use Rattle.tc_board.specs.declared.schedules.Fault.TheVariants.{Time, NotThere, Full, IdentityInUse}
+use Rattle.tc_types.specs.declared.link.telecommands.ScheduleCommand.{ScheduleCommand}
+use Rattle.tc_types.specs.declared.link.telecommands.ScheduleCommand.TheVariants.{Enable, Disable, Reset, Insert, Delete, Shift, ShiftAll, Summarize}
+use Rattle.tc_board.specs.declared.schedules.ScheduleFault.{ScheduleFault}
+use Rattle.tc_board.specs.declared.schedules.ScheduleFault.TheVariants.{Time, NotThere, Full, IdentityInUse}
 
 -- The list holds the members of the set. Nothing that is reported of a schedule hangs on their order here.
 pub record ScheduleState : Type 0 where
@@ -59,14 +59,14 @@ abbrev pub shifts_badly : ℕ → ℤ → Activity → Bool
 shifts_badly now offset activity = is_bad_time now (shifted_time offset activity.time)
 
 -- the codes of failures
-abbrev pub fault_code : Fault → ℕ
+abbrev pub fault_code : ScheduleFault → ℕ
 fault_code Time = 2  -- a time too early, or past the last
 fault_code NotThere = 3  -- no such activity
 fault_code Full = 4  -- the schedule is full
 fault_code IdentityInUse = 6  -- the identity is there
 
 -- The tests of each command, each with its failure, in order. The first that holds is the command's failure.
-abbrev pub tests_of : ℕ → ScheduleCommand → ScheduleState → List (Bool × Fault)
+abbrev pub tests_of : ℕ → ScheduleCommand → ScheduleState → List (Bool × ScheduleFault)
 tests_of now Enable s = []
 tests_of now Disable s = []
 tests_of now Reset s = []
@@ -83,12 +83,12 @@ tests_of now (Shift target offset) s =
 tests_of now (ShiftAll offset) s = (list_any (shifts_badly now offset) s.activities, Time) ∷ []
 tests_of now Summarize s = []
 
-abbrev pub first_failure : List (Bool × Fault) → Option Fault
+abbrev pub first_failure : List (Bool × ScheduleFault) → Option ScheduleFault
 first_failure [] = None
 first_failure (test ∷ tests) = if test.0 then Some test.1 else first_failure tests
 
 -- why a command fails
-abbrev pub failure_of : ℕ → ScheduleCommand → ScheduleState → Option Fault
+abbrev pub failure_of : ℕ → ScheduleCommand → ScheduleState → Option ScheduleFault
 failure_of now command s = first_failure (tests_of now command s)
 
 -- what each command makes of the schedule where it does not fail
@@ -103,14 +103,29 @@ commanded (ShiftAll offset) s = record s { activities = map (shifted offset) s.a
 commanded Summarize s = s
 
 -- a command that fails changes nothing
-abbrev pub after_command : Option Fault → ScheduleCommand → ScheduleState → ScheduleState
+abbrev pub after_command : Option ScheduleFault → ScheduleCommand → ScheduleState → ScheduleState
 after_command None command s = commanded command s
 after_command (Some fault) command s = s
 
 -- the failure that a call answers
-abbrev pub fault_of : {T : Type 0} → Result T Fault → Option Fault
+abbrev pub fault_of : {T : Type 0} → Result T ScheduleFault → Option ScheduleFault
 fault_of (Ok done) = None
 fault_of (Err fault) = Some fault
+
+-- A command is carried out, or answered with its failure.
+pub record Obeys {T : Type 0} (now : ℕ) (command : ScheduleCommand) (old new : ScheduleState) (result : Result T ScheduleFault) : Type 0 where
+  pub failure : fault_of result ≡ failure_of now command old
+  pub after : new ≡ after_command (fault_of result) command old
+
+-- A call makes this of what it is given, where it is not refused; else it leaves it.
+pub record Becomes {S T E : Type 0} (old new after : S) (result : Result T E) : Type 0 where
+  pub done : OnOk result (new ≡ after)
+  pub unchanged : OnErr result (new ≡ old)
+
+-- The list has these now, and the room that it had.
+pub record Holds {A : Type 0} (activities : List Activity) (old new : Vec Activity A) : Type 0 where
+  pub items : new.items ≡ activities
+  pub room : vec_capacity new ≡ vec_capacity old
 
 abbrev pub is_due : ℕ → Activity → Bool
 is_due now activity = nat_le activity.time now

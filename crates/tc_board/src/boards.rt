@@ -1,22 +1,19 @@
 //! The rehearsal spacecraft behind the link.
-ghost use Rattle.std.specs.Prelude.{◌≡◌, ◌+◌, ◌*◌, ◌≤◌, ◌<◌, ◌++◌, ◌∷◌, [], length, nat_lt, vec_len, vec_capacity, IfOk, IfErr, OnOk, OnErr};
+ghost use Rattle.std.specs.Prelude.{◌≡◌, ◌+◌, ◌*◌, ◌≤◌, ◌<◌, ◌++◌, ◌∷◌, [], length, nat_lt, vec_len, vec_capacity, IfOk, OnOk};
 ghost use Rattle.std.specs.Option.{option_to_list};
 ghost use Rattle.std.specs.List.{flat_map};
-ghost use Rattle.tc_types.specs.declared.refusals.Refusal.TheVariants as refusal;
-ghost use Rattle.tc_board.specs.Schedule.{failure_of, after_command, fault_of};
+ghost use Rattle.tc_board.specs.Schedule.{failure_of, after_command, Obeys, Becomes};
 ghost use Rattle.tc_board.specs.Board.{new_board, reporter_of, reporter_at, outcome_of, accept_reports, accepted, command_reports, task_reports, after_task, work_reports, worked, released, ClockReports, clocked, oldest_of};
 
 use crate::outcomes::{Reporter, is_refused};
-use crate::schedules::{Fault, Schedule};
-use std::alloc::Allocator;
+use crate::schedules::{Schedule, ScheduleFault};
+use std::alloc::{AllocError, Allocator};
 use std::collections::VecDeque;
 use std::marker::Model;
-use tc_types::activities::Activity;
-use tc_types::numbers::Moment;
-use tc_types::refusals::Refusal;
-use tc_types::reports::{Telemetry, Verification};
-use tc_types::requests::{Identity, Outcome};
-use tc_types::telecommands::{ScheduleCommand, Task, Telecommand};
+use tc_types::{
+    Activity, Identity, Moment, Outcome, ScheduleCommand, Task, Telecommand, Telemetry,
+    Verification,
+};
 
 /// How many requests the input buffer holds (this desk's own).
 pub const BUFFER: usize = 4;
@@ -83,27 +80,19 @@ fn release<A: Allocator>(
     activity: &Activity,
     enabled: bool,
     reports: &mut Vec<Telemetry, A>,
-) -> Result<(), Refusal>
+) -> Result<(), AllocError>
     ensures released { OnOk result (reports.new.items ≡ reports.old.items ++ released enabled activity.now) }
     ensures few { vec_len reports.new ≤ vec_len reports.old + 12 }
-    ensures refused { IfErr result (λ why. why ≡ refusal.Memory) }
 {
     let reporter = reporter_at(activity);
     if !enabled {
-        return match reports.push(reporter.tells(Verification::StartFailed { code: NOT_ENABLED })) {
-            Ok(()) => Ok(()),
-            Err(_) => Err(Refusal::Memory),
-        };
+        reports.push(reporter.tells(Verification::StartFailed { code: NOT_ENABLED }))?;
+        return Ok(());
     }
     if let Some(report) = reporter.first_report(activity.outcome) {
-        if reports.push(report).is_err() {
-            return Err(Refusal::Memory);
-        }
+        reports.push(report)?;
     }
-    match reporter.later_reports(activity.outcome, reports) {
-        Ok(()) => Ok(()),
-        Err(_) => Err(Refusal::Memory),
-    }
+    reporter.later_reports(activity.outcome, reports)
 }
 
 /// The reports of all these activities, in order.
@@ -111,10 +100,9 @@ fn release_all<A: Allocator + Copy>(
     alloc: A,
     due: &[Activity],
     enabled: bool,
-) -> Result<Vec<Telemetry, A>, Refusal>
+) -> Result<Vec<Telemetry, A>, AllocError>
     ensures released { IfOk result (λ reports. reports.items ≡ flat_map (released enabled) due.now) }
     ensures few { IfOk result (λ reports. vec_len reports ≤ 12 * length due.now) }
-    ensures refused { IfErr result (λ why. why ≡ refusal.Memory) }
 {
     let mut reports = Vec::new(alloc);
     for activity in due {
@@ -128,9 +116,8 @@ fn command_schedule<A: Allocator + Copy + Drop>(
     schedule: &mut Schedule<A>,
     now: Moment,
     command: ScheduleCommand,
-) -> Result<(), Fault>
-    ensures failure { fault_of result ≡ failure_of now command schedule.old }
-    ensures after { schedule.new ≡ after_command (fault_of result) command schedule.old }
+) -> Result<(), ScheduleFault>
+    ensures { Obeys now command schedule.old schedule.new result }
 {
     match command {
         ScheduleCommand::Enable => schedule.enable(),
@@ -173,44 +160,32 @@ fn carry_command<A: Allocator + Copy + Drop>(
     reports.push_reserved(reporter.tells(Verification::Completed));
 }
 
-/// Carries out a task, and gives its reports. Answers `Memory` where that is refused; then nothing changes.
+/// Carries out a task, and gives its reports. Fails where memory is refused; then nothing changes.
 fn carry_out<A: Allocator + Copy + Drop>(
     alloc: A,
     schedule: &mut Schedule<A>,
     now: Moment,
     reporter: &Reporter,
     task: Task,
-) -> Result<Vec<Telemetry, A>, Refusal>
+) -> Result<Vec<Telemetry, A>, AllocError>
     ensures reports { IfOk result (λ reports. reports.items ≡ task_reports now reporter.now task schedule.old) }
     ensures few { IfOk result (λ reports. vec_len reports ≤ 11) }
-    ensures after { OnOk result (schedule.new ≡ after_task now task schedule.old) }
-    ensures unchanged { OnErr result (schedule.new ≡ schedule.old) }
-    ensures refused { IfErr result (λ why. why ≡ refusal.Memory) }
+    ensures after { Becomes schedule.old schedule.new (after_task now task schedule.old) result }
 {
-    let Ok(mut reports) = Vec::with_capacity(alloc, 3) else {
-        return Err(Refusal::Memory);
-    };
+    let mut reports = Vec::with_capacity(alloc, 3)?;
     match task {
         Task::Schedule(command) => carry_command(schedule, now, reporter, &command, &mut reports),
-        Task::Plain(outcome) => {
-            if reporter.later_reports(outcome, &mut reports).is_err() {
-                return Err(Refusal::Memory);
-            }
-        }
+        Task::Plain(outcome) => reporter.later_reports(outcome, &mut reports)?,
     }
     Ok(reports)
 }
 
 impl<A: Allocator + Copy + Drop> Board<A> {
-    /// A spacecraft at this time, with an empty buffer and an empty, disabled schedule. Answers `Memory` where that is
-    /// refused.
-    pub fn new(alloc: A, time: Moment) -> Result<Self, Refusal>
-        ensures made { IfOk result (λ b. b ≡ new_board time) }
-        ensures refused { IfErr result (λ why. why ≡ refusal.Memory) }
+    /// A spacecraft at this time, with an empty buffer and an empty, disabled schedule. Fails where memory is refused.
+    pub fn new(alloc: A, time: Moment) -> Result<Self, AllocError>
+        ensures { IfOk result (λ b. b ≡ new_board time) }
     {
-        let Ok(buffer) = VecDeque::with_capacity(alloc, BUFFER) else {
-            return Err(Refusal::Memory);
-        };
+        let buffer = VecDeque::with_capacity(alloc, BUFFER)?;
         let schedule = Schedule::new(alloc)?;
         Ok(Board {
             alloc,
@@ -277,13 +252,11 @@ impl<A: Allocator + Copy + Drop> Board<A> {
     }
 
     /// Carries out the oldest request of the buffer, which leaves it, and gives its later reports, at most 11; none where
-    /// the buffer is empty. Answers `Memory` where that is refused; then nothing changes.
-    pub fn work(&mut self) -> Result<Vec<Telemetry, A>, Refusal>
+    /// the buffer is empty. Fails where memory is refused; then nothing changes.
+    pub fn work(&mut self) -> Result<Vec<Telemetry, A>, AllocError>
         ensures reports { IfOk result (λ reports. reports.items ≡ work_reports self.old self.old.buffer) }
         ensures few { IfOk result (λ reports. vec_len reports ≤ 11) }
-        ensures after { OnOk result (self.new ≡ worked self.old self.old.buffer) }
-        ensures unchanged { OnErr result (self.new ≡ self.old) }
-        ensures refused { IfErr result (λ why. why ≡ refusal.Memory) }
+        ensures after { Becomes self.old self.new (worked self.old self.old.buffer) result }
     {
         let oldest = match self.buffer.front() {
             None => return Ok(Vec::new(self.alloc)),
@@ -302,15 +275,13 @@ impl<A: Allocator + Copy + Drop> Board<A> {
     }
 
     /// The time is now this one, which is not before the one that was. What falls due by it leaves the schedule, by time,
-    /// application process and count, and its reports are given, at most 12 for each. Answers `Memory` where that is
+    /// application process and count, and its reports are given, at most 12 for each. Fails where memory is
     /// refused; then nothing changes.
-    pub fn clock(&mut self, time: Moment) -> Result<Vec<Telemetry, A>, Refusal>
+    pub fn clock(&mut self, time: Moment) -> Result<Vec<Telemetry, A>, AllocError>
         requires { self.old.time ≤ time }
         ensures reports { IfOk result (λ reports. ClockReports time self.old.schedule reports.items) }
         ensures few { IfOk result (λ reports. vec_len reports ≤ 768) }
-        ensures after { OnOk result (self.new ≡ clocked time self.old) }
-        ensures unchanged { OnErr result (self.new ≡ self.old) }
-        ensures refused { IfErr result (λ why. why ≡ refusal.Memory) }
+        ensures after { Becomes self.old self.new (clocked time self.old) result }
     {
         let due = self.schedule.due_by(self.alloc, time)?;
         let reports = release_all(self.alloc, &due, self.schedule.is_enabled())?;

@@ -1,9 +1,9 @@
 //! What holds of the definitions. These functions do nothing: their clauses are the laws.
 ghost use Rattle.std.specs.Prelude.{◌≡◌, ℕ, List, Option};
-ghost use Rattle.tc_types.specs.declared.reports.Report.TheVariants as report;
-ghost use Rattle.tc_types.specs.declared.reports.Telemetry.{Telemetry};
-ghost use Rattle.tc_types.specs.declared.reports.Telemetry.TheVariants as telemetry;
-ghost use Rattle.tc_types.specs.declared.telecommands.ScheduleCommand.{ScheduleCommand};
+ghost use Rattle.tc_types.specs.declared.link.reports.Report.TheVariants as report;
+ghost use Rattle.tc_types.specs.declared.link.reports.Telemetry.{Telemetry};
+ghost use Rattle.tc_types.specs.declared.link.reports.Telemetry.TheVariants as telemetry;
+ghost use Rattle.tc_types.specs.declared.link.telecommands.ScheduleCommand.{ScheduleCommand};
 ghost use Rattle.tc_board.specs.Schedule.{ScheduleState, IsSchedule, summary_of};
 ghost use Rattle.tc_board.specs.Board.{BoardState, new_board};
 ghost use Rattle.tc_board.specs.Mirror.{MirrorState, no_mirror, mirror_of, mirror_after};

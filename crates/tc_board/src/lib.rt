@@ -2,8 +2,12 @@
 //! (service 11), and the schedule's mirror on the ground.
 #![tactic(auto)]
 
-pub mod boards;
+mod boards;
 pub mod laws;
-pub mod mirrors;
-pub mod outcomes;
-pub mod schedules;
+mod mirrors;
+mod outcomes;
+mod schedules;
+
+pub use boards::Board;
+pub use mirrors::Mirror;
+pub use schedules::{Schedule, ScheduleFault};

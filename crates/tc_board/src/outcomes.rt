@@ -1,13 +1,11 @@
 //! The reports of a request (ECSS-E-ST-70-41C, service 1).
-ghost use Rattle.std.specs.Prelude.{◌≡◌, ◌≤◌, ◌+◌, ◌-◌, ◌++◌, ◌∷◌, [], map, vec_len, OnOk};
+ghost use Rattle.std.specs.Prelude.{◌≡◌, ◌≤◌, ◌-◌, ◌++◌, ◌∷◌, [], map};
 ghost use Rattle.std.specs.Option.{option_to_list};
-ghost use Rattle.tc_types.specs.declared.reports.Verification.TheVariants as report;
-ghost use Rattle.tc_board.specs.Reports.{tells, asked, is_refused, first_reports, later_reports, steps_from};
+ghost use Rattle.tc_types.specs.declared.link.reports.Verification.TheVariants as report;
+ghost use Rattle.tc_board.specs.Reports.{Appends, tells, asked, is_refused, first_reports, later_reports, steps_from};
 
 use std::alloc::{AllocError, Allocator};
-use tc_types::numbers::RequestNumber;
-use tc_types::reports::{Telemetry, Verification};
-use tc_types::requests::{Ack, Identity, Outcome};
+use tc_types::{Ack, Identity, Outcome, RequestNumber, Steps, Telemetry, Verification};
 
 /// Whose reports these are: a request and the reports of success that it asks for.
 #[derive(Clone, Copy, Debug, PartialEq, Eq)]
@@ -58,8 +56,7 @@ impl Reporter {
         &self,
         reports: &mut Vec<Telemetry, A>,
     ) -> Result<(), AllocError>
-        ensures told { OnOk result (reports.new.items ≡ reports.old.items ++ map (tells self.now) (asked self.now.ack.start (report.Started ∷ []))) }
-        ensures few { vec_len reports.new ≤ vec_len reports.old + 1 }
+        ensures { Appends self.now (asked self.now.ack.start (report.Started ∷ [])) 1 reports.old reports.new result }
     {
         if self.ack.start {
             reports.push(self.tells(Verification::Started))?;
@@ -74,8 +71,7 @@ impl Reporter {
         reports: &mut Vec<Telemetry, A>,
     ) -> Result<(), AllocError>
         requires { last ≤ 9 }
-        ensures told { OnOk result (reports.new.items ≡ reports.old.items ++ map (tells self.now) (asked self.now.ack.progress (steps_from 1 last))) }
-        ensures few { vec_len reports.new ≤ vec_len reports.old + last }
+        ensures { Appends self.now (asked self.now.ack.progress (steps_from 1 last)) last reports.old reports.new result }
     {
         if !self.ack.progress {
             return Ok(());
@@ -88,8 +84,7 @@ impl Reporter {
 
     /// The completion, where it is asked for.
     fn completion<A: Allocator>(&self, reports: &mut Vec<Telemetry, A>) -> Result<(), AllocError>
-        ensures told { OnOk result (reports.new.items ≡ reports.old.items ++ map (tells self.now) (asked self.now.ack.completion (report.Completed ∷ []))) }
-        ensures few { vec_len reports.new ≤ vec_len reports.old + 1 }
+        ensures { Appends self.now (asked self.now.ack.completion (report.Completed ∷ [])) 1 reports.old reports.new result }
     {
         if self.ack.completion {
             reports.push(self.tells(Verification::Completed))?;
@@ -100,15 +95,13 @@ impl Reporter {
     /// Start, steps and completion, where they are asked for.
     fn success<A: Allocator>(
         &self,
-        last: u8,
+        last: Steps,
         reports: &mut Vec<Telemetry, A>,
     ) -> Result<(), AllocError>
-        requires { last ≤ 9 }
-        ensures few { vec_len reports.new ≤ vec_len reports.old + 11 }
-        ensures told { OnOk result (reports.new.items ≡ reports.old.items ++ map (tells self.now) (asked self.now.ack.start (report.Started ∷ []) ++ asked self.now.ack.progress (steps_from 1 last) ++ asked self.now.ack.completion (report.Completed ∷ []))) }
+        ensures { Appends self.now (asked self.now.ack.start (report.Started ∷ []) ++ asked self.now.ack.progress (steps_from 1 last) ++ asked self.now.ack.completion (report.Completed ∷ [])) 11 reports.old reports.new result }
     {
         self.start(reports)?;
-        self.steps(last, reports)?;
+        self.steps(last.get(), reports)?;
         self.completion(reports)
     }
 
@@ -120,8 +113,7 @@ impl Reporter {
         reports: &mut Vec<Telemetry, A>,
     ) -> Result<(), AllocError>
         requires { step ≤ 9 }
-        ensures few { vec_len reports.new ≤ vec_len reports.old + 11 }
-        ensures told { OnOk result (reports.new.items ≡ reports.old.items ++ map (tells self.now) (asked self.now.ack.start (report.Started ∷ []) ++ asked self.now.ack.progress (steps_from 1 (step - 1)) ++ report.StepFailed step code ∷ report.CompletionFailed code ∷ [])) }
+        ensures { Appends self.now (asked self.now.ack.start (report.Started ∷ []) ++ asked self.now.ack.progress (steps_from 1 (step - 1)) ++ report.StepFailed step code ∷ report.CompletionFailed code ∷ []) 11 reports.old reports.new result }
     {
         self.start(reports)?;
         self.steps(step.saturating_sub(1), reports)?;
@@ -137,8 +129,7 @@ impl Reporter {
         outcome: Outcome,
         reports: &mut Vec<Telemetry, A>,
     ) -> Result<(), AllocError>
-        ensures told { OnOk result (reports.new.items ≡ reports.old.items ++ map (tells self.now) (later_reports self.now.ack outcome)) }
-        ensures few { vec_len reports.new ≤ vec_len reports.old + 11 }
+        ensures { Appends self.now (later_reports self.now.ack outcome) 11 reports.old reports.new result }
     {
         match outcome {
             Outcome::Refuses(_) => {}
@@ -146,7 +137,7 @@ impl Reporter {
                 self.start(reports)?;
                 self.completion(reports)?;
             }
-            Outcome::CompletesInSteps(steps) => self.success(steps.get(), reports)?,
+            Outcome::CompletesInSteps(steps) => self.success(steps, reports)?,
             Outcome::StartFails(code) => {
                 let code = code.get();
                 reports.push(self.tells(Verification::StartFailed { code }))?;

@@ -1,23 +1,21 @@
 //! The on-board schedule (ECSS-E-ST-70-41C, service 11).
-ghost use Rattle.std.specs.Prelude.{◌≡◌, ◌≤◌, ◌++◌, ◌&&◌, not, map, filter, drop, length, vec_len, Some, IsPermutation, IsSortedBy, IfOk, IfErr, OnOk, OnErr, vec_capacity, if◌then◌else◌};
+ghost use Rattle.std.specs.Prelude.{◌≡◌, ◌≤◌, ◌++◌, ◌&&◌, not, map, filter, drop, length, vec_len, Some, IsPermutation, IsSortedBy, IfOk, OnOk, if◌then◌else◌};
 ghost use Rattle.std.specs.List.{list_any};
-ghost use Rattle.tc_types.specs.declared.refusals.Refusal.TheVariants as refusal;
-ghost use Rattle.tc_types.specs.declared.telecommands.ScheduleCommand.TheVariants as command;
-ghost use Rattle.tc_board.specs.Schedule.{empty_schedule, fault_code, fault_of, failure_of, commanded, after_command, after_due, FallDue, summary_of, is_of, is_too_early, is_bad_time, shifted_time, nearest_moment, shifts_badly, shifted, has_identity, is_due, is_before, IsSchedule, listed, places_for};
+ghost use Rattle.tc_types.specs.declared.link.telecommands.ScheduleCommand.TheVariants as command;
+ghost use Rattle.tc_board.specs.Schedule.{empty_schedule, fault_code, Obeys, Becomes, Holds, commanded, after_due, FallDue, summary_of, is_of, is_too_early, is_bad_time, shifted_time, nearest_moment, shifts_badly, shifted, has_identity, is_due, is_before, IsSchedule, listed, places_for};
 
 use std::alloc::{AllocError, Allocator};
 use std::marker::Model;
-use tc_types::activities::{Activity, ListedActivity, MOST_ACTIVITIES, Summary};
-use tc_types::numbers::{LARGEST_MOMENT, Moment, Offset};
-use tc_types::refusals::Refusal;
-use tc_types::requests::Identity;
+use tc_types::{
+    Activity, Identity, LARGEST_MOMENT, ListedActivity, MOST_ACTIVITIES, Moment, Offset, Summary,
+};
 
 /// How far off a time to come is at least, in seconds (this desk's own).
 pub const MARGIN: u32 = 60;
 
 /// Why a command of the schedule fails (this desk's own).
 #[derive(Clone, Copy, Debug, PartialEq, Eq)]
-pub enum Fault {
+pub enum ScheduleFault {
     /// A time is nearer than the margin, or past the last moment.
     Time,
     /// No such activity is there.
@@ -28,16 +26,16 @@ pub enum Fault {
     IdentityInUse,
 }
 
-impl Fault {
+impl ScheduleFault {
     /// The code that a report carries.
     pub fn code(self) -> u8
         ensures { result ≡ fault_code self }
     {
         match self {
-            Fault::Time => 2,
-            Fault::NotThere => 3,
-            Fault::Full => 4,
-            Fault::IdentityInUse => 6,
+            ScheduleFault::Time => 2,
+            ScheduleFault::NotThere => 3,
+            ScheduleFault::Full => 4,
+            ScheduleFault::IdentityInUse => 6,
         }
     }
 }
@@ -73,12 +71,12 @@ pub(crate) fn nearest(time: Moment, offset: Offset) -> Moment
 {
     let seconds = i64::from(time.get()) + offset.get();
     if seconds < 0 {
-        return Moment::new(0).unwrap_or(time);
+        return Moment::new(0).unwrap();
     }
     if seconds > i64::from(LARGEST_MOMENT) {
-        return Moment::new(LARGEST_MOMENT).unwrap_or(time);
+        return Moment::new(LARGEST_MOMENT).unwrap();
     }
-    Moment::new(seconds as u32).unwrap_or(time)
+    Moment::new(seconds as u32).unwrap()
 }
 
 /// Whether the moment that is so far from a time is nearer than the margin, or past the last.
@@ -102,8 +100,7 @@ fn release_order(activity: &Activity) -> (u32, u16, u16)
 
 /// The activity of this request is released so much later, or at the nearest moment.
 fn shift_one<A: Allocator>(activities: &mut Vec<Activity, A>, target: u32, offset: Offset)
-    ensures items { activities.new.items ≡ map (λ a. if is_of target a then shifted offset a else a) activities.old.items }
-    ensures capacity { vec_capacity activities.new ≡ vec_capacity activities.old }
+    ensures { Holds (map (λ a. if is_of target a then shifted offset a else a) activities.old.items) activities.old activities.new }
 {
     for activity in activities.iter_mut() {
         if activity.request.get() == target {
@@ -114,8 +111,7 @@ fn shift_one<A: Allocator>(activities: &mut Vec<Activity, A>, target: u32, offse
 
 /// Each activity is released so much later, or at the nearest moment.
 fn shift_each<A: Allocator>(activities: &mut Vec<Activity, A>, offset: Offset)
-    ensures items { activities.new.items ≡ map (shifted offset) activities.old.items }
-    ensures capacity { vec_capacity activities.new ≡ vec_capacity activities.old }
+    ensures { Holds (map (shifted offset) activities.old.items) activities.old activities.new }
 {
     for activity in activities.iter_mut() {
         activity.time = nearest(activity.time, offset);
@@ -124,16 +120,14 @@ fn shift_each<A: Allocator>(activities: &mut Vec<Activity, A>, offset: Offset)
 
 /// The activity of this request is taken out.
 fn take_out<A: Allocator>(activities: &mut Vec<Activity, A>, target: u32)
-    ensures items { activities.new.items ≡ filter (λ a. not (is_of target a)) activities.old.items }
-    ensures capacity { vec_capacity activities.new ≡ vec_capacity activities.old }
+    ensures { Holds (filter (λ a. not (is_of target a)) activities.old.items) activities.old activities.new }
 {
     activities.retain(|a| a.request.get() != target);
 }
 
 /// What falls due by now is taken out.
 fn take_due<A: Allocator>(activities: &mut Vec<Activity, A>, now: Moment)
-    ensures items { activities.new.items ≡ filter (λ a. not (is_due now a)) activities.old.items }
-    ensures capacity { vec_capacity activities.new ≡ vec_capacity activities.old }
+    ensures { Holds (filter (λ a. not (is_due now a)) activities.old.items) activities.old activities.new }
 {
     activities.retain(|a| a.time.get() > now.get());
 }
@@ -187,18 +181,15 @@ fn places_of(activities: &[Activity]) -> [Option<ListedActivity>; MOST_ACTIVITIE
 }
 
 impl<A: Allocator + Copy + Drop> Schedule<A> {
-    /// An empty schedule, disabled, with room for all that it ever holds. Answers `Memory` where that is refused.
-    pub fn new(alloc: A) -> Result<Self, Refusal>
-        ensures made { IfOk result (λ s. s ≡ empty_schedule) }
-        ensures refused { IfErr result (λ why. why ≡ refusal.Memory) }
+    /// An empty schedule, disabled, with room for all that it ever holds. Fails where memory is refused.
+    pub fn new(alloc: A) -> Result<Self, AllocError>
+        ensures { IfOk result (λ s. s ≡ empty_schedule) }
     {
-        match Vec::with_capacity(alloc, MOST_ACTIVITIES) {
-            Ok(activities) => Ok(Schedule {
-                enabled: false,
-                activities,
-            }),
-            Err(_) => Err(Refusal::Memory),
-        }
+        let activities = Vec::with_capacity(alloc, MOST_ACTIVITIES)?;
+        Ok(Schedule {
+            enabled: false,
+            activities,
+        })
     }
 
     /// Whether it is enabled.
@@ -252,30 +243,28 @@ impl<A: Allocator + Copy + Drop> Schedule<A> {
 
     /// TC[11,4]: the activity is released at its time. Fails with `Time` where that is nearer than the margin, with
     /// `IdentityInUse` where its identity is there, and with `Full` where there are 64; then nothing changes.
-    pub fn insert(&mut self, now: Moment, activity: Activity) -> Result<(), Fault>
-        ensures failure { fault_of result ≡ failure_of now (command.Insert activity) self.old }
-        ensures after { self.new ≡ after_command (fault_of result) (command.Insert activity) self.old }
+    pub fn insert(&mut self, now: Moment, activity: Activity) -> Result<(), ScheduleFault>
+        ensures { Obeys now (command.Insert activity) self.old self.new result }
     {
         if is_too_early(now, activity.time) {
-            return Err(Fault::Time);
+            return Err(ScheduleFault::Time);
         }
         if self.has_identity(activity.identity) {
-            return Err(Fault::IdentityInUse);
+            return Err(ScheduleFault::IdentityInUse);
         }
         if self.activities.len() >= MOST_ACTIVITIES {
-            return Err(Fault::Full);
+            return Err(ScheduleFault::Full);
         }
         self.activities.push_reserved(activity);
         Ok(())
     }
 
     /// TC[11,5]: the activity is taken out. Fails with `NotThere` where there is none; then nothing changes.
-    pub fn delete(&mut self, now: Moment, target: u32) -> Result<(), Fault>
-        ensures failure { fault_of result ≡ failure_of now (command.Delete target) self.old }
-        ensures after { self.new ≡ after_command (fault_of result) (command.Delete target) self.old }
+    pub fn delete(&mut self, now: Moment, target: u32) -> Result<(), ScheduleFault>
+        ensures { Obeys now (command.Delete target) self.old self.new result }
     {
         if !self.is_there(target) {
-            return Err(Fault::NotThere);
+            return Err(ScheduleFault::NotThere);
         }
         take_out(&mut self.activities, target);
         Ok(())
@@ -283,15 +272,14 @@ impl<A: Allocator + Copy + Drop> Schedule<A> {
 
     /// TC[11,7]: the activity is released so much later. Fails with `NotThere` where there is none, and with `Time` where
     /// its new time is nearer than the margin or past the last moment; then nothing changes.
-    pub fn shift(&mut self, now: Moment, target: u32, offset: Offset) -> Result<(), Fault>
-        ensures failure { fault_of result ≡ failure_of now (command.Shift target offset) self.old }
-        ensures after { self.new ≡ after_command (fault_of result) (command.Shift target offset) self.old }
+    pub fn shift(&mut self, now: Moment, target: u32, offset: Offset) -> Result<(), ScheduleFault>
+        ensures { Obeys now (command.Shift target offset) self.old self.new result }
     {
         if !self.is_there(target) {
-            return Err(Fault::NotThere);
+            return Err(ScheduleFault::NotThere);
         }
         if self.shifts_badly(now, target, offset) {
-            return Err(Fault::Time);
+            return Err(ScheduleFault::Time);
         }
         shift_one(&mut self.activities, target, offset);
         Ok(())
@@ -299,12 +287,11 @@ impl<A: Allocator + Copy + Drop> Schedule<A> {
 
     /// TC[11,15]: all activities are released so much later. Fails with `Time` where a new time is nearer than the margin
     /// or past the last moment; then nothing changes.
-    pub fn shift_all(&mut self, now: Moment, offset: Offset) -> Result<(), Fault>
-        ensures failure { fault_of result ≡ failure_of now (command.ShiftAll offset) self.old }
-        ensures after { self.new ≡ after_command (fault_of result) (command.ShiftAll offset) self.old }
+    pub fn shift_all(&mut self, now: Moment, offset: Offset) -> Result<(), ScheduleFault>
+        ensures { Obeys now (command.ShiftAll offset) self.old self.new result }
     {
         if self.some_shifts_badly(now, offset) {
-            return Err(Fault::Time);
+            return Err(ScheduleFault::Time);
         }
         shift_each(&mut self.activities, offset);
         Ok(())
@@ -332,21 +319,15 @@ impl<A: Allocator + Copy + Drop> Schedule<A> {
         self.activities.clear();
     }
 
-    /// What falls due by now, in the order in which it is released. It stays where it is. Answers `Memory` where that is
-    /// refused.
-    pub(crate) fn due_by(&self, alloc: A, now: Moment) -> Result<Vec<Activity, A>, Refusal>
+    /// What falls due by now, in the order in which it is released. It stays where it is. Fails where memory is refused.
+    pub(crate) fn due_by(&self, alloc: A, now: Moment) -> Result<Vec<Activity, A>, AllocError>
         ensures due { IfOk result (λ due. FallDue now self.now due.items) }
         ensures few { IfOk result (λ due. vec_len due ≤ 64) }
-        ensures refused { IfErr result (λ why. why ≡ refusal.Memory) }
     {
-        let Ok(mut due) = Vec::from_slice(alloc, &self.activities) else {
-            return Err(Refusal::Memory);
-        };
+        let mut due = Vec::from_slice(alloc, &self.activities)?;
         keep_due(&mut due, now);
-        match put_in_order(&mut due) {
-            Ok(()) => Ok(due),
-            Err(_) => Err(Refusal::Memory),
-        }
+        put_in_order(&mut due)?;
+        Ok(due)
     }
 
     /// Takes out what falls due by now.
@@ -356,13 +337,11 @@ impl<A: Allocator + Copy + Drop> Schedule<A> {
         take_due(&mut self.activities, now);
     }
 
-    /// Takes out what falls due by now, and gives it by time, application process and count. Answers `Memory` where that
-    /// is refused; then nothing changes.
-    pub fn due(&mut self, alloc: A, now: Moment) -> Result<Vec<Activity, A>, Refusal>
+    /// Takes out what falls due by now, and gives it by time, application process and count. Fails where memory is
+    /// refused; then nothing changes.
+    pub fn due(&mut self, alloc: A, now: Moment) -> Result<Vec<Activity, A>, AllocError>
         ensures due { IfOk result (λ due. FallDue now self.old due.items) }
-        ensures left { OnOk result (self.new ≡ after_due now self.old) }
-        ensures unchanged { OnErr result (self.new ≡ self.old) }
-        ensures refused { IfErr result (λ why. why ≡ refusal.Memory) }
+        ensures left { Becomes self.old self.new (after_due now self.old) result }
     {
         let due = self.due_by(alloc, now)?;
         self.drop_due(now);

@@ -7,9 +7,9 @@ use Rattle.std.proofs.lemmas.List.{map-append, length-append, length-map}
 use Rattle.std.proofs.lemmas.Option.{slice_get_cases}
 use Rattle.std.proofs.lemmas.Bool.Decides.{nat_tests}
 use Rattle.tc_types.specs.declared.requests.Request.{Request}
-use Rattle.tc_types.specs.declared.rows.Approval.{Approval}
-use Rattle.tc_types.specs.declared.causes.Cause.TheVariants as cause
-use Rattle.tc_types.specs.declared.moves.Move.{Move}
+use Rattle.tc_types.specs.declared.tables.rows.Approval.{Approval}
+use Rattle.tc_types.specs.declared.history.causes.Cause.TheVariants as cause
+use Rattle.tc_types.specs.declared.history.moves.Move.{Move}
 use Rattle.tc_types.specs.declared.requests.Origin.{Origin}
 use Rattle.tc_types.specs.Names.{IsPerson}
 use Rattle.tc_types.specs.Tests.{first_refusal}

@@ -6,16 +6,16 @@ use Rattle.std.proofs.lemmas.List.Elements.{filter-append}
 use Rattle.std.proofs.lemmas.List.Sums.{fold-append, count_by_more_yes, count_by_more_no, sum_by-take-le}
 use Rattle.std.proofs.lemmas.Option.{slice_get_read}
 use Rattle.std.proofs.lemmas.Bool.Decides.{nat_tests}
-use Rattle.tc_types.specs.declared.places.Place.TheVariants.{Entered, Approved}
-use Rattle.tc_types.specs.declared.causes.Cause.TheVariants as cause
-use Rattle.tc_types.specs.declared.moves.Move.{Move}
+use Rattle.tc_types.specs.declared.history.places.Place.TheVariants.{Entered, Approved}
+use Rattle.tc_types.specs.declared.history.causes.Cause.TheVariants as cause
+use Rattle.tc_types.specs.declared.history.moves.Move.{Move}
 use Rattle.tc_types.specs.declared.requests.Request.{Request}
-use Rattle.tc_types.specs.declared.rows.Row.{Row}
+use Rattle.tc_types.specs.declared.tables.rows.Row.{Row}
 use Rattle.tc_types.specs.History.{AllAfter}
 use Rattle.tc_book.specs.declared.stamps.Stamp.{Stamp}
 use Rattle.tc_book.specs.Acts.{row_approved, rows_approved}
 use Rattle.tc_book.specs.Batch.{HasRoomFor, HoldsRoom, batch_rows, log_length}
-use Rattle.tc_book.specs.Book.{Book, request_in, stands, moved, want}
+use Rattle.tc_book.specs.Book.{Book, Want, request_in, stands, moved, want, with_approval}
 use Rattle.tc_book.specs.Good.{IsGoodRequest}
 use Rattle.tc_book.specs.Stacks.{is_in_stack, numbers_in_stack, is_stack_approved, with_stack_approval}
 use Rattle.tc_book.proofs.GoodLemmas.{numbers_known}
@@ -137,4 +137,44 @@ given-room name person book new rows moves batch for_moves for_batch is =
       approvals = omega (arith, approvals);
       stack_approvals = omega (arith, stack_approvals);
       batch_room = omega (arith, requests, history, b, log);
+    }
+
+-- room for an approval of a request
+pub approval-room : {A B : Type 0} (n : ℕ) (person : List ℕ) (book new : Book) (rows : ℕ) (moves : Vec Move A) (batch : Vec Row B) → HasRoomFor rows moves → HasRoomFor (batch_rows 0 rows + 0) batch
+    → new ≡ with_approval book n person → HoldsRoom book new moves batch
+approval-room n person book new rows moves batch for_moves for_batch is =
+    let m = for_moves.1 in
+    let b = for_batch.1 in
+    let requests = ap (λ (x : Book). length x.requests) is in
+    let history = ap (λ (x : Book). length x.history) is in
+    let approvals = ap (λ (x : Book). length x.approvals) is ∙ length-append book.approvals _ in
+    let stack_approvals = ap (λ (x : Book). length x.stack_approvals) is in
+    let log = ap (λ (x : Book). log_length x.log) is in
+    record {
+      moves_empty = for_moves.0;
+      moves_room = omega (arith, m, history);
+      batch_empty = for_batch.0;
+      approvals = omega (arith, approvals);
+      stack_approvals = omega (arith, stack_approvals);
+      batch_room = omega (arith, requests, history, b, log);
+    }
+
+-- and for the move that follows it
+pub approval_moved-room : {A B : Type 0} (stamp : Stamp) (n : ℕ) (person : List ℕ) (wanted : Want) (book new : Book) (rows : ℕ) (moves : Vec Move A) (batch : Vec Row B) → 1 ≤ rows → HasRoomFor rows moves → HasRoomFor (batch_rows 0 rows + 0) batch
+    → new ≡ moved stamp (with_approval book n person) wanted → HoldsRoom book new moves batch
+approval_moved-room stamp n person wanted book new rows moves batch one for_moves for_batch is =
+    let m = for_moves.1 in
+    let b = for_batch.1 in
+    let requests = ap (λ (x : Book). length x.requests) is in
+    let history = ap (λ (x : Book). length x.history) is ∙ length-append book.history _ in
+    let approvals = ap (λ (x : Book). length x.approvals) is ∙ length-append book.approvals _ in
+    let stack_approvals = ap (λ (x : Book). length x.stack_approvals) is in
+    let log = ap (λ (x : Book). log_length x.log) is in
+    record {
+      moves_empty = for_moves.0;
+      moves_room = omega (arith, m, history, one);
+      batch_empty = for_batch.0;
+      approvals = omega (arith, approvals);
+      stack_approvals = omega (arith, stack_approvals);
+      batch_room = omega (arith, requests, history, b, log, one);
     }

@@ -7,7 +7,7 @@ use Rattle.std.proofs.lemmas.List.Elements.{filter-append}
 use Rattle.std.proofs.lemmas.Option.{slice_get_within, slice_get-get_or}
 use Rattle.std.proofs.lemmas.Bool.Decides.{nat_tests}
 use Rattle.tc_types.specs.declared.requests.Request.{Request}
-use Rattle.tc_types.specs.declared.rows.Approval.{Approval}
+use Rattle.tc_types.specs.declared.tables.rows.Approval.{Approval}
 use Rattle.tc_types.specs.Tests.{first_refusal}
 use Rattle.tc_types.specs.History.{AllAfter}
 use Rattle.tc_stack.specs.Approvals.{ApprovalState, IsApproval, approved, refusal_of, unapproved}

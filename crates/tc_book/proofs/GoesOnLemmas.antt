@@ -1,35 +1,31 @@
 -- What an act makes of the book goes on from the book before it.
-use Rattle.std.proofs.Common.{◌≡◌, ℕ, ◌+◌, Bool, true, false, not, ◌&&◌, ◌||◌, if◌then◌else◌, fold, Option, Some, None, Result, Ok, Err, OnOk, List, [], ◌∷◌, ◌++◌, length, drop, refl, sym, ◌∙◌, ap, subst, append_assoc, append-nil, Vec, arith}
+use Rattle.std.proofs.Common.{◌≡◌, ℕ, ◌+◌, Bool, true, false, not, ◌&&◌, ◌||◌, if◌then◌else◌, fold, Option, Some, None, List, [], ◌∷◌, ◌++◌, length, drop, refl, sym, ◌∙◌, ap, subst, append_assoc, append-nil, Vec, arith}
 use Rattle.std.specs.List.{list_all}
 use Rattle.std.specs.Option.{option_map_or}
 use Rattle.std.proofs.Math.Seq.{drop-append_seam}
 use Rattle.std.proofs.lemmas.List.Folds.{list_all-append, list_any-append}
 use Rattle.std.proofs.lemmas.Bool.{and_parts}
-use Rattle.tc_types.specs.declared.places.Place.{Place}
-use Rattle.tc_types.specs.declared.places.Place.TheVariants.{Entered, Approved, Withdrawn, Closed}
-use Rattle.tc_types.specs.declared.causes.Cause.{Cause}
-use Rattle.tc_types.specs.declared.causes.Cause.TheVariants as cause
-use Rattle.tc_types.specs.declared.refusals.Refusal.{Refusal}
-use Rattle.tc_types.specs.declared.acts.BookAct.{BookAct}
+use Rattle.tc_types.specs.declared.history.places.Place.{Place}
+use Rattle.tc_types.specs.declared.history.places.Place.TheVariants.{Entered, Approved, Withdrawn, Closed}
+use Rattle.tc_types.specs.declared.history.causes.Cause.{Cause}
+use Rattle.tc_types.specs.declared.history.causes.Cause.TheVariants as cause
 use Rattle.tc_types.specs.declared.acts.BookAct.TheVariants as act
 use Rattle.tc_types.specs.declared.acts.StepAct.{StepAct}
-use Rattle.tc_types.specs.declared.moves.Move.{Move}
+use Rattle.tc_types.specs.declared.history.moves.Move.{Move}
 use Rattle.tc_types.specs.declared.requests.Form.{Form}
 use Rattle.tc_types.specs.declared.requests.Origin.{Origin}
 use Rattle.tc_types.specs.declared.requests.Request.{Request}
-use Rattle.tc_types.specs.declared.rows.Row.{Row}
+use Rattle.tc_types.specs.declared.tables.rows.Row.{Row}
 use Rattle.tc_stack.specs.declared.stacks.StackRow.{StackRow}
 use Rattle.tc_book.specs.declared.stamps.Stamp.{Stamp}
-use Rattle.tc_book.specs.declared.firsts.First.{First}
-use Rattle.tc_book.specs.Acts.{acted, completes, row_approved, rows_approved}
-use Rattle.tc_book.specs.Answers.{Answers}
+use Rattle.tc_book.specs.Acts.{acted, row_approved, rows_approved}
 use Rattle.tc_proc.specs.declared.procedures.Step.{Step}
 use Rattle.tc_proc.specs.Logs.{LogState, with_procedure, with_execution, with_record}
 use Rattle.tc_book.specs.Batch.{HasBehind, GoesOn, LogGoesOn, is_apart_from, HasRoomFor, HoldsRoom, batch_rows}
-use Rattle.tc_book.specs.Book.{Book, stands, request_of, moved, want, with_entry, with_approval, approval_at}
+use Rattle.tc_book.specs.Book.{Book, stands, request_of, moved, want, with_entry, with_approval}
 use Rattle.tc_book.specs.Logs.{procedure_loaded, record_made, recorded}
 use Rattle.tc_book.specs.Loads.{loaded, with_row, with_rows, origin_of, entry_from}
-use Rattle.tc_book.specs.Stacks.{is_row_of, is_in_stack, has_stack, numbers_in_stack, stack_approval_at, with_stack_approval}
+use Rattle.tc_book.specs.Stacks.{is_row_of, is_in_stack, has_stack, numbers_in_stack, with_stack_approval}
 use Rattle.tc_book.proofs.LoadLemmas.{rows_requests, rows_history}
 use Rattle.tc_book.proofs.StackLemmas.{same_name, name_itself}
 
@@ -112,7 +108,7 @@ log-goes_on book log on = record {
   stacks = apart_none book.requests;
 }
 
-begun-goes_on : (stamp : Stamp) (name : List ℕ) (book : Book) → GoesOn book (acted stamp (act.Begin name) book)
+pub begun-goes_on : (stamp : Stamp) (name : List ℕ) (book : Book) → GoesOn book (acted stamp (act.Begin name) book)
 begun-goes_on stamp name book =
     log-goes_on book (with_execution book.log name stamp.by stamp.moment)
     (record { loaded = behind-same book.log.loaded; steps = behind-same book.log.steps; executions = behind book.log.executions _; records = behind-same book.log.records })
@@ -242,7 +238,7 @@ loaded-goes_on stamp name rows book unused =
       stacks = subst (λ l. list_all (is_apart_from book.requests) (drop (length book.requests) l) ≡ true) (sym all.requests) (apart_behind book.requests all.made (rows_apart name book.requests all.made unused all.rows));
     }
 
--- ---- any act
+-- ---- steps of an act: what goes on with one more step goes on
 
 if-goes_on : (book after : Book) (t : Bool) → GoesOn book after → GoesOn book (if t then after else book)
 if-goes_on book after true on = on
@@ -254,26 +250,17 @@ rows-goes_on stamp (n ∷ ns) book =
     on_and_on book (row_approved stamp book n) (fold (row_approved stamp) (row_approved stamp book n) ns)
     (if-goes_on book (moved stamp book (want n Approved cause.Approve)) (stands book n (Entered ∷ [])) (moved-goes_on stamp book n Approved cause.Approve)) (rows-goes_on stamp ns (row_approved stamp book n))
 
--- an act that goes on from what was given, or stops there
-given_and_on : (book given after : Book) (t : Bool) → GoesOn book given → GoesOn given after → GoesOn book (if t then after else given)
-given_and_on book given after true first second = on_and_on book given after first second
-given_and_on book given after false first second = first
+pub moved_on : (stamp : Stamp) (book given after : Book) (n : ℕ) (to : Place) (c : Cause) → GoesOn book given → after ≡ moved stamp given (want n to c) → GoesOn book after
+moved_on stamp book given after n to c on is = on_and_on book given after on (subst (GoesOn given) (sym is) (moved-goes_on stamp given n to c))
 
-pub acted-goes_on : (stamp : Stamp) (given : BookAct) (book : Book) → GoesOn book (acted stamp given book)
-acted-goes_on stamp (act.Enter entry) book = entered-goes_on stamp book entry
-acted-goes_on stamp (act.Withdraw n) book = moved-goes_on stamp book n Withdrawn cause.Withdraw
-acted-goes_on stamp (act.Approve n) book =
-    given_and_on book (with_approval book n stamp.by) (moved stamp (with_approval book n stamp.by) (want n Approved cause.Approve)) (completes stamp.by (approval_at book n)) (given-goes_on book n stamp.by) (moved-goes_on stamp (with_approval book n stamp.by) n Approved cause.Approve)
-acted-goes_on stamp (act.Close n) book = moved-goes_on stamp book n Closed cause.Close
-acted-goes_on stamp (act.ApproveStack name) book =
-    given_and_on book (with_stack_approval book name stamp.by) (rows_approved stamp name (with_stack_approval book name stamp.by)) (completes stamp.by (stack_approval_at book name)) (stack_given-goes_on book name stamp.by)
-    (rows-goes_on stamp (numbers_in_stack name book.requests) (with_stack_approval book name stamp.by))
-acted-goes_on stamp (act.Begin name) book = begun-goes_on stamp name book
+pub given_on : (book given after : Book) (n : ℕ) (person : List ℕ) → given ≡ book → after ≡ with_approval given n person → GoesOn book after
+given_on book given after n person same is = subst (λ (b : Book). GoesOn b after) same (subst (GoesOn given) (sym is) (given-goes_on given n person))
 
--- what an act answers goes on, where it is carried out
-pub answered-goes_on : {X : Type 0} (begins : X → First) (old : Book) (stamp : Stamp) (given : BookAct) (new : Book) (answer : Result X Refusal) → Answers begins old stamp given new answer → OnOk answer (GoesOn old new)
-answered-goes_on begins old stamp given new (Ok done) h = subst (GoesOn old) (sym h.1) (acted-goes_on stamp given old)
-answered-goes_on begins old stamp given new (Err refused) h = tt
+pub stack_given_on : (book given after : Book) (name person : List ℕ) → given ≡ book → after ≡ with_stack_approval given name person → GoesOn book after
+stack_given_on book given after name person same is = subst (λ (b : Book). GoesOn b after) same (subst (GoesOn given) (sym is) (stack_given-goes_on given name person))
+
+pub rows_on : (stamp : Stamp) (name : List ℕ) (book given after : Book) → GoesOn book given → after ≡ rows_approved stamp name given → GoesOn book after
+rows_on stamp name book given after on is = on_and_on book given after on (subst (GoesOn given) (sym is) (rows-goes_on stamp (numbers_in_stack name given.requests) given))
 
 -- ---- room
 

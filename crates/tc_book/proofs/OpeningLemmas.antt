@@ -8,18 +8,18 @@ use Rattle.std.proofs.lemmas.List.Elements.{filter_map-append}
 use Rattle.std.proofs.lemmas.Bool.Decides.{nat_tests}
 use Rattle.std.proofs.lemmas.List.Sums.{count_by_more_yes, count_by_more_no, sum_by-take-le, sum_by-cons}
 use Rattle.std.proofs.lemmas.Option.{slice_get_read}
-use Rattle.tc_types.specs.declared.places.Place.{Place}
-use Rattle.tc_types.specs.declared.places.Place.TheVariants.{Entered, Approved, Queued, Sent, Confirmed, Riding, Scheduled, Accepted, Started, Completed, Failed, Doubtful, Withdrawn, Deleted, Closed}
-use Rattle.tc_types.specs.declared.causes.Cause.{Cause}
-use Rattle.tc_types.specs.declared.causes.Cause.TheVariants as cause
-use Rattle.tc_types.specs.declared.moves.Move.{Move}
+use Rattle.tc_types.specs.declared.history.places.Place.{Place}
+use Rattle.tc_types.specs.declared.history.places.Place.TheVariants.{Entered, Approved, Queued, Sent, Confirmed, Riding, Scheduled, Accepted, Started, Completed, Failed, Doubtful, Withdrawn, Deleted, Closed}
+use Rattle.tc_types.specs.declared.history.causes.Cause.{Cause}
+use Rattle.tc_types.specs.declared.history.causes.Cause.TheVariants as cause
+use Rattle.tc_types.specs.declared.history.moves.Move.{Move}
 use Rattle.tc_types.specs.declared.requests.Request.{Request}
 use Rattle.tc_types.specs.Lawful.{is_lawful, is_among, is_one_of}
 use Rattle.tc_types.specs.History.{AllAfter}
 use Rattle.tc_proc.specs.Logs.{LogState}
 use Rattle.tc_book.specs.declared.marks.Mark.{Mark}
 use Rattle.tc_book.specs.declared.stamps.Stamp.{Stamp}
-use Rattle.tc_book.specs.Batch.{GoesOn, mark_of}
+use Rattle.tc_book.specs.Batch.{GoesOn, mark_of, IsBehind}
 use Rattle.tc_book.specs.Book.{Book, place_in, stands, request_at, want, moved, row_of}
 use Rattle.tc_book.specs.Good.{IsGoodRequest}
 use Rattle.tc_book.specs.Held.{held_by, has_number, opened_from, looked_at}
@@ -253,7 +253,7 @@ opened_longer moment left =
     omega (arith, behind)
 
 -- a mark that stands where the book stood before the opening
-pub record FitsMark (mark : Mark) (new : Book) : Type 0 where
+pub record SameMark (mark : Mark) (new : Book) : Type 0 where
   pub requests : mark.requests ≡ length new.requests
   pub rows : mark.rows ≤ length new.history
   pub approvals : mark.approvals ≡ length new.approvals
@@ -263,8 +263,8 @@ pub record FitsMark (mark : Mark) (new : Book) : Type 0 where
   pub executions : mark.executions ≡ length new.log.executions
   pub records : mark.records ≡ length new.log.records
 
-pub fits_mark : (moment : ℕ) (old new : Book) (mark : Mark) → mark ≡ mark_of old → new ≡ opened_book moment old → FitsMark mark new
-fits_mark moment old new mark is made =
+pub same_mark : (moment : ℕ) (old new : Book) (mark : Mark) → mark ≡ mark_of old → new ≡ opened_book moment old → SameMark mark new
+same_mark moment old new mark is made =
     let same = opened_same moment old in
     let longer = opened_longer moment old in
     let rows = ap (λ (m : Mark). m.rows) is in
@@ -278,4 +278,28 @@ fits_mark moment old new mark is made =
       steps = ap (λ (m : Mark). m.steps) is ∙ ap (λ (l : LogState). length l.steps) (sym same.3) ∙ ap (λ (b : Book). length b.log.steps) (sym made);
       executions = ap (λ (m : Mark). m.executions) is ∙ ap (λ (l : LogState). length l.executions) (sym same.3) ∙ ap (λ (b : Book). length b.log.executions) (sym made);
       records = ap (λ (m : Mark). m.records) is ∙ ap (λ (l : LogState). length l.records) (sym same.3) ∙ ap (λ (b : Book). length b.log.records) (sym made);
+    }
+
+-- what is the same as at the mark is behind it
+pub fits_mark : (moment : ℕ) (old new : Book) (mark : Mark) → mark ≡ mark_of old → new ≡ opened_book moment old → IsBehind mark new
+fits_mark moment old new mark is made =
+    let same = same_mark moment old new mark is made in
+    let requests = same.requests in
+    let approvals = same.approvals in
+    let stack_approvals = same.stack_approvals in
+    let procedures = same.procedures in
+    let steps = same.steps in
+    let executions = same.executions in
+    let records = same.records in
+    record {
+      requests = omega (arith, requests);
+      rows = same.rows;
+      approvals = omega (arith, approvals);
+      approvals_few = omega (arith, approvals);
+      stack_approvals = omega (arith, stack_approvals);
+      stack_approvals_few = omega (arith, stack_approvals);
+      procedures = omega (arith, procedures);
+      steps = omega (arith, steps);
+      executions = omega (arith, executions);
+      records = omega (arith, records);
     }

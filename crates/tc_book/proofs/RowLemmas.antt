@@ -9,7 +9,7 @@ use Rattle.tc_types.specs.declared.requests.Form.{Form}
 use Rattle.tc_types.specs.declared.requests.Ack.{Ack}
 use Rattle.tc_types.specs.declared.requests.Command.{Command}
 use Rattle.tc_types.specs.declared.requests.Command.TheVariants as command
-use Rattle.tc_types.specs.declared.rows.StackApproval.{StackApproval}
+use Rattle.tc_types.specs.declared.tables.rows.StackApproval.{StackApproval}
 use Rattle.tc_types.specs.Names.{IsName, is_same_name}
 use Rattle.tc_types.specs.Schedule.{is_schedule, KeepsScheduleRule}
 use Rattle.tc_stack.specs.declared.stacks.StackRow.{StackRow}

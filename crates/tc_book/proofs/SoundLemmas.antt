@@ -2,15 +2,15 @@
 use Rattle.std.proofs.Common.{◌≡◌, ◌+◌, Option, Some, None, List, [], ◌∷◌, map, cond, refl, sym, ◌∙◌, ap, subst}
 use Rattle.std.specs.Prelude.{count_by, unwrap_or}
 use Rattle.std.proofs.lemmas.List.Sums.{sum_by-cons}
-use Rattle.tc_types.specs.declared.places.Place.{Place}
-use Rattle.tc_types.specs.declared.places.Place.TheVariants.{Entered}
+use Rattle.tc_types.specs.declared.history.places.Place.{Place}
+use Rattle.tc_types.specs.declared.history.places.Place.TheVariants.{Entered}
 use Rattle.tc_types.specs.declared.requests.Request.{Request}
-use Rattle.tc_types.specs.declared.rows.PlacedRequest.{PlacedRequest}
-use Rattle.tc_types.specs.declared.rows.LoadedStack.{LoadedStack}
-use Rattle.tc_types.specs.declared.rows.Tally.{Tally}
+use Rattle.tc_types.specs.declared.tables.rows.PlacedRequest.{PlacedRequest}
+use Rattle.tc_types.specs.declared.tables.rows.LoadedStack.{LoadedStack}
+use Rattle.tc_types.specs.declared.tables.rows.Tally.{Tally}
 use Rattle.tc_types.specs.Lawful.{is_among}
 use Rattle.tc_types.specs.History.{place_of, count_at}
-use Rattle.tc_types.specs.declared.moves.Move.{Move}
+use Rattle.tc_types.specs.declared.history.moves.Move.{Move}
 use Rattle.tc_types.specs.Tables.{Image, tallies_by}
 use Rattle.tc_proc.specs.GoodLogs.{IsGoodLog}
 use Rattle.tc_book.specs.Book.{Book, stands}

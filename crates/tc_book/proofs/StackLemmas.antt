@@ -11,7 +11,7 @@ use Rattle.std.proofs.lemmas.List.Folds.{list_any-append, find-append}
 use Rattle.std.proofs.lemmas.Bool.Decides.{nat_tests}
 use Rattle.tc_types.specs.declared.requests.Request.{Request}
 use Rattle.tc_types.specs.declared.requests.Origin.{Origin}
-use Rattle.tc_types.specs.declared.rows.StackApproval.{StackApproval}
+use Rattle.tc_types.specs.declared.tables.rows.StackApproval.{StackApproval}
 use Rattle.tc_types.specs.Names.{is_same_name}
 use Rattle.tc_types.specs.Tests.{first_refusal}
 use Rattle.tc_stack.specs.Approvals.{ApprovalState, IsApproval, is_same_person, is_complete, approved, unapproved, refusal_of}

@@ -1,7 +1,7 @@
 -- What an act makes of the book, it makes step by step.
 use Rattle.std.proofs.Common.{◌≡◌, inl, inr, ℕ, Bool, true, false, if◌then◌else◌, Some, None, List, [], ◌∷◌, ◌++◌, fold, refl, subst}
-use Rattle.tc_types.specs.declared.places.Place.TheVariants.{Entered, Approved}
-use Rattle.tc_types.specs.declared.causes.Cause.TheVariants as cause
+use Rattle.tc_types.specs.declared.history.places.Place.TheVariants.{Entered, Approved}
+use Rattle.tc_types.specs.declared.history.causes.Cause.TheVariants as cause
 use Rattle.tc_types.specs.declared.requests.Form.{Form}
 use Rattle.tc_types.specs.declared.requests.Origin.{Origin}
 use Rattle.tc_types.specs.declared.acts.BookAct.{BookAct}

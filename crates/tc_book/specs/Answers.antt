@@ -1,14 +1,17 @@
 -- What an act on the book, or a load, answers.
-use Rattle.std.specs.Prelude.{◌≡◌, ◌⊎◌, ℕ, Bool, Some, None, Ok, Err, Result, List}
+use Rattle.std.specs.Prelude.{◌≡◌, ◌⊎◌, ℕ, Bool, Some, None, Ok, Err, Result, IfOk, OnOk, List}
 use Rattle.tc_types.specs.declared.refusals.Refusal.{Refusal}
 use Rattle.tc_types.specs.declared.refusals.Refusal.TheVariants.{Memory}
 use Rattle.tc_types.specs.declared.acts.BookAct.{BookAct}
 use Rattle.tc_stack.specs.declared.stacks.StackRow.{StackRow}
 use Rattle.tc_book.specs.declared.stamps.Stamp.{Stamp}
 use Rattle.tc_book.specs.declared.firsts.First.{First}
+use Rattle.tc_book.specs.declared.drafts.Draft.{Draft}
+use Rattle.tc_book.specs.Batch.{GoesOn, HoldsRoom}
 use Rattle.tc_book.specs.Book.{Book}
 use Rattle.tc_book.specs.Acts.{tests_of, first_refusal, acted, first_of}
 use Rattle.tc_book.specs.Loads.{load_tests, loaded, load_first}
+use Rattle.tc_book.specs.Steps.{HasSteps}
 use Rattle.tc_book.specs.Logs.{procedure_tests, procedure_loaded, procedure_first}
 use Rattle.tc_proc.specs.declared.procedures.Step.{Step}
 
@@ -30,3 +33,17 @@ LoadAnswers first old stamp name rows new answer = AnswersBy first (load_tests s
 -- the load of a procedure
 abbrev pub ProcedureAnswers : {X : Type 0} → (X → First) → Book → Stamp → List ℕ → List Step → Book → Result X Refusal → Type 0
 ProcedureAnswers first old stamp name steps new answer = AnswersBy first (procedure_tests old name steps) (procedure_loaded stamp name steps old) (procedure_first name steps) old new answer
+
+-- What an act on the book is: it answers so, its draft has room for all that came to the book, and the book goes on from what it was.
+pub record IsActed {A : Type 0} (old : Book) (stamp : Stamp) (given : BookAct) (new : Book) (result : Result (Draft A) Refusal) : Type 0 where
+  pub answers : Answers (λ (draft : Draft A). draft.first) old stamp given new result
+  pub room : IfOk result (λ (draft : Draft A). HoldsRoom old new draft.moves draft.batch)
+  pub goes_on : OnOk result (GoesOn old new)
+
+-- What a load is: it answers as said, its draft has room for all that came to the book, the book goes on, and became what it is one step
+-- after the other.
+pub record IsLoaded {A : Type 0} (said : Type 0) (stamp : Stamp) (old new : Book) (result : Result (Draft A) Refusal) : Type 0 where
+  pub answers : said
+  pub room : IfOk result (λ (draft : Draft A). HoldsRoom old new draft.moves draft.batch)
+  pub goes_on : OnOk result (GoesOn old new)
+  pub steps : OnOk result (HasSteps stamp old new)

@@ -1,10 +1,10 @@
 -- A book that the desk could have written, as conditions on one table after the other.
 use Rattle.std.specs.Prelude.{◌≡◌, ◌⊎◌, ℕ, ◌+◌, ◌≤◌, true, false, IfSome, IsSomeAnd, List, [], length, map, count_by}
 use Rattle.std.specs.List.{AllByRecursion}
-use Rattle.tc_types.specs.declared.causes.Cause.TheVariants.{Approve}
-use Rattle.tc_types.specs.declared.moves.Move.{Move}
-use Rattle.tc_types.specs.declared.rows.Approval.{Approval}
-use Rattle.tc_types.specs.declared.rows.StackApproval.{StackApproval}
+use Rattle.tc_types.specs.declared.history.causes.Cause.TheVariants.{Approve}
+use Rattle.tc_types.specs.declared.history.moves.Move.{Move}
+use Rattle.tc_types.specs.declared.tables.rows.Approval.{Approval}
+use Rattle.tc_types.specs.declared.tables.rows.StackApproval.{StackApproval}
 use Rattle.tc_types.specs.declared.requests.Origin.{Origin}
 use Rattle.tc_types.specs.declared.requests.Request.{Request}
 use Rattle.tc_types.specs.History.{IsGoodHistory, AllAfter, entered}

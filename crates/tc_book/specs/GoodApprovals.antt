@@ -1,8 +1,8 @@
 -- Approvals that a desk could have written, beside requests of which each may follow those before it.
 use Rattle.std.specs.Prelude.{◌≡◌, ◌≤◌, true, IfSome, None, List, [], length}
 use Rattle.std.specs.List.{AllByRecursion}
-use Rattle.tc_types.specs.declared.rows.Approval.{Approval}
-use Rattle.tc_types.specs.declared.rows.StackApproval.{StackApproval}
+use Rattle.tc_types.specs.declared.tables.rows.Approval.{Approval}
+use Rattle.tc_types.specs.declared.tables.rows.StackApproval.{StackApproval}
 use Rattle.tc_types.specs.declared.requests.Request.{Request}
 use Rattle.tc_stack.specs.Approvals.{ApprovalState, IsApproval}
 use Rattle.tc_book.specs.Acts.{first_refusal, approval_tests}

@@ -1,3 +1,4 @@
+pub mod Appends
 pub mod Book
 pub mod Targets
 pub mod Stacks

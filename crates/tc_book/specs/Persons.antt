@@ -2,11 +2,11 @@
 use Rattle.std.specs.Prelude.{IfSome}
 use Rattle.std.specs.List.{AllByRecursion}
 use Rattle.tc_types.specs.declared.requests.Request.{Request}
-use Rattle.tc_types.specs.declared.rows.Approval.{Approval}
-use Rattle.tc_types.specs.declared.rows.StackApproval.{StackApproval}
-use Rattle.tc_types.specs.declared.rows.LoadedProcedure.{LoadedProcedure}
-use Rattle.tc_types.specs.declared.rows.BegunExecution.{BegunExecution}
-use Rattle.tc_types.specs.declared.rows.StepRecord.{StepRecord}
+use Rattle.tc_types.specs.declared.tables.rows.Approval.{Approval}
+use Rattle.tc_types.specs.declared.tables.rows.StackApproval.{StackApproval}
+use Rattle.tc_types.specs.declared.tables.rows.LoadedProcedure.{LoadedProcedure}
+use Rattle.tc_types.specs.declared.tables.rows.BegunExecution.{BegunExecution}
+use Rattle.tc_types.specs.declared.tables.rows.StepRecord.{StepRecord}
 use Rattle.tc_types.specs.Names.{IsPerson}
 use Rattle.tc_book.specs.Book.{Book}
 

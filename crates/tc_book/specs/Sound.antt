@@ -1,8 +1,10 @@
 -- Which tables a desk could have written, so that one may be opened over them (this desk's own).
-use Rattle.std.specs.Prelude.{◌≡◌, map}
-use Rattle.tc_types.specs.declared.rows.PlacedRequest.{PlacedRequest}
+use Rattle.std.specs.Prelude.{◌≡◌, Result, IfErr, OnOk, map}
+use Rattle.tc_types.specs.declared.tables.rows.PlacedRequest.{PlacedRequest}
 use Rattle.tc_types.specs.History.{count_at}
 use Rattle.tc_types.specs.Tables.{Image, tallies_by}
+use Rattle.tc_proc.specs.declared.faults.ReopenFault.{ReopenFault}
+use Rattle.tc_proc.specs.declared.faults.ReopenFault.TheVariants.{Unsound}
 use Rattle.tc_book.specs.Book.{Book}
 use Rattle.tc_book.specs.Good.{IsGoodBook}
 use Rattle.tc_book.specs.Stacks.{stacks_of}
@@ -26,3 +28,8 @@ pub record IsSound (image : Image) : Type 0 where
   pub placed : image.requests ≡ map (placed image.moves) (book_of image).requests
   pub tallied : image.tallies ≡ tallies_by (count_at image.moves)
   pub stacks : image.stacks ≡ stacks_of (book_of image).requests
+
+-- what is read from tables that were left has this part of being sound, and where it is found unsound no desk could have written them
+pub record Judges {X : Type 0} (image : Image) (part : Type 0) (result : Result X ReopenFault) : Type 0 where
+  pub sound : OnOk result part
+  pub unsound : IfErr result (λ why. why ≡ Unsound → ¬ IsSound image)

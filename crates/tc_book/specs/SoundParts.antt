@@ -2,10 +2,10 @@
 -- persons, and the log.
 use Rattle.std.specs.Prelude.{◌≡◌, ◌≤◌, true, IfSome, [], length, map, count_by}
 use Rattle.std.specs.List.{AllByRecursion}
-use Rattle.tc_types.specs.declared.causes.Cause.TheVariants.{Approve}
-use Rattle.tc_types.specs.declared.moves.Move.{Move}
+use Rattle.tc_types.specs.declared.history.causes.Cause.TheVariants.{Approve}
+use Rattle.tc_types.specs.declared.history.moves.Move.{Move}
 use Rattle.tc_types.specs.declared.requests.Request.{Request}
-use Rattle.tc_types.specs.declared.rows.StackApproval.{StackApproval}
+use Rattle.tc_types.specs.declared.tables.rows.StackApproval.{StackApproval}
 use Rattle.tc_types.specs.History.{IsGoodHistory, AllAfter, entered, count_at}
 use Rattle.tc_types.specs.Tables.{Image, tallies_by}
 use Rattle.tc_stack.specs.Approvals.{IsApproval}

@@ -4,8 +4,8 @@ use Rattle.std.specs.List.{list_any, filter_map, find}
 use Rattle.std.specs.Option.{option_map, option_map_or}
 use Rattle.tc_types.specs.declared.requests.Request.{Request}
 use Rattle.tc_types.specs.declared.requests.Origin.{Origin}
-use Rattle.tc_types.specs.declared.rows.LoadedStack.{LoadedStack}
-use Rattle.tc_types.specs.declared.rows.StackApproval.{StackApproval}
+use Rattle.tc_types.specs.declared.tables.rows.LoadedStack.{LoadedStack}
+use Rattle.tc_types.specs.declared.tables.rows.StackApproval.{StackApproval}
 use Rattle.tc_types.specs.Names.{is_same_name}
 use Rattle.tc_stack.specs.Approvals.{ApprovalState, is_complete}
 use Rattle.tc_stack.specs.Stacks.{is_completed}

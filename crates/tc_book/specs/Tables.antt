@@ -1,9 +1,9 @@
 -- The rows of a book: what its tables hold, and nothing else.
 use Rattle.std.specs.Prelude.{List, map, unwrap_or}
-use Rattle.tc_types.specs.declared.places.Place.TheVariants.{Entered}
-use Rattle.tc_types.specs.declared.moves.Move.{Move}
+use Rattle.tc_types.specs.declared.history.places.Place.TheVariants.{Entered}
+use Rattle.tc_types.specs.declared.history.moves.Move.{Move}
 use Rattle.tc_types.specs.declared.requests.Request.{Request}
-use Rattle.tc_types.specs.declared.rows.PlacedRequest.{PlacedRequest}
+use Rattle.tc_types.specs.declared.tables.rows.PlacedRequest.{PlacedRequest}
 use Rattle.tc_types.specs.History.{place_of, count_at}
 use Rattle.tc_types.specs.Tables.{Image, tallies_by}
 use Rattle.tc_book.specs.Book.{Book}

@@ -1,8 +1,8 @@
-//! The acts on the book, a file each: its tests in order, the room that it takes, and then what cannot fail.
-ghost use Rattle.std.specs.Prelude.{◌≡◌, IfOk, OnOk, IfSome};
+//! The acts on the book, a file each: its tests in order, the room that it takes, and its steps. A step that asks for memory too comes
+//! last.
+ghost use Rattle.std.specs.Prelude.{◌≡◌};
 ghost use Rattle.tc_book.specs.Acts.{first_refusal, query_tests};
-ghost use Rattle.tc_book.specs.Answers.{Answers};
-ghost use Rattle.tc_book.specs.Batch.{GoesOn, HoldsRoom};
+ghost use Rattle.tc_book.specs.Answers.{IsActed};
 
 pub mod approve;
 pub mod approve_stack;
@@ -23,8 +23,7 @@ use crate::drafts::Draft;
 use crate::records::Records;
 use crate::stamps::Stamp;
 use std::alloc::Allocator;
-use tc_types::acts::{BookAct, Query};
-use tc_types::refusals::Refusal;
+use tc_types::{BookAct, Query, Refusal};
 
 /// Carries an act on the book out, and says what its reply begins with. The draft has room for what came to the book.
 pub fn perform<A: Allocator + Copy + Drop>(
@@ -33,9 +32,7 @@ pub fn perform<A: Allocator + Copy + Drop>(
     stamp: Stamp,
     act: BookAct,
 ) -> Result<Draft<A>, Refusal>
-    ensures answers { Answers (λ draft. draft.first) records.old.book stamp act records.new.book result }
-    ensures room { IfOk result (λ draft. HoldsRoom records.old.book records.new.book draft.moves draft.batch) }
-    ensures goes_on { OnOk result (GoesOn records.old.book records.new.book) }
+    ensures { IsActed records.old.book stamp act records.new.book result }
 {
     match act {
         BookAct::Enter(entry) => enter(records, alloc, stamp, entry),

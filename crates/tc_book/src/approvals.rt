@@ -6,10 +6,8 @@ ghost use Rattle.tc_book.specs.Approvals.{kept_approval};
 
 use crate::firsts::First;
 use std::alloc::Allocator;
-use tc_stack::approvals::Approvals;
-use tc_types::names::Name;
-use tc_types::numbers::RequestNumber;
-use tc_types::refusals::Refusal;
+use tc_stack::Approvals;
+use tc_types::{Name, Refusal, RequestNumber};
 
 /// The approval of request `n`.
 pub(crate) fn approvals_of(kept: &[Approvals], n: u32) -> Option<&Approvals>
@@ -53,8 +51,7 @@ pub(crate) fn add_approval<A: Allocator>(
     ensures complete { (s : ApprovalState) → result ≡ is_complete (approved person (slice_index_or kept.old.items (request - 1) s)) }
     ensures capacity { vec_capacity kept.new ≡ vec_capacity kept.old }
 {
-    match kept[request.get() as usize - 1].add(person) {
-        Ok(complete) => complete,
-        Err(_) => false,
-    }
+    kept[request.get() as usize - 1]
+        .add(person)
+        .unwrap_or(false)
 }

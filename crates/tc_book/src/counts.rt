@@ -5,8 +5,7 @@ ghost use Rattle.tc_book.specs.Book.{next_identity};
 ghost use Rattle.tc_book.specs.Places.{AreCounted, count_of};
 
 use std::alloc::{AllocError, Allocator};
-use tc_types::numbers::{Apid, SequenceCount};
-use tc_types::requests::Identity;
+use tc_types::{Apid, Identity, SequenceCount};
 
 /// How many application processes there are.
 const PROCESSES: usize = 2_048;

@@ -1,15 +1,12 @@
 //! The room that an act takes before it does anything: for its records, its moves and its batch.
-ghost use Rattle.std.specs.Prelude.{◌≡◌, ◌+◌, ◌-◌, ◌<◌, ◌≤◌, ◌^◌, [], length, vec_len, vec_capacity, IfOk, IfErr, OnOk};
+ghost use Rattle.std.specs.Prelude.{◌≡◌, ◌+◌, ◌<◌, ◌^◌, IfOk, OnOk};
 ghost use Rattle.tc_book.specs.Batch.{HasRoomFor, batch_rows};
-ghost use Rattle.tc_book.specs.Places.{stack_names};
+ghost use Rattle.tc_book.specs.Records.{TellsTheSame, HasRoom};
 
 use crate::firsts::First;
 use crate::records::Records;
-use std::alloc::Allocator;
-use tc_types::moves::Move;
-use tc_types::places::PLACES;
-use tc_types::refusals::Refusal;
-use tc_types::rows::Row;
+use std::alloc::{AllocError, Allocator};
+use tc_types::{Move, PLACES, Row};
 
 /// An answer with room for the moves and the batch of an act, and none there yet.
 #[derive(Drop)]
@@ -22,43 +19,51 @@ pub struct Draft<A: Allocator + Copy + Drop> {
     pub batch: Vec<Row, A>,
 }
 
-/// Makes room for so many requests and rows of the history, and for so many rows of the log in the batch. Where memory is refused the
-/// book is as it was.
+/// How much an act needs room for. An act names what it needs, and nothing else.
+#[derive(Clone, Copy, Debug, PartialEq, Eq)]
+pub struct Needs {
+    /// How many requests it enters.
+    pub requests: usize,
+    /// How many rows of the history it writes.
+    pub rows: usize,
+    /// How many rows of the log it writes.
+    pub log: usize,
+}
+
+impl Needs {
+    /// What an act needs that writes nothing.
+    pub const NONE: Needs = Needs {
+        requests: 0,
+        rows: 0,
+        log: 0,
+    };
+}
+
+/// Makes room for all that an act needs. Where memory is refused the book is as it was.
 pub fn make_room<A: Allocator + Copy + Drop>(
     records: &mut Records<A>,
     alloc: A,
     first: First,
-    requests: usize,
-    rows: usize,
-    log: usize,
-) -> Result<Draft<A>, Refusal>
-    requires { requests + rows + log < 2 ^ 32 }
-    ensures book { records.new.book ≡ records.old.book }
-    ensures err { IfErr result (λ e. e ≡ Refusal.Memory) }
+    needs: Needs,
+) -> Result<Draft<A>, AllocError>
+    requires { needs.requests + needs.rows + needs.log < 2 ^ 32 }
+    ensures same { TellsTheSame records.old records.new }
     ensures first { IfOk result (λ draft. draft.first ≡ first) }
-    ensures moves { IfOk result (λ draft. HasRoomFor rows draft.moves) }
-    ensures batch { IfOk result (λ draft. HasRoomFor (batch_rows requests rows + log) draft.batch) }
-    ensures requests { OnOk result (length records.new.book.requests + requests ≤ 65535 → length records.new.book.requests + requests ≤ records.new.most_requests) }
-    ensures approvals { OnOk result (length records.new.book.approvals < records.new.most_approvals) }
-    ensures stack_approvals { OnOk result (length records.new.book.stack_approvals < records.new.most_stack_approvals) }
-    ensures stacks { OnOk result (length (stack_names records.new.book.requests) < 1000 → length (stack_names records.new.book.requests) < records.new.most_stacks) }
-    ensures log { records.new.log ≡ records.old.log }
-    ensures rows { OnOk result (length records.new.book.history + rows ≤ 2 ^ 32 - 65536 → length records.new.book.history + rows ≤ records.new.most_rows) }
-    ensures numbered { OnOk result (length records.new.book.history + rows < 2 ^ 32 → length records.new.book.history + rows ≤ records.new.most_numbered) }
+    ensures moves { IfOk result (λ draft. HasRoomFor needs.rows draft.moves) }
+    ensures batch { IfOk result (λ draft. HasRoomFor (batch_rows needs.requests needs.rows + needs.log) draft.batch) }
+    ensures room { OnOk result (HasRoom needs.requests needs.rows records.new) }
 {
-    let Ok(moves) = Vec::with_capacity(alloc, rows) else {
-        return Err(Refusal::Memory);
-    };
-    let most_rows = requests + requests + rows + rows + log + PLACES + 2;
-    let Ok(batch) = Vec::with_capacity(alloc, most_rows) else {
-        return Err(Refusal::Memory);
-    };
-    match records.reserve(requests, rows) {
-        Ok(()) => Ok(Draft {
-            first,
-            moves,
-            batch,
-        }),
-        Err(_) => Err(Refusal::Memory),
-    }
+    let Needs {
+        requests,
+        rows,
+        log,
+    } = needs;
+    let moves = Vec::with_capacity(alloc, rows)?;
+    let batch = Vec::with_capacity(alloc, requests + requests + rows + rows + log + PLACES + 2)?;
+    records.reserve(requests, rows)?;
+    Ok(Draft {
+        first,
+        moves,
+        batch,
+    })
 }

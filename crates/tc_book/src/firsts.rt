@@ -1,7 +1,5 @@
 //! The first line of a reply.
-use tc_types::names::Name;
-use tc_types::numbers::RequestNumber;
-use tc_types::requests::Identity;
+use tc_types::{Identity, Name, RequestNumber};
 
 /// What the first line of a reply says.
 #[derive(Clone, Copy, Debug, PartialEq, Eq)]

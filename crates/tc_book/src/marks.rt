@@ -1,5 +1,5 @@
 //! How much of the book stood before an act.
-use tc_types::places::PLACES;
+use tc_types::PLACES;
 
 /// How many requests, rows and approvals stood, and how many requests at each place.
 #[derive(Clone, Copy, Debug, PartialEq, Eq)]

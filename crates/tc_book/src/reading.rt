@@ -2,7 +2,7 @@
 ghost use Rattle.std.specs.Prelude.{◌≡◌, ◌==◌, ◌||◌, is_none, length, nat_lt};
 ghost use Rattle.tc_book.specs.Book.{request_in, same_identity};
 
-use tc_types::requests::{Identity, Request};
+use tc_types::{Identity, Request};
 
 /// The one of these requests with the number `n`.
 pub(crate) fn request_in(requests: &[Request], n: u32) -> Option<Request>

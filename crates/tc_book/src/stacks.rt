@@ -4,15 +4,14 @@ ghost use Rattle.std.specs.List.{find, list_any, cons_option};
 ghost use Rattle.std.specs.Option.{option_copied};
 ghost use Rattle.tc_types.specs.Names.{is_same_name};
 ghost use Rattle.tc_stack.specs.Approvals.{IsApproval, refusal_of, approved};
+ghost use Rattle.tc_book.specs.Appends.{Appends};
 ghost use Rattle.tc_book.specs.Places.{begun_name};
 ghost use Rattle.tc_book.specs.Stacks.{is_in_stack, has_critical_row, begun_by, stack_approvers_of};
 
 use crate::pushes::push_within;
 use std::alloc::Allocator;
-use tc_stack::approvals::Approvals;
-use tc_types::names::{Name, is_same_name};
-use tc_types::requests::{Origin, Request};
-use tc_types::rows::{LoadedStack, StackApproval};
+use tc_stack::Approvals;
+use tc_types::{LoadedStack, Name, Origin, Request, StackApproval, is_same_name};
 
 /// Whether a request is a row of the stack with this name.
 pub(crate) fn is_in_stack(request: &Request, name: &Name) -> bool
@@ -61,8 +60,7 @@ pub(crate) fn count_rows(requests: &[Request], name: &Name) -> usize
 /// Appends the name of the stack that a request from here begins, if it is on line 1 of one.
 pub(crate) fn push_name<A: Allocator>(names: &mut Vec<Name, A>, origin: &Option<Origin>)
     requires { IfSome origin.now (λ o. o.line ≡ 1 → length names.old.items < vec_capacity names.old) }
-    ensures items { names.new.items ≡ names.old.items ++ cons_option (begun_name origin.now) [] }
-    ensures capacity { vec_capacity names.old ≤ vec_capacity names.new }
+    ensures { Appends names.old names.new (cons_option (begun_name origin.now) []) }
 {
     let Some(origin) = origin else {
         return;

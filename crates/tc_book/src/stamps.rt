@@ -1,6 +1,5 @@
 //! Who acts, and when.
-use tc_types::numbers::Moment;
-use tc_types::persons::Person;
+use tc_types::{Moment, Person};
 
 /// What each row of a person's act carries.
 #[derive(Clone, Copy, Debug, PartialEq, Eq)]

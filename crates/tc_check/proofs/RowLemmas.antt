@@ -5,8 +5,8 @@ use Rattle.std.proofs.lemmas.Fmt.{decimal_injective}
 use Rattle.std.proofs.lemmas.List.{get_or_past, length-map}
 use Rattle.std.specs.Fmt.{decimal}
 use Rattle.tc_types.proofs.NumberLaws.{first_digit}
-use Rattle.tc_check.specs.declared.rows.Sort.{Sort}
-use Rattle.tc_check.specs.declared.rows.Sort.TheVariants.{Insert, Delete, Shift, ShiftAll, Schedule, Other}
+use Rattle.tc_check.specs.declared.commands.Sort.{Sort}
+use Rattle.tc_check.specs.declared.commands.Sort.TheVariants.{Insert, Delete, Shift, ShiftAll, Schedule, Other}
 use Rattle.tc_check.specs.Rows.{Commands, IsOfSchedule}
 
 -- where records end before a place, no command of the schedule stands there

@@ -6,7 +6,7 @@ use Rattle.tc_csv.specs.declared.faults.Fault.{Fault}
 use Rattle.tc_csv.specs.Tables.{records_of}
 use Rattle.tc_stack.specs.StackTexts as stack
 use Rattle.tc_proc.specs.Procedures as procedure
-use Rattle.tc_check.specs.declared.rows.Sort.{Sort}
+use Rattle.tc_check.specs.declared.commands.Sort.{Sort}
 use Rattle.tc_check.specs.Rows.{Commands}
 use Rattle.tc_check.specs.Words.{fault_line}
 

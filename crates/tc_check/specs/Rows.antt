@@ -2,8 +2,8 @@
 use Rattle.std.specs.Prelude.{◌≡◌, ℕ, List, [], get_or}
 use Rattle.std.specs.Fmt.{decimal}
 use Rattle.tc_stack.specs.StackTexts.{IsScheduling}
-use Rattle.tc_check.specs.declared.rows.Sort.{Sort}
-use Rattle.tc_check.specs.declared.rows.Sort.TheVariants.{Insert, Delete, Shift, ShiftAll, Schedule, Other}
+use Rattle.tc_check.specs.declared.commands.Sort.{Sort}
+use Rattle.tc_check.specs.declared.commands.Sort.TheVariants.{Insert, Delete, Shift, ShiftAll, Schedule, Other}
 
 -- a command of the on-board schedule, by the third field of its row
 abbrev pub IsOfSchedule : List (List ℕ) → Type 0

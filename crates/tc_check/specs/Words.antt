@@ -9,8 +9,8 @@ use Rattle.tc_csv.specs.declared.faults.Rule.TheVariants as rule
 use Rattle.tc_csv.specs.declared.faults.Fault.{Fault}
 use Rattle.tc_csv.specs.Faults.{rule_column}
 use Rattle.tc_csv.specs.Tables.{column_name}
-use Rattle.tc_check.specs.declared.rows.Sort.{Sort}
-use Rattle.tc_check.specs.declared.rows.Sort.TheVariants.{Insert, Delete, Shift, ShiftAll, Other}
+use Rattle.tc_check.specs.declared.commands.Sort.{Sort}
+use Rattle.tc_check.specs.declared.commands.Sort.TheVariants.{Insert, Delete, Shift, ShiftAll, Other}
 
 -- ---- what does not stand there, or stands there and may not
 

@@ -4,12 +4,11 @@ ghost use Rattle.std.specs.String.{string_bytes};
 ghost use Rattle.tc_csv.specs.Tables.{column_name};
 ghost use Rattle.tc_check.specs.Words.{above_rows, fault_line, in_field, place, row_name};
 
-use crate::rows::Sort;
+use crate::commands::Sort;
 use crate::words::why;
 use std::alloc::{AllocError, Global};
-use tc_csv::columns::Column;
-use tc_csv::faults::{Fault, Rule};
-use tc_types::loads::LoadKind;
+use tc_csv::{Column, Fault, Rule};
+use tc_types::LoadKind;
 
 /// What a row is called.
 fn row_name(kind: LoadKind) -> &'static str

@@ -2,9 +2,9 @@
 ghost use Rattle.std.specs.Prelude.{◌≡◌};
 ghost use Rattle.tc_check.specs.Words.{why, why_ack, why_fields, why_header, why_outcome, why_rows, why_subtype, why_target, why_target_row, why_time};
 
-use crate::rows::Sort;
-use tc_csv::faults::Rule;
-use tc_types::loads::LoadKind;
+use crate::commands::Sort;
+use tc_csv::Rule;
+use tc_types::LoadKind;
 
 /// Why a first record is no header.
 fn why_header(kind: LoadKind) -> &'static str

@@ -1,7 +1,7 @@
 -- The report of tables alone, as it is written in pieces.
 use Rattle.std.proofs.Common.{◌≡◌, ◌∙◌, ◌++◌, ◌∷◌, ◌⊎◌, [], inl, inr, ℕ, List, refl, sym, ap, append_assoc, append-nil}
 use Rattle.std.specs.Prelude.{◌≢◌, codes, IfErr, IsErrAnd, OnErr, OnOk, Result, Ok, Err}
-use Rattle.tc_types.specs.declared.moves.Move.{Move}
+use Rattle.tc_types.specs.declared.history.moves.Move.{Move}
 use Rattle.tc_types.specs.History.{shift_rows}
 use Rattle.tc_types.specs.Tables.{Image}
 use Rattle.tc_types.specs.declared.refusals.Refusal.{Refusal}

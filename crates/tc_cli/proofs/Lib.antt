@@ -1,5 +1,6 @@
 pub mod CheckingLemmas
 mod CrashLemmas
+mod EndsLemmas
 mod HoldLemmas
 mod KeptLemmas
 mod RunLemmas

@@ -18,12 +18,12 @@ use Rattle.tc_types.specs.declared.refusals.Refusal.TheVariants.{TooLong}
 use Rattle.tc_desk.specs.Headline.{TellsTrue}
 use Rattle.tc_desk.specs.Replies.{Reply}
 use Rattle.tc_desk.specs.declared.configs.Config as configs
-use Rattle.tc_room.specs.Answers.{AsksPlaces, RefusesWith}
-use Rattle.tc_room.specs.Joined.{IsKept, Standing}
+use Rattle.tc_room.specs.Answers.{RefusesWith}
+use Rattle.tc_room.specs.Joined.{Standing}
 use Rattle.tc_room.specs.Replies.{ended, is_refused}
 use Rattle.tc_room.specs.Room.{IsJustOpened}
 use Rattle.tc_cli.specs.Files.{FileAnswer, Gives}
-use Rattle.tc_cli.specs.Run.{AnswersScriptLine, IsAnswered, IsLoadLine, RunsLines, TakesFront, TakesLine, TakesLines, is_skipped, script_lines}
+use Rattle.tc_cli.specs.Run.{Came, CameLast, IsAnswered, IsLoadLine, RepliesTo, RunsLines, TakesFront, TakesLine, TakesLines, is_skipped, script_lines}
 use Rattle.tc_cli.proofs.HoldLemmas.{front_failed, lines_held, nobody, places_told, question_failed, step_held}
 use Rattle.tc_cli.proofs.TakeLemmas.{gives_more, gives_none, takes_front-end, takes_front-start, takes_front-step}
 
@@ -63,91 +63,84 @@ module _ {S : Type 0} (g : Ghosts S) where
     pub given : Gives gave gives files
     pub written : Appends old new (flat_map ended replies)
     pub refusals : refused ≡ list_any is_refused replies
+    pub opened : at.opened ≡ start.opened
 
   pub has_run-start : (start : Standing S) (lines left : List (List ℕ)) (p : Option (List FileAnswer)) (w : Option (List ℕ)) → left ≡ lines → HasRun start lines p w start left p w false
-  has_run-start start lines left p w all = record { files = []; replies = []; taken = takes_front-start g start lines left all; given = gives_none p; written = Appends-nil w; refusals = refl }
-
-  -- what a line came to
-  abbrev pub Came : Standing S → List ℕ → Standing S → Option (List FileAnswer) → Option (List FileAnswer) → Option (List ℕ) → Option (List ℕ) → Bool → Type 0
-  Came at line next gave gives mid new refused =
-      (replies : List Reply) × (files : List FileAnswer) × TakesLine g at line files replies next × Gives gave gives files × Appends mid new (flat_map ended replies) × (refused ≡ list_any is_refused replies)
+  has_run-start start lines left p w all = record { files = []; replies = []; taken = takes_front-start g start lines left all; given = gives_none p; written = Appends-nil w; refusals = refl; opened = refl }
 
   -- a line that is skipped came to nothing
-  pub came_skipped : (at : Standing S) (line : List ℕ) (p : Option (List FileAnswer)) (w : Option (List ℕ)) → is_skipped line ≡ true → Came at line at p p w w false
-  came_skipped at line p w skipped = ([], [], rw skipped (refl, refl, refl), gives_none p, Appends-nil w, refl)
-
-  -- what a line is answered
-  abbrev pub Answered : Standing S → List ℕ → Standing S → Option (List FileAnswer) → Option (List FileAnswer) → List ℕ → Option Refusal → Type 0
-  Answered at line next gave gives text why =
-      (reply : Reply) × (files : List FileAnswer) × AnswersScriptLine g at line files reply next × Gives gave gives files × (text ≡ ended reply) × RefusesWith reply why
+  pub came_skipped : (at : Standing S) (line : List ℕ) (p : Option (List FileAnswer)) (w : Option (List ℕ)) → is_skipped line ≡ true
+      → Came g (TakesLine g at line) at p p w w at false
+  came_skipped at line p w skipped = record { replies = []; files = []; taken = rw skipped (refl, refl, refl); given = gives_none p; written = Appends-nil w; refusals = refl; opened = refl }
 
   -- a line that is not skipped came to its answer
   pub came_answered : (at : Standing S) (line : List ℕ) (next : Standing S) (gave gives : Option (List FileAnswer)) (mid new : Option (List ℕ)) (why : Option Refusal) (refused : Bool) (text : List ℕ)
-      → is_skipped line ≡ false → Answered at line next gave gives text why → ((reply : Reply) → RefusesWith reply why → refused ≡ is_refused reply)
-      → Appends mid new text → Came at line next gave gives mid new refused
-  came_answered at line next gave gives mid new why refused text goes_on (reply, files, answers, given, is_text, refuses) told appends = (
-    reply ∷ [],
-    files,
-    rw goes_on (reply, refl, answers),
-    given,
-    rw append-nil (subst (Appends mid new) is_text appends),
-    told reply refuses ∙ sym (or_false (is_refused reply)),
-  )
+      → is_skipped line ≡ false → RepliesTo g at line gave gives text why next → ((reply : Reply) → RefusesWith reply why → refused ≡ is_refused reply)
+      → Appends mid new text → Came g (TakesLine g at line) at gave gives mid new next refused
+  came_answered at line next gave gives mid new why refused text goes_on h told appends = record {
+    replies = h.reply ∷ [];
+    files = h.files;
+    taken = rw goes_on (h.reply, refl, h.answers);
+    given = h.given;
+    written = rw append-nil (subst (Appends mid new) h.text_is appends);
+    refusals = told h.reply h.refuses ∙ sym (or_false (is_refused h.reply));
+    opened = h.opened;
+  }
 
   pub has_run-step : (start : Standing S) (lines : List (List ℕ)) (gave : Option (List FileAnswer)) (old : Option (List ℕ)) (at : Standing S) (left : List (List ℕ)) (line : List ℕ) (others : List (List ℕ))
       (so_far gives : Option (List FileAnswer)) (mid new : Option (List ℕ)) (before now : Bool) (next : Standing S)
-      → HasRun start lines gave old at left so_far mid before → left ≡ line ∷ others → Came at line next so_far gives mid new now
+      → HasRun start lines gave old at left so_far mid before → left ≡ line ∷ others → Came g (TakesLine g at line) at so_far gives mid new next now
       → HasRun start lines gave old next others gives new (before || now)
-  has_run-step start lines gave old at left line others so_far gives mid new before now next h is_line (replies, files, takes, given, written, refusals) = record {
-    files = h.files ++ files;
-    replies = h.replies ++ replies;
-    taken = takes_front-step g start lines h.files h.replies at left line others files replies next h.taken is_line takes;
-    given = gives_more gave so_far gives h.files files h.given given;
-    written = rw flat_map-append (Appends-trans _ _ _ _ _ h.written written);
-    refusals = rw (h.refusals, refusals) (sym (list_any-append is_refused h.replies replies));
+  has_run-step start lines gave old at left line others so_far gives mid new before now next h is_line came = record {
+    files = h.files ++ came.files;
+    replies = h.replies ++ came.replies;
+    taken = takes_front-step g start lines h.files h.replies at left line others came.files came.replies next h.taken is_line came.taken;
+    given = gives_more gave so_far gives h.files came.files h.given came.given;
+    written = rw flat_map-append (Appends-trans _ _ _ _ _ h.written came.written);
+    refusals = rw (h.refusals, came.refusals) (sym (list_any-append is_refused h.replies came.replies));
+    opened = came.opened ∙ h.opened;
   }
 
-  -- what all lines came to
-  abbrev pub CameAll : Standing S → List (List ℕ) → Standing S → Option (List FileAnswer) → Option (List FileAnswer) → Option (List ℕ) → Option (List ℕ) → Bool → Type 0
-  CameAll start lines end gave gives old new refused =
-      (replies : List Reply) × (files : List FileAnswer) × TakesLines g start lines files replies end × Gives gave gives files × Appends old new (flat_map ended replies) × (refused ≡ list_any is_refused replies)
-
   pub has_run-end : (start : Standing S) (lines : List (List ℕ)) (gave : Option (List FileAnswer)) (old : Option (List ℕ)) (at : Standing S) (left : List (List ℕ)) (gives : Option (List FileAnswer)) (new : Option (List ℕ)) (refused : Bool)
-      → HasRun start lines gave old at left gives new refused → left ≡ [] → CameAll start lines at gave gives old new refused
-  has_run-end start lines gave old at left gives new refused h none =
-      (h.replies, h.files, takes_front-end g start lines h.files h.replies at left h.taken none, h.given, h.written, h.refusals)
-
-  -- what the question at the end came to
-  abbrev pub CameLast : Standing S → Standing S → Option (List ℕ) → Option (List ℕ) → Bool → Type 0
-  CameLast end after mid new refused =
-      (reply : Reply) × AsksPlaces g end reply after × Appends mid new (ended reply) × (refused ≡ is_refused reply)
+      → HasRun start lines gave old at left gives new refused → left ≡ [] → Came g (TakesLines g start lines) start gave gives old new at refused
+  has_run-end start lines gave old at left gives new refused h none = record {
+    replies = h.replies;
+    files = h.files;
+    taken = takes_front-end g start lines h.files h.replies at left h.taken none;
+    given = h.given;
+    written = h.written;
+    refusals = h.refusals;
+    opened = h.opened;
+  }
 
   -- the lines of a script, and the question at the end
   pub lines_run : (input : List ℕ) (start end after : Standing S) (refused last : Bool) (gave gives : Option (List FileAnswer)) (old mid new : Option (List ℕ))
-      → CameAll start (script_lines input) end gave gives old mid refused → CameLast end after mid new last
-      → IsKept end.desk.book → TellsTrue end.opened end.desk → end.opened ≡ start.opened → RunsLines g start input (if refused || last then 1 else 0) gave gives old new after
-  lines_run input start end after refused last gave gives old mid new (replies, files, takes, given, written, refusals) (reply, asks, appends, is_reply) kept told same =
+      → Came g (TakesLines g start (script_lines input)) start gave gives old mid end refused → CameLast g end mid new after last
+      → TellsTrue end.opened end.desk → RunsLines g start input (if refused || last then 1 else 0) gave gives old new after
+  lines_run input start end after refused last gave gives old mid new ran asked told =
+      let replies = ran.replies in
+      let reply = asked.reply in
       let all : flat_map ended (replies ++ reply ∷ []) ≡ flat_map ended replies ++ ended reply =
       flat_map-append ended replies (reply ∷ []) ∙ ap (λ bytes. flat_map ended replies ++ bytes) (append-nil (ended reply)) in
       let any : list_any is_refused (replies ++ reply ∷ []) ≡ (refused || last) =
-      list_any-append is_refused replies (reply ∷ []) ∙ rw (refusals, is_reply) (ap (λ b. list_any is_refused replies || b) (or_false (is_refused reply))) in
+      list_any-append is_refused replies (reply ∷ []) ∙ rw (ran.refusals, asked.refusal) (ap (λ b. list_any is_refused replies || b) (or_false (is_refused reply))) in
       record {
-        files = files;
+        files = ran.files;
         replies = replies;
         end = end;
         last = reply;
-        taken = takes;
-        asked = asks;
-        given = given;
-        written = rw all (Appends-trans _ _ _ _ _ written appends);
+        taken = ran.taken;
+        asked = asked.asked;
+        given = ran.given;
+        written = rw all (Appends-trans _ _ _ _ _ ran.written asked.written);
         status_is = ap (λ (b : Bool). if b then 1 else 0) (sym any);
-        kept = kept;
-        tells = subst (λ (n : ℕ). TellsTrue n end.desk) same told;
-        held = λ held. step_held g end after nobody (act.Ask query.Places) reply (asks nobody) (lines_held g start end (script_lines input) files replies takes held);
-        failed = λ held going. question_failed g start end after (script_lines input) files replies reply (script_lines input, sym (append-nil (script_lines input)), takes) asks
-            (lines_held g start end (script_lines input) files replies takes held)
-            (front_failed g start end (script_lines input) files replies [] (script_lines input, sym (append-nil (script_lines input)), takes) held going);
-        told = λ held clean. places_told g end after reply asks (lines_held g start end (script_lines input) files replies takes held) clean;
+        kept = asked.kept;
+        tells = subst (λ (n : ℕ). TellsTrue n end.desk) ran.opened told;
+        held = λ held. step_held g end after nobody (act.Ask query.Places) reply (asked.asked nobody) (lines_held g start end (script_lines input) ran.files replies ran.taken held);
+        failed = λ held going. question_failed g start end after (script_lines input) ran.files replies reply (script_lines input, sym (append-nil (script_lines input)), ran.taken) asked.asked
+            (lines_held g start end (script_lines input) ran.files replies ran.taken held)
+            (front_failed g start end (script_lines input) ran.files replies [] (script_lines input, sym (append-nil (script_lines input)), ran.taken) held going);
+        told = λ held clean. places_told g end after reply asked.asked (lines_held g start end (script_lines input) ran.files replies ran.taken held) clean;
       }
 
 -- ---- in memory

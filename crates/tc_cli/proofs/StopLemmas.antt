@@ -1,5 +1,5 @@
 -- A run that stops: which fault comes of what, and what is left.
-use Rattle.std.proofs.Common.{◌≡◌, ◌∙◌, ℕ, Bool, true, false, Option, Some, None, List, [], ◌∷◌, ◌++◌, refl, sym, ap, subst, ◌⊎◌, inl, inr, append-nil}
+use Rattle.std.proofs.Common.{◌≡◌, ◌∙◌, ℕ, Bool, false, Option, Some, None, List, [], ◌∷◌, ◌++◌, refl, sym, ap, subst, ◌⊎◌, inl, inr, append-nil}
 use Rattle.std.specs.Prelude.{◌≢◌, ◌↔◌, IfErr, IfSome, IsErrAnd, Result, Ok, Err}
 use Rattle.std.specs.List.{flat_map}
 use Rattle.std.specs.Io.KnownBytes.{Appends}
@@ -26,11 +26,12 @@ use Rattle.tc_cli.specs.declared.paths.PathFault.TheVariants as path_fault
 use Rattle.tc_cli.specs.declared.script.ScriptFault.{ScriptFault}
 use Rattle.tc_cli.specs.declared.script.ScriptFault.TheVariants.{Script, Output, Memory, Tables, Config, Path}
 use Rattle.tc_cli.specs.Files.{FileAnswer, Gives, file_at, none_at}
-use Rattle.tc_cli.specs.Script.{fault_of, written_counts}
-use Rattle.tc_cli.specs.Run.{AnswersScriptLine, IsLoadLine, TakesFront, TakesLine, is_skipped, script_lines}
-use Rattle.tc_cli.specs.Stops.{AnswersNext, IsCutShort, IsUnanswered, IsUnopened, IsUnread, IsUntouched, LeavesPart, Stops, StopsAfter, UnansweredNext}
+use Rattle.tc_cli.specs.Script.{Ends, fault_of, written_counts}
+use Rattle.tc_cli.specs.Run.{AnswersScriptLine, Came, IsLoadLine, RepliesTo, TakesFront, TakesLine, TakesLines, is_skipped, script_lines}
+use Rattle.tc_cli.specs.Stops.{AnswersNext, IsCutShort, IsUnopened, IsUnread, IsUntouched, LeavesPart, Stops, StopsAfter, StopsNext, Unanswered, UnansweredNext}
+use Rattle.tc_cli.proofs.EndsLemmas.{ends_by}
 use Rattle.tc_cli.proofs.HoldLemmas.{Failed, front_failed, line_failed, line_held, lines_held, nobody, question_failed, step_held}
-use Rattle.tc_cli.proofs.RunLemmas.{Answered, CameAll, HasRun}
+use Rattle.tc_cli.proofs.RunLemmas.{HasRun}
 use Rattle.tc_cli.proofs.TakeLemmas.{gives_more, gives_none}
 
 -- ---- a line that loads a file
@@ -44,31 +45,27 @@ by_fault (Err fault) Why (inr is) memory path = subst Why (sym is) (path (ap Err
 
 -- in a room over any store
 module _ {S : Type 0} (g : Ghosts S) where
-  -- a line came to no text of a reply
-  abbrev pub Unanswered : Standing S → List ℕ → Option (List FileAnswer) → Option (List FileAnswer) → Standing S → ScriptFault → Type 0
-  Unanswered old line gave gives new fault = (files : List FileAnswer) × IsUnanswered g fault old line files new × Gives gave gives files
-
   -- the line that loads a file came to none
   pub file_unanswered : {X : Type 0} (old new : Standing S) (line : List ℕ) (load : LoadLine) (gave gives : Option (List FileAnswer)) (result : Result X ScriptFault) → IsLoadLine line load
       → IfErr result (λ fault. (fault ≡ Memory) ⊎ (fault ≡ Path))
       → (result ≡ Err Path → Gives gave gives (none_at load.path path_fault.Unreadable ∷ []) × (new ≡ old))
       → (result ≡ Err Memory → ((reply : Reply) × (text : List ℕ) × RoomLoad g old (loader_of load) load.kind load.name text reply new × Gives gave gives (file_at load.path text ∷ []))
       ⊎ (Gives gave gives (none_at load.path path_fault.Memory ∷ []) × (new ≡ old)))
-      → IfErr result (Unanswered old line gave gives new)
+      → IfErr result (Unanswered g old line gave gives new)
   file_unanswered old new line load gave gives result is fault path memory =
-      by_fault result (Unanswered old line gave gives new) fault (λ was. of_memory (memory was)) (λ was. of_path (path was))
+      by_fault result (Unanswered g old line gave gives new) fault (λ was. of_memory (memory was)) (λ was. of_path (path was))
     where
-      of_path : Gives gave gives (none_at load.path path_fault.Unreadable ∷ []) × (new ≡ old) → Unanswered old line gave gives new Path
+      of_path : Gives gave gives (none_at load.path path_fault.Unreadable ∷ []) × (new ≡ old) → Unanswered g old line gave gives new Path
       of_path (given, same) = (none_at load.path path_fault.Unreadable ∷ [], ((load, is, refl), same), given)
 
       of_memory : ((reply : Reply) × (text : List ℕ) × RoomLoad g old (loader_of load) load.kind load.name text reply new × Gives gave gives (file_at load.path text ∷ []))
-          ⊎ (Gives gave gives (none_at load.path path_fault.Memory ∷ []) × (new ≡ old)) → Unanswered old line gave gives new Memory
+          ⊎ (Gives gave gives (none_at load.path path_fault.Memory ∷ []) × (new ≡ old)) → Unanswered g old line gave gives new Memory
       of_memory (inl (reply, text, loads, given)) = (file_at load.path text ∷ [], inl (reply, inl (load, text, is, refl, loads)), given)
       of_memory (inr (given, same)) = (none_at load.path path_fault.Memory ∷ [], inr ((load, is, refl), same), given)
 
   -- ---- a line that is not answered
 
-  pub not_script : (fault : ScriptFault) (old new : Standing S) (line : List ℕ) (gave gives : Option (List FileAnswer)) → Unanswered old line gave gives new fault → fault ≢ Script
+  pub not_script : (fault : ScriptFault) (old new : Standing S) (line : List ℕ) (gave gives : Option (List FileAnswer)) → Unanswered g old line gave gives new fault → fault ≢ Script
   not_script Script old new line gave gives why is = why.1
   not_script Output old new line gave gives why is = why.1
   not_script Memory old new line gave gives why is = cc
@@ -76,7 +73,7 @@ module _ {S : Type 0} (g : Ghosts S) where
   not_script Config old new line gave gives why is = why.1
   not_script Path old new line gave gives why is = cc
 
-  pub not_written : (X : Type 0) (fault : ScriptFault) (old new : Standing S) (line : List ℕ) (gave gives : Option (List FileAnswer)) → Unanswered old line gave gives new fault → no_counts ≡ written_counts {X = X} (Err fault)
+  pub not_written : (X : Type 0) (fault : ScriptFault) (old new : Standing S) (line : List ℕ) (gave gives : Option (List FileAnswer)) → Unanswered g old line gave gives new fault → no_counts ≡ written_counts {X = X} (Err fault)
   not_written X Script old new line gave gives why = refl
   not_written X Output old new line gave gives why = absurd why.1
   not_written X Memory old new line gave gives why = refl
@@ -84,14 +81,9 @@ module _ {S : Type 0} (g : Ghosts S) where
   not_written X Config old new line gave gives why = refl
   not_written X Path old new line gave gives why = refl
 
-  -- what a fault at a line leaves
-  abbrev pub Left : ScriptFault → Standing S → List (List ℕ) → Option (List FileAnswer) → Option (List FileAnswer) → Option (List ℕ) → Option (List ℕ) → Standing S → Type 0
-  Left fault old left gave gives mid new after =
-      (files : List FileAnswer) × (part : List ℕ) × LeavesPart g fault old left files part after × Gives gave gives files × Appends mid new part
-
   -- a line has no reply that could be written
   pub stopped_unanswered : (fault : ScriptFault) (old after : Standing S) (line : List ℕ) (gave gives : Option (List FileAnswer)) (w : Option (List ℕ))
-      → is_skipped line ≡ false → Unanswered old line gave gives after fault → Left fault old (line ∷ []) gave gives w w after
+      → is_skipped line ≡ false → Unanswered g old line gave gives after fault → StopsNext g fault old (line ∷ []) gave gives w w after
   stopped_unanswered Script old after line gave gives w goes_on why = absurd why.1
   stopped_unanswered Output old after line gave gives w goes_on why = absurd why.1
   stopped_unanswered Memory old after line gave gives w goes_on (files, why, given) = (files, [], (refl, (goes_on, why)), given, Appends-nil w)
@@ -101,11 +93,11 @@ module _ {S : Type 0} (g : Ghosts S) where
 
   -- the reply to a line was cut short
   pub stopped_at_line : (old after : Standing S) (line : List ℕ) (gave gives : Option (List FileAnswer)) (bytes text : List ℕ) (why : Option Refusal) (mid new : Option (List ℕ)) (fault : ScriptFault)
-      → is_skipped line ≡ false → Answered g old line after gave gives text why
+      → is_skipped line ≡ false → RepliesTo g old line gave gives text why after
       → bytes ≡ text → fault ≡ Output → (part : List ℕ) × IsCutShort bytes part × Appends mid new part
-      → Left fault old (line ∷ []) gave gives mid new after
-  stopped_at_line old after line gave gives bytes text why mid new fault goes_on (reply, files, answers, given, is_text, refuses) are is_output (part, cut, written) =
-      (files, part, rw is_output (reply, (goes_on, answers), subst (λ (shown : List ℕ). IsCutShort shown part) (are ∙ is_text) cut), given, written)
+      → StopsNext g fault old (line ∷ []) gave gives mid new after
+  stopped_at_line old after line gave gives bytes text why mid new fault goes_on h are is_output (part, cut, written) =
+      (h.files, part, rw is_output (h.reply, (goes_on, h.answers), subst (λ (shown : List ℕ). IsCutShort shown part) (are ∙ h.text_is) cut), h.given, written)
 
   -- ---- the question at the end
 
@@ -204,18 +196,18 @@ module _ {S : Type 0} (g : Ghosts S) where
   -- a run that stopped at one of its lines
   pub stopped_in_line : (start at after : Standing S) (lines left : List (List ℕ)) (line : List ℕ) (others : List (List ℕ)) (gave so_far gives : Option (List FileAnswer)) (old mid new : Option (List ℕ)) (before : Bool) (fault : ScriptFault)
       → HasRun g start lines gave old at left so_far mid before → left ≡ line ∷ others
-      → Left fault at (line ∷ []) so_far gives mid new after → StopsAfter g fault start lines gave gives old new after
+      → StopsNext g fault at (line ∷ []) so_far gives mid new after → StopsAfter g fault start lines gave gives old new after
   stopped_in_line start at after lines left line others gave so_far gives old mid new before fault h is (more, part, leaves, given, appends) =
       stops_after fault start at after lines left h.files more h.replies part gave so_far gives old mid new h.taken h.given h.written
       (leaves_more fault at after line left others more part is leaves) given appends
 
   -- a run that stopped at the question at the end
   pub lines_stopped : (lines : List (List ℕ)) (start end after : Standing S) (refused : Bool) (gave gives : Option (List FileAnswer)) (old mid new : Option (List ℕ)) (fault : ScriptFault)
-      → CameAll g start lines end gave gives old mid refused
+      → Came g (TakesLines g start lines) start gave gives old mid end refused
       → (part : List ℕ) × LeavesPart g fault end [] [] part after × Appends mid new part
       → StopsAfter g fault start lines gave gives old new after
-  lines_stopped lines start end after refused gave gives old mid new fault (replies, files, takes, given, written, refusals) (part, leaves, appends) =
-      stops_after fault start end after lines [] files [] replies part gave gives gives old mid new (lines, sym (append-nil lines), takes) given written leaves (gives_none gives) appends
+  lines_stopped lines start end after refused gave gives old mid new fault ran (part, leaves, appends) =
+      stops_after fault start end after lines [] ran.files [] ran.replies part gave gives gives old mid new (lines, sym (append-nil lines), ran.taken) ran.given ran.written leaves (gives_none gives) appends
 
 -- ---- before the first line
 
@@ -250,12 +242,22 @@ unopened_other config fault h is = elim h.kind [
   | inr (inr e) ↦ let no : Script ≡ Tables = sym is ∙ e in cc
 ]
 
+-- nor that a write failed
+pub unopened_unwritten : (X : Type 0) (config : configs.Config) (fault : ScriptFault) → IsUnopened config fault → no_counts ≡ written_counts {X = X} (Err fault)
+unopened_unwritten X config fault h = elim h.kind [
+  | inl e ↦ rw e refl
+  | inr (inl e) ↦ rw e refl
+  | inr (inr e) ↦ rw e refl
+]
+
 -- a run whose room could not be opened
-pub stops_unopened : {X : Type 0} (config : configs.Config) (lines : List (List ℕ)) (p : Option (List FileAnswer)) (w : Option (List ℕ)) (why : Refusal) (result : Result X ScriptFault)
+pub run_unopened : {X : Type 0} (Done : X → Type 0) (config : configs.Config) (lines : List (List ℕ)) (p : Option (List FileAnswer)) (w : Option (List ℕ)) (counts : Counts) (why : Refusal) (result : Result X ScriptFault)
     → ((why ≡ refusal.BadDirective) ↔ (¬ IsConfig config)) → (why ≡ refusal.BadDirective) ⊎ (why ≡ refusal.Memory) ⊎ (why ≡ refusal.Store)
-    → IsErrAnd result (λ fault. fault ≡ fault_of why) → IfErr result (λ fault. Stops config fault lines p p w w)
-stops_unopened config lines p w why (Ok x) unfit kind _ = tt
-stops_unopened config lines p w why (Err fault) unfit kind is = rw is (inl (inr (unopened config why unfit kind), untouched p w))
+    → IsErrAnd result (λ fault. fault ≡ fault_of why) → Ends {X = X} Done (λ fault. Stops config fault lines p p w w) counts counts result
+run_unopened Done config lines p w counts why (Ok x) unfit kind is = absurd is
+run_unopened {X = X} Done config lines p w counts why (Err fault) unfit kind is =
+    let un : IsUnopened config fault = rw is (unopened config why unfit kind) in
+    ends_by Done (λ fault. Stops config fault lines p p w w) counts counts fault (inl (inr un, untouched p w)) (unopened_other config fault un) (λ none. none ∙ unopened_unwritten X config fault un)
 
 -- a run whose script could not be read
 pub stops_unread : (config : configs.Config) (read : Option (List ℕ)) (p : Option (List FileAnswer)) (w : Option (List ℕ)) (fault : ScriptFault) → IsUnread fault

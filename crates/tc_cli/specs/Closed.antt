@@ -1,6 +1,6 @@
 -- What a shift report that fails has written, of tables that hold these rows.
 use Rattle.std.specs.Prelude.{◌≡◌, ◌⊎◌, ◌++◌, ℕ, List, [], codes}
-use Rattle.tc_types.specs.declared.moves.Move.{Move}
+use Rattle.tc_types.specs.declared.history.moves.Move.{Move}
 use Rattle.tc_types.specs.History.{shift_rows}
 use Rattle.tc_types.specs.Tables.{Image}
 use Rattle.tc_report.specs.ShiftReport.{AreAdded}

@@ -6,7 +6,7 @@ use Rattle.sqlite.specs.Held.{Held, state}
 use Rattle.sqlite.specs.State.{HasCleanDisk}
 use Rattle.tc_sql.specs.Builds.{no_schema}
 use Rattle.tc_types.specs.Lines.{move_line}
-use Rattle.tc_types.specs.declared.moves.Move.{Move}
+use Rattle.tc_types.specs.declared.history.moves.Move.{Move}
 use Rattle.tc_desk.specs.declared.configs.Config as configs
 use Rattle.tc_store.specs.Schema.{schema_1}
 use Rattle.tc_room.specs.Joined.{Standing}

@@ -11,6 +11,7 @@ use Rattle.bstr.specs.Text.{lines_of, without_terminator}
 use Rattle.tc_types.specs.declared.acts.Act.TheVariants as act
 use Rattle.tc_types.specs.declared.acts.Line.{Line}
 use Rattle.tc_types.specs.declared.acts.Query.TheVariants as query
+use Rattle.tc_types.specs.declared.refusals.Refusal.{Refusal}
 use Rattle.tc_types.specs.ActGrammar.{HasLongAct, SpellsLine}
 use Rattle.tc_types.specs.History.{counts_of, entered}
 use Rattle.tc_types.specs.Loads.{LoadLine, SpellsLoad}
@@ -22,7 +23,7 @@ use Rattle.tc_desk.specs.Loads.{Loading}
 use Rattle.tc_desk.specs.Machine.{stamp_of}
 use Rattle.tc_desk.specs.Replies.{Reply}
 use Rattle.tc_desk.specs.declared.configs.Config as configs
-use Rattle.tc_room.specs.Answers.{AnswersLine, AsksPlaces}
+use Rattle.tc_room.specs.Answers.{AnswersLine, AsksPlaces, RefusesWith}
 use Rattle.tc_room.specs.Joined.{HoldsBook, IsKept, Standing}
 use Rattle.tc_room.specs.Loads.{FailsLoad, RoomLoad, SpellsLoading, loader_of}
 use Rattle.tc_room.specs.Replies.{ended, is_refused}
@@ -67,6 +68,35 @@ module _ {S : Type 0} (g : Ghosts S) where
   TakesLines old (line ∷ lines) files replies new =
       (now : List Reply) × (mid : Standing S) × (later : List Reply) × (first : List FileAnswer) × (others : List FileAnswer)
       × TakesLine old line first now mid × TakesLines mid lines others later new × (replies ≡ now ++ later) × (files ≡ first ++ others)
+
+  -- What replies to a line that is not skipped, with these files: this text, which is that of a reply that refuses with this, if it does. As many
+  -- rows stood in the history once the room was opened as before.
+  pub record RepliesTo (old : Standing S) (line : List ℕ) (gave gives : Option (List FileAnswer)) (text : List ℕ) (why : Option Refusal) (new : Standing S) : Type 0 where
+    pub reply : Reply
+    pub files : List FileAnswer
+    pub answers : AnswersScriptLine old line files reply new
+    pub given : Gives gave gives files
+    pub text_is : text ≡ ended reply
+    pub refuses : RefusesWith reply why
+    pub opened : new.opened ≡ old.opened
+
+  -- what lines that were taken came to, by what it is to be taken: their replies were written, and it is known whether one is a refusal
+  pub record Came (Takes : List FileAnswer → List Reply → Standing S → Type 0) (start : Standing S) (gave gives : Option (List FileAnswer)) (old new : Option (List ℕ)) (end : Standing S) (refused : Bool) : Type 0 where
+    pub replies : List Reply
+    pub files : List FileAnswer
+    pub taken : Takes files replies end
+    pub given : Gives gave gives files
+    pub written : Appends old new (flat_map ended replies)
+    pub refusals : refused ≡ list_any is_refused replies
+    pub opened : end.opened ≡ start.opened
+
+  -- what the question `places` came to, over a book that a room keeps
+  pub record CameLast (start : Standing S) (old new : Option (List ℕ)) (after : Standing S) (refused : Bool) : Type 0 where
+    pub reply : Reply
+    pub asked : AsksPlaces g start reply after
+    pub written : Appends old new (ended reply)
+    pub refusal : refused ≡ is_refused reply
+    pub kept : IsKept start.desk.book
 
   -- some first lines were taken, and these are left
   abbrev pub TakesFront : Standing S → List (List ℕ) → List FileAnswer → List Reply → Standing S → List (List ℕ) → Type 0

@@ -1,5 +1,5 @@
 -- The reading of a script, and the counts of the reader and writer of a run.
-use Rattle.std.specs.Prelude.{◌≡◌, ◌≤◌, ◌<◌, ◌*◌, ◌⊎◌, ℕ, Result, Ok, Err, Option, List, length}
+use Rattle.std.specs.Prelude.{◌≡◌, ◌≢◌, ◌≤◌, ◌<◌, ◌*◌, ◌⊎◌, ℕ, IfErr, IfOk, Result, Ok, Err, Option, List, length}
 use Rattle.std.specs.Io.KnownBytes.{Consumes}
 use Rattle.tc_types.specs.declared.counted.Counts.{Counts}
 use Rattle.tc_types.specs.Counts.{no_counts}
@@ -29,6 +29,14 @@ written_counts (Err Memory) = no_counts
 written_counts (Err Tables) = no_counts
 written_counts (Err Config) = no_counts
 written_counts (Err Path) = no_counts
+
+-- How a call that writes ends: this comes with its answer; or with its fault, which is none of the reading of a script. By the counts of a writer that
+-- counted nothing before, one write failed where the fault is Output, and else none.
+pub record Ends {X : Type 0} (Done : X → Type 0) (Stopped : ScriptFault → Type 0) (old new : Counts) (result : Result X ScriptFault) : Type 0 where
+  pub done : IfOk result Done
+  pub stopped : IfErr result Stopped
+  pub fault : IfErr result (λ fault. fault ≢ Script)
+  pub counted : old ≡ no_counts → new ≡ written_counts result
 
 -- why a run ends where its room could not be opened
 abbrev pub fault_of : Refusal → ScriptFault

@@ -54,6 +54,15 @@ module _ {S : Type 0} (g : Ghosts S) where
   LeavesPart Output old left files part after = (next : Reply) × AnswersNext old left files next after × IsCutShort (ended next) part
   LeavesPart fault old left files part after = (part ≡ []) × UnansweredNext fault old left files after
 
+  -- what is given and written where it stops at what comes next
+  abbrev pub StopsNext : ScriptFault → Standing S → List (List ℕ) → Option (List FileAnswer) → Option (List FileAnswer) → Option (List ℕ) → Option (List ℕ) → Standing S → Type 0
+  StopsNext fault reached left gave gives old new after =
+      (files : List FileAnswer) × (part : List ℕ) × LeavesPart fault reached left files part after × Gives gave gives files × Appends old new part
+
+  -- why there is no text of the reply to a line, with what was given meanwhile
+  abbrev pub Unanswered : Standing S → List ℕ → Option (List FileAnswer) → Option (List FileAnswer) → Standing S → ScriptFault → Type 0
+  Unanswered old line gave gives new fault = (files : List FileAnswer) × IsUnanswered fault old line files new × Gives gave gives files
+
 -- The run of these lines stopped after some of them, which left the room so: their replies are written, and of the next what the fault leaves.
 pub record StopsAfter {S : Type 0} (g : Ghosts S) (fault : ScriptFault) (start : Standing S) (lines : List (List ℕ)) (gave gives : Option (List FileAnswer)) (old new : Option (List ℕ)) (after : Standing S) : Type 0 where
   pub files : List FileAnswer

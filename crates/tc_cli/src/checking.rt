@@ -1,9 +1,9 @@
 //! The check of a file that a script would load.
-ghost use Rattle.std.specs.Prelude.{◌≡◌, ℕ, List, IfErr, IfOk};
+ghost use Rattle.std.specs.Prelude.{ℕ, List};
 ghost use Rattle.std.specs.Io.KnownBytes.{Appends};
-ghost use Rattle.tc_types.specs.Counts.{counts_of, inner_of, no_counts};
+ghost use Rattle.tc_types.specs.Counts.{counts_of, inner_of};
 ghost use Rattle.tc_cli.specs.Checking.{IsChecked, LeavesCheck};
-ghost use Rattle.tc_cli.specs.Script.{written_counts};
+ghost use Rattle.tc_cli.specs.Script.{Ends};
 
 use crate::paths::{HostPaths, PathFault, Paths, read_most};
 use crate::run::{MOST_FILE_BYTES, put, status_of};
@@ -11,10 +11,9 @@ use crate::script::ScriptFault;
 use std::alloc::Global;
 use std::io::Write;
 use std::rt::Files;
-use tc_check::checks::check_text;
-use tc_report::texts::add_line;
-use tc_types::counted::Counted;
-use tc_types::loads::LoadKind;
+use tc_check::check_text;
+use tc_report::add_line;
+use tc_types::{Counted, LoadKind};
 
 /// Writes whether a text can be loaded: `ok`, or where it is wrong, and why. Gives the exit status, 0 or 1. Fails with `Memory` where that is
 /// refused, and `Output` where a write fails.
@@ -24,12 +23,8 @@ pub fn write_check<W: Write>(
     text: &[u8],
     writer: &mut Counted<W>,
 ) -> Result<u8, ScriptFault>
-    requires { counts_of writer.old ≡ no_counts }
-    ensures written { IfOk result (λ status. (whole : List ℕ) × IsChecked kind text.now whole status
-        × Appends (W.contents (inner_of writer.old)) (W.contents (inner_of writer.new)) whole) }
-    ensures left { IfErr result (λ fault. (part : List ℕ) × LeavesCheck kind text.now fault part
-        × Appends (W.contents (inner_of writer.old)) (W.contents (inner_of writer.new)) part) }
-    ensures counted { counts_of writer.new ≡ written_counts result }
+    ensures { Ends (λ status. (whole : List ℕ) × IsChecked kind text.now whole status × Appends (W.contents (inner_of writer.old)) (W.contents (inner_of writer.new)) whole)
+        (λ fault. (part : List ℕ) × LeavesCheck kind text.now fault part × Appends (W.contents (inner_of writer.old)) (W.contents (inner_of writer.new)) part) (counts_of writer.old) (counts_of writer.new) result }
 {
     let checked = check_text(alloc, kind, text)?;
     let mut line = String::new(alloc);

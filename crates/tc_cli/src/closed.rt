@@ -17,11 +17,10 @@ use crate::script::ScriptFault;
 use sqlite::Alter;
 use std::alloc::Global;
 use std::io::Write;
-use tc_report::reports::END;
-use tc_room::closed::{closed_head, closed_page};
-use tc_store::tables::Tables;
-use tc_types::counted::Counted;
-use tc_types::numbers::Moment;
+use tc_report::END;
+use tc_room::{closed_head, closed_page};
+use tc_store::Tables;
+use tc_types::{Counted, Moment};
 
 /// Writes the lines of the moves of a shift, a page of them after the other.
 fn write_pages<S: Alter + Drop, W: Write>(
@@ -31,7 +30,6 @@ fn write_pages<S: Alter + Drop, W: Write>(
     to: Moment,
     writer: &mut Counted<W>,
 ) -> Result<(), ScriptFault>
-    requires { counts_of writer.old ≡ no_counts }
     ensures told { HasCleanDisk (state S.Store tables.new) → OnOk result ((image : Image) → Holds (state S.Store tables.old).now image
         → (text : List ℕ) × AreAdded (shift_rows from to image.moves) [] text × Appends (W.contents (inner_of writer.old)) (W.contents (inner_of writer.new)) text) }
     ensures cut { HasCleanDisk (state S.Store tables.new) → OnErr result ((image : Image) → Holds (state S.Store tables.old).now image
@@ -39,7 +37,7 @@ fn write_pages<S: Alter + Drop, W: Write>(
     ensures reads { OnOk result (OnlyReads S.Store tables.old tables.new) }
     ensures left { LeavesTables S.Store tables.old tables.new }
     ensures fault { IfErr result (λ fault. (fault ≡ ScriptFault.Output) ⊎ (fault ≡ ScriptFault.Memory) ⊎ (fault ≡ ScriptFault.Tables)) }
-    ensures counted { counts_of writer.new ≡ written_counts result }
+    ensures counted { counts_of writer.old ≡ no_counts → counts_of writer.new ≡ written_counts result }
 {
     let mut after = None;
     // each page ends on a greater number than the one before, so there are fewer pages than numbers
@@ -65,7 +63,6 @@ pub fn closed_report<S: Alter + Drop, W: Write>(
     to: Moment,
     writer: &mut Counted<W>,
 ) -> Result<(), ScriptFault>
-    requires { counts_of writer.old ≡ no_counts }
     ensures told { HasCleanDisk (state S.Store tables.new) → OnOk result ((image : Image) → Holds (state S.Store tables.old).now image
         → (text : List ℕ) × IsClosedReport image from to text × Appends (W.contents (inner_of writer.old)) (W.contents (inner_of writer.new)) text) }
     // it is told only of tables whose rows all read as rows that a desk writes
@@ -76,7 +73,7 @@ pub fn closed_report<S: Alter + Drop, W: Write>(
     ensures reads { OnOk result (OnlyReads S.Store tables.old tables.new) }
     ensures left { LeavesTables S.Store tables.old tables.new }
     ensures fault { IfErr result (λ fault. (fault ≡ ScriptFault.Output) ⊎ (fault ≡ ScriptFault.Memory) ⊎ (fault ≡ ScriptFault.Tables)) }
-    ensures counted { counts_of writer.new ≡ written_counts result }
+    ensures counted { counts_of writer.old ≡ no_counts → counts_of writer.new ≡ written_counts result }
 {
     let head = closed_head(alloc, tables, from, to)?;
     put(writer, head.as_bytes())?;

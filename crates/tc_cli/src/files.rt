@@ -6,21 +6,20 @@ ghost use Rattle.sqlite.specs.Start.{FindsIn};
 ghost use Rattle.sqlite.specs.Files.{file_state, IsOpened};
 
 use crate::script::{ScriptFault, read_script};
-use sqlite::{Connection, Error, ErrorCode};
+use sqlite::Connection;
 use sqlite_disk::Start;
 use sqlite_std_file::FileFrom;
 use sqlite_store::FileStore;
 use std::rt::Files;
 use std::{fs, io};
-use tc_types::counted::Counted;
+use tc_types::Counted;
 
 /// The script at this path.
 pub fn open_script<R: Files>(rt: &R, path: &str) -> Result<R::File, ScriptFault> {
-    match fs::open(rt, path) {
-        Ok(file) => Ok(file),
-        Err(error) if error.kind() == io::ErrorKind::OutOfMemory => Err(ScriptFault::Memory),
-        Err(_) => Err(ScriptFault::Script),
-    }
+    fs::open(rt, path).map_err(|error| match error.kind() {
+        io::ErrorKind::OutOfMemory => ScriptFault::Memory,
+        _ => ScriptFault::Script,
+    })
 }
 
 /// The text of the script at this path, or of the standard input where it is `-`, read whole.
@@ -43,7 +42,6 @@ pub fn open_database<S: Start>(
 {
     match Connection::open_from(rt, file, false, start) {
         Ok(store) => Ok(store),
-        Err((Error::SqliteFailure(ErrorCode::OutOfMemory), _)) => Err(ScriptFault::Memory),
-        Err(_) => Err(ScriptFault::Tables),
+        Err((error, _)) => Err(ScriptFault::from(error)),
     }
 }

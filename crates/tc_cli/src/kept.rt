@@ -1,26 +1,18 @@
 //! The run of a script on a desk that is kept in a database.
-ghost use Rattle.std.specs.Prelude.{◌≡◌, ◌≢◌, IfErr, IfOk};
-ghost use Rattle.std.specs.Io.KnownBytes.{Appends};
-ghost use Rattle.tc_types.specs.Counts.{counts_of, inner_of, no_counts};
-ghost use Rattle.tc_types.specs.Lines.{move_line};
-ghost use Rattle.tc_room.specs.Replies.{ended};
+ghost use Rattle.tc_types.specs.Counts.{counts_of, inner_of};
 ghost use Rattle.tc_cli.specs.Kept.{RunsKept, RunsOpened, StopsKept, StopsOpened};
 ghost use Rattle.tc_cli.specs.Run.{script_lines};
-ghost use Rattle.tc_cli.specs.Script.{written_counts};
+ghost use Rattle.tc_cli.specs.Script.{Ends};
 
-use crate::opened::tell_moves;
+use crate::opened::{Opening, tell_moves};
 use crate::paths::Paths;
 use crate::run::run_room;
 use crate::script::ScriptFault;
 use sqlite::{Alter, Connection};
 use std::alloc::Global;
 use std::io::Write;
-use tc_desk::configs::Config;
-use tc_room::opening::Opened;
-use tc_room::rooms::Room;
-use tc_types::counted::Counted;
-use tc_types::moves::Move;
-use tc_types::numbers::Moment;
+use tc_room::{OpenedRoom, Room};
+use tc_types::{Counted, Move};
 
 /// Writes the moves that an opening made, and runs the lines of a script in the room that it opened. Where the moves are not written, the room
 /// stays as it was opened.
@@ -32,11 +24,8 @@ fn run_opened<S: Alter + Drop, P: Paths, W: Write>(
     paths: &mut P,
     writer: &mut Counted<W>,
 ) -> Result<u8, ScriptFault>
-    requires { counts_of writer.old ≡ no_counts }
-    ensures answered { IfOk result (λ status. RunsOpened S.Store room.old moves.now text.now status (P.given paths.old) (P.given paths.new) (W.contents (inner_of writer.old)) (W.contents (inner_of writer.new)) room.new) }
-    ensures stopped { IfErr result (λ fault. StopsOpened S.Store room.old moves.now fault (script_lines text.now) (P.given paths.old) (P.given paths.new) (W.contents (inner_of writer.old)) (W.contents (inner_of writer.new)) room.new) }
-    ensures fault { IfErr result (λ fault. fault ≢ ScriptFault.Script) }
-    ensures counted { counts_of writer.new ≡ written_counts result }
+    ensures { Ends (λ status. RunsOpened S.Store room.old moves.now text.now status (P.given paths.old) (P.given paths.new) (W.contents (inner_of writer.old)) (W.contents (inner_of writer.new)) room.new)
+        (λ fault. StopsOpened S.Store room.old moves.now fault (script_lines text.now) (P.given paths.old) (P.given paths.new) (W.contents (inner_of writer.old)) (W.contents (inner_of writer.new)) room.new) (counts_of writer.old) (counts_of writer.new) result }
 {
     tell_moves(alloc, moves, writer)?;
     run_room(alloc, room, text, paths, writer)
@@ -50,21 +39,17 @@ fn run_opened<S: Alter + Drop, P: Paths, W: Write>(
 pub fn run_kept<S: Alter + Drop, P: Paths, W: Write>(
     alloc: Global,
     store: Connection<S>,
-    config: Config,
-    moment: Moment,
+    opening: &Opening,
     text: &[u8],
     paths: &mut P,
     writer: &mut Counted<W>,
 ) -> (Result<u8, ScriptFault>, Connection<S>)
-    requires { counts_of writer.old ≡ no_counts }
-    ensures answered { IfOk result.0 (λ status. RunsKept S.Store config moment store text.now status (P.given paths.old) (P.given paths.new) (W.contents (inner_of writer.old)) (W.contents (inner_of writer.new)) result.1) }
-    ensures stopped { IfErr result.0 (λ fault. StopsKept S.Store config moment store fault (script_lines text.now) (P.given paths.old) (P.given paths.new) (W.contents (inner_of writer.old)) (W.contents (inner_of writer.new)) result.1) }
-    ensures fault { IfErr result.0 (λ fault. fault ≢ ScriptFault.Script) }
-    ensures counted { counts_of writer.new ≡ written_counts result.0 }
+    ensures { Ends (λ status. RunsKept S.Store opening.now.config opening.now.moment store text.now status (P.given paths.old) (P.given paths.new) (W.contents (inner_of writer.old)) (W.contents (inner_of writer.new)) result.1)
+        (λ fault. StopsKept S.Store opening.now.config opening.now.moment store fault (script_lines text.now) (P.given paths.old) (P.given paths.new) (W.contents (inner_of writer.old)) (W.contents (inner_of writer.new)) result.1) (counts_of writer.old) (counts_of writer.new) result.0 }
 {
-    match Room::open(alloc, store, config, moment) {
+    match Room::open(alloc, store, opening.config, opening.moment) {
         Ok(opened) => {
-            let Opened { mut room, moves } = opened;
+            let OpenedRoom { mut room, moves } = opened;
             let ended = run_opened(alloc, &mut room, &moves, text, paths, writer);
             (ended, room.into_connection())
         }

@@ -21,11 +21,9 @@ use sqlite::Connection;
 use sqlite_disk::Disk;
 use sqlite_store::FileStore;
 use std::alloc::Global;
-use tc_desk::configs::Config;
-use tc_room::opening::Opened;
-use tc_room::rooms::Room;
-use tc_types::numbers::Moment;
-use tc_types::refusals::Refusal;
+use tc_desk::Config;
+use tc_room::{OpenedRoom, Room};
+use tc_types::{Moment, Refusal};
 
 /// The room that comes next over a desk's files, and the store of the one before it.
 #[derive(Drop)]
@@ -33,7 +31,7 @@ pub(crate) struct Next<D: Disk + Drop, E: Disk + Drop> {
     /// The store of the connection before.
     pub(crate) last: FileStore<D>,
     /// What became of the opening.
-    pub(crate) opened: Result<Opened<FileStore<E>>, (Refusal, Connection<FileStore<E>>)>,
+    pub(crate) opened: Result<OpenedRoom<FileStore<E>>, (Refusal, Connection<FileStore<E>>)>,
 }
 
 /// The law: a connection that was opened over what a crash left of another finds the desk's tables, those of the book that the other's tables held;

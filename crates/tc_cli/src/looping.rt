@@ -1,11 +1,9 @@
 //! The lines of a script, sent over HTTP (RFC 9112) to a desk that this program serves itself: each is posted by a connection of its own, taken, served,
 //! and its response read. All that is by one thread, so a request has to fit what the system holds for a connection that is not read yet: it has
 //! at most 201 bytes of an act.
-ghost use Rattle.std.specs.Prelude.{◌≡◌, OnOk};
-ghost use Rattle.tc_types.specs.Counts.{counts_of, no_counts};
 
 use crate::files::{open_database, text_at};
-use crate::opened::open_told;
+use crate::opened::{Opening, open_told};
 use crate::run::{is_skipped, put, status_of};
 use crate::script::ScriptFault;
 use crate::serving::{ServiceFault, closed};
@@ -15,14 +13,10 @@ use sqlite_disk::Wary;
 use std::alloc::{AllocError, Global};
 use std::io::{self, Read, Write};
 use std::net::{Ipv4Addr, TcpListener, TcpStream};
-use tc_api::exchange::serve_one;
-use tc_desk::configs::Config;
-use tc_posts::posting::{places_request, post_request};
-use tc_posts::told::{Told, Untellable, read_told};
-use tc_room::rooms::Room;
-use tc_types::counted::Counted;
-use tc_types::numbers::Moment;
-use tc_types::refusals::Refusal;
+use tc_api::serve_one;
+use tc_posts::{Told, Untellable, places_request, post_request, read_told};
+use tc_room::Room;
+use tc_types::{Counted, Refusal};
 
 /// How many connections of other programs are let go at most before a program's own comes.
 const MOST_STRANGERS: u32 = 1_000;
@@ -51,16 +45,13 @@ fn fault_of(port: u16, error: &io::Error) -> ServiceFault {
 
 /// Listens on 127.0.0.1 on a port that the system picks.
 fn listen(rt: &HostRuntime) -> Result<Server, ServiceFault> {
-    let Ok(listener) = TcpListener::bind(rt, (Ipv4Addr::LOCALHOST, 0)) else {
-        return Err(ServiceFault::Port(0));
-    };
-    match listener.local_addr() {
-        Ok(address) => Ok(Server {
-            listener,
-            port: address.port(),
-        }),
-        Err(_) => Err(ServiceFault::Port(0)),
-    }
+    let bound = TcpListener::bind(rt, (Ipv4Addr::LOCALHOST, 0));
+    let listener = bound.map_err(|_| ServiceFault::Port(0))?;
+    let address = listener.local_addr().map_err(|_| ServiceFault::Port(0))?;
+    Ok(Server {
+        listener,
+        port: address.port(),
+    })
 }
 
 /// Connects to the server, and sends it a request.
@@ -89,20 +80,17 @@ fn serve_client<S: Alter + Drop>(
     client: &TcpStream,
     room: &mut Room<S>,
 ) -> Result<(), ServiceFault> {
-    let stream = match taken(server, client) {
-        Ok(stream) => stream,
-        Err(error) => return Err(fault_of(server.port, &error)),
-    };
-    match serve_one(
+    let stream = taken(server, client).map_err(|error| fault_of(server.port, &error))?;
+    let served = serve_one(
         alloc,
         &mut Counted::new(&stream),
         &mut Counted::new(&stream),
         room,
-    ) {
-        Ok(()) => Ok(()),
-        Err(Refusal::ReadFault | Refusal::WriteFault) => Err(ServiceFault::Port(server.port)),
-        Err(_) => Err(ServiceFault::Desk(ScriptFault::Memory)),
-    }
+    );
+    served.map_err(|refusal| match refusal {
+        Refusal::ReadFault | Refusal::WriteFault => ServiceFault::Port(server.port),
+        _ => ServiceFault::Desk(ScriptFault::Memory),
+    })
 }
 
 /// All that a client is sent.
@@ -120,20 +108,14 @@ fn answered<S: Alter + Drop>(
     room: &mut Room<S>,
     request: &[u8],
 ) -> Result<Told, ServiceFault> {
-    let client = match sent(rt, server, request) {
-        Ok(client) => client,
-        Err(error) => return Err(fault_of(server.port, &error)),
-    };
+    let client = sent(rt, server, request).map_err(|error| fault_of(server.port, &error))?;
     serve_client(rt.alloc(), server, &client, room)?;
-    let response = match received(rt.alloc(), &client) {
-        Ok(response) => response,
-        Err(error) => return Err(fault_of(server.port, &error)),
-    };
-    match read_told(rt.alloc(), &response) {
-        Ok(told) => Ok(told),
-        Err(Untellable::Memory) => Err(ServiceFault::Desk(ScriptFault::Memory)),
-        Err(Untellable::NoResponse) => Err(ServiceFault::Port(server.port)),
-    }
+    let received = received(rt.alloc(), &client);
+    let response = received.map_err(|error| fault_of(server.port, &error))?;
+    read_told(rt.alloc(), &response).map_err(|why| match why {
+        Untellable::Memory => ServiceFault::Desk(ScriptFault::Memory),
+        Untellable::NoResponse => ServiceFault::Port(server.port),
+    })
 }
 
 /// Sends a request and writes the lines that it is answered. Says whether it was refused.
@@ -143,10 +125,7 @@ fn send<S: Alter + Drop, W: Write>(
     room: &mut Room<S>,
     request: &[u8],
     writer: &mut Counted<W>,
-) -> Result<bool, ServiceFault>
-    requires { counts_of writer.old ≡ no_counts }
-    ensures { OnOk result (counts_of writer.new ≡ no_counts) }
-{
+) -> Result<bool, ServiceFault> {
     let told = answered(rt, server, room, request)?;
     put(writer, told.text.as_bytes())?;
     Ok(told.refusal != 0)
@@ -159,10 +138,7 @@ fn send_lines<S: Alter + Drop, W: Write>(
     room: &mut Room<S>,
     text: &[u8],
     writer: &mut Counted<W>,
-) -> Result<bool, ServiceFault>
-    requires { counts_of writer.old ≡ no_counts }
-    ensures { OnOk result (counts_of writer.new ≡ no_counts) }
-{
+) -> Result<bool, ServiceFault> {
     let mut refused = false;
     for line in text.lines() {
         if !is_skipped(line) {
@@ -179,9 +155,7 @@ fn send_script<S: Alter + Drop, W: Write>(
     room: &mut Room<S>,
     text: &[u8],
     writer: &mut Counted<W>,
-) -> Result<u8, ServiceFault>
-    requires { counts_of writer.old ≡ no_counts }
-{
+) -> Result<u8, ServiceFault> {
     let server = listen(rt)?;
     let refused = send_lines(rt, &server, room, text, writer)?;
     let request = places_request(rt.alloc(), server.port)?;
@@ -195,14 +169,13 @@ fn send_script<S: Alter + Drop, W: Write>(
 pub fn send_to_file(
     rt: &HostRuntime,
     script: &str,
-    config: Config,
     file: &str,
-    moment: Moment,
+    opening: &Opening,
 ) -> Result<u8, ServiceFault> {
     let text = text_at(rt, script)?;
     let store = open_database(rt, file, Wary)?;
     let mut writer = Counted::new(io::writer(rt));
-    match open_told(rt.alloc(), store, config, moment, &mut writer) {
+    match open_told(rt.alloc(), store, opening, &mut writer) {
         Ok(mut room) => {
             let ended = send_script(rt, &mut room, &text, &mut writer);
             closed(room.into_connection(), ended)

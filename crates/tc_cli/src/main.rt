@@ -31,22 +31,20 @@ use checking::{text_of, write_check};
 use files::{open_database, open_script, text_at};
 use kept::run_kept;
 use looping::send_to_file;
+use opened::Opening;
 use paths::{HostPaths, PathFault};
 use reporting::print_report;
 use run::run_script;
 use script::ScriptFault;
-use serving::{Service, ServiceFault, serve};
+use serving::{ServiceFault, ServiceTerms, serve};
 use sqlite_disk::Wary;
 use std::alloc::{AllocError, Global};
 use std::process::ExitCode;
 use std::rt::Files;
 use std::{env, io};
-use tc_desk::configs::Config;
-use tc_types::counted::Counted;
-use tc_types::loads::LoadKind;
-use tc_types::numbers::Moment;
-use tc_words::lines::{Line, UsageFault};
-use tc_words::reading::read_words;
+use tc_desk::Config;
+use tc_types::{Counted, LoadKind, Moment};
+use tc_words::{CommandLine, UsageFault, read_words};
 
 /// The exit status of a fault: of usage, of a file or of memory.
 const UNUSABLE: u8 = 2;
@@ -98,18 +96,18 @@ fn run_words(rt: &HostRuntime, words: &[&str]) -> u8 {
     }
 }
 
-fn run_line(rt: &HostRuntime, line: Line<'_>) -> u8 {
+fn run_line(rt: &HostRuntime, line: CommandLine<'_>) -> u8 {
     match line {
-        Line::Run { script, config } => run_new(rt, script, config),
-        Line::RunKept {
+        CommandLine::Run { script, config } => run_new(rt, script, config),
+        CommandLine::RunKept {
             script,
             config,
             database,
             moment,
-        } => run_kept_in(rt, script, config, database, moment),
-        Line::Report { database, from, to } => report_in(rt, database, from, to),
-        Line::Check { kind, file } => check_in(rt, kind, file),
-        Line::Serve {
+        } => run_kept_in(rt, script, database, &Opening { config, moment }),
+        CommandLine::Report { database, from, to } => report_in(rt, database, from, to),
+        CommandLine::Check { kind, file } => check_in(rt, kind, file),
+        CommandLine::Serve {
             database,
             port,
             count,
@@ -117,21 +115,21 @@ fn run_line(rt: &HostRuntime, line: Line<'_>) -> u8 {
             moment,
             verbose,
         } => {
-            let service = Service {
+            let service = ServiceTerms {
                 port,
                 count,
                 verbose,
             };
-            let served = serve(rt, database, config, moment, service);
+            let served = serve(rt, database, &Opening { config, moment }, service);
             service_status(rt, served.map(|()| 0), database, database)
         }
-        Line::Loop {
+        CommandLine::Loop {
             database,
             script,
             config,
             moment,
         } => {
-            let ended = send_to_file(rt, script, config, database, moment);
+            let ended = send_to_file(rt, script, database, &Opening { config, moment });
             service_status(rt, ended, script, database)
         }
     }
@@ -140,22 +138,18 @@ fn run_line(rt: &HostRuntime, line: Line<'_>) -> u8 {
 fn run_new(rt: &HostRuntime, script: &str, config: Config) -> u8 {
     let mut paths = HostPaths::new(rt.alloc(), rt);
     let ended = run_at(rt, script, config, &mut paths);
-    status_of(rt, ended, script, "tables", &paths)
+    status_of(rt, ended, script, "tables", paths.unread())
 }
 
-fn run_kept_in(rt: &HostRuntime, script: &str, config: Config, file: &str, moment: Moment) -> u8 {
+fn run_kept_in(rt: &HostRuntime, script: &str, file: &str, opening: &Opening) -> u8 {
     let mut paths = HostPaths::new(rt.alloc(), rt);
-    let ended = run_on_file(rt, script, config, file, moment, &mut paths);
-    status_of(rt, ended, script, file, &paths)
+    let ended = run_on_file(rt, script, file, opening, &mut paths);
+    status_of(rt, ended, script, file, paths.unread())
 }
 
 fn report_in(rt: &HostRuntime, file: &str, from: Moment, to: Moment) -> u8 {
-    match print_report(rt, file, from, to) {
-        Ok(()) => 0,
-        Err(ScriptFault::Output) => cannot_use(rt, "output"),
-        Err(ScriptFault::Memory) => cannot_use(rt, "memory"),
-        Err(_) => cannot_use(rt, file),
-    }
+    let printed = print_report(rt, file, from, to);
+    status_of(rt, printed.map(|()| 0), file, file, file)
 }
 
 fn check_in(rt: &HostRuntime, kind: LoadKind, file: &str) -> u8 {
@@ -172,13 +166,14 @@ fn check_in(rt: &HostRuntime, kind: LoadKind, file: &str) -> u8 {
     }
 }
 
-/// The exit status of a run of a script on tables of this name. Says on the standard error what could not be used.
-fn status_of<R: Files + Eprint>(
-    rt: &R,
+/// The exit status of a run of a script on tables of this name, where this path gave no text, if one did not. Says on the standard error what
+/// could not be used.
+fn status_of(
+    rt: &impl Eprint,
     ended: Result<u8, ScriptFault>,
     script: &str,
     tables: &str,
-    paths: &HostPaths<'_, R>,
+    path: &str,
 ) -> u8 {
     match ended {
         Ok(status) => status,
@@ -187,7 +182,7 @@ fn status_of<R: Files + Eprint>(
         Err(ScriptFault::Memory) => cannot_use(rt, "memory"),
         Err(ScriptFault::Tables) => cannot_use(rt, tables),
         Err(ScriptFault::Config) => cannot_use(rt, "config"),
-        Err(ScriptFault::Path) => cannot_use(rt, paths.unread()),
+        Err(ScriptFault::Path) => cannot_use(rt, path),
     }
 }
 
@@ -204,10 +199,7 @@ fn service_status(
             let _ = eprintln!(rt; "tcdesk: cannot use port {port}");
             UNUSABLE
         }
-        Err(ServiceFault::Desk(fault)) => {
-            let paths = HostPaths::new(rt.alloc(), rt);
-            status_of(rt, Err(fault), script, file, &paths)
-        }
+        Err(ServiceFault::Desk(fault)) => status_of(rt, Err(fault), script, file, script),
     }
 }
 
@@ -231,19 +223,16 @@ fn run_at<R: Files + Input + Print + AllocGlobal>(
 fn run_on_file(
     rt: &HostRuntime,
     script: &str,
-    config: Config,
     file: &str,
-    moment: Moment,
+    opening: &Opening,
     paths: &mut HostPaths<'_, HostRuntime>,
 ) -> Result<u8, ScriptFault> {
     let text = text_at(rt, script)?;
     let store = open_database(rt, file, Wary)?;
     let mut writer = Counted::new(io::writer(rt));
-    let (ended, store) = run_kept(rt.alloc(), store, config, moment, &text, paths, &mut writer);
-    match store.close() {
-        Ok(()) => ended,
-        Err(_) => Err(ScriptFault::Tables),
-    }
+    let (ended, store) = run_kept(rt.alloc(), store, opening, &text, paths, &mut writer);
+    store.close().map_err(|_| ScriptFault::Tables)?;
+    ended
 }
 
 /// Says on the standard error what cannot be used. Where that cannot be written either, the status alone says it.

@@ -2,23 +2,28 @@
 ghost use Rattle.std.specs.Prelude.{◌≡◌, ◌≢◌, ℕ, List, Err, IfErr, IfOk, OnOk, ⊤};
 ghost use Rattle.std.specs.Io.KnownBytes.{Appends};
 ghost use Rattle.tc_types.specs.Counts.{counts_of, inner_of, no_counts};
-ghost use Rattle.tc_types.specs.declared.moves.Move.{Move};
+ghost use Rattle.tc_types.specs.declared.history.moves.Move.{Move};
 ghost use Rattle.tc_room.specs.Opening.{OpensAs};
 ghost use Rattle.tc_cli.specs.Kept.{CutsOpening, StopsTold, opening_text};
-ghost use Rattle.tc_cli.specs.Script.{written_counts};
+ghost use Rattle.tc_cli.specs.Script.{Ends, written_counts};
 
 use crate::run::put;
 use crate::script::ScriptFault;
 use sqlite::{Alter, Connection};
 use std::alloc::Global;
 use std::io::Write;
-use tc_desk::configs::Config;
-use tc_room::opening::Opened;
-use tc_room::replies::opening_reply;
-use tc_room::rooms::Room;
-use tc_types::counted::Counted;
-use tc_types::moves::Move;
-use tc_types::numbers::Moment;
+use tc_desk::Config;
+use tc_room::{OpenedRoom, Room, opening_reply};
+use tc_types::{Counted, Moment, Move};
+
+/// How a desk is opened that a database keeps.
+#[derive(Clone, Copy)]
+pub struct Opening {
+    /// Its window, its channel and its links.
+    pub config: Config,
+    /// The moment of the opening.
+    pub moment: Moment,
+}
 
 /// A desk that is not worked, and the connection to its database.
 #[derive(Drop)]
@@ -33,12 +38,8 @@ pub(crate) fn tell_moves<W: Write>(
     moves: &[Move],
     writer: &mut Counted<W>,
 ) -> Result<(), ScriptFault>
-    requires { counts_of writer.old ≡ no_counts }
-    ensures written { OnOk result (Appends (W.contents (inner_of writer.old)) (W.contents (inner_of writer.new)) (opening_text moves.now)) }
-    ensures cut { IfErr result (λ fault. (part : List ℕ) × CutsOpening fault moves.now part
-        × Appends (W.contents (inner_of writer.old)) (W.contents (inner_of writer.new)) part) }
-    ensures fault { IfErr result (λ fault. fault ≢ ScriptFault.Script) }
-    ensures counted { counts_of writer.new ≡ written_counts result }
+    ensures { Ends (λ _. Appends (W.contents (inner_of writer.old)) (W.contents (inner_of writer.new)) (opening_text moves.now))
+        (λ fault. (part : List ℕ) × CutsOpening fault moves.now part × Appends (W.contents (inner_of writer.old)) (W.contents (inner_of writer.new)) part) (counts_of writer.old) (counts_of writer.new) result }
 {
     let told = opening_reply(alloc, moves)?;
     put(writer, told.as_bytes())
@@ -50,20 +51,18 @@ pub(crate) fn tell_moves<W: Write>(
 pub fn open_told<S: Alter + Drop, W: Write>(
     alloc: Global,
     store: Connection<S>,
-    config: Config,
-    moment: Moment,
+    opening: &Opening,
     writer: &mut Counted<W>,
 ) -> Result<Room<S>, Unopened<S>>
-    requires { counts_of writer.old ≡ no_counts }
-    ensures told { IfOk result (λ room. (moves : List Move) × OpensAs S.Store config moment store moves room
+    ensures told { IfOk result (λ room. (moves : List Move) × OpensAs S.Store opening.now.config opening.now.moment store moves room
         × Appends (W.contents (inner_of writer.old)) (W.contents (inner_of writer.new)) (opening_text moves)) }
-    ensures unwritten { OnOk result (counts_of writer.new ≡ no_counts) }
-    ensures stopped { IfErr result (λ left. StopsTold S.Store config moment store left.fault (W.contents (inner_of writer.old)) (W.contents (inner_of writer.new)) left.store) }
-    ensures fault { IfErr result (λ left. (left.fault ≢ ScriptFault.Script) × (counts_of writer.new ≡ written_counts {X = ⊤} (Err left.fault))) }
+    ensures unwritten { counts_of writer.old ≡ no_counts → OnOk result (counts_of writer.new ≡ no_counts) }
+    ensures stopped { IfErr result (λ left. StopsTold S.Store opening.now.config opening.now.moment store left.fault (W.contents (inner_of writer.old)) (W.contents (inner_of writer.new)) left.store) }
+    ensures fault { IfErr result (λ left. (left.fault ≢ ScriptFault.Script) × (counts_of writer.old ≡ no_counts → counts_of writer.new ≡ written_counts {X = ⊤} (Err left.fault))) }
 {
-    match Room::open(alloc, store, config, moment) {
+    match Room::open(alloc, store, opening.config, opening.moment) {
         Ok(opened) => {
-            let Opened { room, moves } = opened;
+            let OpenedRoom { room, moves } = opened;
             match tell_moves(alloc, &moves, writer) {
                 Ok(()) => Ok(room),
                 Err(fault) => Err(Unopened {

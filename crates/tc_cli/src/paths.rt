@@ -2,7 +2,7 @@
 ghost use Rattle.std.specs.Prelude.{◌∷◌, [], IfErr, IfOk, List, None, Option};
 ghost use Rattle.tc_cli.specs.Files.{FileAnswer, Gives, file_at, none_at};
 
-use std::alloc::Global;
+use std::alloc::{AllocError, Global};
 use std::fs;
 use std::io::{self, Read};
 use std::rt::Files;
@@ -14,6 +14,22 @@ pub enum PathFault {
     Unreadable,
     /// There was no memory for it.
     Memory,
+}
+
+impl From<io::Error> for PathFault {
+    fn from(error: io::Error) -> PathFault {
+        if error.kind() == io::ErrorKind::OutOfMemory {
+            PathFault::Memory
+        } else {
+            PathFault::Unreadable
+        }
+    }
+}
+
+impl From<AllocError> for PathFault {
+    fn from(_error: AllocError) -> PathFault {
+        PathFault::Memory
+    }
 }
 
 /// A source of files. Its content is the list of the answers that it gave.
@@ -56,19 +72,8 @@ pub fn read_most<R: Read + Drop>(
     limit: usize,
 ) -> Result<Vec<u8>, PathFault> {
     let mut text = Vec::new(alloc);
-    match reader.take(limit as u64).read_to_end(&mut text) {
-        Ok(_) => Ok(text),
-        Err(error) => Err(unread(&error)),
-    }
-}
-
-/// Why there is no text where a file was not opened, or not read.
-fn unread(error: &io::Error) -> PathFault {
-    if error.kind() == io::ErrorKind::OutOfMemory {
-        PathFault::Memory
-    } else {
-        PathFault::Unreadable
-    }
+    reader.take(limit as u64).read_to_end(&mut text)?;
+    Ok(text)
 }
 
 /// Reads no more than so many bytes of the file at a path.
@@ -78,10 +83,7 @@ fn read_file<R: Files>(
     path: &str,
     limit: usize,
 ) -> Result<Vec<u8>, PathFault> {
-    match fs::open(rt, path) {
-        Ok(file) => read_most(alloc, file, limit),
-        Err(error) => Err(unread(&error)),
-    }
+    read_most(alloc, fs::open(rt, path)?, limit)
 }
 
 impl<R: Files> Paths for HostPaths<'_, R> {
@@ -90,10 +92,7 @@ impl<R: Files> Paths for HostPaths<'_, R> {
     fn load(&mut self, alloc: Global, path: &str, limit: usize) -> Result<Vec<u8>, PathFault> {
         let read = read_file(alloc, self.rt, path, limit);
         if let Err(PathFault::Unreadable) = read {
-            match String::from_str(alloc, path) {
-                Ok(unread) => self.unread = unread,
-                Err(_) => return Err(PathFault::Memory),
-            }
+            self.unread = String::from_str(alloc, path)?;
         }
         read
     }

@@ -2,17 +2,15 @@
 
 use crate::closed::closed_report;
 use crate::script::ScriptFault;
-use sqlite::{Connection, Error, ErrorCode};
+use sqlite::Connection;
 use sqlite_disk::Wary;
 use sqlite_std_file::FileFrom;
 use sqlite_store::FileStore;
 use std::alloc::Global;
 use std::rt::Files;
 use std::{fs, io};
-use tc_store::faults::StoreFault;
-use tc_store::tables::Tables;
-use tc_types::counted::Counted;
-use tc_types::numbers::Moment;
+use tc_store::{StoreFault, Tables};
+use tc_types::{Counted, Moment};
 
 /// The desk's file, and its log beside it, which is a file that a reader has to make where there is none.
 #[derive(Drop)]
@@ -24,23 +22,16 @@ pub(crate) struct Kept {
 
 /// The path of the log of the database at this path, which has no link in it.
 pub(crate) fn log_path(alloc: Global, database: &str) -> Result<String, ScriptFault> {
-    match format!(in alloc; "{database}-wal") {
-        Ok(path) => Ok(path),
-        Err(_) => Err(ScriptFault::Memory),
-    }
+    Ok(format!(in alloc; "{database}-wal")?)
 }
 
 /// The two files at a path, where a database may be. Nothing is made.
 pub(crate) fn find(rt: &HostRuntime, file: &str) -> Result<Kept, ScriptFault> {
-    let Ok(found) = fs::metadata(rt, file) else {
-        return Err(ScriptFault::Tables);
-    };
+    let found = fs::metadata(rt, file).map_err(|_| ScriptFault::Tables)?;
     if !found.is_file() || found.len() == 0 {
         return Err(ScriptFault::Tables);
     }
-    let Ok(real) = fs::canonicalize(rt, file) else {
-        return Err(ScriptFault::Tables);
-    };
+    let real = fs::canonicalize(rt, file).map_err(|_| ScriptFault::Tables)?;
     let log = log_path(rt.alloc(), real.as_str())?;
     let had_log = fs::symlink_metadata(rt, log.as_str()).is_ok();
     Ok(Kept {
@@ -70,10 +61,7 @@ pub(crate) fn open_kept(
                 forget_log(rt, kept);
             }
             drop(left);
-            match error {
-                Error::SqliteFailure(ErrorCode::OutOfMemory) => Err(ScriptFault::Memory),
-                _ => Err(ScriptFault::Tables),
-            }
+            Err(ScriptFault::from(error))
         }
     }
 }
@@ -90,9 +78,7 @@ fn tables_in(
             forget_log(rt, kept);
             drop(store);
             match fault {
-                StoreFault::Read(Error::SqliteFailure(ErrorCode::OutOfMemory)) => {
-                    Err(ScriptFault::Memory)
-                }
+                StoreFault::Memory => Err(ScriptFault::Memory),
                 _ => Err(ScriptFault::Tables),
             }
         }

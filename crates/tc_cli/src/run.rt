@@ -1,19 +1,18 @@
 //! The run of a script.
-ghost use Rattle.std.specs.Prelude.{◌≡◌, ◌≢◌, ◌⊎◌, ℕ, if◌then◌else◌, List, [], ◌∷◌, Err, IfErr, IfOk, IfSome, OnErr, OnOk};
-ghost use Rattle.std.specs.List.{flat_map, list_any};
+ghost use Rattle.std.specs.Prelude.{◌≡◌, ◌≢◌, ◌⊎◌, ℕ, if◌then◌else◌, List, [], ◌∷◌, Err, IfErr, IfOk, IfSome};
 ghost use Rattle.std.specs.Io.KnownBytes.{Appends};
-ghost use Rattle.tc_types.specs.Counts.{counts_of, inner_of, no_counts};
-ghost use Rattle.tc_room.specs.Answers.{AsksPlaces, RefusesWith};
-ghost use Rattle.tc_room.specs.Joined.{IsKept};
-ghost use Rattle.tc_desk.specs.Replies.{Reply};
-ghost use Rattle.tc_room.specs.Replies.{ended, is_refused};
-ghost use Rattle.tc_cli.specs.Script.{IsUnreadable, written_counts};
 ghost use Rattle.std.specs.String.{string_bytes};
+ghost use Rattle.tc_types.specs.Counts.{counts_of, inner_of, no_counts};
 ghost use Rattle.tc_types.specs.Loads.{line_of};
+ghost use Rattle.tc_desk.specs.Replies.{Reply};
+ghost use Rattle.tc_front.specs.Write.{Writes, seen};
+ghost use Rattle.tc_room.specs.Answers.{RefusesWith};
 ghost use Rattle.tc_room.specs.Loads.{RoomLoad, loader_of};
-ghost use Rattle.tc_cli.specs.Files.{FileAnswer, Gives, file_at, none_at};
-ghost use Rattle.tc_cli.specs.Run.{AnswersScriptLine, IsAnswered, RunsLines, TakesLine, TakesLines, is_skipped, script_lines};
-ghost use Rattle.tc_cli.specs.Stops.{IsCutShort, IsUnanswered, LeavesPart, Stops, StopsAfter};
+ghost use Rattle.tc_room.specs.Replies.{ended};
+ghost use Rattle.tc_cli.specs.Files.{Gives, file_at, none_at};
+ghost use Rattle.tc_cli.specs.Run.{Came, CameLast, IsAnswered, RepliesTo, RunsLines, TakesLine, TakesLines, is_skipped, script_lines};
+ghost use Rattle.tc_cli.specs.Script.{Ends, IsUnreadable, written_counts};
+ghost use Rattle.tc_cli.specs.Stops.{LeavesPart, Stops, StopsAfter, StopsNext, Unanswered};
 ghost use Rattle.tc_cli.specs.declared.paths.PathFault.TheVariants as path_fault;
 
 use crate::paths::{PathFault, Paths};
@@ -22,13 +21,10 @@ use bstr::ByteSlice;
 use sqlite::Alter;
 use std::alloc::Global;
 use std::io::{Read, Write};
-use tc_desk::configs::Config;
-use tc_front::write::{Unwritten, write_whole};
-use tc_room::answers::{Answer, answer_line, answer_load, answer_places};
-use tc_room::rooms::Room;
-use tc_types::counted::Counted;
-use tc_types::load_reader::read_load;
-use tc_types::loads::Load;
+use tc_desk::Config;
+use tc_front::write_whole;
+use tc_room::{Answer, Room, answer_line, answer_load, answer_places};
+use tc_types::{Counted, Load, read_load};
 
 /// How many bytes of a file are read: one more than a stack or a procedure may have, so that a longer one is refused as too long.
 pub(crate) const MOST_FILE_BYTES: usize = 65_537;
@@ -51,7 +47,6 @@ pub fn run_script<R: Read, P: Paths, W: Write>(
     writer: &mut Counted<W>,
 ) -> Result<u8, ScriptFault>
     requires unread { counts_of reader.old ≡ no_counts }
-    requires unwritten { counts_of writer.old ≡ no_counts }
     ensures answered { IfOk result (λ status. IfSome (R.remaining (inner_of reader.old)) (λ input.
         IsAnswered config input status (P.given paths.old) (P.given paths.new) (W.contents (inner_of writer.old)) (W.contents (inner_of writer.new)))) }
     ensures stopped { IfErr result (λ fault. IfSome (R.remaining (inner_of reader.old)) (λ input.
@@ -60,13 +55,13 @@ pub fn run_script<R: Read, P: Paths, W: Write>(
         IsUnreadable (counts_of reader.new) (R.remaining (inner_of reader.old)) (R.remaining (inner_of reader.new))
         × (writer.new ≡ writer.old) }
     ensures failed { (counts_of reader.new).faults ≢ 0 → result ≡ Err ScriptFault.Script }
-    ensures written { counts_of writer.new ≡ written_counts result }
+    ensures written { counts_of writer.old ≡ no_counts → counts_of writer.new ≡ written_counts result }
 {
     let text = read_script(alloc, reader)?;
     run_text(alloc, config, &text, paths, writer)
 }
 
-/// Runs the lines of a script that was read. It never fails with `Script`.
+/// Runs the lines of a script that was read.
 fn run_text<P: Paths, W: Write>(
     alloc: Global,
     config: Config,
@@ -74,19 +69,14 @@ fn run_text<P: Paths, W: Write>(
     paths: &mut P,
     writer: &mut Counted<W>,
 ) -> Result<u8, ScriptFault>
-    requires { counts_of writer.old ≡ no_counts }
-    ensures answered { IfOk result (λ status.
-        IsAnswered config text.now status (P.given paths.old) (P.given paths.new) (W.contents (inner_of writer.old)) (W.contents (inner_of writer.new))) }
-    ensures stopped { IfErr result (λ fault. Stops config fault (script_lines text.now)
-        (P.given paths.old) (P.given paths.new) (W.contents (inner_of writer.old)) (W.contents (inner_of writer.new))) }
-    ensures fault { IfErr result (λ fault. fault ≢ ScriptFault.Script) }
-    ensures counted { counts_of writer.new ≡ written_counts result }
+    ensures { Ends (λ status. IsAnswered config text.now status (P.given paths.old) (P.given paths.new) (W.contents (inner_of writer.old)) (W.contents (inner_of writer.new)))
+        (λ fault. Stops config fault (script_lines text.now) (P.given paths.old) (P.given paths.new) (W.contents (inner_of writer.old)) (W.contents (inner_of writer.new))) (counts_of writer.old) (counts_of writer.new) result }
 {
     let mut room = Room::open_in_memory(alloc, config)?;
     run_room(alloc, &mut room, text, paths, writer)
 }
 
-/// Runs the lines of a script in a room, and asks the question `places`. It never fails with `Script`.
+/// Runs the lines of a script in a room, and asks the question `places`.
 pub(crate) fn run_room<S: Alter + Drop, P: Paths, W: Write>(
     alloc: Global,
     room: &mut Room<S>,
@@ -94,13 +84,8 @@ pub(crate) fn run_room<S: Alter + Drop, P: Paths, W: Write>(
     paths: &mut P,
     writer: &mut Counted<W>,
 ) -> Result<u8, ScriptFault>
-    requires { counts_of writer.old ≡ no_counts }
-    ensures answered { IfOk result (λ status.
-        RunsLines S.Store room.old text.now status (P.given paths.old) (P.given paths.new) (W.contents (inner_of writer.old)) (W.contents (inner_of writer.new)) room.new) }
-    ensures stopped { IfErr result (λ fault. StopsAfter S.Store fault room.old (script_lines text.now)
-        (P.given paths.old) (P.given paths.new) (W.contents (inner_of writer.old)) (W.contents (inner_of writer.new)) room.new) }
-    ensures fault { IfErr result (λ fault. fault ≢ ScriptFault.Script) }
-    ensures counted { counts_of writer.new ≡ written_counts result }
+    ensures { Ends (λ status. RunsLines S.Store room.old text.now status (P.given paths.old) (P.given paths.new) (W.contents (inner_of writer.old)) (W.contents (inner_of writer.new)) room.new)
+        (λ fault. StopsAfter S.Store fault room.old (script_lines text.now) (P.given paths.old) (P.given paths.new) (W.contents (inner_of writer.old)) (W.contents (inner_of writer.new)) room.new) (counts_of writer.old) (counts_of writer.new) result }
 {
     let refused = run_lines(alloc, room, text, paths, writer)?;
     // read for the proof alone: what the rows tell is true
@@ -118,17 +103,11 @@ pub(crate) fn status_of(refused: bool) -> u8
 
 /// Writes all bytes, until a write fails.
 pub(crate) fn put<W: Write>(writer: &mut Counted<W>, bytes: &[u8]) -> Result<(), ScriptFault>
-    requires { counts_of writer.old ≡ no_counts }
-    ensures written { OnOk result (Appends (W.contents (inner_of writer.old)) (W.contents (inner_of writer.new)) bytes.now) }
-    ensures cut { OnErr result ((part : List ℕ) × IsCutShort bytes.now part
-        × Appends (W.contents (inner_of writer.old)) (W.contents (inner_of writer.new)) part) }
+    ensures writes { Writes bytes.now (seen W.contents writer.old) (seen W.contents writer.new) result }
     ensures fault { IfErr result (λ fault. fault ≡ ScriptFault.Output) }
-    ensures counted { counts_of writer.new ≡ written_counts result }
+    ensures counted { counts_of writer.old ≡ no_counts → counts_of writer.new ≡ written_counts result }
 {
-    match write_whole(writer, bytes) {
-        Ok(()) => Ok(()),
-        Err(Unwritten) => Err(ScriptFault::Output),
-    }
+    Ok(write_whole(writer, bytes)?)
 }
 
 /// Whether a line is empty or begins with `#`.
@@ -150,7 +129,7 @@ fn answer_file<S: Alter + Drop, P: Paths>(
 ) -> Result<Answer, ScriptFault>
     ensures answered { IfOk result (λ answer. (reply : Reply) × (text : List ℕ) × RoomLoad S.Store room.old (loader_of (line_of load.now)) load.now.kind load.now.name text reply room.new
         × Gives (P.given paths.old) (P.given paths.new) (file_at load.now.path.now text ∷ [])
-        × (string_bytes answer.text ≡ ended reply) × RefusesWith reply answer.refusal) }
+        × (string_bytes answer.text ≡ ended reply) × RefusesWith reply answer.refusal × (room.new.opened ≡ room.old.opened)) }
     ensures fault { IfErr result (λ fault. (fault ≡ ScriptFault.Memory) ⊎ (fault ≡ ScriptFault.Path)) }
     // its path gave no text, and nothing happened
     ensures unread { result ≡ Err ScriptFault.Path → Gives (P.given paths.old) (P.given paths.new) (none_at load.now.path.now path_fault.Unreadable ∷ []) × (room.new ≡ room.old) }
@@ -159,13 +138,9 @@ fn answer_file<S: Alter + Drop, P: Paths>(
         ((reply : Reply) × (text : List ℕ) × RoomLoad S.Store room.old (loader_of (line_of load.now)) load.now.kind load.now.name text reply room.new
         × Gives (P.given paths.old) (P.given paths.new) (file_at load.now.path.now text ∷ []))
         ⊎ (Gives (P.given paths.old) (P.given paths.new) (none_at load.now.path.now path_fault.Memory ∷ []) × (room.new ≡ room.old)) }
-    ensures opened { room.new.opened ≡ room.old.opened }
 {
     match paths.load(alloc, load.path, MOST_FILE_BYTES) {
-        Ok(text) => {
-            let answer = answer_load(alloc, room, load, &text)?;
-            Ok(answer)
-        }
+        Ok(text) => Ok(answer_load(alloc, room, load, &text)?),
         Err(PathFault::Unreadable) => Err(ScriptFault::Path),
         Err(PathFault::Memory) => Err(ScriptFault::Memory),
     }
@@ -178,19 +153,12 @@ fn answer<S: Alter + Drop, P: Paths>(
     line: &[u8],
     paths: &mut P,
 ) -> Result<Answer, ScriptFault>
-    ensures answered { IfOk result (λ answer. (reply : Reply) × (files : List FileAnswer) × AnswersScriptLine S.Store room.old line.now files reply room.new
-        × Gives (P.given paths.old) (P.given paths.new) files
-        × (string_bytes answer.text ≡ ended reply) × RefusesWith reply answer.refusal) }
-    ensures unanswered { IfErr result (λ fault. (files : List FileAnswer) × IsUnanswered S.Store fault room.old line.now files room.new
-        × Gives (P.given paths.old) (P.given paths.new) files) }
-    ensures opened { room.new.opened ≡ room.old.opened }
+    ensures answered { IfOk result (λ answer. RepliesTo S.Store room.old line.now (P.given paths.old) (P.given paths.new) (string_bytes answer.text) answer.refusal room.new) }
+    ensures unanswered { IfErr result (Unanswered S.Store room.old line.now (P.given paths.old) (P.given paths.new) room.new) }
 {
     match read_load(line) {
         Ok(load) => answer_file(alloc, room, &load, paths),
-        Err(_) => {
-            let answer = answer_line(alloc, room, line)?;
-            Ok(answer)
-        }
+        Err(_) => Ok(answer_line(alloc, room, line)?),
     }
 }
 
@@ -202,17 +170,8 @@ fn run_line<S: Alter + Drop, P: Paths, W: Write>(
     paths: &mut P,
     writer: &mut Counted<W>,
 ) -> Result<bool, ScriptFault>
-    requires { counts_of writer.old ≡ no_counts }
-    ensures taken { IfOk result (λ refused. (replies : List Reply) × (files : List FileAnswer) × TakesLine S.Store room.old line.now files replies room.new
-        × Gives (P.given paths.old) (P.given paths.new) files
-        × Appends (W.contents (inner_of writer.old)) (W.contents (inner_of writer.new)) (flat_map ended replies)
-        × (refused ≡ list_any is_refused replies)) }
-    ensures stopped { IfErr result (λ fault. (files : List FileAnswer) × (part : List ℕ) × LeavesPart S.Store fault room.old (line.now ∷ []) files part room.new
-        × Gives (P.given paths.old) (P.given paths.new) files
-        × Appends (W.contents (inner_of writer.old)) (W.contents (inner_of writer.new)) part) }
-    ensures fault { IfErr result (λ fault. fault ≢ ScriptFault.Script) }
-    ensures counted { counts_of writer.new ≡ written_counts result }
-    ensures opened { room.new.opened ≡ room.old.opened }
+    ensures { Ends (λ refused. Came S.Store (TakesLine S.Store room.old line.now) room.old (P.given paths.old) (P.given paths.new) (W.contents (inner_of writer.old)) (W.contents (inner_of writer.new)) room.new refused)
+        (λ fault. StopsNext S.Store fault room.old (line.now ∷ []) (P.given paths.old) (P.given paths.new) (W.contents (inner_of writer.old)) (W.contents (inner_of writer.new)) room.new) (counts_of writer.old) (counts_of writer.new) result }
 {
     if is_skipped(line) {
         return Ok(false);
@@ -230,16 +189,8 @@ fn run_lines<S: Alter + Drop, P: Paths, W: Write>(
     paths: &mut P,
     writer: &mut Counted<W>,
 ) -> Result<bool, ScriptFault>
-    requires { counts_of writer.old ≡ no_counts }
-    ensures taken { IfOk result (λ refused. (replies : List Reply) × (files : List FileAnswer) × TakesLines S.Store room.old (script_lines text.now) files replies room.new
-        × Gives (P.given paths.old) (P.given paths.new) files
-        × Appends (W.contents (inner_of writer.old)) (W.contents (inner_of writer.new)) (flat_map ended replies)
-        × (refused ≡ list_any is_refused replies)) }
-    ensures stopped { IfErr result (λ fault. StopsAfter S.Store fault room.old (script_lines text.now)
-        (P.given paths.old) (P.given paths.new) (W.contents (inner_of writer.old)) (W.contents (inner_of writer.new)) room.new) }
-    ensures fault { IfErr result (λ fault. fault ≢ ScriptFault.Script) }
-    ensures counted { counts_of writer.new ≡ written_counts result }
-    ensures opened { room.new.opened ≡ room.old.opened }
+    ensures { Ends (λ refused. Came S.Store (TakesLines S.Store room.old (script_lines text.now)) room.old (P.given paths.old) (P.given paths.new) (W.contents (inner_of writer.old)) (W.contents (inner_of writer.new)) room.new refused)
+        (λ fault. StopsAfter S.Store fault room.old (script_lines text.now) (P.given paths.old) (P.given paths.new) (W.contents (inner_of writer.old)) (W.contents (inner_of writer.new)) room.new) (counts_of writer.old) (counts_of writer.new) result }
 {
     let mut refused = false;
     for line in text.lines() {
@@ -254,16 +205,8 @@ fn run_places<S: Alter + Drop, W: Write>(
     room: &mut Room<S>,
     writer: &mut Counted<W>,
 ) -> Result<bool, ScriptFault>
-    requires { counts_of writer.old ≡ no_counts }
-    ensures taken { IfOk result (λ refused. (reply : Reply) × AsksPlaces S.Store room.old reply room.new
-        × Appends (W.contents (inner_of writer.old)) (W.contents (inner_of writer.new)) (ended reply)
-        × (refused ≡ is_refused reply)) }
-    ensures stopped { IfErr result (λ fault. (part : List ℕ) × LeavesPart S.Store fault room.old [] [] part room.new
-        × Appends (W.contents (inner_of writer.old)) (W.contents (inner_of writer.new)) part) }
-    ensures fault { IfErr result (λ fault. fault ≢ ScriptFault.Script) }
-    ensures kept { IsKept room.old.desk.book }
-    ensures counted { counts_of writer.new ≡ written_counts result }
-    ensures opened { room.new.opened ≡ room.old.opened }
+    ensures { Ends (λ refused. CameLast S.Store room.old (W.contents (inner_of writer.old)) (W.contents (inner_of writer.new)) room.new refused)
+        (λ fault. (part : List ℕ) × LeavesPart S.Store fault room.old [] [] part room.new × Appends (W.contents (inner_of writer.old)) (W.contents (inner_of writer.new)) part) (counts_of writer.old) (counts_of writer.new) result }
 {
     let last = answer_places(alloc, room)?;
     put(writer, last.text.as_bytes())?;

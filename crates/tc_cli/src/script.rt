@@ -4,13 +4,14 @@ ghost use Rattle.std.specs.Io.KnownBytes.{Consumes, IsAtEnd};
 ghost use Rattle.tc_types.specs.Counts.{counts_of, inner_of, no_counts};
 ghost use Rattle.tc_cli.specs.Script.{IsUnreadable, fault_of};
 ghost use Rattle.tc_cli.specs.Stops.{IsUnread};
-ghost use Rattle.tc_cli.specs.declared.script.ScriptFault.TheVariants.{Memory};
+ghost use Rattle.tc_cli.specs.declared.script.ScriptFault.TheVariants.{Memory, Output};
 
+use sqlite::ErrorCode;
 use std::alloc::{AllocError, Global};
 use std::io::Read;
-use tc_room::answers::Untold;
-use tc_types::counted::Counted;
-use tc_types::refusals::Refusal;
+use tc_front::Unwritten;
+use tc_room::Untold;
+use tc_types::{Counted, Refusal};
 use thiserror::Error;
 
 /// How many bytes a script has at most.
@@ -52,11 +53,29 @@ impl From<AllocError> for ScriptFault {
     }
 }
 
+impl From<Unwritten> for ScriptFault {
+    ghost from_gives = { λ _ fault. fault ≡ Output };
+
+    fn from(_unwritten: Unwritten) -> ScriptFault {
+        ScriptFault::Output
+    }
+}
+
 impl From<Untold> for ScriptFault {
     ghost from_gives = { λ _ fault. fault ≡ Memory };
 
     fn from(_untold: Untold) -> ScriptFault {
         ScriptFault::Memory
+    }
+}
+
+impl From<sqlite::Error> for ScriptFault {
+    /// Want of memory as such, any other error of the database as that of the tables.
+    fn from(error: sqlite::Error) -> ScriptFault {
+        match error {
+            sqlite::Error::SqliteFailure(ErrorCode::OutOfMemory) => ScriptFault::Memory,
+            _ => ScriptFault::Tables,
+        }
     }
 }
 

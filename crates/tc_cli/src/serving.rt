@@ -1,6 +1,6 @@
 //! A desk that is kept in a file, served over HTTP (RFC 9112) on this machine alone.
 use crate::files::open_database;
-use crate::opened::open_told;
+use crate::opened::{Opening, open_told};
 use crate::patience::{Limits, Patient};
 use crate::script::ScriptFault;
 use crate::unserved::opening_fault;
@@ -12,12 +12,9 @@ use std::io::{self, Read};
 use std::net::{Ipv4Addr, Shutdown, TcpListener, TcpStream};
 use std::thread;
 use std::time::Duration;
-use tc_api::exchange::serve_one;
-use tc_desk::configs::Config;
-use tc_room::rooms::Room;
-use tc_types::counted::Counted;
-use tc_types::numbers::Moment;
-use tc_types::refusals::Refusal;
+use tc_api::serve_one;
+use tc_room::Room;
+use tc_types::{Counted, Refusal};
 
 /// Why a desk is not served, or no longer.
 #[derive(Clone, Copy, Debug, PartialEq, Eq)]
@@ -39,10 +36,8 @@ pub(crate) fn closed<T: Drop>(
     store: Connection<FileStore<FileFrom<Wary>>>,
     ended: Result<T, ServiceFault>,
 ) -> Result<T, ServiceFault> {
-    match store.close() {
-        Ok(()) => ended,
-        Err(_) => Err(ServiceFault::Desk(ScriptFault::Tables)),
-    }
+    store.close().map_err(|_| ScriptFault::Tables)?;
+    ended
 }
 
 /// How many seconds a peer is waited for that says nothing, or takes nothing, while a request of it is read or answered.
@@ -66,7 +61,7 @@ const PAUSE_MILLISECONDS: u64 = 100;
 
 /// How a desk is served.
 #[derive(Clone, Copy)]
-pub struct Service {
+pub struct ServiceTerms {
     /// The port of 127.0.0.1, 1 to 65,535.
     pub port: u16,
     /// How many connections are served, 1 to 1,000,000.
@@ -143,7 +138,7 @@ fn tell_end(rt: &HostRuntime, number: u32, served: Result<(), Refusal>) {
 fn serve_connections<S: Alter + Drop>(
     rt: &HostRuntime,
     listener: &TcpListener,
-    service: Service,
+    service: ServiceTerms,
     room: &mut Room<S>,
 ) -> Result<(), ServiceFault> {
     for number in 1..=service.count {
@@ -169,13 +164,12 @@ fn serve_at(
     rt: &HostRuntime,
     listener: &TcpListener,
     file: &str,
-    config: Config,
-    moment: Moment,
-    service: Service,
+    opening: &Opening,
+    service: ServiceTerms,
 ) -> Result<(), ServiceFault> {
     let store = open_database(rt, file, Wary)?;
     let mut writer = Counted::new(io::writer(rt));
-    match open_told(rt.alloc(), store, config, moment, &mut writer) {
+    match open_told(rt.alloc(), store, opening, &mut writer) {
         Ok(mut room) => {
             let port = service.port;
             let _ = eprintln!(rt; "tcdesk: listening on 127.0.0.1:{port}");
@@ -192,14 +186,13 @@ fn serve_at(
 pub fn serve(
     rt: &HostRuntime,
     file: &str,
-    config: Config,
-    moment: Moment,
-    service: Service,
+    opening: &Opening,
+    service: ServiceTerms,
 ) -> Result<(), ServiceFault> {
     match TcpListener::bind(rt, (Ipv4Addr::LOCALHOST, service.port)) {
-        Ok(listener) => serve_at(rt, &listener, file, config, moment, service),
+        Ok(listener) => serve_at(rt, &listener, file, opening, service),
         Err(_) => {
-            opening_fault(rt, file, config, moment)?;
+            opening_fault(rt, file, opening)?;
             Err(ServiceFault::Port(service.port))
         }
     }

@@ -1,6 +1,7 @@
 //! What the opening of a desk that is kept in a file would be refused for, where nothing is to be written: its port is in use.
 
 use crate::files::open_database;
+use crate::opened::Opening;
 use crate::reporting::{find, forget_log, log_path, open_kept};
 use crate::script::ScriptFault;
 use sqlite::{Alter, Connection};
@@ -8,11 +9,8 @@ use sqlite_disk::Wary;
 use sqlite_schema::schema::Schema;
 use std::alloc::Global;
 use std::fs;
-use tc_desk::configs::Config;
-use tc_room::desks::reopen_desk;
-use tc_store::faults::StoreFault;
-use tc_store::tables::Tables;
-use tc_types::numbers::Moment;
+use tc_room::reopen_desk;
+use tc_store::{StoreFault, Tables};
 
 /// Whether a database holds no table, no index and no view.
 fn is_bare(schema: &Schema) -> bool {
@@ -23,29 +21,22 @@ fn is_bare(schema: &Schema) -> bool {
 fn judge_tables<S: Alter + Drop>(
     alloc: Global,
     tables: &mut Tables<S>,
-    config: Config,
-    moment: Moment,
+    opening: &Opening,
 ) -> Result<(), ScriptFault> {
-    match tables.load() {
-        Ok(image) => match reopen_desk(alloc, &image, config, moment) {
-            Ok(_) => Ok(()),
-            Err(refusal) => Err(ScriptFault::from(refusal)),
-        },
-        Err(_) => Err(ScriptFault::Tables),
-    }
+    let image = tables.load().map_err(|_| ScriptFault::Tables)?;
+    reopen_desk(alloc, &image, opening.config, opening.moment)?;
+    Ok(())
 }
 
 /// What the opening of a desk in this database would be refused for, if it would be, and the connection.
 fn judge<S: Alter + Drop>(
     alloc: Global,
     store: Connection<S>,
-    config: Config,
-    moment: Moment,
+    opening: &Opening,
 ) -> (Result<(), ScriptFault>, Connection<S>) {
     match Tables::open(alloc, store) {
-        Ok(tables) => {
-            let mut tables = tables;
-            let judged = judge_tables(alloc, &mut tables, config, moment);
+        Ok(mut tables) => {
+            let judged = judge_tables(alloc, &mut tables, opening);
             (judged, tables.into_connection())
         }
         Err((StoreFault::Foreign, store)) if is_bare(store.schema()) => (Ok(()), store),
@@ -55,15 +46,10 @@ fn judge<S: Alter + Drop>(
 
 /// Takes away the database that this program made at a path, and its log. A link that led there stays.
 fn forget_made(rt: &HostRuntime, file: &str) -> Result<(), ScriptFault> {
-    let Ok(real) = fs::canonicalize(rt, file) else {
-        return Err(ScriptFault::Tables);
-    };
+    let real = fs::canonicalize(rt, file).map_err(|_| ScriptFault::Tables)?;
     let log = log_path(rt.alloc(), real.as_str())?;
     let _ = fs::remove_file(rt, log.as_str());
-    match fs::remove_file(rt, real.as_str()) {
-        Ok(()) => Ok(()),
-        Err(_) => Err(ScriptFault::Tables),
-    }
+    fs::remove_file(rt, real.as_str()).map_err(|_| ScriptFault::Tables)
 }
 
 /// Fails where no database can be made at a path where there is no file. None is left there.
@@ -75,19 +61,14 @@ fn judge_path(rt: &HostRuntime, file: &str) -> Result<(), ScriptFault> {
 }
 
 /// Fails as the opening of the desk that a file keeps would. The file stays as it is.
-pub fn opening_fault(
-    rt: &HostRuntime,
-    file: &str,
-    config: Config,
-    moment: Moment,
-) -> Result<(), ScriptFault> {
+pub fn opening_fault(rt: &HostRuntime, file: &str, opening: &Opening) -> Result<(), ScriptFault> {
     match fs::metadata(rt, file) {
         Err(_) => judge_path(rt, file),
         Ok(found) if found.is_file() && found.len() == 0 => Ok(()),
         Ok(_) => {
             let kept = find(rt, file)?;
             let store = open_kept(rt, &kept)?;
-            let (judged, store) = judge(rt.alloc(), store, config, moment);
+            let (judged, store) = judge(rt.alloc(), store, opening);
             forget_log(rt, &kept);
             drop(store);
             judged

@@ -1,9 +1,6 @@
 //! What no clause says: that calls succeed where there is memory, and with which values.
 use std::process::Abort;
-use tc_types::frames::Frame;
-use tc_types::numbers::{Apid, RequestNumber, SequenceCount};
-use tc_types::requests::{Ack, Identity, Outcome};
-use tc_types::telecommands::{Payload, Task};
+use tc_types::{Ack, Apid, Frame, Identity, Outcome, Payload, RequestNumber, SequenceCount, Task};
 
 mod calls;
 mod cells;

@@ -4,7 +4,8 @@ ghost use Rattle.tc_csv.specs.declared.faults.NotRead.TheVariants.{Wrong as IsWr
 ghost use Rattle.tc_csv.specs.Faults.{rule_refusal, rule_column};
 
 use crate::columns::Column;
-use tc_types::refusals::Refusal;
+use std::alloc::AllocFailed;
+use tc_types::Refusal;
 
 /// A rule that a text keeps, or breaks.
 #[derive(Clone, Copy, Debug, PartialEq, Eq)]
@@ -103,6 +104,17 @@ pub enum NotRead {
     Wrong(Fault),
     /// Memory was refused.
     Memory,
+}
+
+impl<T: Drop> From<AllocFailed<T>> for NotRead {
+    ghost use Rattle.std.specs.Prelude.{◌≡◌};
+    ghost use Rattle.tc_csv.specs.declared.faults.NotRead.TheVariants.{Memory};
+
+    ghost from_gives = { λ _ why. why ≡ Memory };
+
+    fn from(_refused: AllocFailed<T>) -> NotRead {
+        NotRead::Memory
+    }
 }
 
 impl NotRead {

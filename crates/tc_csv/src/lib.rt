@@ -3,7 +3,12 @@
 //! Records and quoting are those of the crate `csv` (RFC 4180). What is asked of a table is this desk's own.
 #![tactic(auto)]
 
-pub mod columns;
-pub mod faults;
-pub mod fields;
-pub mod tables;
+mod columns;
+mod faults;
+mod fields;
+mod tables;
+
+pub use columns::Column;
+pub use faults::{Fault, NotRead, Rule};
+pub use fields::{field, optional_number};
+pub use tables::{read_records, read_table};

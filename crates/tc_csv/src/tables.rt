@@ -114,9 +114,7 @@ pub fn read_table(
     if text.len() > MOST_BYTES {
         return Err(wrong_table(most_rows, Rule::TextLength));
     }
-    let Some(records) = read_records(alloc, text) else {
-        return Err(NotRead::Memory);
-    };
+    let records = read_records(alloc, text).ok_or(NotRead::Memory)?;
     match broken_rule(&records, columns, most_rows) {
         Some(rule) => Err(wrong_table(most_rows, rule)),
         None => Ok(records),

@@ -2,8 +2,9 @@
 //! heaps, and beside a plain program.
 //!
 //! Nothing is promised by the helpers here: what a test does with them needs no proof but that of its own loops and indexes.
-use tc_csv::faults::{Fault, Rule};
-use tc_types::refusals::Refusal;
+use std::alloc::AllocError;
+use tc_csv::{Fault, Rule};
+use tc_types::Refusal;
 
 mod dice;
 mod executions;
@@ -25,7 +26,7 @@ fn is_told(fault: Fault, told: Told) -> bool {
 
 /// Whether this fault is told of a text, or none, and the text is refused so.
 fn is_agreed(
-    found: Result<Option<Fault>, Refusal>,
+    found: Result<Option<Fault>, AllocError>,
     refused: Option<Refusal>,
     told: Option<Told>,
 ) -> bool {

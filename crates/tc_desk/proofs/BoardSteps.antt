@@ -5,15 +5,15 @@ use Rattle.tc_types.specs.declared.acts.Act.{Act}
 use Rattle.tc_types.specs.declared.acts.Act.TheVariants as act
 use Rattle.tc_types.specs.declared.acts.LinkAct.{LinkAct}
 use Rattle.tc_types.specs.declared.acts.LinkAct.TheVariants as link_act
-use Rattle.tc_types.specs.declared.frames.Frame.{Frame}
-use Rattle.tc_types.specs.declared.reports.Report.{Report}
-use Rattle.tc_types.specs.declared.reports.Report.TheVariants as report
-use Rattle.tc_types.specs.declared.reports.Telemetry.{Telemetry}
-use Rattle.tc_types.specs.declared.telecommands.Telecommand.{Telecommand}
+use Rattle.tc_types.specs.declared.link.frames.Frame.{Frame}
+use Rattle.tc_types.specs.declared.link.reports.Report.{Report}
+use Rattle.tc_types.specs.declared.link.reports.Report.TheVariants as report
+use Rattle.tc_types.specs.declared.link.reports.Telemetry.{Telemetry}
+use Rattle.tc_types.specs.declared.link.telecommands.Telecommand.{Telecommand}
 use Rattle.tc_farm.specs.ControlWord.{word_of}
-use Rattle.tc_farm.specs.declared.farms.Verdict.TheVariants as verdict
-use Rattle.tc_world.specs.declared.events.Indication.{Indication}
-use Rattle.tc_world.specs.declared.events.Indication.TheVariants as said
+use Rattle.tc_farm.specs.declared.farms.FrameVerdict.TheVariants as verdict
+use Rattle.tc_world.specs.declared.events.LinkIndication.{LinkIndication}
+use Rattle.tc_world.specs.declared.events.LinkIndication.TheVariants as said
 use Rattle.tc_world.specs.Links.{Kind}
 use Rattle.tc_world.specs.Payloads.{IsToldOf}
 use Rattle.tc_board.specs.Board.{BoardState}
@@ -81,7 +81,7 @@ taken_steps book sent old new None steps board named comes same = still_steps bo
 taken_steps book sent old new (Some t) steps board named comes same = event_steps book sent old new (Accept t) (reports_after (Some t)) steps board named comes.0 comes.1 (refl, same)
 
 -- what the link tells to be accepted, with what the book says of it
-pub told_comes : (book : Book) (sent : List ℕ) (all : List Indication) → IsGoodBook book → NoneIsOf sent (carried_by book sent) → AllByRecursion (IsToldOf (IsPayloadOf book) sent) all → ComesAsReleased book sent (taken_in all)
+pub told_comes : (book : Book) (sent : List ℕ) (all : List LinkIndication) → IsGoodBook book → NoneIsOf sent (carried_by book sent) → AllByRecursion (IsToldOf (IsPayloadOf book) sent) all → ComesAsReleased book sent (taken_in all)
 told_comes book sent [] good apart told = tt
 told_comes book sent (said.Fop i ∷ others) good apart told = tt
 told_comes book sent (said.Farm (verdict.Accepted n body) ∷ others) good apart told = arrives book sent n body good apart told.0.0 told.0.1
@@ -93,7 +93,7 @@ told_comes book sent (said.Lost ∷ others) good apart told = tt
 -- ---- acts
 
 -- an act on the link
-flies_steps : {U D : Type 0} (up : Kind U Frame) (down : Kind D Report) (book : Book) (sent : List ℕ) (given : LinkAct) (old new : State U D) (all : List Indication) (put : List Report)
+flies_steps : {U D : Type 0} (up : Kind U Frame) (down : Kind D Report) (book : Book) (sent : List ℕ) (given : LinkAct) (old new : State U D) (all : List LinkIndication) (put : List Report)
     → FollowsSteps → IsBoardOf (roll_of book sent) old.board → AreNamed (IsFlown book sent) old.board → ComesAsReleased book sent (taken_in all)
     → Flies up down given old new all → ArePutInFlight old given all put → StepsOn book sent old.board new.board put
 flies_steps up down book sent (link_act.Release n) old new all put steps board named comes flies are = still_steps book sent old.board new.board put board named flies.1 are
@@ -111,12 +111,12 @@ flies_steps up down book sent (link_act.Clock time) old new all put steps board 
     subst (StepsOn book sent old.board new.board) (sym are.2) (event_steps book sent old.board new.board (Clock time) are.0 steps board named tt tt (are.1, flies.board))
 
 -- a release that comes with a record, if one does, is nothing to the spacecraft
-beside_board : {U D : Type 0} (up : Kind U Frame) (down : Kind D Report) (beside : Option ℕ) (old new : State U D) (all : List Indication) → FliesBeside up down beside old new all → new.board ≡ old.board
+beside_board : {U D : Type 0} (up : Kind U Frame) (down : Kind D Report) (beside : Option ℕ) (old new : State U D) (all : List LinkIndication) → FliesBeside up down beside old new all → new.board ≡ old.board
 beside_board up down None old new all stands = stands.1
 beside_board up down (Some n) old new all flies = flies.1
 
 -- each act
-pub goes_steps : {U D : Type 0} (up : Kind U Frame) (down : Kind D Report) (book : Book) (sent : List ℕ) (given : Act) (old new : State U D) (all : List Indication) (put : List Report)
+pub goes_steps : {U D : Type 0} (up : Kind U Frame) (down : Kind D Report) (book : Book) (sent : List ℕ) (given : Act) (old new : State U D) (all : List LinkIndication) (put : List Report)
     → FollowsSteps → IsBoardOf (roll_of book sent) old.board → AreNamed (IsFlown book sent) old.board → ComesAsReleased book sent (taken_in all)
     → Goes up down given old new all → ArePut old given all put → StepsOn book sent old.board new.board put
 goes_steps up down book sent (act.Book given) old new all put steps board named comes goes are = still_steps book sent old.board new.board put board named goes.1 are

@@ -1,9 +1,9 @@
 -- What the book does by itself, step by step, keeps the tie between book and link, and what flies.
 use Rattle.std.proofs.Common.{◌≡◌, ◌⊎◌, inl, inr, ℕ, ◌+◌, ◌≤◌, true, false, Option, None, List, [], ◌∷◌, length, drop, refl, sym, ◌∙◌, ap, subst}
-use Rattle.tc_types.specs.declared.moves.Move.{Move}
-use Rattle.tc_types.specs.declared.places.Place.{Place}
-use Rattle.tc_types.specs.declared.places.Place.TheVariants as place
-use Rattle.tc_types.specs.declared.causes.Cause.TheVariants as cause
+use Rattle.tc_types.specs.declared.history.moves.Move.{Move}
+use Rattle.tc_types.specs.declared.history.places.Place.{Place}
+use Rattle.tc_types.specs.declared.history.places.Place.TheVariants as place
+use Rattle.tc_types.specs.declared.history.causes.Cause.TheVariants as cause
 use Rattle.tc_types.specs.declared.requests.Form.{Form}
 use Rattle.tc_types.specs.declared.requests.Origin.{Origin}
 use Rattle.tc_types.specs.declared.acts.BookAct.{BookAct}

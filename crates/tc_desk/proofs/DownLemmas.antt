@@ -1,11 +1,11 @@
 -- What flies down after an event and after an act: what flew there and what was put behind it, with items left out.
 use Rattle.std.proofs.Common.{◌≡◌, ℕ, inl, inr, Option, Some, None, List, [], ◌∷◌, ◌++◌, map, refl, sym, ◌∙◌, ap, subst, append_assoc, append-nil}
 use Rattle.std.specs.Prelude.{MatchBool, Bool, true, false}
-use Rattle.tc_types.specs.declared.frames.Frame.{Frame}
-use Rattle.tc_types.specs.declared.directives.Directive.{Directive}
-use Rattle.tc_types.specs.declared.reports.Report.{Report}
-use Rattle.tc_types.specs.declared.reports.Report.TheVariants as report
-use Rattle.tc_types.specs.declared.reports.Telemetry.{Telemetry}
+use Rattle.tc_types.specs.declared.link.frames.Frame.{Frame}
+use Rattle.tc_types.specs.declared.link.directives.Directive.{Directive}
+use Rattle.tc_types.specs.declared.link.reports.Report.{Report}
+use Rattle.tc_types.specs.declared.link.reports.Report.TheVariants as report
+use Rattle.tc_types.specs.declared.link.reports.Telemetry.{Telemetry}
 use Rattle.tc_types.specs.declared.requests.Request.{Request}
 use Rattle.tc_types.specs.declared.acts.LinkAct.{LinkAct}
 use Rattle.tc_types.specs.declared.acts.LinkAct.TheVariants as link_act
@@ -19,8 +19,8 @@ use Rattle.tc_fop.specs.Machine.{Action}
 use Rattle.tc_fop.specs.Moves.{is_initiation}
 use Rattle.tc_world.specs.declared.events.Event.{Event}
 use Rattle.tc_world.specs.declared.events.Event.TheVariants as event
-use Rattle.tc_world.specs.declared.events.Indication.{Indication}
-use Rattle.tc_world.specs.declared.events.Indication.TheVariants as said
+use Rattle.tc_world.specs.declared.events.LinkIndication.{LinkIndication}
+use Rattle.tc_world.specs.declared.events.LinkIndication.TheVariants as said
 use Rattle.tc_world.specs.Abstraction.{Bare, seen}
 use Rattle.tc_world.specs.Links.{Kind, lossy}
 use Rattle.tc_world.specs.Sublist.{IsSublist, IsSublist-same, IsSublist-behind}
@@ -31,7 +31,7 @@ use Rattle.tc_board.specs.Board.{work_reports}
 use Rattle.tc_book.specs.declared.stamps.Stamp.{Stamp}
 use Rattle.tc_book.specs.Book.{request_at}
 use Rattle.tc_book.specs.Logs.{released_with}
-use Rattle.tc_desk.specs.declared.firsts.First.{First}
+use Rattle.tc_desk.specs.declared.firsts.FirstLine.{FirstLine}
 use Rattle.tc_desk.specs.State.{State}
 use Rattle.tc_desk.specs.Asks.{offer_at, has_buffer, taken_in, reports_after}
 use Rattle.tc_desk.specs.Machine.{Happened, Passes, PutsDown, Reports, Boards, Flies, FliesBeside, Does}
@@ -52,13 +52,13 @@ PutBy (event.Put telemetry) w items = items ≡ report.Telemetry telemetry ∷ [
 PutBy event.Downlink w items = items ≡ []
 PutBy (event.LoseDown place) w items = items ≡ []
 
-pub record EventMoves (given : Event) (w v : Bare) (all : List Indication) : Type 0 where
+pub record EventMoves (given : Event) (w v : Bare) (all : List LinkIndication) : Type 0 where
   pub put : List Report
   pub are : PutBy given w put
   pub rest : IsSublist (came_down all ++ v.down) (w.down ++ put)
 
 -- nothing came down, and nothing was put
-stays_down : (w v : Bare) (all : List Indication) → came_down all ≡ [] → IsSublist v.down w.down → IsSublist (came_down all ++ v.down) (w.down ++ [])
+stays_down : (w v : Bare) (all : List LinkIndication) → came_down all ≡ [] → IsSublist v.down w.down → IsSublist (came_down all ++ v.down) (w.down ++ [])
 stays_down w v all none sub =
     subst (λ l. IsSublist (l ++ v.down) (w.down ++ [])) (sym none) (subst (IsSublist v.down) (sym (append-nil w.down)) sub)
 
@@ -73,28 +73,28 @@ loss_silent : (found : Bool) → came_down (told_of_loss found) ≡ []
 loss_silent true = refl
 loss_silent false = refl
 
-carries_down : (w v : Bare) (actions : List Action) (all : List Indication) → Carries lossy actions w v all → IsSublist (came_down all ++ v.down) (w.down ++ [])
+carries_down : (w v : Bare) (actions : List Action) (all : List LinkIndication) → Carries lossy actions w v all → IsSublist (came_down all ++ v.down) (w.down ++ [])
 carries_down w v actions all h = stays_down w v all (ap came_down h.answered ∙ fop_silent _) (same_down w v (ap (λ (x : Bare). x.down) h.whole))
 
-directs_down : (given : Directive) (w v : Bare) (actions : List Action) (all : List Indication) (initiation : Bool)
+directs_down : (given : Directive) (w v : Bare) (actions : List Action) (all : List LinkIndication) (initiation : Bool)
     → MatchBool initiation (Begins lossy lossy given actions w v all) (Carries lossy actions w v all) → IsSublist (came_down all ++ v.down) (w.down ++ [])
 directs_down given w v actions all true h = stays_down w v all (ap came_down h.answered ∙ fop_silent _) (same_down w v (ap (λ (x : Bare). x.down) h.whole))
 directs_down given w v actions all false h = carries_down w v actions all h
 
 -- what came down was the first that was not lost
-hears_down : (item : Report) (w v : Bare) (left : List Report) (all : List Indication) → Hears lossy item (record w { down = left }) v all
+hears_down : (item : Report) (w v : Bare) (left : List Report) (all : List LinkIndication) → Hears lossy item (record w { down = left }) v all
     → (came_down all ≡ item ∷ []) × (v.down ≡ left)
 hears_down (report.Word word) w v left all (heard, actions, rest, reads, gives, h, answered) = (ap came_down answered, ap (λ (x : Bare). x.down) h.whole)
 hears_down (report.Telemetry telemetry) w v left all (readied, whole, answered) = (ap came_down answered, ap (λ (x : Bare). x.down) whole)
 
-lands_down : (item : Report) (w v : Bare) (lost left : List Report) (all : List Indication) → w.down ≡ lost ++ item ∷ left → came_down all ≡ item ∷ [] → v.down ≡ left
+lands_down : (item : Report) (w v : Bare) (lost left : List Report) (all : List LinkIndication) → w.down ≡ lost ++ item ∷ left → came_down all ≡ item ∷ [] → v.down ≡ left
     → IsSublist (came_down all ++ v.down) (w.down ++ [])
 lands_down item w v lost left all taken came rest =
     subst (λ l. IsSublist (l ++ v.down) (w.down ++ [])) (sym came)
     (subst (λ l. IsSublist (item ∷ l) (w.down ++ [])) (sym rest)
     (subst (IsSublist (item ∷ left)) (sym (append-nil w.down ∙ taken)) (IsSublist-behind lost (item ∷ left))))
 
-pub event_down : (given : Event) (w v : Bare) (all : List Indication) → Happens lossy lossy given w v all → EventMoves given w v all
+pub event_down : (given : Event) (w v : Bare) (all : List LinkIndication) → Happens lossy lossy given w v all → EventMoves given w v all
 event_down (event.Offer request body) w v all (actions, unknown, gives, h) = record { put = []; are = refl; rest = carries_down w v actions all h }
 event_down (event.Directive given) w v all (actions, gives, h, fits, level) = record { put = []; are = refl; rest = directs_down given w (unjudged w v) actions all (is_initiation given) h }
 event_down event.Tick w v all (actions, gives, h) = record { put = []; are = refl; rest = carries_down w v actions all h }
@@ -121,7 +121,7 @@ event_down (event.LoseDown place) w v all h = record { put = []; are = refl; res
 -- ---- acts
 
 -- one event over links of any kind that only lose
-pub happened_down : {U D : Type 0} (up : Kind U Frame) (down : Kind D Report) → OnlyLoses up → OnlyLoses down → (given : Event) (w v : Whole U D) (all : List Indication)
+pub happened_down : {U D : Type 0} (up : Kind U Frame) (down : Kind D Report) → OnlyLoses up → OnlyLoses down → (given : Event) (w v : Whole U D) (all : List LinkIndication)
     → Happened up down given w v all → EventMoves given (seen up down w) (seen up down v) all
 happened_down up down ul dl given w v all h = event_down given (seen up down w) (seen up down v) all (happens_seen up down ul dl given w v all h.happens)
 
@@ -145,26 +145,26 @@ reports_down up down ul dl items w v reports =
     subst (λ l. IsSublist (down.content v.down) (l ++ flying items)) (readied_content down dl w.down reports.ready.down reports.readied.down) (puts_down up down ul dl items reports.ready v reports.put)
 
 -- nothing was asked of the link
-none_down : {U D : Type 0} (down : Kind D Report) (w v : Whole U D) (all : List Indication) → (v ≡ w) × (all ≡ []) → IsSublist (came_down all ++ down.content v.down) (down.content w.down ++ [])
+none_down : {U D : Type 0} (down : Kind D Report) (w v : Whole U D) (all : List LinkIndication) → (v ≡ w) × (all ≡ []) → IsSublist (came_down all ++ down.content v.down) (down.content w.down ++ [])
 none_down {U} {D} down w v all same =
     subst (λ l. IsSublist (came_down l ++ down.content v.down) (down.content w.down ++ [])) (sym same.1)
     (subst (λ (x : Whole U D). IsSublist (down.content x.down) (down.content w.down ++ [])) (sym same.0)
     (subst (IsSublist (down.content w.down)) (sym (append-nil (down.content w.down))) (IsSublist-same (down.content w.down))))
 
 -- of an event that puts nothing
-quiet_down : {U D : Type 0} (up : Kind U Frame) (down : Kind D Report) → OnlyLoses up → OnlyLoses down → (given : Event) (w v : Whole U D) (all : List Indication)
+quiet_down : {U D : Type 0} (up : Kind U Frame) (down : Kind D Report) → OnlyLoses up → OnlyLoses down → (given : Event) (w v : Whole U D) (all : List LinkIndication)
     → ((items : List Report) → PutBy given (seen up down w) items → items ≡ []) → Happened up down given w v all → IsSublist (came_down all ++ down.content v.down) (down.content w.down ++ [])
 quiet_down up down ul dl given w v all none h =
     let moves = happened_down up down ul dl given w v all h in
     subst (λ l. IsSublist (came_down all ++ down.content v.down) (down.content w.down ++ l)) (none moves.put moves.are) moves.rest
 
-offer_down : {U D : Type 0} (up : Kind U Frame) (down : Kind D Report) → OnlyLoses up → OnlyLoses down → (n : ℕ) (old new : State U D) (all : List Indication) (asked : Option Request)
+offer_down : {U D : Type 0} (up : Kind U Frame) (down : Kind D Report) → OnlyLoses up → OnlyLoses down → (n : ℕ) (old new : State U D) (all : List LinkIndication) (asked : Option Request)
     → Passes up down (offer_at old.book n asked) old.world new.world all → IsSublist (came_down all ++ down.content new.world.down) (down.content old.world.down ++ [])
 offer_down up down ul dl n old new all None passes = none_down down old.world new.world all passes
 offer_down up down ul dl n old new all (Some request) passes = quiet_down up down ul dl _ old.world new.world all (λ items e. e) passes
 
 -- a frame comes on board, and its report is put
-boards_down : {U D : Type 0} (up : Kind U Frame) (down : Kind D Report) → OnlyLoses up → OnlyLoses down → (old new : State U D) (all : List Indication)
+boards_down : {U D : Type 0} (up : Kind U Frame) (down : Kind D Report) → OnlyLoses up → OnlyLoses down → (old new : State U D) (all : List LinkIndication)
     → Boards up down old new all → IsSublist (came_down all ++ down.content new.world.down) (down.content old.world.down ++ flying (reports_after (taken_in all)))
 boards_down up down ul dl old new all boards =
     let items : List Report = flying (reports_after (taken_in all)) in
@@ -177,7 +177,7 @@ boards_down up down ul dl old new all boards =
     sublist_trans (came ++ down.content new.world.down) (came ++ (down.content boards.carried.down ++ items)) (down.content old.world.down ++ items) front
     (subst (λ l. IsSublist l (down.content old.world.down ++ items)) (append_assoc came (down.content boards.carried.down) items) both)
 
-flight_down : {U D : Type 0} (up : Kind U Frame) (down : Kind D Report) → OnlyLoses up → OnlyLoses down → (given : LinkAct) (old new : State U D) (all : List Indication)
+flight_down : {U D : Type 0} (up : Kind U Frame) (down : Kind D Report) → OnlyLoses up → OnlyLoses down → (given : LinkAct) (old new : State U D) (all : List LinkIndication)
     → Flies up down given old new all → MovesDown down (act.Link given) old new all
 flight_down up down ul dl (link_act.Release n) old new all flies = record { put = []; are = refl; rest = offer_down up down ul dl n old new all (request_at old.book n) flies.0 }
 flight_down up down ul dl (link_act.Direct given) old new all flies = record { put = []; are = refl; rest = quiet_down up down ul dl (event.Directive given) old.world new.world all (λ items e. e) flies.0 }
@@ -206,13 +206,13 @@ flight_down up down ul dl (link_act.Clock time) old new all flies = record {
 }
 
 -- a step, and the release that comes with it, if one does
-beside_down : {U D : Type 0} (up : Kind U Frame) (down : Kind D Report) → OnlyLoses up → OnlyLoses down → (given : StepAct) (beside : Option ℕ) (old new : State U D) (all : List Indication)
+beside_down : {U D : Type 0} (up : Kind U Frame) (down : Kind D Report) → OnlyLoses up → OnlyLoses down → (given : StepAct) (beside : Option ℕ) (old new : State U D) (all : List LinkIndication)
     → FliesBeside up down beside old new all → MovesDown down (act.Step given) old new all
 beside_down up down ul dl given None old new all stands = record { put = []; are = refl; rest = none_down down old.world new.world all (stands.0, stands.3) }
 beside_down up down ul dl given (Some n) old new all flies = record { put = []; are = refl; rest = offer_down up down ul dl n old new all (request_at old.book n) flies.0 }
 
 -- an act
-pub does_down : {U D : Type 0} (up : Kind U Frame) (down : Kind D Report) → OnlyLoses up → OnlyLoses down → (stamp : Stamp) (given : Act) (old new : State U D) (all : List Indication) (first : First)
+pub does_down : {U D : Type 0} (up : Kind U Frame) (down : Kind D Report) → OnlyLoses up → OnlyLoses down → (stamp : Stamp) (given : Act) (old new : State U D) (all : List LinkIndication) (first : FirstLine)
     → Does up down stamp given old new all first → MovesDown down given old new all
 does_down up down ul dl stamp (act.Book given) old new all first does = record { put = []; are = refl; rest = none_down down old.world new.world all (does.link.0, does.link.3) }
 does_down up down ul dl stamp (act.Link given) old new all first does = flight_down up down ul dl given old new all does.link

@@ -5,18 +5,49 @@ use Rattle.std.proofs.lemmas.List.{take_more, length-take-le}
 use Rattle.std.proofs.lemmas.List.Sums.{fold-append}
 use Rattle.std.proofs.Math.Seq.{take-length}
 use Rattle.std.specs.List.{list_any}
-use Rattle.tc_types.specs.declared.activities.ListedActivity.{ListedActivity}
-use Rattle.tc_world.specs.declared.events.Indication.{Indication}
+use Rattle.tc_types.specs.declared.link.activities.ListedActivity.{ListedActivity}
+use Rattle.tc_world.specs.declared.events.LinkIndication.{LinkIndication}
 use Rattle.tc_board.specs.Mirror.{MirrorState, is_listed_of}
 use Rattle.tc_book.specs.declared.stamps.Stamp.{Stamp}
 use Rattle.tc_book.specs.Book.{Book}
 use Rattle.tc_book.specs.Places.{numbers_from}
 use Rattle.tc_book.proofs.KeptLemmas.{length-numbers, numbers-append}
-use Rattle.tc_desk.specs.Effects.{heard, heard_all, removed}
+use Rattle.tc_book.specs.Records.{Kept}
+use Rattle.tc_desk.specs.Effects.{OnlyMoves, heard, heard_all, removed}
+
+-- ---- requests are moved, and then more
+
+pub moves_more : (some more most : ℕ) (old next new : Kept) → OnlyMoves some old next → OnlyMoves more next new → some + more ≤ most → OnlyMoves most old new
+moves_more some more most old next new first second within =
+    let before = first.rows in
+    let behind = second.rows in
+    let kept = first.rows_kept in
+    let still = second.rows_kept in record {
+      rows = omega (arith, before, behind, within);
+      rows_kept = omega (arith, kept, still);
+      requests = second.requests ∙ first.requests;
+      approvals = second.approvals ∙ first.approvals;
+      stack_approvals = second.stack_approvals ∙ first.stack_approvals;
+      log = second.log ∙ first.log;
+    }
+
+pub moves_none : (most : ℕ) (at : Kept) → OnlyMoves most at at
+moves_none most at = record { rows = omega arith; rows_kept = omega arith; requests = refl; approvals = refl; stack_approvals = refl; log = refl }
+
+pub moves_within : (some most : ℕ) (old new : Kept) → OnlyMoves some old new → some ≤ most → OnlyMoves most old new
+moves_within some most old new moves within =
+    let rows = moves.rows in record {
+      rows = omega (arith, rows, within);
+      rows_kept = moves.rows_kept;
+      requests = moves.requests;
+      approvals = moves.approvals;
+      stack_approvals = moves.stack_approvals;
+      log = moves.log;
+    }
 
 -- ---- what is heard, one more in turn
 
-pub heard_more : (stamp : Stamp) (mirror : MirrorState) (said : List Indication) (k : ℕ) (d : Indication) (book : Book) → k < length said
+pub heard_more : (stamp : Stamp) (mirror : MirrorState) (said : List LinkIndication) (k : ℕ) (d : LinkIndication) (book : Book) → k < length said
     → heard_all stamp mirror (take (k + 1) said) book ≡ heard stamp mirror (heard_all stamp mirror (take k said) book) (get_or said k d)
 heard_more stamp mirror said k d book within =
     ap (λ l. heard_all stamp mirror l book) (take_more said k d within) ∙ fold-append (heard stamp mirror) book (take k said) (get_or said k d ∷ [])
@@ -105,11 +136,6 @@ removed_to stamp mirror xs k book = fold (removed stamp mirror) book (numbers_fr
 
 abbrev pub shown_to : {X : Type 0} → MirrorState → List X → ℕ → ℕ
 shown_to mirror xs k = most (is_shown mirror.activities) (numbers_from 1 (take k xs))
-
--- of none, none
-pub shown_none : {X : Type 0} (mirror : MirrorState) (xs : List X) → shown_to mirror xs 0 ≡ 0
-unfolding most
-shown_none mirror xs = refl
 
 pub removed_more : {X : Type 0} (stamp : Stamp) (mirror : MirrorState) (xs : List X) (k : ℕ) (book : Book) → k < length xs
     → removed_to stamp mirror xs (k + 1) book ≡ removed stamp mirror (removed_to stamp mirror xs k book) (k + 1)

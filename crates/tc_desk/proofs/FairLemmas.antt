@@ -3,11 +3,11 @@ use Rattle.std.proofs.Common.{◌≡◌, ℕ, ◌==◌, Bool, true, false, Optio
 use Rattle.std.specs.Prelude.{◌||◌, nat_lt, nat_le, if◌then◌else◌}
 use Rattle.std.specs.List.{list_all}
 use Rattle.std.proofs.lemmas.Bool.Decides.{nat_tests}
-use Rattle.tc_types.specs.declared.frames.Frame.{Frame}
-use Rattle.tc_types.specs.declared.directives.Directive.{Directive}
-use Rattle.tc_types.specs.declared.directives.Directive.TheVariants as directive
-use Rattle.tc_types.specs.declared.reports.Report.{Report}
-use Rattle.tc_types.specs.declared.reports.Telemetry.{Telemetry}
+use Rattle.tc_types.specs.declared.link.frames.Frame.{Frame}
+use Rattle.tc_types.specs.declared.link.directives.Directive.{Directive}
+use Rattle.tc_types.specs.declared.link.directives.Directive.TheVariants as directive
+use Rattle.tc_types.specs.declared.link.reports.Report.{Report}
+use Rattle.tc_types.specs.declared.link.reports.Telemetry.{Telemetry}
 use Rattle.tc_types.specs.declared.requests.Request.{Request}
 use Rattle.tc_types.specs.declared.acts.LinkAct.{LinkAct}
 use Rattle.tc_types.specs.declared.acts.LinkAct.TheVariants as link_act
@@ -19,7 +19,7 @@ use Rattle.tc_fop.specs.declared.signals.FopState.{FopState}
 use Rattle.tc_fop.specs.Views.{view_of}
 use Rattle.tc_world.specs.declared.events.Event.{Event}
 use Rattle.tc_world.specs.declared.events.Event.TheVariants as event
-use Rattle.tc_world.specs.declared.events.Indication.{Indication}
+use Rattle.tc_world.specs.declared.events.LinkIndication.{LinkIndication}
 use Rattle.tc_world.specs.Fair.{is_fair}
 use Rattle.tc_world.specs.Links.{Kind}
 use Rattle.tc_world.specs.World.{Whole, IsAsBefore, is_fitting_setting, sets_fitting}
@@ -27,7 +27,7 @@ use Rattle.tc_book.specs.declared.stamps.Stamp.{Stamp}
 use Rattle.tc_book.specs.Book.{Book, request_at}
 use Rattle.tc_book.specs.Logs.{released_with}
 use Rattle.tc_book.proofs.PassingLemmas.{none_holds}
-use Rattle.tc_desk.specs.declared.firsts.First.{First}
+use Rattle.tc_desk.specs.declared.firsts.FirstLine.{FirstLine}
 use Rattle.tc_desk.specs.declared.configs.Config.{Config}
 use Rattle.tc_desk.specs.Acts.{is_bad_directive, link_tests, refusal_of}
 use Rattle.tc_desk.specs.Asks.{event_of, offer_at, has_buffer, taken_in, reports_after}
@@ -86,7 +86,7 @@ direct_fits stamp at given passes =
 
 -- ---- what stands after it
 
-happened_fits : {U D : Type 0} (up : Kind U Frame) (down : Kind D Report) (given : Event) (w v : Whole U D) (all : List Indication) → sets_fitting given w.farm ≡ true
+happened_fits : {U D : Type 0} (up : Kind U Frame) (down : Kind D Report) (given : Event) (w v : Whole U D) (all : List LinkIndication) → sets_fitting given w.farm ≡ true
     → Happened up down given w v all → Fits w → Fits v
 happened_fits up down given w v all sets h old =
     let fits : v.fits ≡ true = h.keeps_fitting old.0 sets in
@@ -106,17 +106,17 @@ puts_fit up down (item ∷ items) w v puts old = puts_fit up down items puts.0 v
 reports_fit : {U D : Type 0} (up : Kind U Frame) (down : Kind D Report) (items : List Telemetry) (w v : Whole U D) → Reports up down items w v → Fits w → Fits v
 reports_fit up down items w v reports old = puts_fit up down items reports.ready v reports.put (before_fits up down w reports.ready reports.readied old)
 
-passes_fit : {U D : Type 0} (up : Kind U Frame) (down : Kind D Report) (asked : Option Event) (w v : Whole U D) (all : List Indication) → asks_fitting asked w.farm ≡ true
+passes_fit : {U D : Type 0} (up : Kind U Frame) (down : Kind D Report) (asked : Option Event) (w v : Whole U D) (all : List LinkIndication) → asks_fitting asked w.farm ≡ true
     → Passes up down asked w v all → Fits w → Fits v
 passes_fit up down None w v all sets passes old = same_fits w v passes.0 old
 passes_fit up down (Some given) w v all sets passes old = happened_fits up down given w v all sets passes old
 
 -- the frame that came to the FARM, where room was made before
-frame_fits : {U D : Type 0} (up : Kind U Frame) (down : Kind D Report) (free : Bool) (w ready carried : Whole U D) (all : List Indication) → IsAsBefore up down w ready
+frame_fits : {U D : Type 0} (up : Kind U Frame) (down : Kind D Report) (free : Bool) (w ready carried : Whole U D) (all : List LinkIndication) → IsAsBefore up down w ready
     → Happened up down (event.Uplink free) ready carried all → Fits w → Fits carried
 frame_fits up down free w ready carried all readied frame old = happened_fits up down (event.Uplink free) ready carried all refl frame (before_fits up down w ready readied old)
 
-flight_fits : {U D : Type 0} (up : Kind U Frame) (down : Kind D Report) (stamp : Stamp) (given : LinkAct) (old new : State U D) (all : List Indication)
+flight_fits : {U D : Type 0} (up : Kind U Frame) (down : Kind D Report) (stamp : Stamp) (given : LinkAct) (old new : State U D) (all : List LinkIndication)
     → refusal_of stamp old (act.Link given) ≡ None → Flies up down given old new all → Fits old.world → Fits new.world
 flight_fits up down stamp (link_act.Release n) old new all free flies fits = passes_fit up down (event_of old (link_act.Release n)) old.world new.world all (offer_fits old.book n (request_at old.book n) old.world.farm) flies.0 fits
 flight_fits up down stamp (link_act.Direct given) old new all free flies fits = passes_fit up down (event_of old (link_act.Direct given)) old.world new.world all (direct_fits stamp old given free) flies.0 fits
@@ -133,13 +133,13 @@ flight_fits up down stamp link_act.Work old new all free flies fits =
 flight_fits up down stamp (link_act.Clock time) old new all free flies fits = reports_fit up down flies.items old.world new.world flies.reports fits
 
 -- a release that comes with a record, if one does
-beside_fits : {U D : Type 0} (up : Kind U Frame) (down : Kind D Report) (beside : Option ℕ) (old new : State U D) (all : List Indication) → FliesBeside up down beside old new all
+beside_fits : {U D : Type 0} (up : Kind U Frame) (down : Kind D Report) (beside : Option ℕ) (old new : State U D) (all : List LinkIndication) → FliesBeside up down beside old new all
     → Fits old.world → Fits new.world
 beside_fits up down None old new all stands fits = same_fits old.world new.world stands.0 fits
 beside_fits up down (Some n) old new all flies fits = passes_fit up down (event_of old (link_act.Release n)) old.world new.world all (offer_fits old.book n (request_at old.book n) old.world.farm) flies.0 fits
 
 -- an act that no test refuses
-pub does_fit : {U D : Type 0} (up : Kind U Frame) (down : Kind D Report) (stamp : Stamp) (given : Act) (old new : State U D) (all : List Indication) (first : First)
+pub does_fit : {U D : Type 0} (up : Kind U Frame) (down : Kind D Report) (stamp : Stamp) (given : Act) (old new : State U D) (all : List LinkIndication) (first : FirstLine)
     → refusal_of stamp old given ≡ None → Does up down stamp given old new all first → Fits old.world → Fits new.world
 does_fit up down stamp (act.Book given) old new all first free does fits = same_fits old.world new.world does.link.0 fits
 does_fit up down stamp (act.Link given) old new all first free does fits = flight_fits up down stamp given old new all free does.link fits
@@ -149,25 +149,25 @@ does_fit {U} {D} up down stamp (act.Ask asked) old new all first free does fits 
 -- ---- what is told
 
 -- no alert is told but those that may come where the link stood so
-abbrev Tells : {U D : Type 0} → Whole U D → Whole U D → List Indication → Type 0
+abbrev Tells : {U D : Type 0} → Whole U D → Whole U D → List LinkIndication → Type 0
 Tells w v all = v.clean ≡ true → list_all (is_fair w.level w.fop.state) all ≡ true
 
-silent_tells : {U D : Type 0} (w v : Whole U D) (all : List Indication) → all ≡ [] → Tells w v all
-silent_tells w v all silent = λ clean. ap (λ (l : List Indication). list_all (is_fair w.level w.fop.state) l) silent
+silent_tells : {U D : Type 0} (w v : Whole U D) (all : List LinkIndication) → all ≡ [] → Tells w v all
+silent_tells w v all silent = λ clean. ap (λ (l : List LinkIndication). list_all (is_fair w.level w.fop.state) l) silent
 
-passes_tell : {U D : Type 0} (up : Kind U Frame) (down : Kind D Report) (asked : Option Event) (w v : Whole U D) (all : List Indication) → asks_fitting asked w.farm ≡ true
+passes_tell : {U D : Type 0} (up : Kind U Frame) (down : Kind D Report) (asked : Option Event) (w v : Whole U D) (all : List LinkIndication) → asks_fitting asked w.farm ≡ true
     → Passes up down asked w v all → Fits w → Tells w v all
 passes_tell up down None w v all sets passes old = silent_tells w v all passes.1
 passes_tell up down (Some given) w v all sets passes old = λ clean. passes.fair clean (happened_fits up down given w v all sets passes old).0
 
 -- what the FARM tells comes before what is put on the downlink
-frame_tells : {U D : Type 0} (up : Kind U Frame) (down : Kind D Report) (free : Bool) (items : List Telemetry) (w ready carried v : Whole U D) (all : List Indication) → IsAsBefore up down w ready
+frame_tells : {U D : Type 0} (up : Kind U Frame) (down : Kind D Report) (free : Bool) (items : List Telemetry) (w ready carried v : Whole U D) (all : List LinkIndication) → IsAsBefore up down w ready
     → Happened up down (event.Uplink free) ready carried all → PutsDown up down items carried v → Fits w → Tells w v all
 frame_tells {U} {D} up down free items w ready carried v all readied frame puts old = λ clean.
     subst (λ (x : Whole U D). list_all (is_fair x.level x.fop.state) all ≡ true → list_all (is_fair w.level w.fop.state) all ≡ true) (sym readied.rest) (λ same. same)
     (frame.fair (sym (puts_clean up down items carried v puts) ∙ clean) (frame_fits up down free w ready carried all readied frame old).0)
 
-flight_tells : {U D : Type 0} (up : Kind U Frame) (down : Kind D Report) (stamp : Stamp) (given : LinkAct) (old new : State U D) (all : List Indication)
+flight_tells : {U D : Type 0} (up : Kind U Frame) (down : Kind D Report) (stamp : Stamp) (given : LinkAct) (old new : State U D) (all : List LinkIndication)
     → refusal_of stamp old (act.Link given) ≡ None → Flies up down given old new all → Fits old.world → Tells old.world new.world all
 flight_tells up down stamp (link_act.Release n) old new all free flies fits = passes_tell up down (event_of old (link_act.Release n)) old.world new.world all (offer_fits old.book n (request_at old.book n) old.world.farm) flies.0 fits
 flight_tells up down stamp (link_act.Direct given) old new all free flies fits = passes_tell up down (event_of old (link_act.Direct given)) old.world new.world all (direct_fits stamp old given free) flies.0 fits
@@ -181,13 +181,13 @@ flight_tells up down stamp link_act.Down old new all free flies fits = passes_te
 flight_tells up down stamp link_act.Work old new all free flies fits = silent_tells old.world new.world all flies.silent
 flight_tells up down stamp (link_act.Clock time) old new all free flies fits = silent_tells old.world new.world all flies.silent
 
-beside_tells : {U D : Type 0} (up : Kind U Frame) (down : Kind D Report) (beside : Option ℕ) (old new : State U D) (all : List Indication) → FliesBeside up down beside old new all
+beside_tells : {U D : Type 0} (up : Kind U Frame) (down : Kind D Report) (beside : Option ℕ) (old new : State U D) (all : List LinkIndication) → FliesBeside up down beside old new all
     → Fits old.world → Tells old.world new.world all
 beside_tells up down None old new all stands fits = silent_tells old.world new.world all stands.3
 beside_tells up down (Some n) old new all flies fits = passes_tell up down (event_of old (link_act.Release n)) old.world new.world all (offer_fits old.book n (request_at old.book n) old.world.farm) flies.0 fits
 
 -- an act that no test refuses tells no other alert
-pub does_fairly : {U D : Type 0} (up : Kind U Frame) (down : Kind D Report) (stamp : Stamp) (given : Act) (old new : State U D) (all : List Indication) (first : First)
+pub does_fairly : {U D : Type 0} (up : Kind U Frame) (down : Kind D Report) (stamp : Stamp) (given : Act) (old new : State U D) (all : List LinkIndication) (first : FirstLine)
     → refusal_of stamp old given ≡ None → Does up down stamp given old new all first → Fits old.world → IsFairlyTold old new all
 does_fairly up down stamp (act.Book given) old new all first free does fits = silent_tells old.world new.world all does.link.3
 does_fairly up down stamp (act.Link given) old new all first free does fits = flight_tells up down stamp given old new all free does.link fits

@@ -6,30 +6,30 @@ use Rattle.std.specs.Fmt.{digits}
 use Rattle.tc_types.specs.declared.requests.Form.{Form}
 use Rattle.tc_types.specs.declared.requests.Command.TheVariants.{Plain, InsertActivity}
 use Rattle.tc_types.specs.declared.requests.Outcome.TheVariants.{Completes}
-use Rattle.tc_types.specs.declared.places.Place.TheVariants.{Approved, Queued, Sent, Withdrawn}
-use Rattle.tc_types.specs.declared.causes.Cause.TheVariants as cause
+use Rattle.tc_types.specs.declared.history.places.Place.TheVariants.{Approved, Queued, Sent, Withdrawn}
+use Rattle.tc_types.specs.declared.history.causes.Cause.TheVariants as cause
 use Rattle.tc_types.specs.declared.refusals.Refusal.TheVariants as refusal
-use Rattle.tc_types.specs.declared.reports.Report.TheVariants as report
-use Rattle.tc_types.specs.declared.reports.Telemetry.TheVariants as telemetry
-use Rattle.tc_types.specs.declared.reports.Verification.TheVariants as verification
-use Rattle.tc_types.specs.declared.telecommands.Task.TheVariants as task
+use Rattle.tc_types.specs.declared.link.reports.Report.TheVariants as report
+use Rattle.tc_types.specs.declared.link.reports.Telemetry.TheVariants as telemetry
+use Rattle.tc_types.specs.declared.link.reports.Verification.TheVariants as verification
+use Rattle.tc_types.specs.declared.link.telecommands.Task.TheVariants as task
 use Rattle.tc_board.specs.Mirror.{no_mirror}
 use Rattle.tc_types.specs.declared.acts.LinkAct.{LinkAct}
 use Rattle.tc_types.specs.declared.acts.LinkAct.TheVariants as link_act
 use Rattle.tc_types.specs.declared.acts.Act.TheVariants as act
 use Rattle.tc_farm.specs.declared.farms.FarmState.TheVariants.{Open}
-use Rattle.tc_farm.specs.declared.farms.Verdict.TheVariants as verdict
+use Rattle.tc_farm.specs.declared.farms.FrameVerdict.TheVariants as verdict
 use Rattle.tc_fop.specs.declared.signals.AlertKind.TheVariants as alert
 use Rattle.tc_fop.specs.declared.signals.FopState.TheVariants.{Active, Initial}
 use Rattle.tc_fop.specs.declared.signals.Indication.TheVariants as signal
 use Rattle.tc_fop.specs.declared.views.FopView.{FopView}
-use Rattle.tc_world.specs.declared.events.Indication.{Indication}
-use Rattle.tc_world.specs.declared.events.Indication.TheVariants.{Fop, Farm, Received, Lost}
+use Rattle.tc_world.specs.declared.events.LinkIndication.{LinkIndication}
+use Rattle.tc_world.specs.declared.events.LinkIndication.TheVariants.{Fop, Farm, Received, Lost}
 use Rattle.tc_book.specs.declared.stamps.Stamp.{Stamp}
 use Rattle.tc_book.specs.Acts.{first_refusal}
 use Rattle.tc_book.specs.Book.{Book, empty_book, moved, want, with_entry}
-use Rattle.tc_types.specs.declared.frames.Frame.{Frame}
-use Rattle.tc_types.specs.declared.reports.Report.{Report}
+use Rattle.tc_types.specs.declared.link.frames.Frame.{Frame}
+use Rattle.tc_types.specs.declared.link.reports.Report.{Report}
 use Rattle.tc_world.specs.InFlight.{InFlight}
 use Rattle.tc_desk.specs.State.{State, new_desk}
 use Rattle.tc_desk.specs.Acts.{link_tests, acted, first_of}
@@ -75,7 +75,7 @@ abbrev sent : ℕ → Book → Book
 sent n book = moved ann (queued n book) (want n Sent cause.Transmit)
 
 -- the reply to an act on the link that told these
-abbrev flown : Book → LinkAct → List Indication → Reply
+abbrev flown : Book → LinkAct → List LinkIndication → Reply
 flown book given all =
     act_reply (first_of (desk_of book) (act.Link given) all) all (drop (length book.history) (heard_all ann no_mirror all (acted ann (act.Link given) book)).history)
 

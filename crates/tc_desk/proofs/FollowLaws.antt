@@ -1,6 +1,6 @@
 -- What is known of the spacecraft and the mirror of its schedule, step by step.
 use Rattle.std.specs.Prelude.{◌≡◌, List}
-use Rattle.tc_types.specs.declared.reports.Telemetry.{Telemetry}
+use Rattle.tc_types.specs.declared.link.reports.Telemetry.{Telemetry}
 use Rattle.tc_board.specs.Board.{BoardState}
 use Rattle.tc_board.specs.Follows.{Roll, IsBoardOf, Event, IsEventOf, Makes, read_all}
 use Rattle.tc_board.specs.Mirror.{mirror_of}

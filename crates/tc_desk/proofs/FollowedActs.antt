@@ -4,10 +4,10 @@ use Rattle.std.specs.List.{AllByRecursion, IsDistinct}
 use Rattle.std.proofs.lemmas.List.Sums.{fold-append}
 use Rattle.tc_types.specs.declared.acts.Act.{Act}
 use Rattle.tc_types.specs.declared.acts.Act.TheVariants as act
-use Rattle.tc_types.specs.declared.frames.Frame.{Frame}
-use Rattle.tc_types.specs.declared.reports.Report.{Report}
+use Rattle.tc_types.specs.declared.link.frames.Frame.{Frame}
+use Rattle.tc_types.specs.declared.link.reports.Report.{Report}
 use Rattle.tc_fop.specs.Requests.{waiting_requests}
-use Rattle.tc_world.specs.declared.events.Indication.{Indication}
+use Rattle.tc_world.specs.declared.events.LinkIndication.{LinkIndication}
 use Rattle.tc_world.specs.Abstraction.{seen}
 use Rattle.tc_world.specs.Links.{Kind}
 use Rattle.tc_world.specs.Payloads.{AreCarried}
@@ -28,7 +28,7 @@ use Rattle.tc_book.specs.Book.{Book}
 use Rattle.tc_book.specs.Good.{IsGoodBook}
 use Rattle.tc_book.specs.Acts.{acted as book_acted}
 use Rattle.tc_desk.specs.declared.configs.Config.{Config}
-use Rattle.tc_desk.specs.declared.firsts.First.{First}
+use Rattle.tc_desk.specs.declared.firsts.FirstLine.{FirstLine}
 use Rattle.tc_desk.specs.Acts.{refusal_of}
 use Rattle.tc_desk.specs.Asks.{command_told}
 use Rattle.tc_desk.specs.Commands.{command_at}
@@ -50,10 +50,10 @@ use Rattle.tc_desk.proofs.RollOfLemmas.{BookStays, same_stays, flown_grows, grow
 -- ---- the book
 
 -- what the book says of those that were sent stays
-does_stay : {U D : Type 0} (up : Kind U Frame) (down : Kind D Report) (o : ℕ) (stamp : Stamp) (given : Act) (old new : State U D) (all : List Indication) (first : First)
+does_stay : {U D : Type 0} (up : Kind U Frame) (down : Kind D Report) (o : ℕ) (stamp : Stamp) (given : Act) (old new : State U D) (all : List LinkIndication) (first : FirstLine)
     → IsGoodBook old.book → refusal_of stamp old given ≡ None → IsTied o old → Does up down stamp given old new all first → BookStays old.book new.book (all_sent old.world)
 does_stay up down o stamp (act.Book given) old new all first good passes tied does =
-    let alone : new.book ≡ book_acted stamp given old.book = does.book ∙ ap (λ (l : List Indication). heard_all stamp old.mirror l (book_acted stamp given old.book)) does.link.3 in
+    let alone : new.book ≡ book_acted stamp given old.book = does.book ∙ ap (λ (l : List LinkIndication). heard_all stamp old.mirror l (book_acted stamp given old.book)) does.link.3 in
     subst (λ (book : Book). BookStays old.book book (all_sent old.world)) (sym alone)
     (book_tied o stamp given old.book (waiting_requests old.world.fop) (all_sent old.world) (all_confirmed old.world) good passes tied).stays
 does_stay up down o stamp (act.Link given) old new all first good passes tied does = same_stays old.book new.book (all_sent old.world) (link_requests stamp given old new all does.book)
@@ -84,7 +84,7 @@ reads_on K old new flew put came flies before after schedule last exact read sam
 -- ---- all of it
 
 -- each act keeps it
-pub does_followed : {U D : Type 0} (up : Kind U Frame) (down : Kind D Report) (stamp : Stamp) (given : Act) (old new : DeskState U D) (all : List Indication) (first : First)
+pub does_followed : {U D : Type 0} (up : Kind U Frame) (down : Kind D Report) (stamp : Stamp) (given : Act) (old new : DeskState U D) (all : List LinkIndication) (first : FirstLine)
     → FollowsSteps → OnlyLoses up → OnlyLoses down
     → IsGoodBook old.parts.book → IsGoodBook new.parts.book → refusal_of stamp old.parts given ≡ None
     → Does up down stamp given old.parts new.parts all first

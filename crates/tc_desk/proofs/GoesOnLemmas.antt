@@ -1,34 +1,42 @@
 -- What an act makes of the book goes on from the book before it.
-use Rattle.std.proofs.Common.{◌≡◌, ℕ, Bool, true, false, if◌then◌else◌, Option, Some, None, fold, List, [], ◌∷◌, sym, subst}
-use Rattle.tc_types.specs.declared.places.Place.{Place}
-use Rattle.tc_types.specs.declared.places.Place.TheVariants as place
-use Rattle.tc_types.specs.declared.causes.Cause.{Cause}
-use Rattle.tc_types.specs.declared.causes.Cause.TheVariants as cause
-use Rattle.tc_types.specs.declared.reports.Report.{Report}
-use Rattle.tc_types.specs.declared.reports.Report.TheVariants as report
-use Rattle.tc_types.specs.declared.reports.Telemetry.TheVariants as telemetry
+use Rattle.std.proofs.Common.{◌≡◌, ℕ, Bool, true, false, if◌then◌else◌, Option, Some, None, fold, List, [], ◌∷◌, Result, Ok, Err, sym, subst}
+use Rattle.tc_types.specs.declared.history.places.Place.{Place}
+use Rattle.tc_types.specs.declared.history.places.Place.TheVariants as place
+use Rattle.tc_types.specs.declared.history.causes.Cause.{Cause}
+use Rattle.tc_types.specs.declared.history.causes.Cause.TheVariants as cause
+use Rattle.tc_types.specs.declared.link.reports.Report.{Report}
+use Rattle.tc_types.specs.declared.link.reports.Report.TheVariants as report
+use Rattle.tc_types.specs.declared.link.reports.Telemetry.TheVariants as telemetry
 use Rattle.std.specs.List.{list_any}
-use Rattle.tc_types.specs.declared.reports.Verification.{Verification}
+use Rattle.std.specs.Result.{OnOk}
+use Rattle.tc_types.specs.declared.link.reports.Verification.{Verification}
 use Rattle.tc_types.specs.declared.requests.Command.{Command}
 use Rattle.tc_types.specs.declared.requests.Command.TheVariants as command
 use Rattle.tc_types.specs.declared.requests.Request.{Request}
 use Rattle.tc_board.specs.Mirror.{MirrorState, is_listed_of}
+use Rattle.tc_types.specs.declared.acts.Act.TheVariants as any_act
 use Rattle.tc_types.specs.declared.acts.LinkAct.{LinkAct}
+use Rattle.tc_types.specs.declared.link.frames.Frame.{Frame}
+use Rattle.tc_types.specs.declared.refusals.Refusal.{Refusal}
 use Rattle.tc_types.specs.declared.acts.LinkAct.TheVariants as act
 use Rattle.tc_types.specs.declared.acts.StepAct.{StepAct}
 use Rattle.tc_types.specs.Lawful.{is_lawful}
 use Rattle.tc_types.specs.Stages.{stage_of_verification}
 use Rattle.tc_fop.specs.declared.signals.Indication.TheVariants as signal
-use Rattle.tc_world.specs.declared.events.Indication.{Indication}
-use Rattle.tc_world.specs.declared.events.Indication.TheVariants as said
+use Rattle.tc_world.specs.declared.events.LinkIndication.{LinkIndication}
+use Rattle.tc_world.specs.declared.events.LinkIndication.TheVariants as said
 use Rattle.tc_book.specs.declared.stamps.Stamp.{Stamp}
 use Rattle.tc_book.specs.Batch.{GoesOn}
 use Rattle.tc_book.specs.Book.{Book, place_in, stands, request_at, moved, want}
 use Rattle.tc_book.specs.Logs.{recorded, released_with}
 use Rattle.tc_book.specs.Places.{numbers_from}
 use Rattle.tc_book.proofs.GoesOnLemmas.{behind, same-goes_on, on_and_on, moved-goes_on}
+use Rattle.tc_world.specs.Links.{Kind}
+use Rattle.tc_desk.specs.declared.flights.Flight.{Flight}
 use Rattle.tc_desk.specs.Acts.{released, released_beside}
 use Rattle.tc_desk.specs.Commands.{activity_at}
+use Rattle.tc_desk.specs.Parts.{Performs}
+use Rattle.tc_desk.specs.State.{State}
 use Rattle.tc_desk.specs.Effects.{tried, followed, tried_with, reported, is_completed, is_failed, inserted, deleted, removed, emptied, besides, besides_at, received, heard, heard_all}
 
 -- a move that is made or not
@@ -103,7 +111,7 @@ received-goes_on stamp mirror book (report.Telemetry (telemetry.Verification v n
     on_and_on book after (besides_at stamp mirror v (request_at book n) after) (reported-goes_on stamp book n (stage_of_verification v)) (besides_at-goes_on stamp mirror v (request_at book n) after)
 received-goes_on stamp mirror book (report.Telemetry (telemetry.Summary summary)) = same-goes_on book
 
-heard-goes_on : (stamp : Stamp) (mirror : MirrorState) (book : Book) (i : Indication) → GoesOn book (heard stamp mirror book i)
+heard-goes_on : (stamp : Stamp) (mirror : MirrorState) (book : Book) (i : LinkIndication) → GoesOn book (heard stamp mirror book i)
 heard-goes_on stamp mirror book (said.Fop (signal.Sent n)) = tried-goes_on stamp book n (place.Queued ∷ []) place.Sent cause.Transmit
 heard-goes_on stamp mirror book (said.Fop (signal.Confirmed n)) = tried-goes_on stamp book n (place.Sent ∷ []) place.Confirmed cause.Confirm
 heard-goes_on stamp mirror book (said.Fop (signal.GivenBack n)) = tried_with-goes_on stamp book n (place.Queued ∷ []) place.Approved cause.GiveBack
@@ -114,7 +122,7 @@ heard-goes_on stamp mirror book (said.Farm v) = same-goes_on book
 heard-goes_on stamp mirror book (said.Received item) = received-goes_on stamp mirror book item
 heard-goes_on stamp mirror book said.Lost = same-goes_on book
 
-heard_all-goes_on : (stamp : Stamp) (mirror : MirrorState) (all : List Indication) (book : Book) → GoesOn book (heard_all stamp mirror all book)
+heard_all-goes_on : (stamp : Stamp) (mirror : MirrorState) (all : List LinkIndication) (book : Book) → GoesOn book (heard_all stamp mirror all book)
 heard_all-goes_on stamp mirror [] book = same-goes_on book
 heard_all-goes_on stamp mirror (i ∷ all) book =
     on_and_on book (heard stamp mirror book i) (heard_all stamp mirror all (heard stamp mirror book i)) (heard-goes_on stamp mirror book i) (heard_all-goes_on stamp mirror all (heard stamp mirror book i))
@@ -134,7 +142,7 @@ released-goes_on stamp act.Work book = same-goes_on book
 released-goes_on stamp (act.Clock time) book = same-goes_on book
 
 -- what an act on the link does to the book: its own rows, and those of what it hears
-pub flown-goes_on : (stamp : Stamp) (mirror : MirrorState) (given : LinkAct) (all : List Indication) (old new : Book) → new ≡ heard_all stamp mirror all (released stamp given old) → GoesOn old new
+pub flown-goes_on : (stamp : Stamp) (mirror : MirrorState) (given : LinkAct) (all : List LinkIndication) (old new : Book) → new ≡ heard_all stamp mirror all (released stamp given old) → GoesOn old new
 flown-goes_on stamp mirror given all old new e =
     subst (GoesOn old) (sym e) (on_and_on old (released stamp given old) (heard_all stamp mirror all (released stamp given old)) (released-goes_on stamp given old) (heard_all-goes_on stamp mirror all (released stamp given old)))
 
@@ -157,9 +165,21 @@ beside-goes_on stamp None book = same-goes_on book
 beside-goes_on stamp (Some n) book = released-goes_on stamp (act.Release n) book
 
 -- what a step does to the book: its record, the rows of the release that comes with it, and those of what it hears
-pub stepped-goes_on : (stamp : Stamp) (mirror : MirrorState) (given : StepAct) (all : List Indication) (old new : Book)
+pub stepped-goes_on : (stamp : Stamp) (mirror : MirrorState) (given : StepAct) (all : List LinkIndication) (old new : Book)
     → new ≡ heard_all stamp mirror all (released_beside stamp (released_with old given) (recorded stamp given old)) → GoesOn old new
 stepped-goes_on stamp mirror given all old new e =
     let noted : Book = recorded stamp given old in
     let after : Book = released_beside stamp (released_with old given) noted in
     subst (GoesOn old) (sym e) (on_and_on old noted (heard_all stamp mirror all after) (recorded-goes_on stamp given old) (on_and_on noted after (heard_all stamp mirror all after) (beside-goes_on stamp (released_with old given) noted) (heard_all-goes_on stamp mirror all after)))
+
+-- ---- whatever is answered
+
+pub performed-goes_on : {A U D : Type 0} (up : Kind U Frame) (down : Kind D Report) (stamp : Stamp) (given : LinkAct) (old new : State U D) (result : Result (Flight A) Refusal)
+    → Performs up down old stamp (any_act.Link given) new result → OnOk result (GoesOn old.book new.book)
+performed-goes_on up down stamp given old new (Ok flight) done = flown-goes_on stamp old.mirror given flight.said old.book new.book done.answers.1.book
+performed-goes_on up down stamp given old new (Err e) done = tt
+
+pub noted-goes_on : {A U D : Type 0} (up : Kind U Frame) (down : Kind D Report) (stamp : Stamp) (given : StepAct) (old new : State U D) (result : Result (Flight A) Refusal)
+    → Performs up down old stamp (any_act.Step given) new result → OnOk result (GoesOn old.book new.book)
+noted-goes_on up down stamp given old new (Ok flight) done = stepped-goes_on stamp old.mirror given flight.said old.book new.book done.answers.1.book
+noted-goes_on up down stamp given old new (Err e) done = tt

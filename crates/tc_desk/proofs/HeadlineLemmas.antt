@@ -2,27 +2,27 @@
 use Rattle.std.proofs.Common.{◌≡◌, ℕ, inl, inr, Bool, true, false, Option, Some, None, List, [], ◌∷◌, ◌++◌, map, fold, refl, sym, ◌∙◌, ap, subst, append-nil}
 use Rattle.std.specs.Prelude.{MatchBool}
 use Rattle.std.specs.List.{flat_map}
-use Rattle.tc_types.specs.declared.frames.Frame.{Frame}
-use Rattle.tc_types.specs.declared.directives.Directive.{Directive}
-use Rattle.tc_types.specs.declared.reports.Report.{Report}
-use Rattle.tc_types.specs.declared.reports.Report.TheVariants as report
-use Rattle.tc_types.specs.declared.reports.Telemetry.{Telemetry}
+use Rattle.tc_types.specs.declared.link.frames.Frame.{Frame}
+use Rattle.tc_types.specs.declared.link.directives.Directive.{Directive}
+use Rattle.tc_types.specs.declared.link.reports.Report.{Report}
+use Rattle.tc_types.specs.declared.link.reports.Report.TheVariants as report
+use Rattle.tc_types.specs.declared.link.reports.Telemetry.{Telemetry}
 use Rattle.tc_types.specs.declared.requests.Request.{Request}
-use Rattle.tc_types.specs.declared.telecommands.Telecommand.{Telecommand}
+use Rattle.tc_types.specs.declared.link.telecommands.Telecommand.{Telecommand}
 use Rattle.tc_types.specs.declared.acts.LinkAct.{LinkAct}
 use Rattle.tc_types.specs.declared.acts.LinkAct.TheVariants as link_act
 use Rattle.tc_types.specs.declared.acts.StepAct.{StepAct}
 use Rattle.tc_types.specs.declared.acts.Act.{Act}
 use Rattle.tc_types.specs.declared.acts.Act.TheVariants as act
-use Rattle.tc_farm.specs.declared.farms.Verdict.{Verdict}
-use Rattle.tc_farm.specs.declared.farms.Verdict.TheVariants as verdict
+use Rattle.tc_farm.specs.declared.farms.FrameVerdict.{FrameVerdict}
+use Rattle.tc_farm.specs.declared.farms.FrameVerdict.TheVariants as verdict
 use Rattle.tc_fop.specs.declared.signals.Indication.{Indication as Signal}
 use Rattle.tc_fop.specs.Machine.{Action, Out, option_list, output}
 use Rattle.tc_fop.specs.Moves.{is_initiation}
 use Rattle.tc_world.specs.declared.events.Event.{Event}
 use Rattle.tc_world.specs.declared.events.Event.TheVariants as event
-use Rattle.tc_world.specs.declared.events.Indication.{Indication}
-use Rattle.tc_world.specs.declared.events.Indication.TheVariants as said
+use Rattle.tc_world.specs.declared.events.LinkIndication.{LinkIndication}
+use Rattle.tc_world.specs.declared.events.LinkIndication.TheVariants as said
 use Rattle.tc_world.specs.Links.{Kind}
 use Rattle.tc_world.specs.Logs.{Log}
 use Rattle.tc_world.specs.Sublist.{IsSublist}
@@ -35,7 +35,7 @@ use Rattle.tc_board.specs.Board.{BoardState, accepted}
 use Rattle.tc_book.specs.declared.stamps.Stamp.{Stamp}
 use Rattle.tc_book.specs.Book.{request_at}
 use Rattle.tc_book.specs.Logs.{released_with}
-use Rattle.tc_desk.specs.declared.firsts.First.{First}
+use Rattle.tc_desk.specs.declared.firsts.FirstLine.{FirstLine}
 use Rattle.tc_desk.specs.State.{State}
 use Rattle.tc_desk.specs.Asks.{event_of, offer_at, has_buffer, taken_in, board_after, reports_after}
 use Rattle.tc_desk.specs.Machine.{Happened, Passes, PutsDown, Reports, Flies, FliesBeside, Does}
@@ -58,7 +58,7 @@ is_coming_up (event.Put telemetry) = false
 is_coming_up event.Downlink = false
 is_coming_up (event.LoseDown place) = false
 
-abbrev pub taken_said : List Indication → List ℕ
+abbrev pub taken_said : List LinkIndication → List ℕ
 taken_said all = flat_map accepted_said all
 
 fop_takes : (signals : List Signal) → taken_said (map said.Fop signals) ≡ []
@@ -73,17 +73,17 @@ loss_takes : (found : Bool) → taken_said (told_of_loss found) ≡ []
 loss_takes true = refl
 loss_takes false = refl
 
-directs_takes : {U D : Type 0} (up : Kind U Frame) (down : Kind D Report) (given : Directive) (actions : List Action) (w v : Whole U D) (all : List Indication) (initiation : Bool)
+directs_takes : {U D : Type 0} (up : Kind U Frame) (down : Kind D Report) (given : Directive) (actions : List Action) (w v : Whole U D) (all : List LinkIndication) (initiation : Bool)
     → MatchBool initiation (Begins up down given actions w v all) (Carries up actions w v all) → taken_said all ≡ []
 directs_takes up down given actions w v all true h = ap taken_said h.answered ∙ fops_take (output actions w.fop)
 directs_takes up down given actions w v all false h = ap taken_said h.answered ∙ fops_take (output actions w.fop)
 
-hears_takes : {U D : Type 0} (up : Kind U Frame) (item : Report) (w v : Whole U D) (all : List Indication) → Hears up item w v all → taken_said all ≡ []
+hears_takes : {U D : Type 0} (up : Kind U Frame) (item : Report) (w v : Whole U D) (all : List LinkIndication) → Hears up item w v all → taken_said all ≡ []
 hears_takes up (report.Word word) w v all (heard, actions, rest, reads, gives, h, answered) = ap taken_said answered ∙ ap taken_said h.answered ∙ fops_take (output actions w.fop)
 hears_takes up (report.Telemetry telemetry) w v all (readied, whole, answered) = ap taken_said answered
 
 -- nothing is accepted but of what comes up
-takes_nothing : {U D : Type 0} (up : Kind U Frame) (down : Kind D Report) (given : Event) (w v : Whole U D) (all : List Indication) → is_coming_up given ≡ false → Happens up down given w v all → taken_said all ≡ []
+takes_nothing : {U D : Type 0} (up : Kind U Frame) (down : Kind D Report) (given : Event) (w v : Whole U D) (all : List LinkIndication) → is_coming_up given ≡ false → Happens up down given w v all → taken_said all ≡ []
 takes_nothing up down (event.Offer request body) w v all other (actions, unknown, gives, h) = ap taken_said h.answered ∙ fops_take (output actions w.fop)
 takes_nothing up down (event.Directive given) w v all other (actions, gives, h, fits, level) = directs_takes up down given actions w (unjudged w v) all (is_initiation given) h
 takes_nothing up down event.Tick w v all other (actions, gives, h) = ap taken_said h.answered ∙ fops_take (output actions w.fop)
@@ -96,13 +96,13 @@ takes_nothing up down event.Downlink w v all other (inl (nothing, h)) = ap taken
 takes_nothing up down event.Downlink w v all other (inr h) = hears_takes up h.item (record w { down = h.left }) v all h.heard
 takes_nothing up down (event.LoseDown place) w v all other h = ap taken_said h.answered ∙ loss_takes h.found
 
-verdict_takes : (given : Verdict) → taken_said (said.Farm given ∷ []) ≡ map (λ (t : Telecommand). t.request) (option_list (taken_in (said.Farm given ∷ [])))
+verdict_takes : (given : FrameVerdict) → taken_said (said.Farm given ∷ []) ≡ map (λ (t : Telecommand). t.request) (option_list (taken_in (said.Farm given ∷ [])))
 verdict_takes (verdict.Accepted n body) = refl
 verdict_takes verdict.Discarded = refl
 verdict_takes verdict.Control = refl
 
 -- what is accepted of what comes up is what is told
-takes_one : {U D : Type 0} (up : Kind U Frame) (down : Kind D Report) (room : Bool) (w v : Whole U D) (all : List Indication) → Happens up down (event.Uplink room) w v all
+takes_one : {U D : Type 0} (up : Kind U Frame) (down : Kind D Report) (room : Bool) (w v : Whole U D) (all : List LinkIndication) → Happens up down (event.Uplink room) w v all
     → taken_said all ≡ map (λ (t : Telecommand). t.request) (option_list (taken_in all))
 takes_one up down room w v all (inl (nothing, h)) = subst (λ l. taken_said l ≡ map (λ (t : Telecommand). t.request) (option_list (taken_in l))) (sym h.answered) refl
 takes_one up down room w v all (inr h) = subst (λ l. taken_said l ≡ map (λ (t : Telecommand). t.request) (option_list (taken_in l))) (sym h.answered) (verdict_takes _)
@@ -110,7 +110,7 @@ takes_one up down room w v all (inr h) = subst (λ l. taken_said l ≡ map (λ (
 -- ---- what comes on board
 
 -- the same requests are accepted
-happened_none : {U D : Type 0} (up : Kind U Frame) (down : Kind D Report) (given : Event) (w v : Whole U D) (all : List Indication) → is_coming_up given ≡ false → Happened up down given w v all → all_accepted v ≡ all_accepted w
+happened_none : {U D : Type 0} (up : Kind U Frame) (down : Kind D Report) (given : Event) (w v : Whole U D) (all : List LinkIndication) → is_coming_up given ≡ false → Happened up down given w v all → all_accepted v ≡ all_accepted w
 happened_none up down given w v all other h =
     h.tells.accepted ∙ ap (λ l. all_accepted w ++ l) (takes_nothing up down given w v all other h.happens) ∙ append-nil (all_accepted w)
 
@@ -127,7 +127,7 @@ reports_none up down items w v reports = puts_none up down items reports.ready v
 none_taken : {U D : Type 0} (w v : Whole U D) → all_accepted v ≡ all_accepted w → all_accepted v ≡ all_accepted w ++ []
 none_taken w v same = same ∙ sym (append-nil (all_accepted w))
 
-offer_none : {U D : Type 0} (up : Kind U Frame) (down : Kind D Report) (n : ℕ) (old new : State U D) (all : List Indication) (asked : Option Request)
+offer_none : {U D : Type 0} (up : Kind U Frame) (down : Kind D Report) (n : ℕ) (old new : State U D) (all : List LinkIndication) (asked : Option Request)
     → Passes up down (offer_at old.book n asked) old.world new.world all → all_accepted new.world ≡ all_accepted old.world
 offer_none {U} {D} up down n old new all None passes = ap (λ (x : Whole U D). all_accepted x) passes.0
 offer_none up down n old new all (Some request) passes = happened_none up down _ old.world new.world all refl passes
@@ -136,7 +136,7 @@ board_takes : (taken : Option Telecommand) (board : BoardState) → board_after 
 board_takes None board = refl
 board_takes (Some t) board = refl
 
-flight_takes : {U D : Type 0} (up : Kind U Frame) (down : Kind D Report) (given : LinkAct) (old new : State U D) (all : List Indication) → Flies up down given old new all → TakesAccepted (act.Link given) old new
+flight_takes : {U D : Type 0} (up : Kind U Frame) (down : Kind D Report) (given : LinkAct) (old new : State U D) (all : List LinkIndication) → Flies up down given old new all → TakesAccepted (act.Link given) old new
 flight_takes up down (link_act.Release n) old new all flies = record { taken = []; written = none_taken old.world new.world (offer_none up down n old new all (request_at old.book n) flies.0); board = flies.1 }
 flight_takes up down (link_act.Direct given) old new all flies = record { taken = []; written = none_taken old.world new.world (happened_none up down (event.Directive given) old.world new.world all refl flies.0); board = flies.1 }
 flight_takes up down link_act.Tick old new all flies = record { taken = []; written = none_taken old.world new.world (happened_none up down event.Tick old.world new.world all refl flies.0); board = flies.1 }
@@ -162,12 +162,12 @@ flight_takes up down link_act.Work old new all flies = record {
 flight_takes up down (link_act.Clock time) old new all flies = record { taken = []; written = none_taken old.world new.world (reports_none up down flies.items old.world new.world flies.reports); board = flies.board }
 
 -- a step, and the release that comes with it, if one does
-beside_takes : {U D : Type 0} (up : Kind U Frame) (down : Kind D Report) (given : StepAct) (beside : Option ℕ) (old new : State U D) (all : List Indication) → FliesBeside up down beside old new all → TakesAccepted (act.Step given) old new
+beside_takes : {U D : Type 0} (up : Kind U Frame) (down : Kind D Report) (given : StepAct) (beside : Option ℕ) (old new : State U D) (all : List LinkIndication) → FliesBeside up down beside old new all → TakesAccepted (act.Step given) old new
 beside_takes {U} {D} up down given None old new all stands = record { taken = []; written = none_taken old.world new.world (ap (λ (x : Whole U D). all_accepted x) stands.0); board = stands.1 }
 beside_takes up down given (Some n) old new all flies = record { taken = []; written = none_taken old.world new.world (offer_none up down n old new all (request_at old.book n) flies.0); board = flies.1 }
 
 -- an act gives the spacecraft what it adds to the accepted
-pub does_take : {U D : Type 0} (up : Kind U Frame) (down : Kind D Report) (stamp : Stamp) (given : Act) (old new : State U D) (all : List Indication) (first : First)
+pub does_take : {U D : Type 0} (up : Kind U Frame) (down : Kind D Report) (stamp : Stamp) (given : Act) (old new : State U D) (all : List LinkIndication) (first : FirstLine)
     → Does up down stamp given old new all first → TakesAccepted given old new
 does_take {U} {D} up down stamp (act.Book given) old new all first does = record { taken = []; written = none_taken old.world new.world (ap (λ (x : Whole U D). all_accepted x) does.link.0); board = does.link.1 }
 does_take up down stamp (act.Link given) old new all first does = flight_takes up down given old new all does.link
@@ -177,7 +177,7 @@ does_take {U} {D} up down stamp (act.Ask asked) old new all first does =
 
 -- ---- good starts
 
-happened_clean : {U D : Type 0} (up : Kind U Frame) (down : Kind D Report) (given : Event) (w v : Whole U D) (all : List Indication) → Happened up down given w v all → v.clean ≡ clean_asked up down (Some given) w
+happened_clean : {U D : Type 0} (up : Kind U Frame) (down : Kind D Report) (given : Event) (w v : Whole U D) (all : List LinkIndication) → Happened up down given w v all → v.clean ≡ clean_asked up down (Some given) w
 happened_clean up down given w v all h = clean_is up down given w v all h.happens
 
 pub before_clean : {U D : Type 0} (up : Kind U Frame) (down : Kind D Report) (w v : Whole U D) → IsAsBefore up down w v → v.clean ≡ w.clean
@@ -190,11 +190,11 @@ puts_clean up down (item ∷ items) w v puts = puts_clean up down items puts.0 v
 reports_clean : {U D : Type 0} (up : Kind U Frame) (down : Kind D Report) (items : List Telemetry) (w v : Whole U D) → Reports up down items w v → v.clean ≡ w.clean
 reports_clean up down items w v reports = puts_clean up down items reports.ready v reports.put ∙ before_clean up down w reports.ready reports.readied
 
-passes_clean : {U D : Type 0} (up : Kind U Frame) (down : Kind D Report) (asked : Option Event) (w v : Whole U D) (all : List Indication) → Passes up down asked w v all → v.clean ≡ clean_asked up down asked w
+passes_clean : {U D : Type 0} (up : Kind U Frame) (down : Kind D Report) (asked : Option Event) (w v : Whole U D) (all : List LinkIndication) → Passes up down asked w v all → v.clean ≡ clean_asked up down asked w
 passes_clean {U} {D} up down None w v all passes = ap (λ (x : Whole U D). x.clean) passes.0
 passes_clean up down (Some given) w v all passes = happened_clean up down given w v all passes
 
-flight_clean : {U D : Type 0} (up : Kind U Frame) (down : Kind D Report) (given : LinkAct) (old new : State U D) (all : List Indication) → Flies up down given old new all → new.world.clean ≡ clean_after up down old (act.Link given)
+flight_clean : {U D : Type 0} (up : Kind U Frame) (down : Kind D Report) (given : LinkAct) (old new : State U D) (all : List LinkIndication) → Flies up down given old new all → new.world.clean ≡ clean_after up down old (act.Link given)
 flight_clean up down (link_act.Release n) old new all flies = passes_clean up down (event_of old (link_act.Release n)) old.world new.world all flies.0
 flight_clean up down (link_act.Direct given) old new all flies = passes_clean up down (event_of old (link_act.Direct given)) old.world new.world all flies.0
 flight_clean up down link_act.Tick old new all flies = passes_clean up down (event_of old link_act.Tick) old.world new.world all flies.0
@@ -211,13 +211,13 @@ flight_clean up down link_act.Work old new all flies =
 flight_clean up down (link_act.Clock time) old new all flies = reports_clean up down flies.items old.world new.world flies.reports
 
 -- a release that comes with a record, if one does
-beside_clean : {U D : Type 0} (up : Kind U Frame) (down : Kind D Report) (beside : Option ℕ) (old new : State U D) (all : List Indication) → FliesBeside up down beside old new all
+beside_clean : {U D : Type 0} (up : Kind U Frame) (down : Kind D Report) (beside : Option ℕ) (old new : State U D) (all : List LinkIndication) → FliesBeside up down beside old new all
     → new.world.clean ≡ clean_asked up down (event_beside old beside) old.world
 beside_clean {U} {D} up down None old new all stands = ap (λ (x : Whole U D). x.clean) stands.0
 beside_clean up down (Some n) old new all flies = passes_clean up down (event_of old (link_act.Release n)) old.world new.world all flies.0
 
 -- an initiation is a good start or not, and no other act is a start
-pub does_clean : {U D : Type 0} (up : Kind U Frame) (down : Kind D Report) (stamp : Stamp) (given : Act) (old new : State U D) (all : List Indication) (first : First)
+pub does_clean : {U D : Type 0} (up : Kind U Frame) (down : Kind D Report) (stamp : Stamp) (given : Act) (old new : State U D) (all : List LinkIndication) (first : FirstLine)
     → Does up down stamp given old new all first → new.world.clean ≡ clean_after up down old given
 does_clean {U} {D} up down stamp (act.Book given) old new all first does = ap (λ (x : Whole U D). x.clean) does.link.0
 does_clean up down stamp (act.Link given) old new all first does = flight_clean up down given old new all does.link

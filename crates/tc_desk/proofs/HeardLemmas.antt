@@ -2,7 +2,7 @@
 use Rattle.std.proofs.Common.{◌≡◌, ℕ, ◌+◌, ◌≤◌, List, [], ◌∷◌, ◌++◌, length, refl, sym, ◌∙◌, subst, append_assoc, append-nil, arith}
 use Rattle.std.proofs.lemmas.List.{length-append}
 use Rattle.std.specs.List.{flat_map}
-use Rattle.tc_world.specs.declared.events.Indication.{Indication}
+use Rattle.tc_world.specs.declared.events.LinkIndication.{LinkIndication}
 use Rattle.tc_world.specs.Telling.{leaves_said, sent_said, confirmed_said}
 use Rattle.tc_book.specs.declared.stamps.Stamp.{Stamp}
 use Rattle.tc_book.specs.Book.{Book}
@@ -14,14 +14,14 @@ use Rattle.tc_desk.proofs.RiderLemmas.{hears_apart}
 use Rattle.tc_desk.proofs.RowLemmas.{hears_told}
 
 -- one indication
-hears_tied : (o : ℕ) (stamp : Stamp) (mirror : MirrorState) (i : Indication) (book : Book) (waits sent confirmed : List ℕ) → length (leaves_said i ++ waits) ≤ 1
+hears_tied : (o : ℕ) (stamp : Stamp) (mirror : MirrorState) (i : LinkIndication) (book : Book) (waits sent confirmed : List ℕ) → length (leaves_said i ++ waits) ≤ 1
     → AreTied o book (leaves_said i ++ waits) sent confirmed → AreTied o (heard stamp mirror book i) waits (sent ++ sent_said i) (confirmed ++ confirmed_said i)
 hears_tied o stamp mirror i book waits sent confirmed few tied =
     let both = hears_both stamp mirror i book waits sent few (tied.waits, tied.sent) in
     record { waits = both.0; sent = both.1; apart = hears_apart stamp mirror i book waits sent few tied.waits tied.sent tied.apart; rows = hears_told o stamp mirror i book waits sent confirmed tied.waits tied.rows }
 
 -- all that the link tells of an event
-pub heard_tied : (o : ℕ) (stamp : Stamp) (mirror : MirrorState) (all : List Indication) (book : Book) (waits rest sent confirmed : List ℕ)
+pub heard_tied : (o : ℕ) (stamp : Stamp) (mirror : MirrorState) (all : List LinkIndication) (book : Book) (waits rest sent confirmed : List ℕ)
     → waits ≡ flat_map leaves_said all ++ rest → length waits ≤ 1 → AreTied o book waits sent confirmed
     → AreTied o (heard_all stamp mirror all book) rest (sent ++ flat_map sent_said all) (confirmed ++ flat_map confirmed_said all)
 heard_tied o stamp mirror [] book waits rest sent confirmed e few tied =

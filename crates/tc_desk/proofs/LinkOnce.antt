@@ -1,13 +1,13 @@
 -- Over links that are lists an event makes one thing of a link, but for the room of its lists.
-use Rattle.std.proofs.Common.{◌≡◌, ℕ, inl, inr, Bool, true, false, Ok, Err, Result, List, [], ◌∷◌, ◌++◌, length, map, refl, sym, ◌∙◌, ap, ap₂, subst}
-use Rattle.std.specs.Prelude.{MatchBool, if◌then◌else◌, Option, Some, None, nat_lt, remove, ◌+◌, ◌*◌, ◌^◌, ◌<◌}
+use Rattle.std.proofs.Common.{◌≡◌, ℕ, inl, inr, Bool, true, false, Ok, Result, List, [], ◌∷◌, ◌++◌, length, refl, sym, ◌∙◌, ap, ap₂, subst}
+use Rattle.std.specs.Prelude.{MatchBool, if◌then◌else◌, Option, Some, nat_lt, remove, ◌+◌, ◌*◌, ◌^◌, ◌<◌}
 use Rattle.std.specs.Int.{from_bool}
 use Rattle.std.proofs.lemmas.List.{append_assoc, append-nil}
-use Rattle.tc_types.specs.declared.directives.Directive.{Directive}
-use Rattle.tc_types.specs.declared.frames.Frame.{Frame}
+use Rattle.tc_types.specs.declared.link.directives.Directive.{Directive}
+use Rattle.tc_types.specs.declared.link.frames.Frame.{Frame}
 use Rattle.tc_types.specs.declared.refusals.Refusal.{Refusal}
-use Rattle.tc_types.specs.declared.reports.Report.{Report}
-use Rattle.tc_types.specs.declared.reports.Report.TheVariants as report
+use Rattle.tc_types.specs.declared.link.reports.Report.{Report}
+use Rattle.tc_types.specs.declared.link.reports.Report.TheVariants as report
 use Rattle.tc_farm.specs.declared.clcws.Clcw.{Clcw}
 use Rattle.tc_farm.specs.declared.farms.FarmView.{FarmView}
 use Rattle.tc_farm.specs.ControlWord.{word_of}
@@ -17,8 +17,8 @@ use Rattle.tc_fop.specs.Calls.{Given, offered, directed, reported, ticked}
 use Rattle.tc_fop.specs.Moves.{is_initiation}
 use Rattle.tc_world.specs.declared.events.Event.{Event}
 use Rattle.tc_world.specs.declared.events.Event.TheVariants as event
-use Rattle.tc_world.specs.declared.events.Indication.{Indication}
-use Rattle.tc_world.specs.declared.events.Indication.TheVariants as said
+use Rattle.tc_world.specs.declared.events.LinkIndication.{LinkIndication}
+use Rattle.tc_world.specs.declared.events.LinkIndication.TheVariants as said
 use Rattle.tc_world.specs.Abstraction.{Bare, seen}
 use Rattle.tc_world.specs.InFlight.{InFlight, listed}
 use Rattle.tc_world.specs.Kept.{AreOwnWords}
@@ -34,7 +34,7 @@ abbrev pub bare : Listed → Bare
 bare w = seen listed listed w
 
 -- two ends of one event: what is seen of the link, and what is told
-pub record IsOnce (v1 v2 : Listed) (a1 a2 : List Indication) : Type 0 where
+pub record IsOnce (v1 v2 : Listed) (a1 a2 : List LinkIndication) : Type 0 where
   pub world : bare v1 ≡ bare v2
   pub told : a1 ≡ a2
 
@@ -77,14 +77,14 @@ begun_on given acts b = record b {
   clean = clean_after lossy lossy given b;
 }
 
-carries_is : (acts : List Action) (w v : Listed) (a : List Indication) → Carries listed acts w v a → bare v ≡ carried_on acts (bare w)
+carries_is : (acts : List Action) (w v : Listed) (a : List LinkIndication) → Carries listed acts w v a → bare v ≡ carried_on acts (bare w)
 carries_is acts w v a h =
     let frames : List Frame = (output acts w.fop).frames in
     let up : v.up.content ≡ w.up.content ++ frames = puts_all_is h.ready frames v.up h.frames ∙ ap (λ (l : List Frame). l ++ frames) (readied_is w.up h.ready h.readied) in
     ap (λ (x : Listed). bare x) h.whole
     ∙ ap (λ (l : List Frame). record (bare w) { fop = after acts w.fop; up = l; newest = noted (output acts w.fop) w.newest }) up
 
-begins_is : (given : Directive) (acts : List Action) (w v : Listed) (a : List Indication) → Begins listed listed given acts w v a → bare v ≡ begun_on given acts (bare w)
+begins_is : (given : Directive) (acts : List Action) (w v : Listed) (a : List LinkIndication) → Begins listed listed given acts w v a → bare v ≡ begun_on given acts (bare w)
 begins_is given acts w v a h =
     let frames : List Frame = (output acts w.fop).frames in
     let up : v.up.content ≡ w.up.content ++ frames = puts_all_is h.ready frames v.up h.frames ∙ ap (λ (l : List Frame). l ++ frames) (readied_is w.up h.ready h.readied) in
@@ -97,13 +97,13 @@ begins_is given acts w v a h =
       clean = clean_after lossy lossy given (bare w);
     }) up
 
-carries_once : (acts1 acts2 : List Action) (w1 w2 v1 v2 : Listed) (a1 a2 : List Indication) → bare w1 ≡ bare w2 → acts1 ≡ acts2 → Carries listed acts1 w1 v1 a1 → Carries listed acts2 w2 v2 a2 → IsOnce v1 v2 a1 a2
+carries_once : (acts1 acts2 : List Action) (w1 w2 v1 v2 : Listed) (a1 a2 : List LinkIndication) → bare w1 ≡ bare w2 → acts1 ≡ acts2 → Carries listed acts1 w1 v1 a1 → Carries listed acts2 w2 v2 a2 → IsOnce v1 v2 a1 a2
 carries_once acts1 acts2 w1 w2 v1 v2 a1 a2 same acts h1 h2 = record {
   world = carries_is acts1 w1 v1 a1 h1 ∙ ap₂ carried_on acts same ∙ sym (carries_is acts2 w2 v2 a2 h2);
   told = h1.answered ∙ ap₂ (λ (l : List Action) (b : Bare). told_by_fop (output l b.fop)) acts same ∙ sym h2.answered;
 }
 
-directs_once : (given : Directive) (acts1 acts2 : List Action) (w1 w2 v1 v2 : Listed) (a1 a2 : List Indication) (initiation : Bool) → bare w1 ≡ bare w2 → acts1 ≡ acts2
+directs_once : (given : Directive) (acts1 acts2 : List Action) (w1 w2 v1 v2 : Listed) (a1 a2 : List LinkIndication) (initiation : Bool) → bare w1 ≡ bare w2 → acts1 ≡ acts2
     → MatchBool initiation (Begins listed listed given acts1 w1 v1 a1) (Carries listed acts1 w1 v1 a1)
     → MatchBool initiation (Begins listed listed given acts2 w2 v2 a2) (Carries listed acts2 w2 v2 a2) → IsOnce v1 v2 a1 a2
 directs_once given acts1 acts2 w1 w2 v1 v2 a1 a2 true same acts h1 h2 = record {
@@ -113,7 +113,7 @@ directs_once given acts1 acts2 w1 w2 v1 v2 a1 a2 true same acts h1 h2 = record {
 directs_once given acts1 acts2 w1 w2 v1 v2 a1 a2 false same acts h1 h2 = carries_once acts1 acts2 w1 w2 v1 v2 a1 a2 same acts h1 h2
 
 -- what is judged of widths and starts is judged of what is seen
-judged_once : (given : Directive) (w1 w2 v1 v2 : Listed) (a1 a2 : List Indication) → bare w1 ≡ bare w2 → IsOnce (unjudged w1 v1) (unjudged w2 v2) a1 a2
+judged_once : (given : Directive) (w1 w2 v1 v2 : Listed) (a1 a2 : List LinkIndication) → bare w1 ≡ bare w2 → IsOnce (unjudged w1 v1) (unjudged w2 v2) a1 a2
     → v1.fits ≡ (if w1.fits then is_fitting v1.fop v1.farm else false) → v2.fits ≡ (if w2.fits then is_fitting v2.fop v2.farm else false)
     → v1.level ≡ level_after listed listed given w1 → v2.level ≡ level_after listed listed given w2 → IsOnce v1 v2 a1 a2
 judged_once given w1 w2 v1 v2 a1 a2 same once fits1 fits2 level1 level2 =
@@ -133,10 +133,10 @@ before_is w v same =
     ∙ ap (λ (l : List Frame). record (bare w) { up = l; down = v.down.content }) (readied_is w.up v.up same.up)
     ∙ ap (λ (l : List Report). record (bare w) { down = l }) (readied_is w.down v.down same.down)
 
-idles_once : (w1 w2 v1 v2 : Listed) (a1 a2 : List Indication) → bare w1 ≡ bare w2 → IsIdle listed listed w1 v1 a1 → IsIdle listed listed w2 v2 a2 → IsOnce v1 v2 a1 a2
+idles_once : (w1 w2 v1 v2 : Listed) (a1 a2 : List LinkIndication) → bare w1 ≡ bare w2 → IsIdle listed listed w1 v1 a1 → IsIdle listed listed w2 v2 a2 → IsOnce v1 v2 a1 a2
 idles_once w1 w2 v1 v2 a1 a2 same h1 h2 = record { world = before_is w1 v1 h1.same ∙ same ∙ sym (before_is w2 v2 h2.same); told = h1.answered ∙ sym h2.answered }
 
-boards_once : (free : Bool) (w1 w2 v1 v2 : Listed) (a1 a2 : List Indication) → bare w1 ≡ bare w2 → Boards listed free w1 v1 a1 → Boards listed free w2 v2 a2 → IsOnce v1 v2 a1 a2
+boards_once : (free : Bool) (w1 w2 v1 v2 : Listed) (a1 a2 : List LinkIndication) → bare w1 ≡ bare w2 → Boards listed free w1 v1 a1 → Boards listed free w2 v2 a2 → IsOnce v1 v2 a1 a2
 boards_once free w1 w2 v1 v2 a1 a2 same h1 h2 =
     let both : h1.frame ∷ v1.up.content ≡ h2.frame ∷ v2.up.content = sym h1.taken ∙ ap (λ (b : Bare). b.up) same ∙ h2.taken in
     let frame : h1.frame ≡ h2.frame = first_same _ _ _ _ both in
@@ -149,7 +149,7 @@ boards_once free w1 w2 v1 v2 a1 a2 same h1 h2 =
       told = h1.answered ∙ ap₂ (λ (f : Frame) (b : Bare). said.Farm (verdict_of b.farm f free) ∷ []) frame same ∙ sym h2.answered;
     }
 
-loses_up_once : (place : ℕ) (w1 w2 v1 v2 : Listed) (a1 a2 : List Indication) → bare w1 ≡ bare w2 → LosesUp listed place w1 v1 a1 → LosesUp listed place w2 v2 a2 → IsOnce v1 v2 a1 a2
+loses_up_once : (place : ℕ) (w1 w2 v1 v2 : Listed) (a1 a2 : List LinkIndication) → bare w1 ≡ bare w2 → LosesUp listed place w1 v1 a1 → LosesUp listed place w2 v2 a2 → IsOnce v1 v2 a1 a2
 loses_up_once place w1 w2 v1 v2 a1 a2 same h1 h2 =
     let on : List Frame → Bare → Bare = λ l b. record b { up = l } in
     record {
@@ -158,7 +158,7 @@ loses_up_once place w1 w2 v1 v2 a1 a2 same h1 h2 =
       told = h1.answered ∙ ap told_of_loss (h1.lost.0 ∙ ap (λ (b : Bare). nat_lt place (length b.up)) same ∙ sym h2.lost.0) ∙ sym h2.answered;
     }
 
-loses_down_once : (place : ℕ) (w1 w2 v1 v2 : Listed) (a1 a2 : List Indication) → bare w1 ≡ bare w2 → LosesDown listed place w1 v1 a1 → LosesDown listed place w2 v2 a2 → IsOnce v1 v2 a1 a2
+loses_down_once : (place : ℕ) (w1 w2 v1 v2 : Listed) (a1 a2 : List LinkIndication) → bare w1 ≡ bare w2 → LosesDown listed place w1 v1 a1 → LosesDown listed place w2 v2 a2 → IsOnce v1 v2 a1 a2
 loses_down_once place w1 w2 v1 v2 a1 a2 same h1 h2 =
     let on : List Report → Bare → Bare = λ l b. record b { down = l } in
     record {
@@ -167,10 +167,10 @@ loses_down_once place w1 w2 v1 v2 a1 a2 same h1 h2 =
       told = h1.answered ∙ ap told_of_loss (h1.lost.0 ∙ ap (λ (b : Bare). nat_lt place (length b.down)) same ∙ sym h2.lost.0) ∙ sym h2.answered;
     }
 
-descends_once : (i1 i2 : Report) (w1 w2 v1 v2 : Listed) (a1 a2 : List Indication) → bare w1 ≡ bare w2 → i1 ≡ i2 → Descends listed i1 w1 v1 a1 → Descends listed i2 w2 v2 a2 → IsOnce v1 v2 a1 a2
+descends_once : (i1 i2 : Report) (w1 w2 v1 v2 : Listed) (a1 a2 : List LinkIndication) → bare w1 ≡ bare w2 → i1 ≡ i2 → Descends listed i1 w1 v1 a1 → Descends listed i2 w2 v2 a2 → IsOnce v1 v2 a1 a2
 descends_once i1 i2 w1 w2 v1 v2 a1 a2 same item h1 h2 =
     let on : Report → Bare → Bare = λ i b. record b { down = b.down ++ i ∷ [] } in
-    let down : (i : Report) (w v : Listed) (a : List Indication) → Descends listed i w v a → bare v ≡ on i (bare w) =
+    let down : (i : Report) (w v : Listed) (a : List LinkIndication) → Descends listed i w v a → bare v ≡ on i (bare w) =
     λ i w v a h. ap (λ (x : Listed). bare x) h.whole
     ∙ ap (λ (l : List Report). record (bare w) { down = l }) (h.put ∙ ap (λ (l : List Report). l ++ i ∷ []) (readied_is w.down h.ready h.readied)) in
     record { world = down i1 w1 v1 a1 h1 ∙ ap₂ on item same ∙ sym (down i2 w2 v2 a2 h2); told = h1.answered ∙ sym h2.answered }
@@ -187,7 +187,7 @@ word_is farm vc clcw h = rw (h.channel, h.lockout, h.wait, h.retransmit, h.farm_
 heard_own : (word vc own_vc : ℕ) (heard : Option Clcw) (own : Clcw) → Reads word vc heard → word ≡ word_of own → own.vc ≡ own_vc → own_vc ≡ vc → own.report < 256 → heard ≡ Some own
 heard_own word vc own_vc heard own reads is channel same small = reads.again own small is (sym (channel ∙ same))
 
-hears_once : (item : Report) (w1 w2 v1 v2 : Listed) (a1 a2 : List Indication) (behind : List Report) → bare w1 ≡ bare w2 → AreOwnWords w1.vc (item ∷ behind) → Hears listed item w1 v1 a1 → Hears listed item w2 v2 a2 → IsOnce v1 v2 a1 a2
+hears_once : (item : Report) (w1 w2 v1 v2 : Listed) (a1 a2 : List LinkIndication) (behind : List Report) → bare w1 ≡ bare w2 → AreOwnWords w1.vc (item ∷ behind) → Hears listed item w1 v1 a1 → Hears listed item w2 v2 a2 → IsOnce v1 v2 a1 a2
 hears_once (report.Word word) w1 w2 v1 v2 a1 a2 behind same own (heard1, acts1, rest1, reads1, gives1, h1, answered1) (heard2, acts2, rest2, reads2, gives2, h2, answered2) =
     let clcw : Clcw = own.0.0 in
     let vc : w1.vc ≡ w2.vc = ap (λ (b : Bare). b.vc) same in
@@ -197,13 +197,13 @@ hears_once (report.Word word) w1 w2 v1 v2 a1 a2 behind same own (heard1, acts1, 
     same_given (λ (m : Machine). reported m (Some clcw)) w1.fop w2.fop acts1 acts2 (ap (λ (b : Bare). b.fop) same)
     (subst (λ (o : Option Clcw). reported w1.fop o ≡ Ok acts1) is1 gives1) (subst (λ (o : Option Clcw). reported w2.fop o ≡ Ok acts2) is2 gives2) in
     let once = carries_once acts1 acts2 w1 w2 v1 v2 rest1 rest2 same acts h1 h2 in
-    record { world = once.world; told = answered1 ∙ ap (λ (l : List Indication). said.Received (report.Word word) ∷ l) once.told ∙ sym answered2 }
+    record { world = once.world; told = answered1 ∙ ap (λ (l : List LinkIndication). said.Received (report.Word word) ∷ l) once.told ∙ sym answered2 }
 hears_once (report.Telemetry telemetry) w1 w2 v1 v2 a1 a2 behind same own (readied1, whole1, answered1) (readied2, whole2, answered2) =
     let on : (w v : Listed) → IsReadied listed w.up v.up → v ≡ record w { up = v.up } → bare v ≡ bare w =
     λ w v readied whole. ap (λ (x : Listed). bare x) whole ∙ ap (λ (l : List Frame). record (bare w) { up = l }) (readied_is w.up v.up readied) in
     record { world = on w1 v1 readied1 whole1 ∙ same ∙ sym (on w2 v2 readied2 whole2); told = answered1 ∙ sym answered2 }
 
-lands_once : (w1 w2 v1 v2 : Listed) (a1 a2 : List Indication) → bare w1 ≡ bare w2 → AreOwnWords w1.vc w1.down.content → Lands listed listed w1 v1 a1 → Lands listed listed w2 v2 a2 → IsOnce v1 v2 a1 a2
+lands_once : (w1 w2 v1 v2 : Listed) (a1 a2 : List LinkIndication) → bare w1 ≡ bare w2 → AreOwnWords w1.vc w1.down.content → Lands listed listed w1 v1 a1 → Lands listed listed w2 v2 a2 → IsOnce v1 v2 a1 a2
 lands_once w1 w2 v1 v2 a1 a2 same own h1 h2 =
     let both : h1.item ∷ h1.left.content ≡ h2.item ∷ h2.left.content = sym h1.taken ∙ ap (λ (b : Bare). b.down) same ∙ h2.taken in
     let item : h1.item ≡ h2.item = first_same _ _ _ _ both in
@@ -240,7 +240,7 @@ own_for (event.Put telemetry) w own = tt
 own_for event.Downlink w own = own
 own_for (event.LoseDown place) w own = tt
 
-pub happens_once : (given : Event) (w1 w2 v1 v2 : Listed) (a1 a2 : List Indication) → bare w1 ≡ bare w2 → OwnFor given w1 → Happens listed listed given w1 v1 a1 → Happens listed listed given w2 v2 a2
+pub happens_once : (given : Event) (w1 w2 v1 v2 : Listed) (a1 a2 : List LinkIndication) → bare w1 ≡ bare w2 → OwnFor given w1 → Happens listed listed given w1 v1 a1 → Happens listed listed given w2 v2 a2
     → IsOnce v1 v2 a1 a2
 happens_once (event.Offer request body) w1 w2 v1 v2 a1 a2 same own (acts1, unknown1, gives1, h1) (acts2, unknown2, gives2, h2) =
     carries_once acts1 acts2 w1 w2 v1 v2 a1 a2 same

@@ -1,10 +1,10 @@
 -- What stands of a desk between two acts stands after a load.
 use Rattle.std.proofs.Common.{◌≡◌, ℕ, Ok, Err, Result, List, [], ◌++◌, sym, ◌∙◌, subst, append-nil}
-use Rattle.tc_types.specs.declared.frames.Frame.{Frame}
+use Rattle.tc_types.specs.declared.link.frames.Frame.{Frame}
 use Rattle.tc_types.specs.declared.refusals.Refusal.{Refusal}
-use Rattle.tc_types.specs.declared.reports.Report.{Report}
+use Rattle.tc_types.specs.declared.link.reports.Report.{Report}
 use Rattle.tc_fop.specs.Requests.{waiting_requests}
-use Rattle.tc_world.specs.declared.events.Indication.{Indication}
+use Rattle.tc_world.specs.declared.events.LinkIndication.{LinkIndication}
 use Rattle.tc_world.specs.Abstraction.{seen}
 use Rattle.tc_world.specs.Links.{Kind}
 use Rattle.tc_world.specs.Window.{all_confirmed}
@@ -17,7 +17,7 @@ use Rattle.tc_board.proofs.RollLemmas.{board_agrees}
 use Rattle.tc_book.specs.declared.stamps.Stamp.{Stamp}
 use Rattle.tc_book.specs.Book.{Book}
 use Rattle.tc_book.specs.Steps.{HasSteps}
-use Rattle.tc_desk.specs.declared.firsts.First.{First}
+use Rattle.tc_desk.specs.declared.firsts.FirstLine.{FirstLine}
 use Rattle.tc_desk.specs.Followed.{roll_of, IsPayloadOf, IsFlown, IsNamedDown, IsFollowed}
 use Rattle.tc_desk.specs.Loads.{Loading, loaded_with, LoadAnswers}
 use Rattle.tc_desk.specs.Riders.{carried_by, NoneIsOf}
@@ -79,7 +79,7 @@ load_stands {U} {D} up down stamp old parts book is steps stands =
     (steps_stand up down stamp old book (subst (λ (at : State U D). HasSteps stamp old.parts.book at.book) is steps) stands)
 
 -- and one that was refused
-pub answered_stands : {X U D : Type 0} (up : Kind U Frame) (down : Kind D Report) (all : X → List Indication) (first : X → First) (stamp : Stamp) (given : Loading)
+pub answered_stands : {X U D : Type 0} (up : Kind U Frame) (down : Kind D Report) (all : X → List LinkIndication) (first : X → FirstLine) (stamp : Stamp) (given : Loading)
     (old : DeskState U D) (parts : State U D) (answer : Result X Refusal)
     → LoadAnswers all first old.parts stamp given parts answer → HasSteps stamp old.parts.book parts.book → IsStanding up down old → IsStanding up down (record old { parts = parts })
 answered_stands up down all first stamp given old parts (Ok done) answers steps stands = load_stands up down stamp old parts (loaded_with stamp given old.parts.book) answers.is steps stands

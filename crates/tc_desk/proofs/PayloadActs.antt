@@ -5,14 +5,14 @@ use Rattle.tc_types.specs.declared.acts.Act.{Act}
 use Rattle.tc_types.specs.declared.acts.Act.TheVariants as act
 use Rattle.tc_types.specs.declared.acts.LinkAct.{LinkAct}
 use Rattle.tc_types.specs.declared.acts.LinkAct.TheVariants as link_act
-use Rattle.tc_types.specs.declared.frames.Frame.{Frame}
-use Rattle.tc_types.specs.declared.reports.Report.{Report}
-use Rattle.tc_types.specs.declared.reports.Telemetry.{Telemetry}
+use Rattle.tc_types.specs.declared.link.frames.Frame.{Frame}
+use Rattle.tc_types.specs.declared.link.reports.Report.{Report}
+use Rattle.tc_types.specs.declared.link.reports.Telemetry.{Telemetry}
 use Rattle.tc_types.specs.declared.requests.Request.{Request}
-use Rattle.tc_types.specs.declared.telecommands.Payload.{Payload}
+use Rattle.tc_types.specs.declared.link.telecommands.Payload.{Payload}
 use Rattle.tc_world.specs.declared.events.Event.{Event}
 use Rattle.tc_world.specs.declared.events.Event.TheVariants as event
-use Rattle.tc_world.specs.declared.events.Indication.{Indication}
+use Rattle.tc_world.specs.declared.events.LinkIndication.{LinkIndication}
 use Rattle.tc_world.specs.Abstraction.{seen}
 use Rattle.tc_world.specs.Links.{Kind}
 use Rattle.tc_world.specs.Payloads.{AreCarried, IsOfferOf, IsToldOf}
@@ -29,7 +29,7 @@ use Rattle.tc_desk.specs.Machine.{Happened, Passes, PutsDown, Reports, Boards, F
 use Rattle.tc_desk.specs.State.{State}
 
 -- What is carried over the link after something happened to it, and what was told then; what was sent before, and more.
-pub record CarriedOn {U D : Type 0} (P : ℕ → Payload → Type 0) (up : Kind U Frame) (down : Kind D Report) (old new : Whole U D) (all : List Indication) : Type 0 where
+pub record CarriedOn {U D : Type 0} (P : ℕ → Payload → Type 0) (up : Kind U Frame) (down : Kind D Report) (old new : Whole U D) (all : List LinkIndication) : Type 0 where
   pub payloads : AreCarried P (seen up down new)
   pub told : AllByRecursion (IsToldOf P (all_sent new)) all
   pub more : List ℕ
@@ -38,14 +38,14 @@ pub record CarriedOn {U D : Type 0} (P : ℕ → Payload → Type 0) (up : Kind 
 -- ---- steps of the link
 
 -- one event
-happened_on : {U D : Type 0} (P : ℕ → Payload → Type 0) (up : Kind U Frame) (down : Kind D Report) → OnlyLoses up → OnlyLoses down → (given : Event) (w v : Whole U D) (all : List Indication)
+happened_on : {U D : Type 0} (P : ℕ → Payload → Type 0) (up : Kind U Frame) (down : Kind D Report) → OnlyLoses up → OnlyLoses down → (given : Event) (w v : Whole U D) (all : List LinkIndication)
     → IsOfferOf P given → Happened up down given w v all → AreCarried P (seen up down w) → CarriedOn P up down w v all
 happened_on P up down losing_up losing_down given w v all own happened carried =
     let kept = payloads_kept P given (seen up down w) (seen up down v) all carried own (happens_seen up down losing_up losing_down given w v all happened.happens) in
     record { payloads = kept.0; told = kept.1; more = flat_map sent_said all; sent = happened.tells.sent }
 
 -- nothing happened to it
-same_on : {U D : Type 0} (P : ℕ → Payload → Type 0) (up : Kind U Frame) (down : Kind D Report) (w v : Whole U D) (all : List Indication) → v ≡ w → all ≡ [] → AreCarried P (seen up down w) → CarriedOn P up down w v all
+same_on : {U D : Type 0} (P : ℕ → Payload → Type 0) (up : Kind U Frame) (down : Kind D Report) (w v : Whole U D) (all : List LinkIndication) → v ≡ w → all ≡ [] → AreCarried P (seen up down w) → CarriedOn P up down w v all
 same_on {U} {D} P up down w v all same none carried = record {
   payloads = subst (λ (x : Whole U D). AreCarried P (seen up down x)) (sym same) carried;
   told = subst (AllByRecursion (IsToldOf P (all_sent v))) (sym none) tt;
@@ -79,7 +79,7 @@ reports_on P up down losing_up losing_down items w v reports carried =
 -- ---- acts
 
 -- a request that is offered, where there is one
-offer_on : {U D : Type 0} (P : ℕ → Payload → Type 0) (up : Kind U Frame) (down : Kind D Report) → OnlyLoses up → OnlyLoses down → (n : ℕ) (old : State U D) (v : Whole U D) (all : List Indication) (asked : Option Request)
+offer_on : {U D : Type 0} (P : ℕ → Payload → Type 0) (up : Kind U Frame) (down : Kind D Report) → OnlyLoses up → OnlyLoses down → (n : ℕ) (old : State U D) (v : Whole U D) (all : List LinkIndication) (asked : Option Request)
     → ((r : Request) → asked ≡ Some r → P n (payload_of old.book r.body))
     → Passes up down (offer_at old.book n asked) old.world v all → AreCarried P (seen up down old.world) → CarriedOn P up down old.world v all
 offer_on P up down losing_up losing_down n old v all None own passes carried = same_on P up down old.world v all passes.0 passes.1 carried
@@ -87,7 +87,7 @@ offer_on P up down losing_up losing_down n old v all (Some r) own passes carried
     happened_on P up down losing_up losing_down (event.Offer n (payload_of old.book r.body)) old.world v all (own r refl) passes carried
 
 -- a frame that comes on board, and the report that it makes
-boards_on : {U D : Type 0} (P : ℕ → Payload → Type 0) (up : Kind U Frame) (down : Kind D Report) → OnlyLoses up → OnlyLoses down → (old new : State U D) (all : List Indication)
+boards_on : {U D : Type 0} (P : ℕ → Payload → Type 0) (up : Kind U Frame) (down : Kind D Report) → OnlyLoses up → OnlyLoses down → (old new : State U D) (all : List LinkIndication)
     → Boards up down old new all → AreCarried P (seen up down old.world) → CarriedOn P up down old.world new.world all
 boards_on P up down losing_up losing_down old new all boards carried =
     let on = happened_on P up down losing_up losing_down (event.Uplink (has_buffer old.board)) boards.ready boards.carried all tt boards.frame (before_payloads P up down losing_up losing_down old.world boards.ready boards.readied carried) in
@@ -100,7 +100,7 @@ boards_on P up down losing_up losing_down old new all boards carried =
     }
 
 -- nothing was told, and nothing was sent
-quiet_on : {U D : Type 0} (P : ℕ → Payload → Type 0) (up : Kind U Frame) (down : Kind D Report) (w v : Whole U D) (all : List Indication) → all ≡ [] → AreCarried P (seen up down v) → all_sent v ≡ all_sent w → CarriedOn P up down w v all
+quiet_on : {U D : Type 0} (P : ℕ → Payload → Type 0) (up : Kind U Frame) (down : Kind D Report) (w v : Whole U D) (all : List LinkIndication) → all ≡ [] → AreCarried P (seen up down v) → all_sent v ≡ all_sent w → CarriedOn P up down w v all
 quiet_on P up down w v all none carried sent = record {
   payloads = carried;
   told = subst (AllByRecursion (IsToldOf P (all_sent v))) (sym none) tt;
@@ -109,7 +109,7 @@ quiet_on P up down w v all none carried sent = record {
 }
 
 -- an act on the link
-flies_on : {U D : Type 0} (P : ℕ → Payload → Type 0) (up : Kind U Frame) (down : Kind D Report) → OnlyLoses up → OnlyLoses down → (given : LinkAct) (old new : State U D) (all : List Indication)
+flies_on : {U D : Type 0} (P : ℕ → Payload → Type 0) (up : Kind U Frame) (down : Kind D Report) → OnlyLoses up → OnlyLoses down → (given : LinkAct) (old new : State U D) (all : List LinkIndication)
     → ((n : ℕ) (r : Request) → request_at old.book n ≡ Some r → P n (payload_of old.book r.body))
     → Flies up down given old new all → AreCarried P (seen up down old.world) → CarriedOn P up down old.world new.world all
 flies_on P up down losing_up losing_down (link_act.Release n) old new all own flies carried = offer_on P up down losing_up losing_down n old new.world all (request_at old.book n) (own n) flies.0 carried
@@ -129,14 +129,14 @@ flies_on P up down losing_up losing_down (link_act.Clock time) old new all own f
     quiet_on P up down old.world new.world all flies.silent told.0 told.1
 
 -- a release that comes with a record, if one does
-beside_on : {U D : Type 0} (P : ℕ → Payload → Type 0) (up : Kind U Frame) (down : Kind D Report) → OnlyLoses up → OnlyLoses down → (beside : Option ℕ) (old new : State U D) (all : List Indication)
+beside_on : {U D : Type 0} (P : ℕ → Payload → Type 0) (up : Kind U Frame) (down : Kind D Report) → OnlyLoses up → OnlyLoses down → (beside : Option ℕ) (old new : State U D) (all : List LinkIndication)
     → ((n : ℕ) (r : Request) → request_at old.book n ≡ Some r → P n (payload_of old.book r.body))
     → FliesBeside up down beside old new all → AreCarried P (seen up down old.world) → CarriedOn P up down old.world new.world all
 beside_on P up down losing_up losing_down None old new all own stands carried = same_on P up down old.world new.world all stands.0 stands.3 carried
 beside_on P up down losing_up losing_down (Some n) old new all own flies carried = flies_on P up down losing_up losing_down (link_act.Release n) old new all own flies carried
 
 -- each act, where P holds of what the book says of each request
-pub goes_on_carried : {U D : Type 0} (P : ℕ → Payload → Type 0) (up : Kind U Frame) (down : Kind D Report) → OnlyLoses up → OnlyLoses down → (given : Act) (old new : State U D) (all : List Indication)
+pub goes_on_carried : {U D : Type 0} (P : ℕ → Payload → Type 0) (up : Kind U Frame) (down : Kind D Report) → OnlyLoses up → OnlyLoses down → (given : Act) (old new : State U D) (all : List LinkIndication)
     → ((n : ℕ) (r : Request) → request_at old.book n ≡ Some r → P n (payload_of old.book r.body))
     → Goes up down given old new all → AreCarried P (seen up down old.world) → CarriedOn P up down old.world new.world all
 goes_on_carried P up down losing_up losing_down (act.Book given) old new all own goes carried = same_on P up down old.world new.world all goes.0 goes.3 carried

@@ -4,7 +4,7 @@ use Rattle.std.proofs.lemmas.Bool.Decides.{nat_tests}
 use Rattle.std.proofs.lemmas.Bool.{or_from}
 use Rattle.std.proofs.lemmas.List.Folds.{list_any-append}
 use Rattle.std.specs.List.{list_any}
-use Rattle.tc_types.specs.declared.places.Place.{Place}
+use Rattle.tc_types.specs.declared.history.places.Place.{Place}
 use Rattle.tc_types.specs.Lawful.{is_among, is_one_of, place_number}
 use Rattle.tc_world.specs.Kept.{Each}
 use Rattle.tc_book.specs.Book.{Book, place_in}

@@ -6,27 +6,27 @@ use Rattle.std.specs.Fmt.{digits}
 use Rattle.tc_types.specs.declared.requests.Form.{Form}
 use Rattle.tc_types.specs.declared.requests.Command.TheVariants.{Plain}
 use Rattle.tc_types.specs.declared.requests.Outcome.TheVariants.{Completes}
-use Rattle.tc_types.specs.declared.places.Place.TheVariants.{Approved}
-use Rattle.tc_types.specs.declared.causes.Cause.TheVariants as cause
+use Rattle.tc_types.specs.declared.history.places.Place.TheVariants.{Approved}
+use Rattle.tc_types.specs.declared.history.causes.Cause.TheVariants as cause
 use Rattle.tc_types.specs.declared.refusals.Refusal.TheVariants as refusal
 use Rattle.tc_types.specs.declared.verdicts.Verdict.TheVariants.{Done, Skipped}
 use Rattle.tc_types.specs.declared.acts.BookAct.TheVariants.{Begin}
 use Rattle.tc_types.specs.declared.acts.Act.{Act}
 use Rattle.tc_types.specs.declared.acts.Act.TheVariants as act
-use Rattle.tc_types.specs.declared.frames.Frame.{Frame}
-use Rattle.tc_types.specs.declared.reports.Report.{Report}
+use Rattle.tc_types.specs.declared.link.frames.Frame.{Frame}
+use Rattle.tc_types.specs.declared.link.reports.Report.{Report}
 use Rattle.tc_proc.specs.declared.procedures.Step.{Step}
 use Rattle.tc_proc.specs.Logs.{execution_at}
 use Rattle.tc_fop.specs.declared.signals.FopState.TheVariants.{Active}
 use Rattle.tc_fop.specs.declared.signals.Indication.TheVariants as signal
 use Rattle.tc_fop.specs.Calls.{new_machine}
-use Rattle.tc_world.specs.declared.events.Indication.{Indication}
-use Rattle.tc_world.specs.declared.events.Indication.TheVariants.{Fop}
+use Rattle.tc_world.specs.declared.events.LinkIndication.{LinkIndication}
+use Rattle.tc_world.specs.declared.events.LinkIndication.TheVariants.{Fop}
 use Rattle.tc_world.specs.InFlight.{InFlight}
 use Rattle.tc_board.specs.Mirror.{no_mirror}
 use Rattle.tc_book.specs.declared.stamps.Stamp.{Stamp}
 use Rattle.tc_book.specs.Book.{Book, empty_book, moved, want, with_entry}
-use Rattle.tc_desk.specs.declared.firsts.First.TheVariants as first
+use Rattle.tc_desk.specs.declared.firsts.FirstLine.TheVariants as first
 use Rattle.tc_desk.specs.State.{State, new_desk, new_world}
 use Rattle.tc_desk.specs.Acts.{acted, first_of, refusal_of}
 use Rattle.tc_desk.specs.Effects.{heard_all}
@@ -70,10 +70,10 @@ desk_of book = record (new_desk (record { window = 20; channel = 3; ring = None 
 }
 
 -- the book after an act of ann at which the link told these, and the reply
-abbrev book_after : Book → Act → List Indication → Book
+abbrev book_after : Book → Act → List LinkIndication → Book
 book_after book asked all = heard_all ann no_mirror all (acted ann asked book)
 
-abbrev replied : Book → Act → List Indication → Reply
+abbrev replied : Book → Act → List LinkIndication → Reply
 replied book asked all = act_reply (first_of (desk_of book) asked all) all (drop (length book.history) (book_after book asked all).history)
 
 -- step 1 or 2 of the execution is recorded so
@@ -93,7 +93,7 @@ abbrev looked : Book
 looked = book_after begun (step 1 None) []
 
 -- the request is sent at once
-abbrev told : List Indication
+abbrev told : List LinkIndication
 told = Fop (signal.Sent 1) ∷ []
 
 abbrev ended : Book

@@ -1,13 +1,13 @@
 -- Reports are put on the downlink, and a buffer is told to be free.
 use Rattle.std.proofs.Common.{◌≡◌, ℕ, ◌+◌, ◌<◌, true, false, Ok, Err, Result, IsOk, IfOk, List, [], ◌∷◌, ◌++◌, length, take, get_or, refl, sym, ◌∙◌, subst}
 use Rattle.std.proofs.lemmas.List.{take_more}
-use Rattle.tc_types.specs.declared.frames.Frame.{Frame}
+use Rattle.tc_types.specs.declared.link.frames.Frame.{Frame}
 use Rattle.tc_types.specs.declared.refusals.Refusal.{Refusal}
-use Rattle.tc_types.specs.declared.reports.Report.{Report}
-use Rattle.tc_types.specs.declared.reports.Telemetry.{Telemetry}
+use Rattle.tc_types.specs.declared.link.reports.Report.{Report}
+use Rattle.tc_types.specs.declared.link.reports.Telemetry.{Telemetry}
 use Rattle.tc_farm.specs.Farm.{is_locked_out}
 use Rattle.tc_world.specs.declared.events.Event.TheVariants as event
-use Rattle.tc_world.specs.declared.events.Indication.{Indication}
+use Rattle.tc_world.specs.declared.events.LinkIndication.{LinkIndication}
 use Rattle.tc_world.specs.Links.{Kind}
 use Rattle.tc_world.specs.Abstraction.{seen}
 use Rattle.tc_world.specs.Telling.{TellsRequests}
@@ -25,7 +25,7 @@ abbrev IsFollowedBy : {U D : Type 0} → Kind U Frame → Kind D Report → Whol
 IsFollowedBy up down old new = new.clean ≡ true → Follows (seen up down old) (seen up down new)
 
 -- of a put that was not refused nothing is told
-pub put_down : {U D : Type 0} (up : Kind U Frame) (down : Kind D Report) (item : Telemetry) (old new : Whole U D) (all : List Indication)
+pub put_down : {U D : Type 0} (up : Kind U Frame) (down : Kind D Report) (item : Telemetry) (old new : Whole U D) (all : List LinkIndication)
     → Happens up down (event.Put item) old new all → TellsRequests (event.Put item) old new all → IsFollowedBy up down old new → IsOpenWhere new → PutsDown up down (item ∷ []) old new
 put_down up down item old new all happens tells follows open_farm =
     let none : all ≡ [] = happens.answered in (
@@ -42,7 +42,7 @@ put_down up down item old new all happens tells follows open_farm =
     )
 
 -- the same of an answer, which is there
-pub put_answered : {X U D : Type 0} (up : Kind U Frame) (down : Kind D Report) (item : Telemetry) (old new : Whole U D) (items : X → List Indication) (result : Result X Refusal)
+pub put_answered : {X U D : Type 0} (up : Kind U Frame) (down : Kind D Report) (item : Telemetry) (old new : Whole U D) (items : X → List LinkIndication) (result : Result X Refusal)
     → IsOk result → IfOk result (λ (answer : X). Happens up down (event.Put item) old new (items answer)) → IfOk result (λ (answer : X). TellsRequests (event.Put item) old new (items answer))
     → IfOk result (λ (answer : X). IsFollowedBy up down old new) → IsOpenWhere new → PutsDown up down (item ∷ []) old new
 put_answered up down item old new items (Ok answer) there happens tells follows open_farm = put_down up down item old new (items answer) happens tells follows open_farm
@@ -61,7 +61,7 @@ puts_more up down old mid new items k d within all put =
     subst (λ xs. PutsDown up down xs old new) (sym (take_more items k d within)) (puts_push up down old mid new (take k items) (get_or items k d) all put)
 
 -- of a release that was not refused nothing is told
-pub free_answered : {X U D : Type 0} (up : Kind U Frame) (down : Kind D Report) (old new : Whole U D) (items : X → List Indication) (result : Result X Refusal)
+pub free_answered : {X U D : Type 0} (up : Kind U Frame) (down : Kind D Report) (old new : Whole U D) (items : X → List LinkIndication) (result : Result X Refusal)
     → IsOk result → IfOk result (λ (answer : X). Happens up down event.Release old new (items answer)) → IfOk result (λ (answer : X). TellsRequests event.Release old new (items answer))
     → IfOk result (λ (answer : X). IsFollowedBy up down old new) → IsOpenWhere new → Happened up down event.Release old new []
 free_answered up down old new items (Ok answer) there happens tells follows open_farm =

@@ -5,17 +5,17 @@ use Rattle.tc_types.specs.declared.acts.Act.TheVariants as act
 use Rattle.tc_types.specs.declared.acts.StepAct.{StepAct}
 use Rattle.tc_types.specs.declared.acts.LinkAct.{LinkAct}
 use Rattle.tc_types.specs.declared.acts.LinkAct.TheVariants as link_act
-use Rattle.tc_types.specs.declared.frames.Frame.{Frame}
-use Rattle.tc_types.specs.declared.reports.Report.{Report}
+use Rattle.tc_types.specs.declared.link.frames.Frame.{Frame}
+use Rattle.tc_types.specs.declared.link.reports.Report.{Report}
 use Rattle.tc_types.specs.declared.requests.Request.{Request}
 use Rattle.tc_world.specs.declared.events.Event.TheVariants as event
-use Rattle.tc_world.specs.declared.events.Indication.{Indication}
+use Rattle.tc_world.specs.declared.events.LinkIndication.{LinkIndication}
 use Rattle.tc_world.specs.Links.{Kind}
 use Rattle.tc_world.specs.World.{Whole}
 use Rattle.tc_book.specs.declared.stamps.Stamp.{Stamp}
 use Rattle.tc_book.specs.Book.{Book, request_at}
 use Rattle.tc_book.specs.Logs.{recorded, released_with}
-use Rattle.tc_desk.specs.declared.firsts.First.{First}
+use Rattle.tc_desk.specs.declared.firsts.FirstLine.{FirstLine}
 use Rattle.tc_desk.specs.Acts.{released, released_beside}
 use Rattle.tc_desk.specs.Asks.{offer_at, has_buffer}
 use Rattle.tc_desk.specs.Commands.{payload_of}
@@ -29,28 +29,28 @@ use Rattle.tc_desk.proofs.RequestLemmas.{heard_all_requests, released_requests, 
 use Rattle.tc_desk.proofs.RollOfLemmas.{same_command}
 
 -- an act on the link changes no request
-pub link_requests : {U D : Type 0} (stamp : Stamp) (given : LinkAct) (old new : State U D) (all : List Indication) → new.book ≡ heard_all stamp old.mirror all (released stamp given old.book) → new.book.requests ≡ old.book.requests
+pub link_requests : {U D : Type 0} (stamp : Stamp) (given : LinkAct) (old new : State U D) (all : List LinkIndication) → new.book ≡ heard_all stamp old.mirror all (released stamp given old.book) → new.book.requests ≡ old.book.requests
 link_requests stamp given old new all is =
     ap (λ (book : Book). book.requests) is ∙ heard_all_requests stamp old.mirror all (released stamp given old.book) ∙ released_requests stamp given old.book
 
 -- nor does a step
-pub step_requests : {U D : Type 0} (stamp : Stamp) (given : StepAct) (old new : State U D) (all : List Indication)
+pub step_requests : {U D : Type 0} (stamp : Stamp) (given : StepAct) (old new : State U D) (all : List LinkIndication)
     → new.book ≡ heard_all stamp old.mirror all (released_beside stamp (released_with old.book given) (recorded stamp given old.book)) → new.book.requests ≡ old.book.requests
 step_requests stamp given old new all is =
     let noted : Book = recorded stamp given old.book in
     ap (λ (book : Book). book.requests) is ∙ heard_all_requests stamp old.mirror all (released_beside stamp (released_with old.book given) noted) ∙ beside_requests stamp (released_with old.book given) noted
 
 -- nothing came down, and the mirror is as it was
-unread : {U D : Type 0} (old new : State U D) (all : List Indication) → new.mirror ≡ old.mirror → came_down all ≡ [] → new.mirror ≡ mirror_through new.book (came_down all) old.mirror
+unread : {U D : Type 0} (old new : State U D) (all : List LinkIndication) → new.mirror ≡ old.mirror → came_down all ≡ [] → new.mirror ≡ mirror_through new.book (came_down all) old.mirror
 unread old new all same none = same ∙ ap (λ (items : List Report). mirror_through new.book items old.mirror) (sym none)
 
 -- of a request that is offered, where there is one, nothing comes down
-offer_brings_none : {U D : Type 0} (up : Kind U Frame) (down : Kind D Report) (book : Book) (n : ℕ) (asked : Option Request) (w v : Whole U D) (all : List Indication) → Passes up down (offer_at book n asked) w v all → came_down all ≡ []
+offer_brings_none : {U D : Type 0} (up : Kind U Frame) (down : Kind D Report) (book : Book) (n : ℕ) (asked : Option Request) (w v : Whole U D) (all : List LinkIndication) → Passes up down (offer_at book n asked) w v all → came_down all ≡ []
 offer_brings_none up down book n None w v all passes = ap came_down passes.1
 offer_brings_none up down book n (Some r) w v all passes = brings_none up down (event.Offer n (payload_of book r.body)) w v all refl passes.happens
 
 -- the mirror after an act on the link has read what came down
-flies_read : {U D : Type 0} (up : Kind U Frame) (down : Kind D Report) (given : LinkAct) (old new : State U D) (all : List Indication) → new.book.requests ≡ old.book.requests → Flies up down given old new all
+flies_read : {U D : Type 0} (up : Kind U Frame) (down : Kind D Report) (given : LinkAct) (old new : State U D) (all : List LinkIndication) → new.book.requests ≡ old.book.requests → Flies up down given old new all
     → new.mirror ≡ mirror_through new.book (came_down all) old.mirror
 flies_read up down (link_act.Release n) old new all same flies = unread old new all flies.2 (offer_brings_none up down old.book n (request_at old.book n) old.world new.world all flies.0)
 flies_read up down (link_act.Direct given) old new all same flies = unread old new all flies.2 (brings_none up down (event.Directive given) old.world new.world all refl flies.0.happens)
@@ -64,13 +64,13 @@ flies_read up down link_act.Work old new all same flies = unread old new all fli
 flies_read up down (link_act.Clock time) old new all same flies = unread old new all flies.mirror (ap came_down flies.silent)
 
 -- after a release that comes with a record, if one does
-beside_read : {U D : Type 0} (up : Kind U Frame) (down : Kind D Report) (beside : Option ℕ) (old new : State U D) (all : List Indication) → new.book.requests ≡ old.book.requests → FliesBeside up down beside old new all
+beside_read : {U D : Type 0} (up : Kind U Frame) (down : Kind D Report) (beside : Option ℕ) (old new : State U D) (all : List LinkIndication) → new.book.requests ≡ old.book.requests → FliesBeside up down beside old new all
     → new.mirror ≡ mirror_through new.book (came_down all) old.mirror
 beside_read up down None old new all same stands = unread old new all stands.2 (ap came_down stands.3)
 beside_read up down (Some n) old new all same flies = flies_read up down (link_act.Release n) old new all same flies
 
 -- after each act
-pub does_read : {U D : Type 0} (up : Kind U Frame) (down : Kind D Report) (stamp : Stamp) (given : Act) (old new : State U D) (all : List Indication) (first : First) → Does up down stamp given old new all first
+pub does_read : {U D : Type 0} (up : Kind U Frame) (down : Kind D Report) (stamp : Stamp) (given : Act) (old new : State U D) (all : List LinkIndication) (first : FirstLine) → Does up down stamp given old new all first
     → new.mirror ≡ mirror_through new.book (came_down all) old.mirror
 does_read up down stamp (act.Book given) old new all first does = unread old new all does.link.2 (ap came_down does.link.3)
 does_read up down stamp (act.Link given) old new all first does = flies_read up down given old new all (link_requests stamp given old new all does.book) does.link

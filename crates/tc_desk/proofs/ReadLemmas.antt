@@ -1,19 +1,19 @@
 -- How reports are read into the mirror of the schedule, each with the command that flew.
 use Rattle.std.proofs.Common.{◌≡◌, ℕ, Bool, true, false, MatchBool, List, [], ◌∷◌, map, refl, sym, ◌∙◌, ap, ⊎_elim}
 use Rattle.std.specs.List.{AllByRecursion}
-use Rattle.tc_types.specs.declared.directives.Directive.{Directive}
-use Rattle.tc_types.specs.declared.frames.Frame.{Frame}
-use Rattle.tc_types.specs.declared.reports.Report.{Report}
-use Rattle.tc_types.specs.declared.reports.Report.TheVariants as report
-use Rattle.tc_types.specs.declared.reports.Telemetry.{Telemetry}
-use Rattle.tc_types.specs.declared.reports.Telemetry.TheVariants as telemetry
+use Rattle.tc_types.specs.declared.link.directives.Directive.{Directive}
+use Rattle.tc_types.specs.declared.link.frames.Frame.{Frame}
+use Rattle.tc_types.specs.declared.link.reports.Report.{Report}
+use Rattle.tc_types.specs.declared.link.reports.Report.TheVariants as report
+use Rattle.tc_types.specs.declared.link.reports.Telemetry.{Telemetry}
+use Rattle.tc_types.specs.declared.link.reports.Telemetry.TheVariants as telemetry
 use Rattle.tc_fop.specs.declared.signals.Indication.{Indication as Signal}
 use Rattle.tc_fop.specs.Machine.{Action, output}
 use Rattle.tc_fop.specs.Moves.{is_initiation}
 use Rattle.tc_world.specs.declared.events.Event.{Event}
 use Rattle.tc_world.specs.declared.events.Event.TheVariants as event
-use Rattle.tc_world.specs.declared.events.Indication.{Indication}
-use Rattle.tc_world.specs.declared.events.Indication.TheVariants as said
+use Rattle.tc_world.specs.declared.events.LinkIndication.{LinkIndication}
+use Rattle.tc_world.specs.declared.events.LinkIndication.TheVariants as said
 use Rattle.tc_world.specs.Links.{Kind}
 use Rattle.tc_world.specs.World.{Whole, Happens, IsIdle, Boards, Begins, Carries, told_of_loss, unjudged}
 use Rattle.tc_world.proofs.AllLists.{all_made}
@@ -65,7 +65,7 @@ told_alike old new (report.Telemetry (telemetry.Verification verification n iden
 told_alike old new (report.Telemetry (telemetry.Summary summary)) same = refl
 
 -- a mirror that reads what the link tells reads what came down
-pub mirror_by_through : (old new : Book) (all : List Indication) (m : MirrorState) → ((n : ℕ) → command_at new n ≡ command_at old n) → mirror_by old all m ≡ mirror_through new (came_down all) m
+pub mirror_by_through : (old new : Book) (all : List LinkIndication) (m : MirrorState) → ((n : ℕ) → command_at new n ≡ command_at old n) → mirror_by old all m ≡ mirror_through new (came_down all) m
 mirror_by_through old new [] m same = refl
 mirror_by_through old new (said.Fop i ∷ others) m same = refl
 mirror_by_through old new (said.Farm verdict ∷ others) m same = refl
@@ -74,7 +74,7 @@ mirror_by_through old new (said.Lost ∷ others) m same = refl
 
 -- ---- nothing comes down but at a reading
 
-signals_bring_none : (signals : List Signal) (all : List Indication) → all ≡ map said.Fop signals → came_down all ≡ []
+signals_bring_none : (signals : List Signal) (all : List LinkIndication) → all ≡ map said.Fop signals → came_down all ≡ []
 signals_bring_none [] all e = ap came_down e
 signals_bring_none (signal ∷ signals) all e = ap came_down e
 
@@ -82,13 +82,13 @@ loss_brings_none : (found : Bool) → came_down (told_of_loss found) ≡ []
 loss_brings_none true = refl
 loss_brings_none false = refl
 
-directed_brings_none : {U D : Type 0} (up : Kind U Frame) (down : Kind D Report) (given : Directive) (actions : List Action) (old new : Whole U D) (all : List Indication) (starts : Bool)
+directed_brings_none : {U D : Type 0} (up : Kind U Frame) (down : Kind D Report) (given : Directive) (actions : List Action) (old new : Whole U D) (all : List LinkIndication) (starts : Bool)
     → MatchBool starts (Begins up down given actions old new all) (Carries up actions old new all) → came_down all ≡ []
 directed_brings_none up down given actions old new all true begins = signals_bring_none (output actions old.fop).indications all begins.answered
 directed_brings_none up down given actions old new all false carries = signals_bring_none (output actions old.fop).indications all carries.answered
 
 -- at every other event
-pub brings_none : {U D : Type 0} (up : Kind U Frame) (down : Kind D Report) (given : Event) (old new : Whole U D) (all : List Indication) → brings_down given ≡ false → Happens up down given old new all → came_down all ≡ []
+pub brings_none : {U D : Type 0} (up : Kind U Frame) (down : Kind D Report) (given : Event) (old new : Whole U D) (all : List LinkIndication) → brings_down given ≡ false → Happens up down given old new all → came_down all ≡ []
 brings_none up down (event.Offer request body) old new all quiet h = signals_bring_none (output h.0 old.fop).indications all h.3.answered
 brings_none up down (event.Directive given) old new all quiet h = directed_brings_none up down given h.0 old (unjudged old new) all (is_initiation given) h.2
 brings_none up down event.Tick old new all quiet h = signals_bring_none (output h.0 old.fop).indications all h.2.answered

@@ -1,14 +1,14 @@
 -- Only an entry changes the requests of a book: what it hears and what is released leave them.
 use Rattle.std.proofs.Common.{◌≡◌, ℕ, Bool, true, false, if◌then◌else◌, Option, Some, None, List, [], ◌∷◌, refl, ◌∙◌}
-use Rattle.tc_types.specs.declared.places.Place.{Place}
-use Rattle.tc_types.specs.declared.places.Place.TheVariants as place
-use Rattle.tc_types.specs.declared.causes.Cause.{Cause}
-use Rattle.tc_types.specs.declared.causes.Cause.TheVariants as cause
+use Rattle.tc_types.specs.declared.history.places.Place.{Place}
+use Rattle.tc_types.specs.declared.history.places.Place.TheVariants as place
+use Rattle.tc_types.specs.declared.history.causes.Cause.{Cause}
+use Rattle.tc_types.specs.declared.history.causes.Cause.TheVariants as cause
 use Rattle.tc_types.specs.declared.acts.LinkAct.{LinkAct}
 use Rattle.tc_types.specs.declared.acts.LinkAct.TheVariants as act
 use Rattle.tc_fop.specs.declared.signals.Indication.TheVariants as signal
-use Rattle.tc_world.specs.declared.events.Indication.{Indication}
-use Rattle.tc_world.specs.declared.events.Indication.TheVariants as said
+use Rattle.tc_world.specs.declared.events.LinkIndication.{LinkIndication}
+use Rattle.tc_world.specs.declared.events.LinkIndication.TheVariants as said
 use Rattle.tc_board.specs.Mirror.{MirrorState}
 use Rattle.tc_book.specs.declared.stamps.Stamp.{Stamp}
 use Rattle.tc_book.specs.Book.{Book, stands, moved, want}
@@ -31,7 +31,7 @@ tried_with_requests stamp book n places to c =
     let after : Book = moved stamp book (want n to c) in
     if_requests book (followed stamp after (activity_at book n) (place.Riding ∷ []) to c) (stands book n places) (followed_requests stamp after (activity_at book n) (place.Riding ∷ []) to c)
 
-heard_requests : (stamp : Stamp) (mirror : MirrorState) (book : Book) (i : Indication) → (heard stamp mirror book i).requests ≡ book.requests
+heard_requests : (stamp : Stamp) (mirror : MirrorState) (book : Book) (i : LinkIndication) → (heard stamp mirror book i).requests ≡ book.requests
 heard_requests stamp mirror book (said.Fop (signal.Sent n)) = (sent_riders stamp book n).requests
 heard_requests stamp mirror book (said.Fop (signal.Confirmed n)) = (confirmed_riders stamp book n).requests
 heard_requests stamp mirror book (said.Fop (signal.GivenBack n)) = tried_with_requests stamp book n (place.Queued ∷ []) place.Approved cause.GiveBack
@@ -43,7 +43,7 @@ heard_requests stamp mirror book (said.Received item) = (received_riders stamp m
 heard_requests stamp mirror book said.Lost = refl
 
 -- what the book hears leaves its requests
-pub heard_all_requests : (stamp : Stamp) (mirror : MirrorState) (all : List Indication) (book : Book) → (heard_all stamp mirror all book).requests ≡ book.requests
+pub heard_all_requests : (stamp : Stamp) (mirror : MirrorState) (all : List LinkIndication) (book : Book) → (heard_all stamp mirror all book).requests ≡ book.requests
 heard_all_requests stamp mirror [] book = refl
 heard_all_requests stamp mirror (i ∷ all) book = heard_all_requests stamp mirror all (heard stamp mirror book i) ∙ heard_requests stamp mirror book i
 

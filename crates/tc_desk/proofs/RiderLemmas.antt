@@ -5,17 +5,17 @@ use Rattle.std.proofs.lemmas.Bool.{or_parts, or_from}
 use Rattle.std.proofs.lemmas.Bool.Decides.{nat_tests}
 use Rattle.std.proofs.lemmas.List.Elements.{filter_map-append}
 use Rattle.std.proofs.lemmas.List.Folds.{list_any-append}
-use Rattle.tc_types.specs.declared.places.Place.{Place}
-use Rattle.tc_types.specs.declared.places.Place.TheVariants as place
-use Rattle.tc_types.specs.declared.causes.Cause.{Cause}
-use Rattle.tc_types.specs.declared.causes.Cause.TheVariants as cause
+use Rattle.tc_types.specs.declared.history.places.Place.{Place}
+use Rattle.tc_types.specs.declared.history.places.Place.TheVariants as place
+use Rattle.tc_types.specs.declared.history.causes.Cause.{Cause}
+use Rattle.tc_types.specs.declared.history.causes.Cause.TheVariants as cause
 use Rattle.tc_types.specs.declared.requests.Form.{Form}
 use Rattle.tc_types.specs.declared.requests.Origin.{Origin}
 use Rattle.tc_types.specs.declared.acts.LinkAct.TheVariants as link_act
 use Rattle.tc_types.specs.Lawful.{is_among, is_one_of}
 use Rattle.tc_fop.specs.declared.signals.Indication.TheVariants as signal
-use Rattle.tc_world.specs.declared.events.Indication.{Indication}
-use Rattle.tc_world.specs.declared.events.Indication.TheVariants as said
+use Rattle.tc_world.specs.declared.events.LinkIndication.{LinkIndication}
+use Rattle.tc_world.specs.declared.events.LinkIndication.TheVariants as said
 use Rattle.tc_world.specs.Kept.{Each}
 use Rattle.tc_world.specs.Telling.{leaves_said, sent_said}
 use Rattle.tc_book.specs.declared.stamps.Stamp.{Stamp}
@@ -165,7 +165,7 @@ given_back_apart stamp book n sent apart = by_test (stands book n (place.Queued 
 -- ---- what the book hears
 
 -- what the book hears keeps them apart
-pub hears_apart : (stamp : Stamp) (mirror : MirrorState) (i : Indication) (book : Book) (waits sent : List ℕ)
+pub hears_apart : (stamp : Stamp) (mirror : MirrorState) (i : LinkIndication) (book : Book) (waits sent : List ℕ)
     → length (leaves_said i ++ waits) ≤ 1 → Waits book (leaves_said i ++ waits) → Gone book sent
     → AreApart book (leaves_said i ++ waits) sent
     → AreApart (heard stamp mirror book i) waits (sent ++ sent_said i)

@@ -3,11 +3,11 @@ use Rattle.std.proofs.Common.{◌≡◌, ◌≢◌, ℕ, ◌+◌, ◌<◌, ◌�
 use Rattle.std.specs.List.{list_any}
 use Rattle.std.proofs.lemmas.Bool.Decides.{nat_tests}
 use Rattle.std.proofs.lemmas.List.Folds.{list_any-append}
-use Rattle.tc_types.specs.declared.places.Place.{Place}
+use Rattle.tc_types.specs.declared.history.places.Place.{Place}
 use Rattle.tc_types.specs.declared.requests.Form.{Form}
 use Rattle.tc_types.specs.declared.requests.Origin.{Origin}
 use Rattle.tc_types.specs.declared.requests.Request.{Request}
-use Rattle.tc_types.specs.declared.telecommands.Payload.{Payload}
+use Rattle.tc_types.specs.declared.link.telecommands.Payload.{Payload}
 use Rattle.tc_types.specs.Lawful.{is_among}
 use Rattle.tc_world.specs.Kept.{Each}
 use Rattle.tc_world.specs.Payloads.{IsOneOf}

@@ -4,24 +4,24 @@ use Rattle.std.specs.Prelude.{filter}
 use Rattle.std.proofs.lemmas.List.{drop-append-le, length-append, map-append}
 use Rattle.std.proofs.lemmas.List.Elements.{filter-append}
 use Rattle.std.specs.List.{list_any}
-use Rattle.tc_types.specs.declared.places.Place.{Place}
-use Rattle.tc_types.specs.declared.places.Place.TheVariants as place
-use Rattle.tc_types.specs.declared.causes.Cause.{Cause}
-use Rattle.tc_types.specs.declared.causes.Cause.TheVariants as cause
-use Rattle.tc_types.specs.declared.moves.Move.{Move}
+use Rattle.tc_types.specs.declared.history.places.Place.{Place}
+use Rattle.tc_types.specs.declared.history.places.Place.TheVariants as place
+use Rattle.tc_types.specs.declared.history.causes.Cause.{Cause}
+use Rattle.tc_types.specs.declared.history.causes.Cause.TheVariants as cause
+use Rattle.tc_types.specs.declared.history.moves.Move.{Move}
 use Rattle.tc_types.specs.declared.requests.Request.{Request}
 use Rattle.tc_types.specs.declared.requests.Form.{Form}
 use Rattle.tc_types.specs.declared.requests.Origin.{Origin}
 use Rattle.tc_types.specs.declared.requests.Command.{Command}
 use Rattle.tc_types.specs.declared.requests.Command.TheVariants as command
-use Rattle.tc_types.specs.declared.reports.Report.TheVariants as report
-use Rattle.tc_types.specs.declared.reports.Telemetry.TheVariants as telemetry
-use Rattle.tc_types.specs.declared.reports.Verification.{Verification}
+use Rattle.tc_types.specs.declared.link.reports.Report.TheVariants as report
+use Rattle.tc_types.specs.declared.link.reports.Telemetry.TheVariants as telemetry
+use Rattle.tc_types.specs.declared.link.reports.Verification.{Verification}
 use Rattle.tc_types.specs.Lawful.{is_lawful, cause_number}
 use Rattle.tc_types.specs.Stages.{stage_of_verification}
 use Rattle.tc_fop.specs.declared.signals.Indication.TheVariants as signal
-use Rattle.tc_world.specs.declared.events.Indication.{Indication}
-use Rattle.tc_world.specs.declared.events.Indication.TheVariants as said
+use Rattle.tc_world.specs.declared.events.LinkIndication.{LinkIndication}
+use Rattle.tc_world.specs.declared.events.LinkIndication.TheVariants as said
 use Rattle.tc_world.specs.Sublist.{IsSublist, IsSublist-same}
 use Rattle.tc_world.specs.Telling.{leaves_said, sent_said, confirmed_said}
 use Rattle.tc_world.proofs.Lists.{sublist_both, sublist_of_front}
@@ -213,7 +213,7 @@ confirms_told o stamp book n sent confirmed told = by_test (stands book n (place
     }
 
 -- what the book hears is told
-pub hears_told : (o : ℕ) (stamp : Stamp) (mirror : MirrorState) (i : Indication) (book : Book) (waits sent confirmed : List ℕ)
+pub hears_told : (o : ℕ) (stamp : Stamp) (mirror : MirrorState) (i : LinkIndication) (book : Book) (waits sent confirmed : List ℕ)
     → Waits book (leaves_said i ++ waits) → AreTold o book sent confirmed → AreTold o (heard stamp mirror book i) (sent ++ sent_said i) (confirmed ++ confirmed_said i)
 hears_told o stamp mirror (said.Farm v) book waits sent confirmed w told = told_nothing o book sent confirmed told
 hears_told o stamp mirror said.Lost book waits sent confirmed w told = told_nothing o book sent confirmed told

@@ -1,10 +1,10 @@
 -- Whatever acts and loads follow on a desk with a new link, the rows that came since it was opened tell true.
 use Rattle.std.proofs.Common.{◌≡◌, ℕ, inl, inr, true, List, [], ◌∷◌, length, drop, refl, sym, ap, subst, arith}
 use Rattle.std.proofs.Math.Seq.{drop-length}
-use Rattle.tc_types.specs.declared.frames.Frame.{Frame}
-use Rattle.tc_types.specs.declared.reports.Report.{Report}
-use Rattle.tc_types.specs.declared.causes.Cause.TheVariants.{Transmit, Confirm}
-use Rattle.tc_types.specs.declared.moves.Move.{Move}
+use Rattle.tc_types.specs.declared.link.frames.Frame.{Frame}
+use Rattle.tc_types.specs.declared.link.reports.Report.{Report}
+use Rattle.tc_types.specs.declared.history.causes.Cause.TheVariants.{Transmit, Confirm}
+use Rattle.tc_types.specs.declared.history.moves.Move.{Move}
 use Rattle.tc_types.specs.declared.acts.Act.{Act}
 use Rattle.tc_types.specs.declared.acts.Act.TheVariants as act
 use Rattle.tc_fop.specs.Requests.{waiting_requests}

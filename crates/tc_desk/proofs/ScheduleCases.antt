@@ -3,27 +3,27 @@
 use Rattle.std.proofs.Common.{◌≡◌, ℕ, true, false, Some, None, List, [], ◌∷◌, ◌++◌, drop, length, refl}
 use Rattle.std.specs.Prelude.{codes}
 use Rattle.std.specs.Fmt.{digits}
-use Rattle.tc_types.specs.declared.activities.ListedActivity.{ListedActivity}
+use Rattle.tc_types.specs.declared.link.activities.ListedActivity.{ListedActivity}
 use Rattle.tc_types.specs.declared.requests.Form.{Form}
 use Rattle.tc_types.specs.declared.requests.Command.{Command}
 use Rattle.tc_types.specs.declared.requests.Command.TheVariants as command
 use Rattle.tc_types.specs.declared.requests.Outcome.TheVariants.{Completes}
-use Rattle.tc_types.specs.declared.places.Place.{Place}
-use Rattle.tc_types.specs.declared.places.Place.TheVariants as place
-use Rattle.tc_types.specs.declared.causes.Cause.TheVariants as cause
-use Rattle.tc_types.specs.declared.frames.Frame.{Frame}
+use Rattle.tc_types.specs.declared.history.places.Place.{Place}
+use Rattle.tc_types.specs.declared.history.places.Place.TheVariants as place
+use Rattle.tc_types.specs.declared.history.causes.Cause.TheVariants as cause
+use Rattle.tc_types.specs.declared.link.frames.Frame.{Frame}
 use Rattle.tc_types.specs.declared.refusals.Refusal.TheVariants as refusal
-use Rattle.tc_types.specs.declared.reports.Report.{Report}
-use Rattle.tc_types.specs.declared.reports.Report.TheVariants as report
-use Rattle.tc_types.specs.declared.reports.Telemetry.TheVariants as telemetry
-use Rattle.tc_types.specs.declared.reports.Verification.{Verification}
-use Rattle.tc_types.specs.declared.reports.Verification.TheVariants as verification
+use Rattle.tc_types.specs.declared.link.reports.Report.{Report}
+use Rattle.tc_types.specs.declared.link.reports.Report.TheVariants as report
+use Rattle.tc_types.specs.declared.link.reports.Telemetry.TheVariants as telemetry
+use Rattle.tc_types.specs.declared.link.reports.Verification.{Verification}
+use Rattle.tc_types.specs.declared.link.reports.Verification.TheVariants as verification
 use Rattle.tc_types.specs.declared.acts.LinkAct.{LinkAct}
 use Rattle.tc_types.specs.declared.acts.LinkAct.TheVariants as link_act
 use Rattle.tc_types.specs.declared.acts.Act.TheVariants as act
 use Rattle.tc_fop.specs.declared.signals.Indication.TheVariants as signal
-use Rattle.tc_world.specs.declared.events.Indication.{Indication}
-use Rattle.tc_world.specs.declared.events.Indication.TheVariants.{Fop, Received}
+use Rattle.tc_world.specs.declared.events.LinkIndication.{LinkIndication}
+use Rattle.tc_world.specs.declared.events.LinkIndication.TheVariants.{Fop, Received}
 use Rattle.tc_world.specs.InFlight.{InFlight}
 use Rattle.tc_board.specs.Mirror.{MirrorState, no_mirror}
 use Rattle.tc_book.specs.declared.stamps.Stamp.{Stamp}
@@ -76,12 +76,12 @@ abbrev both_listed : MirrorState
 both_listed = record { enabled = true; activities = fifth_listed ∷ first_listed ∷ [] }
 
 -- the reply to an act on the link that told these
-abbrev flown : Book → MirrorState → LinkAct → List Indication → Reply
+abbrev flown : Book → MirrorState → LinkAct → List LinkIndication → Reply
 flown book mirror given all =
     act_reply (first_of (desk_of book mirror) (act.Link given) all) all (drop (length book.history) (heard_all ann mirror all (acted ann (act.Link given) book)).history)
 
 -- a report on a request
-abbrev reports : Verification → ℕ → ℕ → List Indication
+abbrev reports : Verification → ℕ → ℕ → List LinkIndication
 reports v n count = Received (report.Telemetry (telemetry.Verification v n (record { apid = 5; count = count }))) ∷ []
 
 -- an insert is released, and its activity rides with it: its row is right behind

@@ -1,12 +1,12 @@
 -- What stands of a desk between two acts stands after each.
 use Rattle.std.proofs.Common.{◌∷◌, [], ◌∙◌, ap, Option, ◌≡◌, ℕ, true, None, List, length, sym, subst}
-use Rattle.tc_types.specs.declared.frames.Frame.{Frame}
-use Rattle.tc_types.specs.declared.reports.Report.{Report}
-use Rattle.tc_types.specs.declared.reports.Report.TheVariants as report
-use Rattle.tc_types.specs.declared.reports.Telemetry.TheVariants as telemetry
-use Rattle.tc_types.specs.declared.telecommands.ScheduleCommand.{ScheduleCommand}
+use Rattle.tc_types.specs.declared.link.frames.Frame.{Frame}
+use Rattle.tc_types.specs.declared.link.reports.Report.{Report}
+use Rattle.tc_types.specs.declared.link.reports.Report.TheVariants as report
+use Rattle.tc_types.specs.declared.link.reports.Telemetry.TheVariants as telemetry
+use Rattle.tc_types.specs.declared.link.telecommands.ScheduleCommand.{ScheduleCommand}
 use Rattle.tc_types.specs.declared.acts.Act.{Act}
-use Rattle.tc_world.specs.declared.events.Indication.{Indication}
+use Rattle.tc_world.specs.declared.events.LinkIndication.{LinkIndication}
 use Rattle.tc_world.specs.Links.{Kind}
 use Rattle.tc_world.specs.Window.{IsClaimed}
 use Rattle.tc_world.proofs.Bridge.{OnlyLoses}
@@ -15,7 +15,9 @@ use Rattle.tc_board.specs.Mirror.{MirrorState, mirror_after, mirror_of}
 use Rattle.tc_book.specs.declared.stamps.Stamp.{Stamp}
 use Rattle.tc_book.specs.Book.{Book}
 use Rattle.tc_book.specs.Good.{IsGoodBook}
-use Rattle.tc_desk.specs.declared.firsts.First.{First}
+use Rattle.tc_book.specs.Sound.{IsSound}
+use Rattle.tc_book.specs.Tables.{image_of}
+use Rattle.tc_desk.specs.declared.firsts.FirstLine.{FirstLine}
 use Rattle.tc_desk.specs.declared.configs.Config.{Config}
 use Rattle.tc_desk.specs.Downlink.{came_down, KeepsWhole}
 use Rattle.tc_desk.specs.Followed.{mirror_through}
@@ -24,7 +26,7 @@ use Rattle.tc_desk.specs.Acts.{refusal_of}
 use Rattle.tc_desk.specs.Machine.{Does, StaysSame}
 use Rattle.tc_desk.specs.Headline.{TakenOnce, TellsTrue}
 use Rattle.tc_desk.specs.Tied.{IsTied}
-use Rattle.tc_desk.specs.Standing.{IsStanding}
+use Rattle.tc_desk.specs.Standing.{IsStanding, StaysTrue}
 use Rattle.tc_desk.proofs.DownLemmas.{does_down}
 use Rattle.tc_desk.proofs.FollowLaws.{FollowsSteps}
 use Rattle.tc_desk.proofs.FollowedActs.{does_followed, same_followed, over_followed}
@@ -35,7 +37,7 @@ use Rattle.tc_desk.proofs.HeadlineLemmas.{same_claims, taken_once}
 use Rattle.tc_desk.proofs.FairLemmas.{Fits, new_fits, before_fits, does_fit}
 
 -- an act that was carried out
-pub does_stand : {U D : Type 0} (up : Kind U Frame) (down : Kind D Report) (stamp : Stamp) (given : Act) (old new : DeskState U D) (all : List Indication) (first : First)
+pub does_stand : {U D : Type 0} (up : Kind U Frame) (down : Kind D Report) (stamp : Stamp) (given : Act) (old new : DeskState U D) (all : List LinkIndication) (first : FirstLine)
     → FollowsSteps → OnlyLoses up → OnlyLoses down → IsGoodBook old.parts.book → IsGoodBook new.parts.book
     → refusal_of stamp old.parts given ≡ None → Does up down stamp given old.parts new.parts all first → new.opened ≡ old.opened
     → (new.parts.world.clean ≡ true → IsClaimed new.parts.world) → KeepsWhole down given old new all → IsStanding up down old → IsStanding up down new
@@ -76,6 +78,12 @@ stands_true up down desk stands = record {
   open_farm = stands.open_farm;
 }
 
+-- what is true of it after a call
+pub stands_still : {U D : Type 0} (up : Kind U Frame) (down : Kind D Report) (old new : DeskState U D) → IsStanding up down new → new.opened ≡ old.opened → IsGoodBook new.parts.book
+    → IsSound (image_of new.parts.book) → StaysTrue down old new
+stands_still up down old new stands opened good sound =
+    record { opened = opened; good = good; sound = sound; told = stands_true up down new stands; mirror = stands.followed.follows }
+
 -- of a desk that was just opened, over any book
 over_stands : {U D : Type 0} (up : Kind U Frame) (down : Kind D Report) (config : Config) (book : Book) (u : U) (d : D) → up.content u ≡ [] → down.content d ≡ []
     → IsStanding up down (record { parts = record (new_desk config u d) { book = book }; opened = length book.history; whole = true })
@@ -96,7 +104,7 @@ opened_stands {U} {D} up down config book u d parts opened empty_up empty_down a
     (subst (λ (p : State U D). IsStanding up down (record { parts = p; opened = length p.book.history; whole = true })) (sym are) (over_stands up down config book u d empty_up empty_down))
 
 -- a summary that was read makes the mirror what it carries
-pub summary_read : {U D : Type 0} (up : Kind U Frame) (down : Kind D Report) (stamp : Stamp) (given : Act) (old new : State U D) (all : List Indication) (first : First)
+pub summary_read : {U D : Type 0} (up : Kind U Frame) (down : Kind D Report) (stamp : Stamp) (given : Act) (old new : State U D) (all : List LinkIndication) (first : FirstLine)
     → ((before : MirrorState) (command : Option ScheduleCommand) (s : ScheduleState) → IsSchedule s.activities → mirror_after before (report.Telemetry (telemetry.Summary (summary_of s)), command) ≡ mirror_of s)
     → Does up down stamp given old new all first → (s : ScheduleState) → IsSchedule s.activities → came_down all ≡ report.Telemetry (telemetry.Summary (summary_of s)) ∷ [] → new.mirror ≡ mirror_of s
 summary_read up down stamp given old new all first law does s is came =

@@ -1,5 +1,5 @@
 -- No line about the link has an LF in it.
-use Rattle.std.proofs.Common.{◌≡◌, ℕ, ◌<◌, ◌^◌, Bool, true, false, eqb, IsTrue, List, [], ◌∷◌, refl, arith}
+use Rattle.std.proofs.Common.{◌≡◌, ℕ, ◌<◌, ◌^◌, Bool, true, false, eqb, IsTrue, [], ◌∷◌, refl, arith}
 use Rattle.std.specs.Prelude.{codes, IfSome}
 use Rattle.std.specs.Fmt.{decimal}
 use Rattle.tc_types.specs.Grammar.{flag}
@@ -15,8 +15,8 @@ use Rattle.tc_fop.specs.declared.signals.FopState.{FopState}
 use Rattle.tc_fop.specs.declared.signals.FopState.TheVariants as fop_state
 use Rattle.tc_fop.specs.declared.signals.Indication.TheVariants as signal
 use Rattle.tc_fop.specs.declared.views.FopView.{FopView}
-use Rattle.tc_world.specs.declared.events.Indication.{Indication}
-use Rattle.tc_world.specs.declared.events.Indication.TheVariants as said
+use Rattle.tc_world.specs.declared.events.LinkIndication.{LinkIndication}
+use Rattle.tc_world.specs.declared.events.LinkIndication.TheVariants as said
 use Rattle.tc_desk.specs.declared.statuses.LinkStatus.{LinkStatus}
 use Rattle.tc_desk.specs.StatusLines.{fop_state_name, farm_state_name, alert_name, flags_word, premise_word, fop_line, fop_end, farm_line, carriers_line, told_line}
 
@@ -75,7 +75,7 @@ carriers_one s up down =
     spaced_one (codes "link" ∷ codes "up" ∷ decimal s.up ∷ codes "down" ∷ decimal s.down ∷ codes "premise" ∷ premise_word s.clean ∷ []) (rw (number_one s.up up, number_one s.down down, premise_one s.clean) refl)
 
 -- what the link told, where it has a line
-pub told_one : (told : Indication) → IfSome (told_line told) (λ line. IsTrue (is_one_line line))
+pub told_one : (told : LinkIndication) → IfSome (told_line told) (λ line. IsTrue (is_one_line line))
 told_one (said.Fop (signal.Sent n)) = tt
 told_one (said.Fop (signal.Confirmed n)) = tt
 told_one (said.Fop (signal.GivenBack n)) = tt

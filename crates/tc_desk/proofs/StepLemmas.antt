@@ -1,17 +1,17 @@
 -- A step: its record comes first, and then what it releases is released as by itself.
 use Rattle.std.proofs.Common.{◌≡◌, ◌⊎◌, inr, ℕ, ◌+◌, ◌≤◌, Bool, true, false, Option, Some, None, List, [], ◌∷◌, ◌++◌, length, IsSome, Vec, refl, sym, ◌∙◌, ap, subst, arith}
 use Rattle.std.proofs.lemmas.List.{length-append}
-use Rattle.tc_types.specs.declared.frames.Frame.{Frame}
+use Rattle.tc_types.specs.declared.link.frames.Frame.{Frame}
 use Rattle.tc_types.specs.declared.refusals.Refusal.{Refusal}
-use Rattle.tc_types.specs.declared.moves.Move.{Move}
+use Rattle.tc_types.specs.declared.history.moves.Move.{Move}
 use Rattle.tc_types.specs.declared.requests.Request.{Request}
-use Rattle.tc_types.specs.declared.rows.Approval.{Approval}
-use Rattle.tc_types.specs.declared.rows.StackApproval.{StackApproval}
-use Rattle.tc_types.specs.declared.rows.BegunExecution.{BegunExecution}
-use Rattle.tc_types.specs.declared.rows.Row.{Row}
-use Rattle.tc_types.specs.declared.rows.StepRecord.{StepRecord}
+use Rattle.tc_types.specs.declared.tables.rows.Approval.{Approval}
+use Rattle.tc_types.specs.declared.tables.rows.StackApproval.{StackApproval}
+use Rattle.tc_types.specs.declared.tables.rows.BegunExecution.{BegunExecution}
+use Rattle.tc_types.specs.declared.tables.rows.Row.{Row}
+use Rattle.tc_types.specs.declared.tables.rows.StepRecord.{StepRecord}
 use Rattle.tc_types.specs.declared.refusals.Refusal.TheVariants.{Memory}
-use Rattle.tc_types.specs.declared.reports.Report.{Report}
+use Rattle.tc_types.specs.declared.link.reports.Report.{Report}
 use Rattle.tc_types.specs.declared.acts.StepAct.{StepAct}
 use Rattle.tc_types.specs.declared.acts.LinkAct.TheVariants as link_act
 use Rattle.tc_types.specs.declared.acts.Act.TheVariants as act
@@ -19,7 +19,7 @@ use Rattle.tc_proc.specs.Logs.{LogState, tests_at, record_tests, execution_at, w
 use Rattle.tc_fop.specs.declared.views.FopView.{FopView}
 use Rattle.tc_fop.specs.Views.{view_of}
 use Rattle.tc_world.specs.declared.events.Event.{Event}
-use Rattle.tc_world.specs.declared.events.Indication.{Indication}
+use Rattle.tc_world.specs.declared.events.LinkIndication.{LinkIndication}
 use Rattle.tc_world.specs.Links.{Kind}
 use Rattle.tc_world.specs.World.{refusal_of as link_refusal_of}
 use Rattle.tc_book.specs.declared.stamps.Stamp.{Stamp}
@@ -28,7 +28,7 @@ use Rattle.tc_book.specs.Batch.{batch_rows, log_length, HasRoomFor, HoldsRoom}
 use Rattle.tc_book.specs.Book.{Book, request_at}
 use Rattle.tc_book.specs.Logs.{step_tests, recorded, released_with}
 use Rattle.tc_book.specs.Steps.{HasNoted}
-use Rattle.tc_desk.specs.declared.firsts.First.{First}
+use Rattle.tc_desk.specs.declared.firsts.FirstLine.{FirstLine}
 use Rattle.tc_desk.specs.Acts.{link_tests, tests_behind, refusal_of, released, released_beside, plain}
 use Rattle.tc_desk.specs.Asks.{offer_at}
 use Rattle.tc_desk.specs.Effects.{heard_all}
@@ -101,12 +101,12 @@ pub release_says : {U D : Type 0} (stamp : Stamp) (at : State U D) (n : ℕ) (vi
 release_says stamp at n view says same is = subst (λ (v : FopView). first_refusal (link_tests at.book v 0 0 (link_act.Release n)) ≡ says) same is
 
 -- the request was offered
-pub offered : {U D : Type 0} (up : Kind U Frame) (down : Kind D Report) (n : ℕ) (old new : State U D) (all : List Indication) (asked : Event) → offer_at old.book n (request_at old.book n) ≡ Some asked
+pub offered : {U D : Type 0} (up : Kind U Frame) (down : Kind D Report) (n : ℕ) (old new : State U D) (all : List LinkIndication) (asked : Event) → offer_at old.book n (request_at old.book n) ≡ Some asked
     → Happened up down asked old.world new.world all → new.board ≡ old.board → new.mirror ≡ old.mirror → Flies up down (link_act.Release n) old new all
 offered up down n old new all asked is happened board mirror = (subst (λ (e : Option Event). Passes up down e old.world new.world all) (sym is) happened, board, mirror)
 
 -- a release that was carried out
-pub left_off : {U D : Type 0} (up : Kind U Frame) (down : Kind D Report) (stamp : Stamp) (n : ℕ) (old new : State U D) (all : List Indication) (first : First) (asked : Event)
+pub left_off : {U D : Type 0} (up : Kind U Frame) (down : Kind D Report) (stamp : Stamp) (n : ℕ) (old new : State U D) (all : List LinkIndication) (first : FirstLine) (asked : Event)
     → offer_at old.book n (request_at old.book n) ≡ Some asked → Happened up down asked old.world new.world all → new.board ≡ old.board → new.mirror ≡ old.mirror
     → new.book ≡ heard_all stamp old.mirror all (released stamp (link_act.Release n) old.book) → first ≡ plain
     → Does up down stamp (act.Link (link_act.Release n)) old new all first
@@ -135,7 +135,7 @@ step_says stamp at given beside says may is behind =
     ∙ ap (λ (b : Option ℕ). first_refusal (tests_behind at.book (view_of at.world.fop) (widest_k at.world.farm.window) at.board.time b)) is ∙ behind
 
 -- a step that was carried out, with the release that comes with it, if one does
-pub stepped : {U D : Type 0} (up : Kind U Frame) (down : Kind D Report) (stamp : Stamp) (given : StepAct) (beside : Option ℕ) (old new : State U D) (all : List Indication) (first : First)
+pub stepped : {U D : Type 0} (up : Kind U Frame) (down : Kind D Report) (stamp : Stamp) (given : StepAct) (beside : Option ℕ) (old new : State U D) (all : List LinkIndication) (first : FirstLine)
     → released_with old.book given ≡ beside → FliesBeside up down beside old new all
     → new.book ≡ heard_all stamp old.mirror all (released_beside stamp beside (recorded stamp given old.book)) → first ≡ plain
     → Does up down stamp (act.Step given) old new all first
@@ -146,11 +146,11 @@ stepped {U} {D} up down stamp given beside old new all first is flies book begin
 }
 
 -- one with which nothing is released
-pub noted_off : {U D : Type 0} (up : Kind U Frame) (down : Kind D Report) (stamp : Stamp) (given : StepAct) (old new : State U D) (all : List Indication) (first : First)
+pub noted_off : {U D : Type 0} (up : Kind U Frame) (down : Kind D Report) (stamp : Stamp) (given : StepAct) (old new : State U D) (all : List LinkIndication) (first : FirstLine)
     → released_with old.book given ≡ None → new.world ≡ old.world → new.board ≡ old.board → new.mirror ≡ old.mirror → all ≡ [] → new.book ≡ recorded stamp given old.book → first ≡ plain
     → Does up down stamp (act.Step given) old new all first
 noted_off up down stamp given old new all first is world board mirror silent book begins =
-    stepped up down stamp given None old new all first is (world, board, mirror, silent) (book ∙ sym (ap (λ (l : List Indication). heard_all stamp old.mirror l (recorded stamp given old.book)) silent)) begins
+    stepped up down stamp given None old new all first is (world, board, mirror, silent) (book ∙ sym (ap (λ (l : List LinkIndication). heard_all stamp old.mirror l (recorded stamp given old.book)) silent)) begins
 
 -- what the link refused, or memory
 pub beside_refused : {U D : Type 0} (up : Kind U Frame) (down : Kind D Report) (stamp : Stamp) (given : StepAct) (n : ℕ) (old new : State U D) (refused : Refusal) (asked : Event)

@@ -1,18 +1,18 @@
 -- The book hears nothing of events at which no request moves.
 use Rattle.std.proofs.Common.{◌≡◌, Bool, true, false, MatchBool, List, [], ◌∷◌, map, refl, sym, ◌∙◌, ap, subst, inl, inr, ⊎_elim}
 use Rattle.std.specs.List.{list_any}
-use Rattle.tc_types.specs.declared.frames.Frame.{Frame}
-use Rattle.tc_types.specs.declared.directives.Directive.{Directive}
-use Rattle.tc_types.specs.declared.reports.Report.{Report}
-use Rattle.tc_types.specs.declared.reports.Report.TheVariants as report
+use Rattle.tc_types.specs.declared.link.frames.Frame.{Frame}
+use Rattle.tc_types.specs.declared.link.directives.Directive.{Directive}
+use Rattle.tc_types.specs.declared.link.reports.Report.{Report}
+use Rattle.tc_types.specs.declared.link.reports.Report.TheVariants as report
 use Rattle.tc_fop.specs.declared.signals.Indication.{Indication as Signal}
 use Rattle.tc_fop.specs.declared.signals.Indication.TheVariants as signal
 use Rattle.tc_fop.specs.Machine.{Action, output}
 use Rattle.tc_fop.specs.Moves.{is_initiation}
 use Rattle.tc_world.specs.declared.events.Event.{Event}
 use Rattle.tc_world.specs.declared.events.Event.TheVariants as event
-use Rattle.tc_world.specs.declared.events.Indication.{Indication}
-use Rattle.tc_world.specs.declared.events.Indication.TheVariants as said
+use Rattle.tc_world.specs.declared.events.LinkIndication.{LinkIndication}
+use Rattle.tc_world.specs.declared.events.LinkIndication.TheVariants as said
 use Rattle.tc_world.specs.Links.{Kind}
 use Rattle.tc_world.specs.World.{Whole, Happens, Hears, Lands, IsIdle, Boards, Begins, Carries, told_of_loss, may_move, tells_move, unjudged}
 use Rattle.tc_book.specs.declared.stamps.Stamp.{Stamp}
@@ -32,7 +32,7 @@ signals_still stamp mirror book (signal.Alert kind ∷ signals) still = signals_
 signals_still stamp mirror book (signal.Started ∷ signals) still = signals_still stamp mirror book signals still
 
 -- a list that is what the FOP tells
-told_still : (stamp : Stamp) (mirror : MirrorState) (book : Book) (signals : List Signal) (all : List Indication) → all ≡ map said.Fop signals → list_any tells_move all ≡ false → heard_all stamp mirror all book ≡ book
+told_still : (stamp : Stamp) (mirror : MirrorState) (book : Book) (signals : List Signal) (all : List LinkIndication) → all ≡ map said.Fop signals → list_any tells_move all ≡ false → heard_all stamp mirror all book ≡ book
 told_still stamp mirror book signals all e still =
     ap (λ l. heard_all stamp mirror l book) e ∙ signals_still stamp mirror book signals (ap (λ l. list_any tells_move l) (sym e) ∙ still)
 
@@ -40,12 +40,12 @@ loss_still : (stamp : Stamp) (mirror : MirrorState) (book : Book) (found : Bool)
 loss_still stamp mirror book true = refl
 loss_still stamp mirror book false = refl
 
-directed_still : {U D : Type 0} (up : Kind U Frame) (down : Kind D Report) (given : Directive) (actions : List Action) (old new : Whole U D) (all : List Indication) (stamp : Stamp) (mirror : MirrorState) (book : Book) (starts : Bool)
+directed_still : {U D : Type 0} (up : Kind U Frame) (down : Kind D Report) (given : Directive) (actions : List Action) (old new : Whole U D) (all : List LinkIndication) (stamp : Stamp) (mirror : MirrorState) (book : Book) (starts : Bool)
     → list_any tells_move all ≡ false → MatchBool starts (Begins up down given actions old new all) (Carries up actions old new all) → heard_all stamp mirror all book ≡ book
 directed_still up down given actions old new all stamp mirror book true still begins = told_still stamp mirror book (output actions old.fop).indications all begins.answered still
 directed_still up down given actions old new all stamp mirror book false still carries = told_still stamp mirror book (output actions old.fop).indications all carries.answered still
 
-pub silent : {U D : Type 0} (up : Kind U Frame) (down : Kind D Report) (given : Event) (old new : Whole U D) (all : List Indication) (stamp : Stamp) (mirror : MirrorState) (book : Book)
+pub silent : {U D : Type 0} (up : Kind U Frame) (down : Kind D Report) (given : Event) (old new : Whole U D) (all : List LinkIndication) (stamp : Stamp) (mirror : MirrorState) (book : Book)
     → may_move given ≡ false → list_any tells_move all ≡ false → Happens up down given old new all → heard_all stamp mirror all book ≡ book
 silent up down (event.Offer request body) old new all stamp mirror book quiet still h = cc
 silent up down (event.Directive given) old new all stamp mirror book quiet still h = directed_still up down given h.0 old (unjudged old new) all stamp mirror book (is_initiation given) still h.2
@@ -67,19 +67,19 @@ signals_no_report : (signals : List Signal) → list_any tells_report (map said.
 signals_no_report [] = refl
 signals_no_report (signal ∷ signals) = signals_no_report signals
 
-told_no_report : (signals : List Signal) (all : List Indication) → all ≡ map said.Fop signals → list_any tells_report all ≡ false
+told_no_report : (signals : List Signal) (all : List LinkIndication) → all ≡ map said.Fop signals → list_any tells_report all ≡ false
 told_no_report signals all e = ap (λ l. list_any tells_report l) e ∙ signals_no_report signals
 
 loss_no_report : (found : Bool) → list_any tells_report (told_of_loss found) ≡ false
 loss_no_report true = refl
 loss_no_report false = refl
 
-directed_no_report : {U D : Type 0} (up : Kind U Frame) (down : Kind D Report) (given : Directive) (actions : List Action) (old new : Whole U D) (all : List Indication) (starts : Bool)
+directed_no_report : {U D : Type 0} (up : Kind U Frame) (down : Kind D Report) (given : Directive) (actions : List Action) (old new : Whole U D) (all : List LinkIndication) (starts : Bool)
     → MatchBool starts (Begins up down given actions old new all) (Carries up actions old new all) → list_any tells_report all ≡ false
 directed_no_report up down given actions old new all true begins = told_no_report (output actions old.fop).indications all begins.answered
 directed_no_report up down given actions old new all false carries = told_no_report (output actions old.fop).indications all carries.answered
 
-pub no_report : {U D : Type 0} (up : Kind U Frame) (down : Kind D Report) (given : Event) (old new : Whole U D) (all : List Indication)
+pub no_report : {U D : Type 0} (up : Kind U Frame) (down : Kind D Report) (given : Event) (old new : Whole U D) (all : List LinkIndication)
     → brings_down given ≡ false → Happens up down given old new all → list_any tells_report all ≡ false
 no_report up down (event.Offer request body) old new all quiet h = told_no_report (output h.0 old.fop).indications all h.3.answered
 no_report up down (event.Directive given) old new all quiet h = directed_no_report up down given h.0 old (unjudged old new) all (is_initiation given) h.2
@@ -96,12 +96,12 @@ no_report up down event.Downlink old new all quiet h = cc
 no_report up down (event.LoseDown place) old new all quiet h = ap (λ l. list_any tells_report l) h.answered ∙ loss_no_report h.found
 
 -- what comes down
-landed_alone : {U D : Type 0} (up : Kind U Frame) (item : Report) (old new : Whole U D) (all : List Indication) → Hears up item old new all → ComesAlone all
+landed_alone : {U D : Type 0} (up : Kind U Frame) (item : Report) (old new : Whole U D) (all : List LinkIndication) → Hears up item old new all → ComesAlone all
 landed_alone up (report.Word word) old new all h =
     inl (ap (λ l. list_any tells_report l) h.6 ∙ told_no_report (output h.1 old.fop).indications h.2 h.5.answered)
 landed_alone up (report.Telemetry item) old new all h = inr (item, h.2)
 
-pub comes_alone : {U D : Type 0} (up : Kind U Frame) (down : Kind D Report) (given : Event) (old new : Whole U D) (all : List Indication) → Happens up down given old new all → ComesAlone all
+pub comes_alone : {U D : Type 0} (up : Kind U Frame) (down : Kind D Report) (given : Event) (old new : Whole U D) (all : List LinkIndication) → Happens up down given old new all → ComesAlone all
 comes_alone up down given old new all h = by_event given refl
   where
     by_event : (e : Event) → given ≡ e → ComesAlone all

@@ -1,9 +1,9 @@
 -- Each act keeps the tie between book and link.
 use Rattle.std.proofs.Common.{◌≡◌, ℕ, ◌<◌, ◌≤◌, ◌==◌, true, Option, Some, None, List, [], ◌∷◌, ◌++◌, length, map, refl, sym, ◌∙◌, ap, subst, append-nil, arith}
 use Rattle.std.specs.List.{flat_map}
-use Rattle.tc_types.specs.declared.frames.Frame.{Frame}
-use Rattle.tc_types.specs.declared.reports.Report.{Report}
-use Rattle.tc_types.specs.declared.reports.Telemetry.{Telemetry}
+use Rattle.tc_types.specs.declared.link.frames.Frame.{Frame}
+use Rattle.tc_types.specs.declared.link.reports.Report.{Report}
+use Rattle.tc_types.specs.declared.link.reports.Telemetry.{Telemetry}
 use Rattle.tc_types.specs.declared.requests.Request.{Request}
 use Rattle.tc_types.specs.declared.acts.LinkAct.{LinkAct}
 use Rattle.tc_types.specs.declared.acts.LinkAct.TheVariants as link_act
@@ -15,7 +15,7 @@ use Rattle.tc_fop.specs.Views.{view_of}
 use Rattle.tc_fop.specs.Requests.{waiting_requests}
 use Rattle.tc_world.specs.declared.events.Event.{Event}
 use Rattle.tc_world.specs.declared.events.Event.TheVariants as event
-use Rattle.tc_world.specs.declared.events.Indication.{Indication}
+use Rattle.tc_world.specs.declared.events.LinkIndication.{LinkIndication}
 use Rattle.tc_world.specs.Links.{Kind}
 use Rattle.tc_world.specs.Telling.{TellsRequests, offered_by, sent_said}
 use Rattle.tc_world.specs.Window.{all_confirmed}
@@ -25,7 +25,7 @@ use Rattle.tc_book.specs.Book.{Book, request_at}
 use Rattle.tc_book.specs.Good.{IsGoodBook}
 use Rattle.tc_book.specs.Acts.{first_refusal, acted as book_acted}
 use Rattle.tc_book.specs.Logs.{step_tests, recorded, released_with}
-use Rattle.tc_desk.specs.declared.firsts.First.{First}
+use Rattle.tc_desk.specs.declared.firsts.FirstLine.{FirstLine}
 use Rattle.tc_board.specs.Mirror.{MirrorState, no_mirror}
 use Rattle.tc_desk.specs.Commands.{activity_at, payload_of}
 use Rattle.tc_desk.specs.State.{State, widest_k}
@@ -60,7 +60,7 @@ none_waits m e = by_waiting m.waiting e
 -- ---- what the link tells
 
 -- what the book hears of an event keeps the tie
-told_tied : {U D : Type 0} (o : ℕ) (stamp : Stamp) (mirror : MirrorState) (given : Event) (w v : Whole U D) (all : List Indication) (book : Book) → TellsRequests given w v all
+told_tied : {U D : Type 0} (o : ℕ) (stamp : Stamp) (mirror : MirrorState) (given : Event) (w v : Whole U D) (all : List LinkIndication) (book : Book) → TellsRequests given w v all
     → length (waiting_requests w.fop ++ offered_by given) ≤ 1 → AreTied o book (waiting_requests w.fop ++ offered_by given) (all_sent w) (all_confirmed w)
     → AreTiedTo o (heard_all stamp mirror all book) v
 told_tied o stamp mirror given w v all book tells few tied =
@@ -69,17 +69,17 @@ told_tied o stamp mirror given w v all book tells few tied =
     (heard_tied o stamp mirror all book (waiting_requests w.fop ++ offered_by given) (waiting_requests v.fop) (all_sent w) (all_confirmed w) tells.waits few tied))
 
 -- of an event that offers nothing
-told_tied_alone : {U D : Type 0} (o : ℕ) (stamp : Stamp) (mirror : MirrorState) (given : Event) (w v : Whole U D) (all : List Indication) (book : Book) → offered_by given ≡ [] → TellsRequests given w v all
+told_tied_alone : {U D : Type 0} (o : ℕ) (stamp : Stamp) (mirror : MirrorState) (given : Event) (w v : Whole U D) (all : List LinkIndication) (book : Book) → offered_by given ≡ [] → TellsRequests given w v all
     → AreTiedTo o book w → AreTiedTo o (heard_all stamp mirror all book) v
 told_tied_alone o stamp mirror given w v all book none tells tied =
     let same : waiting_requests w.fop ++ offered_by given ≡ waiting_requests w.fop = ap (λ l. waiting_requests w.fop ++ l) none ∙ append-nil (waiting_requests w.fop) in
     told_tied o stamp mirror given w v all book tells (subst (λ l. length l ≤ 1) (sym same) (one_waits w.fop)) (subst (λ l. AreTied o book l (all_sent w) (all_confirmed w)) (sym same) tied)
 
 -- nothing was asked of the link
-alone_tied : {U D : Type 0} (o : ℕ) (stamp : Stamp) (mirror : MirrorState) (w v : Whole U D) (all : List Indication) (book : Book) → (v ≡ w) × (all ≡ []) → AreTiedTo o book w
+alone_tied : {U D : Type 0} (o : ℕ) (stamp : Stamp) (mirror : MirrorState) (w v : Whole U D) (all : List LinkIndication) (book : Book) → (v ≡ w) × (all ≡ []) → AreTiedTo o book w
     → AreTiedTo o (heard_all stamp mirror all book) v
 alone_tied o stamp mirror w v all book same tied =
-    subst (λ (l : List Indication). AreTiedTo o (heard_all stamp mirror l book) v) (sym same.1) (subst (AreTiedTo o book) (sym same.0) tied)
+    subst (λ (l : List LinkIndication). AreTiedTo o (heard_all stamp mirror l book) v) (sym same.1) (subst (AreTiedTo o book) (sym same.0) tied)
 
 -- a link that is as before
 before_tied : {U D : Type 0} (o : ℕ) (up : Kind U Frame) (down : Kind D Report) (w v : Whole U D) (book : Book) → IsAsBefore up down w v → AreTiedTo o book w → AreTiedTo o book v
@@ -99,7 +99,7 @@ reports_tied o up down stamp items w v book reports tied =
     puts_tied o up down stamp items reports.ready v book reports.put (before_tied o up down w reports.ready book reports.readied tied)
 
 -- a frame that comes on board, and the report that it makes
-boards_tied : {U D : Type 0} (o : ℕ) (up : Kind U Frame) (down : Kind D Report) (stamp : Stamp) (old new : State U D) (all : List Indication) → Boards up down old new all → IsTied o old
+boards_tied : {U D : Type 0} (o : ℕ) (up : Kind U Frame) (down : Kind D Report) (stamp : Stamp) (old new : State U D) (all : List LinkIndication) → Boards up down old new all → IsTied o old
     → AreTiedTo o (heard_all stamp old.mirror all old.book) new.world
 boards_tied o up down stamp old new all boards tied =
     puts_tied o up down stamp (reports_after (taken_in all)) boards.carried new.world (heard_all stamp old.mirror all old.book) boards.reports
@@ -109,7 +109,7 @@ boards_tied o up down stamp old new all boards tied =
 -- ---- acts
 
 -- a request that is released: it waits, or is told at once
-release_tied : {U D : Type 0} (o : ℕ) (up : Kind U Frame) (down : Kind D Report) (stamp : Stamp) (n : ℕ) (old : State U D) (v : Whole U D) (all : List Indication) (asked : Option Request)
+release_tied : {U D : Type 0} (o : ℕ) (up : Kind U Frame) (down : Kind D Report) (stamp : Stamp) (n : ℕ) (old : State U D) (v : Whole U D) (all : List LinkIndication) (asked : Option Request)
     → Passes up down (offer_at old.book n asked) old.world v all
     → waiting_requests old.world.fop ≡ [] → AreTied o (released stamp (link_act.Release n) old.book) (n ∷ []) (all_sent old.world) (all_confirmed old.world)
     → AreTiedTo o (heard_all stamp old.mirror all (released stamp (link_act.Release n) old.book)) v
@@ -124,7 +124,7 @@ release_tied o up down stamp n old v all (Some request) passes none tied =
     (subst (λ l. AreTied o after l (all_sent old.world) (all_confirmed old.world)) (sym waits) tied)
 
 -- a release that no test refuses
-left_tied : {U D : Type 0} (o : ℕ) (up : Kind U Frame) (down : Kind D Report) (stamp : Stamp) (n : ℕ) (old new : State U D) (all : List Indication)
+left_tied : {U D : Type 0} (o : ℕ) (up : Kind U Frame) (down : Kind D Report) (stamp : Stamp) (n : ℕ) (old new : State U D) (all : List LinkIndication)
     → ((m : ℕ) → activity_at old.book n ≡ Some m → m < n) → first_refusal (link_tests old.book (view_of old.world.fop) (widest_k old.world.farm.window) old.board.time (link_act.Release n)) ≡ None
     → Flies up down (link_act.Release n) old new all → IsTied o old → AreTiedTo o (heard_all stamp old.mirror all (released stamp (link_act.Release n) old.book)) new.world
 left_tied o up down stamp n old new all before passes flies tied =
@@ -134,7 +134,7 @@ left_tied o up down stamp n old new all before passes flies tied =
     (released_tied o stamp old.book n (all_sent old.world) (all_confirmed old.world) before (not_false _ tests.1.1.0) tests.1.1.1.1.0 (subst (λ l. AreTied o old.book l (all_sent old.world) (all_confirmed old.world)) none tied))
 
 -- an act on the link keeps it
-flight_tied : {U D : Type 0} (o : ℕ) (up : Kind U Frame) (down : Kind D Report) (stamp : Stamp) (given : LinkAct) (old new : State U D) (all : List Indication)
+flight_tied : {U D : Type 0} (o : ℕ) (up : Kind U Frame) (down : Kind D Report) (stamp : Stamp) (given : LinkAct) (old new : State U D) (all : List LinkIndication)
     → IsGoodBook old.book → refusal_of stamp old (act.Link given) ≡ None → Flies up down given old new all → IsTied o old
     → AreTiedTo o (heard_all stamp old.mirror all (released stamp given old.book)) new.world
 flight_tied o up down stamp (link_act.Release n) old new all good passes flies tied = left_tied o up down stamp n old new all (target_is_before old.book good n) passes flies tied
@@ -158,7 +158,7 @@ record_tied o stamp given at tied =
     (noted_tied o stamp at.book (recorded stamp given at.book) (waiting_requests at.world.fop) (all_sent at.world) (all_confirmed at.world) (record_noted stamp given at.book) tied).tied
 
 -- a step, and the release that comes with it, if one does
-beside_tied : {U D : Type 0} (o : ℕ) (up : Kind U Frame) (down : Kind D Report) (stamp : Stamp) (given : StepAct) (beside : Option ℕ) (old new : State U D) (all : List Indication)
+beside_tied : {U D : Type 0} (o : ℕ) (up : Kind U Frame) (down : Kind D Report) (stamp : Stamp) (given : StepAct) (beside : Option ℕ) (old new : State U D) (all : List LinkIndication)
     → IsGoodBook old.book → first_refusal (tests_behind old.book (view_of old.world.fop) (widest_k old.world.farm.window) old.board.time beside) ≡ None → FliesBeside up down beside old new all → IsTied o old
     → AreTiedTo o (heard_all stamp old.mirror all (released_beside stamp beside (recorded stamp given old.book))) new.world
 beside_tied o up down stamp given None old new all good passes stands tied = alone_tied o stamp old.mirror old.world new.world all (recorded stamp given old.book) (stands.0, stands.3) (record_tied o stamp given old tied)
@@ -167,7 +167,7 @@ beside_tied {U} {D} o up down stamp given (Some n) old new all good passes flies
     left_tied o up down stamp n noted new all (target_is_before old.book good n) passes flies (record_tied o stamp given old tied)
 
 -- an act keeps it
-went_tied : {U D : Type 0} (o : ℕ) (up : Kind U Frame) (down : Kind D Report) (stamp : Stamp) (given : Act) (old new : State U D) (all : List Indication) (first : First)
+went_tied : {U D : Type 0} (o : ℕ) (up : Kind U Frame) (down : Kind D Report) (stamp : Stamp) (given : Act) (old new : State U D) (all : List LinkIndication) (first : FirstLine)
     → IsGoodBook old.book → refusal_of stamp old given ≡ None → Does up down stamp given old new all first → IsTied o old
     → AreTiedTo o (heard_all stamp old.mirror all (acted stamp given old.book)) new.world
 went_tied o up down stamp (act.Book given) old new all first good passes does tied =
@@ -179,7 +179,7 @@ went_tied o up down stamp (act.Step given) old new all first good passes does ti
 went_tied {U} {D} o up down stamp (act.Ask asked) old new all first good passes does tied =
     alone_tied o stamp old.mirror old.world new.world all old.book (ap (λ (at : State U D). at.world) does.link.0, does.link.1) tied
 
-pub does_tied : {U D : Type 0} (o : ℕ) (up : Kind U Frame) (down : Kind D Report) (stamp : Stamp) (given : Act) (old new : State U D) (all : List Indication) (first : First)
+pub does_tied : {U D : Type 0} (o : ℕ) (up : Kind U Frame) (down : Kind D Report) (stamp : Stamp) (given : Act) (old new : State U D) (all : List LinkIndication) (first : FirstLine)
     → IsGoodBook old.book → refusal_of stamp old given ≡ None → Does up down stamp given old new all first → IsTied o old → IsTied o new
 does_tied o up down stamp given old new all first good passes does tied =
     subst (λ book. AreTiedTo o book new.world) (sym does.book) (went_tied o up down stamp given old new all first good passes does tied)

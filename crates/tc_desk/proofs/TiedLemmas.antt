@@ -2,22 +2,22 @@
 use Rattle.std.proofs.Common.{◌≡◌, ℕ, ◌+◌, ◌≤◌, ◌==◌, Bool, true, false, if◌then◌else◌, Option, Some, None, List, [], ◌∷◌, ◌++◌, length, fold, refl, sym, ◌∙◌, ap, subst, append-nil, arith}
 use Rattle.std.proofs.lemmas.Bool.Decides.{nat_tests}
 use Rattle.std.specs.List.{list_any}
-use Rattle.tc_types.specs.declared.places.Place.{Place}
-use Rattle.tc_types.specs.declared.places.Place.TheVariants as place
-use Rattle.tc_types.specs.declared.causes.Cause.{Cause}
-use Rattle.tc_types.specs.declared.causes.Cause.TheVariants as cause
+use Rattle.tc_types.specs.declared.history.places.Place.{Place}
+use Rattle.tc_types.specs.declared.history.places.Place.TheVariants as place
+use Rattle.tc_types.specs.declared.history.causes.Cause.{Cause}
+use Rattle.tc_types.specs.declared.history.causes.Cause.TheVariants as cause
 use Rattle.tc_types.specs.declared.requests.Request.{Request}
 use Rattle.tc_types.specs.declared.requests.Command.{Command}
 use Rattle.tc_types.specs.declared.requests.Command.TheVariants as command
-use Rattle.tc_types.specs.declared.reports.Report.TheVariants as report
-use Rattle.tc_types.specs.declared.reports.Telemetry.TheVariants as telemetry
-use Rattle.tc_types.specs.declared.reports.Verification.{Verification}
-use Rattle.tc_types.specs.declared.reports.Verification.TheVariants as verification
+use Rattle.tc_types.specs.declared.link.reports.Report.TheVariants as report
+use Rattle.tc_types.specs.declared.link.reports.Telemetry.TheVariants as telemetry
+use Rattle.tc_types.specs.declared.link.reports.Verification.{Verification}
+use Rattle.tc_types.specs.declared.link.reports.Verification.TheVariants as verification
 use Rattle.tc_types.specs.Lawful.{is_among, is_one_of, is_lawful, place_number}
 use Rattle.tc_types.specs.Stages.{stage_of_verification}
 use Rattle.tc_fop.specs.declared.signals.Indication.TheVariants as signal
-use Rattle.tc_world.specs.declared.events.Indication.{Indication}
-use Rattle.tc_world.specs.declared.events.Indication.TheVariants as said
+use Rattle.tc_world.specs.declared.events.LinkIndication.{LinkIndication}
+use Rattle.tc_world.specs.declared.events.LinkIndication.TheVariants as said
 use Rattle.tc_world.specs.Kept.{Each}
 use Rattle.tc_world.specs.Telling.{leaves_said, sent_said}
 use Rattle.tc_book.specs.declared.stamps.Stamp.{Stamp}
@@ -286,7 +286,7 @@ confirms_both stamp book n = record {
 }
 
 -- one indication: who waits and who was sent
-pub hears_both : (stamp : Stamp) (mirror : MirrorState) (i : Indication) (book : Book) (waits sent : List ℕ) → length (leaves_said i ++ waits) ≤ 1
+pub hears_both : (stamp : Stamp) (mirror : MirrorState) (i : LinkIndication) (book : Book) (waits sent : List ℕ) → length (leaves_said i ++ waits) ≤ 1
     → BothTied book (leaves_said i ++ waits) sent → BothTied (heard stamp mirror book i) waits (sent ++ sent_said i)
 hears_both stamp mirror (said.Farm v) book waits sent few tied = kept_both book book waits sent (same_kept book) tied
 hears_both stamp mirror said.Lost book waits sent few tied = kept_both book book waits sent (same_kept book) tied

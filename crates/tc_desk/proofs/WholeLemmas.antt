@@ -2,13 +2,13 @@
 use Rattle.std.proofs.Common.{◌≡◌, ℕ, ◌+◌, ◌==◌, inl, inr, Bool, true, false, ◌&&◌, List, [], ◌∷◌, ◌++◌, length, refl, sym, ◌∙◌, ap, arith}
 use Rattle.std.proofs.lemmas.Bool.Decides.{nat_tests}
 use Rattle.std.proofs.lemmas.List.{length-append, length-map}
-use Rattle.tc_types.specs.declared.reports.Report.{Report}
-use Rattle.tc_types.specs.declared.reports.Report.TheVariants as report
+use Rattle.tc_types.specs.declared.link.reports.Report.{Report}
+use Rattle.tc_types.specs.declared.link.reports.Report.TheVariants as report
 use Rattle.tc_types.specs.declared.acts.LinkAct.{LinkAct}
 use Rattle.tc_types.specs.declared.acts.LinkAct.TheVariants as link_act
 use Rattle.tc_types.specs.declared.acts.Act.{Act}
 use Rattle.tc_types.specs.declared.acts.Act.TheVariants as act
-use Rattle.tc_world.specs.declared.events.Indication.{Indication}
+use Rattle.tc_world.specs.declared.events.LinkIndication.{LinkIndication}
 use Rattle.tc_world.specs.Links.{Kind}
 use Rattle.tc_world.specs.Sublist.{IsSublist}
 use Rattle.tc_world.proofs.Lists.{sublist_length}
@@ -29,7 +29,7 @@ sublist_whole {X} xs (y ∷ ys) (inr on) same =
     on.1 ∙ ap (λ (l : List X). y ∷ l) (sublist_whole on.0 ys on.2 rest)
 
 -- so many items are put
-count_in_flight : {U D : Type 0} (at : State U D) (given : LinkAct) (all : List Indication) (items : List Report) (count : ℕ) → ArePutInFlight at given all items → IsPutCount at given all count → count ≡ length items
+count_in_flight : {U D : Type 0} (at : State U D) (given : LinkAct) (all : List LinkIndication) (items : List Report) (count : ℕ) → ArePutInFlight at given all items → IsPutCount at given all count → count ≡ length items
 count_in_flight at (link_act.Release n) all items count are counted = counted ∙ sym (ap length are)
 count_in_flight at (link_act.Direct given) all items count are counted = counted ∙ sym (ap length are)
 count_in_flight at link_act.Tick all items count are counted = counted ∙ sym (ap length are)
@@ -41,14 +41,14 @@ count_in_flight at link_act.Down all items count are counted = counted ∙ sym (
 count_in_flight at link_act.Work all items count are counted = counted ∙ sym (ap length are ∙ length-map (work_reports at.board at.board.buffer) report.Telemetry)
 count_in_flight at (link_act.Clock time) all items count are counted = counted are.0 are.1 ∙ sym (ap length are.2 ∙ length-map are.0 report.Telemetry)
 
-count_put : {U D : Type 0} (at : State U D) (given : Act) (all : List Indication) (items : List Report) (count : ℕ) → is_question given ≡ false → ArePut at given all items → IsCounted at given all count → count ≡ length items
+count_put : {U D : Type 0} (at : State U D) (given : Act) (all : List LinkIndication) (items : List Report) (count : ℕ) → is_question given ≡ false → ArePut at given all items → IsCounted at given all count → count ≡ length items
 count_put at (act.Book given) all items count asks are counted = counted ∙ sym (ap length are)
 count_put at (act.Link given) all items count asks are counted = count_in_flight at given all items count are counted
 count_put at (act.Step given) all items count asks are counted = counted ∙ sym (ap length are)
 count_put at (act.Ask asked) all items count asks are counted = cc
 
 -- by the counts: a desk that is whole stays so exactly where they are even
-pub keeps_whole : {U D : Type 0} (down : Kind D Report) (given : Act) (old new : DeskState U D) (all : List Indication) (kept : Bool)
+pub keeps_whole : {U D : Type 0} (down : Kind D Report) (given : Act) (old new : DeskState U D) (all : List LinkIndication) (kept : Bool)
     → is_question given ≡ false → MovesDown down given old.parts new.parts all → IsEven down old.parts given new.parts all kept → new.whole ≡ (old.whole && kept)
     → KeepsWhole down given old new all
 keeps_whole down given old new all kept asks moves even whole =

@@ -4,9 +4,9 @@ use Rattle.std.proofs.Common.{◌≡◌, ℕ, inl, inr, Bool, true, false, Optio
 use Rattle.std.specs.Prelude.{if◌then◌else◌}
 use Rattle.std.specs.List.{flat_map}
 use Rattle.std.proofs.lemmas.List.{append_assoc, append-nil}
-use Rattle.tc_types.specs.declared.frames.Frame.{Frame}
-use Rattle.tc_types.specs.declared.reports.Report.{Report}
-use Rattle.tc_types.specs.declared.reports.Telemetry.{Telemetry}
+use Rattle.tc_types.specs.declared.link.frames.Frame.{Frame}
+use Rattle.tc_types.specs.declared.link.reports.Report.{Report}
+use Rattle.tc_types.specs.declared.link.reports.Telemetry.{Telemetry}
 use Rattle.tc_types.specs.declared.acts.Act.{Act}
 use Rattle.tc_types.specs.declared.acts.Act.TheVariants as act
 use Rattle.tc_types.specs.declared.acts.LinkAct.{LinkAct}
@@ -16,12 +16,12 @@ use Rattle.tc_fop.specs.Moves.{is_initiation}
 use Rattle.tc_fop.specs.Requests.{waiting_requests}
 use Rattle.tc_world.specs.declared.events.Event.{Event}
 use Rattle.tc_world.specs.declared.events.Event.TheVariants as event
-use Rattle.tc_world.specs.declared.events.Indication.{Indication}
-use Rattle.tc_world.specs.declared.events.Indication.TheVariants as said
+use Rattle.tc_world.specs.declared.events.LinkIndication.{LinkIndication}
+use Rattle.tc_world.specs.declared.events.LinkIndication.TheVariants as said
 use Rattle.tc_world.specs.Abstraction.{Bare, seen, session_of, positions_in, values_in}
 use Rattle.tc_world.specs.Kept.{IsInWindow}
 use Rattle.tc_world.specs.Links.{Kind}
-use Rattle.tc_world.specs.Session.{SessionRun, nothing_yet}
+use Rattle.tc_world.specs.Session.{nothing_yet}
 use Rattle.tc_world.specs.Sublist.{IsSublist, IsSublist-same}
 use Rattle.tc_world.specs.Telling.{TellsRequests, leaves_said, sent_said, offered_by}
 use Rattle.tc_world.specs.Window.{Distinct, IsPrefixed, ArePrefixed, IsClaimed, Follows}
@@ -36,7 +36,7 @@ use Rattle.tc_world.proofs.WindowSteps.{run_keeps_window}
 use Rattle.tc_book.specs.declared.stamps.Stamp.{Stamp}
 use Rattle.tc_book.specs.Logs.{released_with}
 use Rattle.tc_desk.specs.declared.configs.Config.{Config}
-use Rattle.tc_desk.specs.declared.firsts.First.{First}
+use Rattle.tc_desk.specs.declared.firsts.FirstLine.{FirstLine}
 use Rattle.tc_desk.specs.Asks.{event_of, has_buffer, taken_in, reports_after}
 use Rattle.tc_desk.specs.Machine.{Happened, Passes, PutsDown, Reports, Flies, FliesBeside, Does}
 use Rattle.tc_desk.specs.State.{State, new_world}
@@ -102,7 +102,7 @@ clean_before up down event.Downlink w e = e
 clean_before up down (event.LoseDown place) w e = e
 
 -- what is told to be sent left the wait queue
-said_leave : (all : List Indication) → IsSublist (flat_map sent_said all) (flat_map leaves_said all)
+said_leave : (all : List LinkIndication) → IsSublist (flat_map sent_said all) (flat_map leaves_said all)
 said_leave [] = refl
 said_leave (said.Fop (signal.Sent n) ∷ all) = inr (flat_map sent_said all, refl, said_leave all)
 said_leave (said.Fop (signal.Confirmed n) ∷ all) = said_leave all
@@ -115,7 +115,7 @@ said_leave (said.Received item ∷ all) = said_leave all
 said_leave (said.Lost ∷ all) = said_leave all
 
 -- what is offered was not sent, and does not wait
-fresh_offered : {U D : Type 0} (up : Kind U Frame) (down : Kind D Report) (given : Event) (w v : Whole U D) (all : List Indication) → Happens up down given w v all
+fresh_offered : {U D : Type 0} (up : Kind U Frame) (down : Kind D Report) (given : Event) (w v : Whole U D) (all : List LinkIndication) → Happens up down given w v all
     → Distinct (all_sent w ++ waiting_requests w.fop) → Distinct (all_sent w ++ waiting_requests w.fop ++ offered_by given)
 fresh_offered up down (event.Offer request body) w v all h distinct = distinct_push (all_sent w ++ waiting_requests w.fop) request h.1 distinct
 fresh_offered up down (event.Directive given) w v all h distinct = subst Distinct (sym (append-nil (all_sent w ++ waiting_requests w.fop))) distinct
@@ -129,7 +129,7 @@ fresh_offered up down event.Downlink w v all h distinct = subst Distinct (sym (a
 fresh_offered up down (event.LoseDown place) w v all h distinct = subst Distinct (sym (append-nil (all_sent w ++ waiting_requests w.fop))) distinct
 
 -- no request is sent twice
-tells_distinct : {U D : Type 0} (given : Event) (w v : Whole U D) (all : List Indication) → TellsRequests given w v all
+tells_distinct : {U D : Type 0} (given : Event) (w v : Whole U D) (all : List LinkIndication) → TellsRequests given w v all
     → Distinct (all_sent w ++ waiting_requests w.fop ++ offered_by given) → Distinct (all_sent v ++ waiting_requests v.fop)
 tells_distinct given w v all tells distinct =
     let known : List ℕ = all_sent w in
@@ -151,7 +151,7 @@ follows_newest : (w v : Bare) → Follows w v → IsInWindow 255 (session_of w) 
 follows_newest w v (inl on) newest = run_keeps_window 255 (session_of w) (session_of v) on.1 newest
 follows_newest w v (inr other) newest = run_keeps_window 255 nothing_yet (session_of v) other.1 nothing_in_window
 
-happened_windowed : {U D : Type 0} (up : Kind U Frame) (down : Kind D Report) (given : Event) (w v : Whole U D) (all : List Indication) → Happened up down given w v all
+happened_windowed : {U D : Type 0} (up : Kind U Frame) (down : Kind D Report) (given : Event) (w v : Whole U D) (all : List LinkIndication) → Happened up down given w v all
     → AreWindowed (seen up down w) → AreWindowed (seen up down v)
 happened_windowed up down given w v all h old =
     let was : v.clean ≡ true → w.clean ≡ true = λ clean. clean_before up down given w (sym (clean_is up down given w v all h.happens) ∙ clean) in
@@ -178,11 +178,11 @@ module _ {U D : Type 0} (up : Kind U Frame) (down : Kind D Report) (ul : OnlyLos
   reports_windowed : (items : List Telemetry) (w v : Whole U D) → Reports up down items w v → AreWindowed (seen up down w) → AreWindowed (seen up down v)
   reports_windowed items w v reports old = puts_windowed items reports.ready v reports.put (before_windowed w reports.ready reports.readied old)
 
-  passes_windowed : (asked : Option Event) (w v : Whole U D) (all : List Indication) → Passes up down asked w v all → AreWindowed (seen up down w) → AreWindowed (seen up down v)
+  passes_windowed : (asked : Option Event) (w v : Whole U D) (all : List LinkIndication) → Passes up down asked w v all → AreWindowed (seen up down w) → AreWindowed (seen up down v)
   passes_windowed None w v all passes old = same_windowed w v passes.0 old
   passes_windowed (Some given) w v all passes old = happened_windowed up down given w v all passes old
 
-  flight_windowed : (given : LinkAct) (old new : State U D) (all : List Indication) → Flies up down given old new all → AreWindowed (seen up down old.world) → AreWindowed (seen up down new.world)
+  flight_windowed : (given : LinkAct) (old new : State U D) (all : List LinkIndication) → Flies up down given old new all → AreWindowed (seen up down old.world) → AreWindowed (seen up down new.world)
   flight_windowed (link_act.Release n) old new all flies are = passes_windowed (event_of old (link_act.Release n)) old.world new.world all flies.0 are
   flight_windowed (link_act.Direct given) old new all flies are = passes_windowed (event_of old (link_act.Direct given)) old.world new.world all flies.0 are
   flight_windowed link_act.Tick old new all flies are = passes_windowed (event_of old link_act.Tick) old.world new.world all flies.0 are
@@ -198,12 +198,12 @@ module _ {U D : Type 0} (up : Kind U Frame) (down : Kind D Report) (ul : OnlyLos
   flight_windowed (link_act.Clock time) old new all flies are = reports_windowed flies.items old.world new.world flies.reports are
 
   -- a release that comes with a record, if one does
-  beside_windowed : (beside : Option ℕ) (old new : State U D) (all : List Indication) → FliesBeside up down beside old new all → AreWindowed (seen up down old.world) → AreWindowed (seen up down new.world)
+  beside_windowed : (beside : Option ℕ) (old new : State U D) (all : List LinkIndication) → FliesBeside up down beside old new all → AreWindowed (seen up down old.world) → AreWindowed (seen up down new.world)
   beside_windowed None old new all stands are = same_windowed old.world new.world stands.0 are
   beside_windowed (Some n) old new all flies are = passes_windowed (event_of old (link_act.Release n)) old.world new.world all flies.0 are
 
   -- an act
-  pub does_windowed : (stamp : Stamp) (given : Act) (old new : State U D) (all : List Indication) (first : First) → Does up down stamp given old new all first
+  pub does_windowed : (stamp : Stamp) (given : Act) (old new : State U D) (all : List LinkIndication) (first : FirstLine) → Does up down stamp given old new all first
       → AreWindowed (seen up down old.world) → AreWindowed (seen up down new.world)
   does_windowed stamp (act.Book given) old new all first does are = same_windowed old.world new.world does.link.0 are
   does_windowed stamp (act.Link given) old new all first does are = flight_windowed given old new all does.link are

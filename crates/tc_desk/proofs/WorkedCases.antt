@@ -6,8 +6,8 @@ use Rattle.std.specs.Fmt.{digits}
 use Rattle.tc_types.specs.declared.requests.Form.{Form}
 use Rattle.tc_types.specs.declared.requests.Command.TheVariants.{Plain}
 use Rattle.tc_types.specs.declared.requests.Outcome.TheVariants.{Completes}
-use Rattle.tc_types.specs.declared.places.Place.TheVariants.{Approved, Queued, Sent, Confirmed}
-use Rattle.tc_types.specs.declared.causes.Cause.TheVariants as cause
+use Rattle.tc_types.specs.declared.history.places.Place.TheVariants.{Approved, Queued, Sent, Confirmed}
+use Rattle.tc_types.specs.declared.history.causes.Cause.TheVariants as cause
 use Rattle.tc_types.specs.declared.refusals.Refusal.{Refusal}
 use Rattle.tc_types.specs.declared.acts.Line.{Line}
 use Rattle.tc_types.specs.declared.acts.BookAct.TheVariants.{Close, Enter, Withdraw}
@@ -20,8 +20,8 @@ use Rattle.tc_types.specs.Lines.{places_line}
 use Rattle.tc_types.specs.ActGrammar.{line_text}
 use Rattle.tc_proc.specs.Logs.{execution_at}
 use Rattle.tc_book.specs.declared.stamps.Stamp.{Stamp}
-use Rattle.tc_types.specs.declared.frames.Frame.{Frame}
-use Rattle.tc_types.specs.declared.reports.Report.{Report}
+use Rattle.tc_types.specs.declared.link.frames.Frame.{Frame}
+use Rattle.tc_types.specs.declared.link.reports.Report.{Report}
 use Rattle.tc_book.specs.Book.{Book, empty_book, moved, place_in, request_at, want, with_entry}
 use Rattle.tc_world.specs.InFlight.{InFlight, listed}
 use Rattle.tc_desk.specs.State.{State, new_desk}

@@ -2,29 +2,29 @@
 -- alone is the book's matter.
 use Rattle.std.specs.Prelude.{ℕ, ◌==◌, nat_lt, Bool, true, false, not, ◌&&◌, ◌||◌, Option, Some, None, is_some, List, [], ◌∷◌, ◌++◌, count_by}
 use Rattle.std.specs.Option.{option_map_or}
-use Rattle.tc_types.specs.declared.activities.ListedActivity.{ListedActivity}
-use Rattle.tc_types.specs.declared.places.Place.TheVariants.{Entered, Approved, Queued, Riding}
-use Rattle.tc_types.specs.declared.causes.Cause.TheVariants as cause
+use Rattle.tc_types.specs.declared.link.activities.ListedActivity.{ListedActivity}
+use Rattle.tc_types.specs.declared.history.places.Place.TheVariants.{Entered, Approved, Queued, Riding}
+use Rattle.tc_types.specs.declared.history.causes.Cause.TheVariants as cause
 use Rattle.tc_types.specs.declared.refusals.Refusal.{Refusal}
 use Rattle.tc_types.specs.declared.refusals.Refusal.TheVariants.{UnknownRequest, NotApproved, WrongPlace, Interlock, BadActivity, ServiceNotActive, WaitQueueFull, BadDirective, DeskFull}
-use Rattle.tc_types.specs.declared.directives.Directive.{Directive}
-use Rattle.tc_types.specs.declared.directives.Directive.TheVariants as directive
+use Rattle.tc_types.specs.declared.link.directives.Directive.{Directive}
+use Rattle.tc_types.specs.declared.link.directives.Directive.TheVariants as directive
 use Rattle.tc_types.specs.declared.requests.Identity.{Identity}
-use Rattle.tc_types.specs.declared.reports.Report.TheVariants as report
-use Rattle.tc_types.specs.declared.reports.Telemetry.{Telemetry}
-use Rattle.tc_types.specs.declared.reports.Telemetry.TheVariants as telemetry
+use Rattle.tc_types.specs.declared.link.reports.Report.TheVariants as report
+use Rattle.tc_types.specs.declared.link.reports.Telemetry.{Telemetry}
+use Rattle.tc_types.specs.declared.link.reports.Telemetry.TheVariants as telemetry
 use Rattle.tc_types.specs.declared.acts.LinkAct.{LinkAct}
 use Rattle.tc_types.specs.declared.acts.LinkAct.TheVariants as link_act
 use Rattle.tc_types.specs.declared.acts.Act.{Act}
 use Rattle.tc_types.specs.declared.acts.Act.TheVariants as act
 use Rattle.tc_types.specs.declared.acts.Query.{Query}
-use Rattle.tc_farm.specs.declared.farms.Verdict.TheVariants as verdict
+use Rattle.tc_farm.specs.declared.farms.FrameVerdict.TheVariants as verdict
 use Rattle.tc_fop.specs.declared.signals.FopState.{FopState}
 use Rattle.tc_fop.specs.declared.views.FopView.{FopView}
 use Rattle.tc_fop.specs.Calls.{is_taking, is_initial}
 use Rattle.tc_fop.specs.Views.{view_of}
-use Rattle.tc_world.specs.declared.events.Indication.{Indication}
-use Rattle.tc_world.specs.declared.events.Indication.TheVariants as said
+use Rattle.tc_world.specs.declared.events.LinkIndication.{LinkIndication}
+use Rattle.tc_world.specs.declared.events.LinkIndication.TheVariants as said
 use Rattle.tc_world.specs.World.{is_terminate}
 use Rattle.tc_board.specs.Board.{BoardState, oldest_of}
 use Rattle.tc_book.specs.declared.stamps.Stamp.{Stamp}
@@ -33,8 +33,8 @@ use Rattle.tc_book.specs.Book.{Book, stands, is_unknown, has_all_rows, want, mov
 use Rattle.tc_book.specs.Stacks.{is_interlocked}
 use Rattle.tc_book.specs.Acts as on_book
 use Rattle.tc_book.specs.Logs.{step_tests, recorded, released_with}
-use Rattle.tc_desk.specs.declared.firsts.First.{First}
-use Rattle.tc_desk.specs.declared.firsts.First.TheVariants as first
+use Rattle.tc_desk.specs.declared.firsts.FirstLine.{FirstLine}
+use Rattle.tc_desk.specs.declared.firsts.FirstLine.TheVariants as first
 use Rattle.tc_desk.specs.State.{State, widest_k}
 use Rattle.tc_desk.specs.Commands.{activity_at, may_not_ride}
 use Rattle.tc_desk.specs.Effects.{followed}
@@ -129,11 +129,11 @@ acted stamp (act.Ask asked) book = book
 
 -- ---- how the reply begins
 
-abbrev pub plain : First
+abbrev pub plain : FirstLine
 plain = first.Book book_first.Plain
 
 -- what became of the first frame
-abbrev pub first_of_up : List Indication → First
+abbrev pub first_of_up : List LinkIndication → FirstLine
 first_of_up [] = first.Nothing
 first_of_up (said.Fop i ∷ others) = first.Nothing
 first_of_up (said.Farm (verdict.Accepted n body) ∷ others) = first.Accepted n
@@ -146,12 +146,12 @@ abbrev pub is_there : Option ListedActivity → Bool
 is_there place = is_some place
 
 -- a report that came down: of a summary, how many activities it tells
-abbrev pub first_of_report : Telemetry → First
+abbrev pub first_of_report : Telemetry → FirstLine
 first_of_report (telemetry.Verification verification n identity) = first.Verified verification identity
 first_of_report (telemetry.Summary summary) = first.Summarized summary.enabled (count_by is_there summary.activities)
 
 -- what came down
-abbrev pub first_of_down : List Indication → First
+abbrev pub first_of_down : List LinkIndication → FirstLine
 first_of_down [] = first.Nothing
 first_of_down (said.Fop i ∷ others) = first.Nothing
 first_of_down (said.Farm given ∷ others) = first.Nothing
@@ -160,7 +160,7 @@ first_of_down (said.Received (report.Telemetry item) ∷ others) = first_of_repo
 first_of_down (said.Lost ∷ others) = first.Nothing
 
 -- whether something was lost
-abbrev pub first_of_loss : List Indication → First
+abbrev pub first_of_loss : List LinkIndication → FirstLine
 first_of_loss [] = first.Nothing
 first_of_loss (said.Fop i ∷ others) = first.Nothing
 first_of_loss (said.Farm given ∷ others) = first.Nothing
@@ -168,11 +168,11 @@ first_of_loss (said.Received item ∷ others) = first.Nothing
 first_of_loss (said.Lost ∷ others) = first.Lost
 
 -- which request was carried out
-abbrev pub first_of_work : Option Identity → First
+abbrev pub first_of_work : Option Identity → FirstLine
 first_of_work None = first.Nothing
 first_of_work (Some identity) = first.Worked identity
 
-abbrev pub first_told : BoardState → LinkAct → List Indication → First
+abbrev pub first_told : BoardState → LinkAct → List LinkIndication → FirstLine
 first_told board (link_act.Release n) all = plain
 first_told board (link_act.Direct given) all = plain
 first_told board link_act.Tick all = plain
@@ -184,7 +184,7 @@ first_told board link_act.Down all = first_of_down all
 first_told board link_act.Work all = first_of_work (oldest_of board.buffer)
 first_told board (link_act.Clock time) all = first.Now time
 
-abbrev pub first_of : {U D : Type 0} → State U D → Act → List Indication → First
+abbrev pub first_of : {U D : Type 0} → State U D → Act → List LinkIndication → FirstLine
 first_of at (act.Book given) all = first.Book (on_book.first_of at.book given)
 first_of at (act.Link given) all = first_told at.board given all
 first_of at (act.Step given) all = plain

@@ -2,20 +2,20 @@
 use Rattle.std.specs.Prelude.{ℕ, nat_lt, Bool, true, false, Option, Some, None, List, [], ◌∷◌, length}
 use Rattle.tc_types.specs.declared.acts.LinkAct.{LinkAct}
 use Rattle.tc_types.specs.declared.acts.LinkAct.TheVariants as act
-use Rattle.tc_types.specs.declared.reports.Telemetry.{Telemetry}
-use Rattle.tc_types.specs.declared.telecommands.Payload.{Payload}
+use Rattle.tc_types.specs.declared.link.reports.Telemetry.{Telemetry}
+use Rattle.tc_types.specs.declared.link.telecommands.Payload.{Payload}
 use Rattle.tc_types.specs.declared.requests.Request.{Request}
-use Rattle.tc_types.specs.declared.telecommands.Telecommand.{Telecommand}
-use Rattle.tc_farm.specs.declared.farms.Verdict.TheVariants as verdict
+use Rattle.tc_types.specs.declared.link.telecommands.Telecommand.{Telecommand}
+use Rattle.tc_farm.specs.declared.farms.FrameVerdict.TheVariants as verdict
 use Rattle.tc_world.specs.declared.events.Event.{Event}
 use Rattle.tc_world.specs.declared.events.Event.TheVariants as event
-use Rattle.tc_world.specs.declared.events.Indication.{Indication}
-use Rattle.tc_world.specs.declared.events.Indication.TheVariants as said
+use Rattle.tc_world.specs.declared.events.LinkIndication.{LinkIndication}
+use Rattle.tc_world.specs.declared.events.LinkIndication.TheVariants as said
 use Rattle.tc_board.specs.Board.{BoardState, accepted, accept_reports}
-use Rattle.tc_types.specs.declared.reports.Report.TheVariants as report
-use Rattle.tc_types.specs.declared.reports.Telemetry.TheVariants as telemetry
-use Rattle.tc_types.specs.declared.reports.Report.{Report}
-use Rattle.tc_types.specs.declared.telecommands.ScheduleCommand.{ScheduleCommand}
+use Rattle.tc_types.specs.declared.link.reports.Report.TheVariants as report
+use Rattle.tc_types.specs.declared.link.reports.Telemetry.TheVariants as telemetry
+use Rattle.tc_types.specs.declared.link.reports.Report.{Report}
+use Rattle.tc_types.specs.declared.link.telecommands.ScheduleCommand.{ScheduleCommand}
 use Rattle.tc_board.specs.Mirror.{MirrorState, mirror_after}
 use Rattle.tc_book.specs.Book.{Book, request_at}
 use Rattle.tc_desk.specs.Commands.{payload_of, command_at}
@@ -61,7 +61,7 @@ abbrev pub telecommand_of : ℕ → Payload → Telecommand
 telecommand_of n body = record { request = n; identity = body.identity; ack = body.ack; task = body.task }
 
 -- the request that the link tells to be accepted
-abbrev pub taken_in : List Indication → Option Telecommand
+abbrev pub taken_in : List LinkIndication → Option Telecommand
 taken_in [] = None
 taken_in (said.Fop i ∷ others) = None
 taken_in (said.Farm (verdict.Accepted n body) ∷ others) = Some (telecommand_of n body)
@@ -87,7 +87,7 @@ command_told book (report.Telemetry (telemetry.Verification verification n ident
 command_told book (report.Telemetry (telemetry.Summary summary)) = None
 
 -- the same of what came down
-abbrev pub command_down : Book → List Indication → Option ScheduleCommand
+abbrev pub command_down : Book → List LinkIndication → Option ScheduleCommand
 command_down book [] = None
 command_down book (said.Fop i ∷ others) = None
 command_down book (said.Farm verdict ∷ others) = None
@@ -95,7 +95,7 @@ command_down book (said.Received item ∷ others) = command_told book item
 command_down book (said.Lost ∷ others) = None
 
 -- a mirror after what came down was read, with this command
-abbrev pub mirror_read : Option ScheduleCommand → List Indication → MirrorState → MirrorState
+abbrev pub mirror_read : Option ScheduleCommand → List LinkIndication → MirrorState → MirrorState
 mirror_read given [] mirror = mirror
 mirror_read given (said.Fop i ∷ others) mirror = mirror
 mirror_read given (said.Farm verdict ∷ others) mirror = mirror
@@ -103,5 +103,5 @@ mirror_read given (said.Received item ∷ others) mirror = mirror_after mirror (
 mirror_read given (said.Lost ∷ others) mirror = mirror
 
 -- with the command that flew
-abbrev pub mirror_by : Book → List Indication → MirrorState → MirrorState
+abbrev pub mirror_by : Book → List LinkIndication → MirrorState → MirrorState
 mirror_by book all mirror = mirror_read (command_down book all) all mirror

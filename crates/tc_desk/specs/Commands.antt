@@ -1,16 +1,16 @@
 -- The commands of the on-board schedule at the desk: which requests they name, and what flies of them.
 use Rattle.std.specs.Prelude.{ℕ, Bool, false, not, Option, Some, None, [], ◌∷◌}
-use Rattle.tc_types.specs.declared.activities.Activity.{Activity}
-use Rattle.tc_types.specs.declared.places.Place.TheVariants.{Approved}
+use Rattle.tc_types.specs.declared.link.activities.Activity.{Activity}
+use Rattle.tc_types.specs.declared.history.places.Place.TheVariants.{Approved}
 use Rattle.tc_types.specs.declared.requests.Body.{Body}
 use Rattle.tc_types.specs.declared.requests.Command.{Command}
 use Rattle.tc_types.specs.declared.requests.Command.TheVariants as command
 use Rattle.tc_types.specs.declared.requests.Request.{Request}
-use Rattle.tc_types.specs.declared.telecommands.Payload.{Payload}
-use Rattle.tc_types.specs.declared.telecommands.ScheduleCommand.{ScheduleCommand}
-use Rattle.tc_types.specs.declared.telecommands.ScheduleCommand.TheVariants as schedule
-use Rattle.tc_types.specs.declared.telecommands.Task.{Task}
-use Rattle.tc_types.specs.declared.telecommands.Task.TheVariants as task
+use Rattle.tc_types.specs.declared.link.telecommands.Payload.{Payload}
+use Rattle.tc_types.specs.declared.link.telecommands.ScheduleCommand.{ScheduleCommand}
+use Rattle.tc_types.specs.declared.link.telecommands.ScheduleCommand.TheVariants as schedule
+use Rattle.tc_types.specs.declared.link.telecommands.Task.{Task}
+use Rattle.tc_types.specs.declared.link.telecommands.Task.TheVariants as task
 use Rattle.tc_book.specs.Book.{Book, stands, request_at}
 
 -- ---- what flies

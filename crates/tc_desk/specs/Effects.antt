@@ -1,29 +1,46 @@
 -- What the book hears of the link: each indication, and each report that was read, is one equation. Where an insert moves, its
 -- activity follows.
-use Rattle.std.specs.Prelude.{◌≡◌, ◌⊎◌, ℕ, Bool, true, false, if◌then◌else◌, Option, Some, None, List, [], ◌∷◌, fold}
+use Rattle.std.specs.Prelude.{◌≡◌, ◌≢◌, ◌⊎◌, ℕ, ◌+◌, ◌≤◌, Bool, true, false, if◌then◌else◌, Option, Some, None, List, [], ◌∷◌, length, fold}
 use Rattle.std.specs.List.{list_any}
-use Rattle.tc_types.specs.declared.places.Place.{Place}
-use Rattle.tc_types.specs.declared.places.Place.TheVariants as place
-use Rattle.tc_types.specs.declared.causes.Cause.{Cause}
-use Rattle.tc_types.specs.declared.causes.Cause.TheVariants as cause
-use Rattle.tc_types.specs.declared.reports.Report.{Report}
-use Rattle.tc_types.specs.declared.reports.Report.TheVariants as report
-use Rattle.tc_types.specs.declared.reports.Telemetry.{Telemetry}
-use Rattle.tc_types.specs.declared.reports.Telemetry.TheVariants as telemetry
-use Rattle.tc_types.specs.declared.reports.Verification.{Verification}
+use Rattle.tc_types.specs.declared.history.places.Place.{Place}
+use Rattle.tc_types.specs.declared.history.places.Place.TheVariants as place
+use Rattle.tc_types.specs.declared.history.causes.Cause.{Cause}
+use Rattle.tc_types.specs.declared.history.causes.Cause.TheVariants as cause
+use Rattle.tc_types.specs.declared.link.reports.Report.{Report}
+use Rattle.tc_types.specs.declared.link.reports.Report.TheVariants as report
+use Rattle.tc_types.specs.declared.link.reports.Telemetry.{Telemetry}
+use Rattle.tc_types.specs.declared.link.reports.Telemetry.TheVariants as telemetry
+use Rattle.tc_types.specs.declared.link.reports.Verification.{Verification}
 use Rattle.tc_types.specs.declared.requests.Command.{Command}
 use Rattle.tc_types.specs.declared.requests.Command.TheVariants as command
 use Rattle.tc_types.specs.declared.requests.Request.{Request}
-use Rattle.tc_types.specs.Lawful.{is_lawful, is_one_of}
+use Rattle.tc_types.specs.Lawful.{is_among, is_lawful, is_one_of}
 use Rattle.tc_types.specs.Stages.{stage_of_verification}
 use Rattle.tc_fop.specs.declared.signals.Indication.TheVariants as signal
-use Rattle.tc_world.specs.declared.events.Indication.{Indication}
-use Rattle.tc_world.specs.declared.events.Indication.TheVariants as said
+use Rattle.tc_world.specs.declared.events.LinkIndication.{LinkIndication}
+use Rattle.tc_world.specs.declared.events.LinkIndication.TheVariants as said
 use Rattle.tc_board.specs.Mirror.{MirrorState, is_listed_of}
 use Rattle.tc_book.specs.declared.stamps.Stamp.{Stamp}
 use Rattle.tc_book.specs.Book.{Book, place_in, stands, request_at, want, moved}
 use Rattle.tc_book.specs.Places.{numbers_from}
+use Rattle.tc_book.specs.Records.{Kept}
 use Rattle.tc_desk.specs.Commands.{activity_at}
+
+-- there is room for so many rows more, and from each of these places a move to this one is lawful for this cause; only its approvers move a
+-- request with the cause `approve`
+pub record MayMove (most : ℕ) (at : Kept) (places : List Place) (to : Place) (why : Cause) : Type 0 where
+  pub room : length at.book.history + most ≤ at.most_rows
+  pub lawful : (from : Option Place) → is_among places from ≡ true → is_lawful from to why ≡ true
+  pub own : why ≢ cause.Approve
+
+-- requests were moved, so many times at most: all but the history stays, and there is room for as many rows as there was at least
+pub record OnlyMoves (most : ℕ) (old new : Kept) : Type 0 where
+  pub rows : length new.book.history ≤ length old.book.history + most
+  pub rows_kept : old.most_rows ≤ new.most_rows
+  pub requests : new.book.requests ≡ old.book.requests
+  pub approvals : new.book.approvals ≡ old.book.approvals
+  pub stack_approvals : new.book.stack_approvals ≡ old.book.stack_approvals
+  pub log : new.book.log ≡ old.book.log
 
 -- the request is moved, if it stands at one of these places
 abbrev pub tried : Stamp → Book → ℕ → List Place → Place → Cause → Book
@@ -101,7 +118,7 @@ received stamp mirror book (report.Telemetry item) = told stamp mirror book item
 -- ---- indications
 
 -- Sent and GivenBack act on a request at Queued, Confirmed and InDoubt on one at Sent. At another place they make no row.
-abbrev pub heard : Stamp → MirrorState → Book → Indication → Book
+abbrev pub heard : Stamp → MirrorState → Book → LinkIndication → Book
 heard stamp mirror book (said.Fop (signal.Sent n)) = tried stamp book n (place.Queued ∷ []) place.Sent cause.Transmit
 heard stamp mirror book (said.Fop (signal.Confirmed n)) = tried stamp book n (place.Sent ∷ []) place.Confirmed cause.Confirm
 heard stamp mirror book (said.Fop (signal.GivenBack n)) = tried_with stamp book n (place.Queued ∷ []) place.Approved cause.GiveBack
@@ -113,7 +130,7 @@ heard stamp mirror book (said.Received item) = received stamp mirror book item
 heard stamp mirror book said.Lost = book
 
 -- a report of the spacecraft came down
-abbrev pub tells_report : Indication → Bool
+abbrev pub tells_report : LinkIndication → Bool
 tells_report (said.Fop i) = false
 tells_report (said.Farm verdict) = false
 tells_report (said.Received (report.Word word)) = false
@@ -121,9 +138,9 @@ tells_report (said.Received (report.Telemetry item)) = true
 tells_report said.Lost = false
 
 -- a report comes down alone, and else none does
-abbrev pub ComesAlone : List Indication → Type 0
+abbrev pub ComesAlone : List LinkIndication → Type 0
 ComesAlone all = (list_any tells_report all ≡ false) ⊎ ((item : Telemetry) × (all ≡ said.Received (report.Telemetry item) ∷ []))
 
 -- all that the link told, in order
-abbrev pub heard_all : Stamp → MirrorState → List Indication → Book → Book
+abbrev pub heard_all : Stamp → MirrorState → List LinkIndication → Book → Book
 heard_all stamp mirror all book = fold (heard stamp mirror) book all

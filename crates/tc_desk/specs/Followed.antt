@@ -1,12 +1,12 @@
 -- That the mirror of the schedule follows the spacecraft: what is known of what flew.
 use Rattle.std.specs.Prelude.{◌≡◌, ℕ, ◌==◌, true, Option, Some, None, List, ◌++◌, fold}
 use Rattle.std.specs.List.{list_any, AllByRecursion}
-use Rattle.tc_types.specs.declared.frames.Frame.{Frame}
-use Rattle.tc_types.specs.declared.reports.Report.{Report}
-use Rattle.tc_types.specs.declared.reports.Report.TheVariants as report
+use Rattle.tc_types.specs.declared.link.frames.Frame.{Frame}
+use Rattle.tc_types.specs.declared.link.reports.Report.{Report}
+use Rattle.tc_types.specs.declared.link.reports.Report.TheVariants as report
 use Rattle.tc_types.specs.declared.requests.Identity.{Identity}
 use Rattle.tc_types.specs.declared.requests.Request.{Request}
-use Rattle.tc_types.specs.declared.telecommands.Payload.{Payload}
+use Rattle.tc_types.specs.declared.link.telecommands.Payload.{Payload}
 use Rattle.tc_world.specs.Abstraction.{seen}
 use Rattle.tc_world.specs.Links.{Kind}
 use Rattle.tc_world.specs.Payloads.{IsOneOf, AreCarried}
@@ -51,6 +51,11 @@ IsNamedDown K (report.Telemetry item) = IsNamed K item
 abbrev pub mirror_through : Book → List Report → MirrorState → MirrorState
 mirror_through book items mirror = fold (λ (m : MirrorState) (item : Report). mirror_after m (item, command_told book item)) mirror items
 
+-- while nothing of the downlink was lost, the mirror becomes the on-board schedule once what flies is read
+abbrev pub IsMirrored : {U D : Type 0} → Kind D Report → DeskState U D → Type 0
+IsMirrored down desk =
+    desk.whole ≡ true → mirror_through desk.parts.book (down.content desk.parts.world.down) desk.parts.mirror ≡ mirror_of desk.parts.board.schedule
+
 -- Of a desk, with the telemetry in flight as the downlink's content has it.
 pub record IsFollowed {U D : Type 0} (up : Kind U Frame) (down : Kind D Report) (desk : DeskState U D) : Type 0 where
   -- what flies of each request, and what comes on board, is what the book says of it
@@ -59,5 +64,4 @@ pub record IsFollowed {U D : Type 0} (up : Kind U Frame) (down : Kind D Report) 
   pub board : IsBoardOf (roll_of desk.parts.book (all_sent desk.parts.world)) desk.parts.board
   pub named : AreNamed (IsFlown desk.parts.book (all_sent desk.parts.world)) desk.parts.board
   pub flying : AllByRecursion (IsNamedDown (IsFlown desk.parts.book (all_sent desk.parts.world))) (down.content desk.parts.world.down)
-  -- while nothing of the downlink was lost, the mirror becomes the schedule once what flies is read
-  pub follows : desk.whole ≡ true → mirror_through desk.parts.book (down.content desk.parts.world.down) desk.parts.mirror ≡ mirror_of desk.parts.board.schedule
+  pub follows : IsMirrored down desk

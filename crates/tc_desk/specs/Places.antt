@@ -1,7 +1,7 @@
 -- Where the requests stand that wait, and those that were sent.
 use Rattle.std.specs.Prelude.{◌≡◌, ℕ, true, List, [], ◌∷◌}
-use Rattle.tc_types.specs.declared.places.Place.{Place}
-use Rattle.tc_types.specs.declared.places.Place.TheVariants.{Sent, Confirmed, Scheduled, Accepted, Started, Completed, Failed, Doubtful, Deleted, Closed}
+use Rattle.tc_types.specs.declared.history.places.Place.{Place}
+use Rattle.tc_types.specs.declared.history.places.Place.TheVariants.{Sent, Confirmed, Scheduled, Accepted, Started, Completed, Failed, Doubtful, Deleted, Closed}
 use Rattle.tc_book.specs.Book.{Book, stands}
 
 -- the places of a request that was sent

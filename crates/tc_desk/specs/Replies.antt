@@ -1,13 +1,13 @@
 -- The lines of a reply.
 use Rattle.std.specs.Prelude.{◌≡◌, ℕ, nat_lt, Bool, IsPermutation, IsSortedBy, Option, Some, None, List, [], ◌∷◌, ◌++◌, length, map, take, codes}
 use Rattle.std.specs.List.{filter_map}
-use Rattle.tc_types.specs.declared.frames.Frame.{Frame}
-use Rattle.tc_types.specs.declared.moves.Move.{Move}
-use Rattle.tc_types.specs.declared.places.Place.{Place}
+use Rattle.tc_types.specs.declared.link.frames.Frame.{Frame}
+use Rattle.tc_types.specs.declared.history.moves.Move.{Move}
+use Rattle.tc_types.specs.declared.history.places.Place.{Place}
 use Rattle.tc_types.specs.declared.refusals.Refusal.{Refusal}
-use Rattle.tc_types.specs.declared.reports.Report.{Report}
+use Rattle.tc_types.specs.declared.link.reports.Report.{Report}
 use Rattle.tc_types.specs.declared.requests.Request.{Request}
-use Rattle.tc_types.specs.declared.activities.ListedActivity.{ListedActivity}
+use Rattle.tc_types.specs.declared.link.activities.ListedActivity.{ListedActivity}
 use Rattle.tc_types.specs.declared.acts.Query.{Query}
 use Rattle.tc_types.specs.declared.acts.Query.TheVariants as query
 use Rattle.tc_types.specs.History.{entered, counts_of, rows_past}
@@ -15,18 +15,18 @@ use Rattle.tc_types.specs.Lines.{entered_line, approvals_line, stack_line, histo
 use Rattle.tc_types.specs.LinkLines.{accepted_line, word_line, verified_line, summarized_line, worked_line, time_line, mirror_line, activity_line}
 use Rattle.tc_types.specs.RequestLine.{request_line}
 use Rattle.tc_types.specs.ProcedureLines.{procedure_line, begun_line, execution_line, record_line}
-use Rattle.tc_types.specs.declared.rows.BegunExecution.{BegunExecution}
+use Rattle.tc_types.specs.declared.tables.rows.BegunExecution.{BegunExecution}
 use Rattle.tc_proc.specs.Logs.{LogState, execution_at, next_of, records_of}
 use Rattle.tc_report.specs.ShiftReport.{IsReport}
-use Rattle.tc_world.specs.declared.events.Indication.{Indication}
+use Rattle.tc_world.specs.declared.events.LinkIndication.{LinkIndication}
 use Rattle.tc_world.specs.Links.{Kind}
 use Rattle.tc_board.specs.Schedule.{is_before}
 use Rattle.tc_board.specs.Mirror.{MirrorState}
 use Rattle.tc_book.specs.declared.firsts.First.{First as BookFirst}
 use Rattle.tc_book.specs.declared.firsts.First.TheVariants as book_first
 use Rattle.tc_book.specs.Book.{place_in, request_at}
-use Rattle.tc_desk.specs.declared.firsts.First.{First}
-use Rattle.tc_desk.specs.declared.firsts.First.TheVariants as first
+use Rattle.tc_desk.specs.declared.firsts.FirstLine.{FirstLine}
+use Rattle.tc_desk.specs.declared.firsts.FirstLine.TheVariants as first
 use Rattle.tc_desk.specs.State.{State}
 use Rattle.tc_desk.specs.StatusLines.{premise_word, status_lines, status_of, told_line}
 
@@ -47,7 +47,7 @@ book_line (book_first.ProcedureLoaded name steps) = procedure_line name steps
 book_line (book_first.Begun execution) = begun_line execution
 
 -- the same, or what came up, was lost, or came down
-abbrev pub first_line : First → List ℕ
+abbrev pub first_line : FirstLine → List ℕ
 first_line (first.Book given) = book_line given
 first_line first.Nothing = codes "ok nothing"
 first_line (first.Accepted n) = accepted_line n
@@ -61,7 +61,7 @@ first_line (first.Worked identity) = worked_line identity
 first_line (first.Now time) = time_line time
 
 -- the reply to an act: its first line, a line for each start and alert that the link told, and one for each row that it made
-abbrev pub act_reply : First → List Indication → List Move → Reply
+abbrev pub act_reply : FirstLine → List LinkIndication → List Move → Reply
 act_reply first all rows = first_line first ∷ filter_map told_line all ++ map move_line rows
 
 -- how many rows a reply about a request's history shows at most

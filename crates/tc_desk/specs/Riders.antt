@@ -1,8 +1,8 @@
 -- Who flies on its own and who rides inside an insert: no request does both.
 use Rattle.std.specs.Prelude.{◌≡◌, ℕ, ◌==◌, false, List, [], ◌∷◌, ◌++◌}
 use Rattle.std.specs.List.{list_any, filter_map}
-use Rattle.tc_types.specs.declared.places.Place.{Place}
-use Rattle.tc_types.specs.declared.places.Place.TheVariants.{Riding, Scheduled, Accepted, Started, Completed, Failed, Doubtful, Deleted, Closed}
+use Rattle.tc_types.specs.declared.history.places.Place.{Place}
+use Rattle.tc_types.specs.declared.history.places.Place.TheVariants.{Riding, Scheduled, Accepted, Started, Completed, Failed, Doubtful, Deleted, Closed}
 use Rattle.tc_world.specs.Kept.{Each}
 use Rattle.tc_book.specs.Book.{Book}
 use Rattle.tc_desk.specs.Commands.{activity_at}

@@ -1,8 +1,8 @@
 -- What the rows that came since a desk was made say of its link.
 use Rattle.std.specs.Prelude.{◌≡◌, ℕ, ◌==◌, ◌≤◌, List, length, map, filter, drop}
-use Rattle.tc_types.specs.declared.causes.Cause.{Cause}
-use Rattle.tc_types.specs.declared.causes.Cause.TheVariants.{Transmit, Confirm}
-use Rattle.tc_types.specs.declared.moves.Move.{Move}
+use Rattle.tc_types.specs.declared.history.causes.Cause.{Cause}
+use Rattle.tc_types.specs.declared.history.causes.Cause.TheVariants.{Transmit, Confirm}
+use Rattle.tc_types.specs.declared.history.moves.Move.{Move}
 use Rattle.tc_types.specs.Lawful.{cause_number}
 use Rattle.tc_world.specs.Sublist.{IsSublist}
 use Rattle.tc_book.specs.Book.{Book}

@@ -1,11 +1,15 @@
 -- What stands of a desk between two acts.
 use Rattle.std.specs.Prelude.{◌≡◌, true}
-use Rattle.tc_types.specs.declared.frames.Frame.{Frame}
-use Rattle.tc_types.specs.declared.reports.Report.{Report}
+use Rattle.tc_types.specs.declared.link.frames.Frame.{Frame}
+use Rattle.tc_types.specs.declared.link.reports.Report.{Report}
 use Rattle.tc_world.specs.Links.{Kind}
 use Rattle.tc_world.specs.Window.{IsClaimed}
+use Rattle.tc_book.specs.Good.{IsGoodBook}
+use Rattle.tc_book.specs.Sound.{IsSound}
+use Rattle.tc_book.specs.Tables.{image_of}
 use Rattle.tc_desk.specs.Fair.{IsOpen}
-use Rattle.tc_desk.specs.Followed.{IsFollowed}
+use Rattle.tc_desk.specs.Followed.{IsFollowed, IsMirrored}
+use Rattle.tc_desk.specs.Headline.{TellsTrue}
 use Rattle.tc_desk.specs.State.{DeskState}
 use Rattle.tc_desk.specs.Tied.{IsTied}
 
@@ -18,3 +22,12 @@ pub record IsStanding {U D : Type 0} (up : Kind U Frame) (down : Kind D Report) 
   pub open_farm : IsOpen desk.parts
   -- while nothing of the downlink was lost, the mirror follows the spacecraft
   pub followed : IsFollowed up down desk
+
+-- What is true of a desk after any call, whatever was answered: it was made over as many rows as before, its book is good, an opening
+-- takes its tables, what its rows tell of its link is true, and while it is whole its mirror follows the spacecraft.
+pub record StaysTrue {U D : Type 0} (down : Kind D Report) (old new : DeskState U D) : Type 0 where
+  pub opened : new.opened ≡ old.opened
+  pub good : IsGoodBook new.parts.book
+  pub sound : IsSound (image_of new.parts.book)
+  pub told : TellsTrue new.opened new.parts
+  pub mirror : IsMirrored down new

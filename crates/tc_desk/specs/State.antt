@@ -1,5 +1,7 @@
 -- What a desk is made of: its book, its link, the rehearsal spacecraft, and the mirror of its schedule.
-use Rattle.std.specs.Prelude.{ℕ, ◌≤◌, ◌/◌, nat_lt, Bool, true, false, if◌then◌else◌, Option, Some, None, []}
+use Rattle.std.specs.Prelude.{◌≡◌, ◌⊎◌, ℕ, ◌≤◌, ◌/◌, nat_lt, Bool, true, false, if◌then◌else◌, IfErr, OnOk, Option, Some, None, Result, []}
+use Rattle.tc_types.specs.declared.refusals.Refusal.{Refusal}
+use Rattle.tc_types.specs.declared.refusals.Refusal.TheVariants.{BadDirective, Memory}
 use Rattle.tc_farm.specs.Farm.{IsWindowWidth, new_farm}
 use Rattle.tc_fop.specs.Calls.{new_machine}
 use Rattle.tc_world.specs.Logs.{blank}
@@ -17,6 +19,11 @@ IsRing (Some size) = (1 ≤ size) × (size ≤ 4096)
 -- what may be chosen: W even, 2 to 254, a channel of 6 bits, and the links
 abbrev pub IsConfig : Config → Type 0
 IsConfig config = IsWindowWidth config.window × (config.channel ≤ 63) × IsRing config.ring
+
+-- a desk is made of what may be chosen alone; else the answer is `BadDirective`, or else `Memory` where that is refused
+pub record MakesOf {X : Type 0} (chosen : Config) (result : Result X Refusal) : Type 0 where
+  pub config : OnOk result (IsConfig chosen)
+  pub refused : IfErr result (λ refusal. ((refusal ≡ BadDirective) × (¬ IsConfig chosen)) ⊎ ((refusal ≡ Memory) × IsConfig chosen))
 
 -- The widest K that fits: half of the FARM's window. While K is at most that, the FARM meets no frame outside its window
 -- (CCSDS 232.1-B, 6.1.8).

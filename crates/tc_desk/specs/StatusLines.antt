@@ -1,8 +1,8 @@
 -- The lines that tell how the link stands, and what it told, as bytes without their LF.
 use Rattle.std.specs.Prelude.{ℕ, Bool, if◌then◌else◌, Option, Some, None, List, [], ◌∷◌, length, codes}
 use Rattle.std.specs.Fmt.{decimal}
-use Rattle.tc_types.specs.declared.frames.Frame.{Frame}
-use Rattle.tc_types.specs.declared.reports.Report.{Report}
+use Rattle.tc_types.specs.declared.link.frames.Frame.{Frame}
+use Rattle.tc_types.specs.declared.link.reports.Report.{Report}
 use Rattle.tc_types.specs.Grammar.{flag}
 use Rattle.tc_types.specs.Lines.{spaced}
 use Rattle.tc_farm.specs.declared.farms.FarmState.{FarmState}
@@ -15,8 +15,8 @@ use Rattle.tc_fop.specs.declared.signals.FopState.TheVariants.{Active, Retransmi
 use Rattle.tc_fop.specs.declared.signals.Indication.TheVariants as signal
 use Rattle.tc_fop.specs.declared.views.FopView.{FopView}
 use Rattle.tc_fop.specs.Views.{view_of}
-use Rattle.tc_world.specs.declared.events.Indication.{Indication}
-use Rattle.tc_world.specs.declared.events.Indication.TheVariants as said
+use Rattle.tc_world.specs.declared.events.LinkIndication.{LinkIndication}
+use Rattle.tc_world.specs.declared.events.LinkIndication.TheVariants as said
 use Rattle.tc_world.specs.Links.{Kind}
 use Rattle.tc_desk.specs.declared.statuses.LinkStatus.{LinkStatus}
 use Rattle.tc_desk.specs.State.{State}
@@ -52,15 +52,14 @@ flags_word farm = flag farm.lockout 76 ∷ flag farm.wait 87 ∷ flag farm.retra
 abbrev pub premise_word : Bool → List ℕ
 premise_word clean = if clean then codes "kept" else codes "broken"
 
--- fop STATE vs A nn B sent C wait D count E timer F k G t1 H limit I
-abbrev pub fop_line : FopView → List ℕ
-fop_line v = spaced (codes "fop" ∷ fop_state_name v.state ∷ codes "vs" ∷ decimal v.vs ∷ codes "nn" ∷ decimal v.nn ∷ codes "sent" ∷ decimal v.sent
-    ∷ codes "wait" ∷ decimal v.waiting ∷ codes "count" ∷ decimal v.count ∷ codes "timer" ∷ decimal v.timer
-    ∷ codes "k" ∷ decimal v.k ∷ codes "t1" ∷ decimal v.t1 ∷ codes "limit" ∷ decimal v.limit ∷ [])
-
--- its end: count E timer F k G t1 H limit I
+-- the end of the FOP's line: count E timer F k G t1 H limit I
 abbrev pub fop_end : ℕ → ℕ → ℕ → ℕ → ℕ → List ℕ
 fop_end count timer k t1 limit = spaced (codes "count" ∷ decimal count ∷ codes "timer" ∷ decimal timer ∷ codes "k" ∷ decimal k ∷ codes "t1" ∷ decimal t1 ∷ codes "limit" ∷ decimal limit ∷ [])
+
+-- fop STATE vs A nn B sent C wait D, and its end
+abbrev pub fop_line : FopView → List ℕ
+fop_line v = spaced (codes "fop" ∷ fop_state_name v.state ∷ codes "vs" ∷ decimal v.vs ∷ codes "nn" ∷ decimal v.nn ∷ codes "sent" ∷ decimal v.sent
+    ∷ codes "wait" ∷ decimal v.waiting ∷ fop_end v.count v.timer v.k v.t1 v.limit ∷ [])
 
 -- farm STATE vr A b B flags LWR w W
 abbrev pub farm_line : FarmView → List ℕ
@@ -85,7 +84,7 @@ status_of up down at = record {
 }
 
 -- the line of what the link told, if it has one: started, or alert NAME
-abbrev pub told_line : Indication → Option (List ℕ)
+abbrev pub told_line : LinkIndication → Option (List ℕ)
 told_line (said.Fop (signal.Sent n)) = None
 told_line (said.Fop (signal.Confirmed n)) = None
 told_line (said.Fop (signal.GivenBack n)) = None

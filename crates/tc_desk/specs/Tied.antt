@@ -1,7 +1,7 @@
 -- What ties the book to the link. The link refuses a request that waits or was sent; so that no act meets this, who waits or
 -- was sent stands at no place from which it may be released.
 use Rattle.std.specs.Prelude.{ℕ, List, [], ◌∷◌}
-use Rattle.tc_types.specs.declared.places.Place.TheVariants.{Queued}
+use Rattle.tc_types.specs.declared.history.places.Place.TheVariants.{Queued}
 use Rattle.tc_fop.specs.Requests.{waiting_requests}
 use Rattle.tc_world.specs.Kept.{Each}
 use Rattle.tc_world.specs.Window.{all_confirmed}

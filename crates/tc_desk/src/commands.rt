@@ -3,11 +3,8 @@ ghost use Rattle.std.specs.Prelude.{◌≡◌, Some, None};
 ghost use Rattle.tc_desk.specs.Commands.{activity_of, insert_of, flown_command, task_of, payload_of, command_at, inserted_by, activity_at};
 
 use std::alloc::Allocator;
-use tc_book::records::Records;
-use tc_types::activities::Activity;
-use tc_types::numbers::Moment;
-use tc_types::requests::{Body, Command, Request};
-use tc_types::telecommands::{Payload, ScheduleCommand, Task};
+use tc_book::Records;
+use tc_types::{Activity, Body, Command, Moment, Payload, Request, ScheduleCommand, Task};
 
 /// A request as an activity that is released at this time.
 fn activity_of(target: &Request, time: Moment) -> Activity

@@ -1,18 +1,17 @@
 //! What an act answers.
 ghost use Rattle.std.specs.Prelude.{◌≡◌, []};
 
-use crate::firsts::First;
+use crate::firsts::FirstLine;
 use std::alloc::Allocator;
-use tc_book::drafts::Draft;
-use tc_types::moves::Move;
-use tc_types::rows::Row;
-use tc_world::indications::Indications;
+use tc_book::Draft;
+use tc_types::{Move, Row};
+use tc_world::Indications;
 
 /// What an act that was carried out made.
 #[derive(Drop)]
 pub struct Done<A: Allocator + Copy + Drop> {
     /// What the first line of the reply says.
-    pub first: First,
+    pub first: FirstLine,
     /// What the link told, in order.
     pub said: Indications<A>,
     /// The rows of the history that it made, in order.
@@ -32,7 +31,7 @@ pub(crate) struct Acted<A: Allocator + Copy + Drop> {
 
 /// What the book alone made, of a draft that is filled: the link told nothing.
 pub(crate) fn answer<A: Allocator + Copy + Drop>(alloc: A, filled: Draft<A>) -> Done<A>
-    ensures first { result.first ≡ First.Book filled.first }
+    ensures first { result.first ≡ FirstLine.Book filled.first }
     ensures said { result.said ≡ [] }
     ensures moves { result.moves.items ≡ filled.moves.items }
     ensures batch { result.batch.items ≡ filled.batch.items }
@@ -43,7 +42,7 @@ pub(crate) fn answer<A: Allocator + Copy + Drop>(alloc: A, filled: Draft<A>) -> 
         batch,
     } = filled;
     Done {
-        first: First::Book(first),
+        first: FirstLine::Book(first),
         said: Indications::none(alloc),
         moves,
         batch,

@@ -1,14 +1,11 @@
 //! What the spacecraft sends down, and what it tells the FARM: neither is refused memory.
-ghost use Rattle.std.specs.Prelude.{◌≡◌, ◌+◌, ◌<◌, ◌≤◌, [], ◌∷◌, length};
+ghost use Rattle.std.specs.Prelude.{◌+◌, ◌<◌, ◌≤◌, [], ◌∷◌, length};
 ghost use Rattle.tc_world.specs.declared.events.Event.TheVariants as event;
 ghost use Rattle.tc_desk.specs.Machine.{Happened, PutsDown};
 
 use std::alloc::Allocator;
-use tc_types::frames::Frame;
-use tc_types::reports::{Report, Telemetry};
-use tc_world::carriers::Carrier;
-use tc_world::events::Event;
-use tc_world::worlds::World;
+use tc_types::{Frame, Report, Telemetry};
+use tc_world::{Carrier, Event, World};
 
 /// Puts a report on the downlink, where there is room.
 pub(crate) fn put_down<

@@ -1,14 +1,12 @@
 //! The first line of a reply.
-use tc_book::firsts;
-use tc_types::numbers::{Moment, RequestNumber};
-use tc_types::reports::Verification;
-use tc_types::requests::Identity;
+use tc_book::First;
+use tc_types::{Identity, Moment, RequestNumber, Verification};
 
 /// What the first line of a reply says.
 #[derive(Clone, Copy, Debug, PartialEq, Eq)]
-pub enum First {
+pub enum FirstLine {
     /// As an act on the book says, or `ok` alone.
-    Book(firsts::First),
+    Book(First),
     /// `ok nothing`: nothing was in flight there.
     Nothing,
     /// `ok accepted N`: the FARM took the frame of this request.

@@ -1,5 +1,5 @@
 //! What holds of all acts and loads on a desk. These functions do nothing: the clause of each is the law.
-ghost use Rattle.std.specs.Prelude.{◌≡◌, Bool, true, false, List, [], length};
+ghost use Rattle.std.specs.Prelude.{◌≡◌, Bool, true, false, List, length};
 ghost use Rattle.tc_types.specs.declared.acts.Act.{Act};
 ghost use Rattle.tc_fop.specs.declared.signals.AlertKind.TheVariants as alert;
 ghost use Rattle.tc_fop.specs.declared.signals.FopState.{FopState};
@@ -18,9 +18,8 @@ ghost use Rattle.tc_desk.specs.Once.{EndsOnce, HasOwnWords, ListDesk};
 ghost use Rattle.tc_world.specs.InFlight.{listed};
 ghost use Rattle.tc_desk.specs.Replies.{Reply};
 
-use tc_types::frames::Frame;
-use tc_types::reports::Report;
-use tc_world::carriers::Carrier;
+use tc_types::{Frame, Report};
+use tc_world::Carrier;
 
 /// Whatever acts and loads follow on a desk that was made new, in any order, of any persons, at any moments, answered as
 /// `Desk::act`, `Desk::load_stack` and `Desk::load_procedure` answer: the rows tell true. So while every start was good, the

@@ -6,11 +6,11 @@
 
 mod acts;
 mod commands;
-pub mod configs;
-pub mod desks;
-pub mod dones;
+mod configs;
+mod desks;
+mod dones;
 mod downlinks;
-pub mod firsts;
+mod firsts;
 mod flights;
 mod hearing;
 pub mod laws;
@@ -18,5 +18,12 @@ mod moving;
 mod parts;
 mod reopening;
 mod reporting;
-pub mod status_texts;
-pub mod statuses;
+mod status_texts;
+mod statuses;
+
+pub use configs::Config;
+pub use desks::{Desk, Reopened};
+pub use dones::Done;
+pub use firsts::FirstLine;
+pub use status_texts::{carriers_text, farm_text, fop_text, premise_name, told_text};
+pub use statuses::{KnownSchedule, LinkStatus};

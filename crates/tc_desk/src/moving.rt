@@ -1,19 +1,14 @@
 //! Moves that are made only where they may be: what the link tells, and what follows from it.
-ghost use Rattle.std.specs.Prelude.{◌≡◌, ◌≢◌, ◌+◌, ◌<◌, ◌≤◌, [], ◌∷◌, Option, true, length};
-ghost use Rattle.tc_types.specs.declared.causes.Cause.TheVariants as cause_of;
-ghost use Rattle.tc_types.specs.declared.places.Place.{Place};
-ghost use Rattle.tc_types.specs.declared.places.Place.TheVariants.{Riding};
+ghost use Rattle.std.specs.Prelude.{◌≡◌, ◌<◌, [], ◌∷◌, Option, true, length};
+ghost use Rattle.tc_types.specs.declared.history.places.Place.{Place};
+ghost use Rattle.tc_types.specs.declared.history.places.Place.TheVariants.{Riding};
 ghost use Rattle.tc_types.specs.Lawful.{is_among, is_lawful};
-ghost use Rattle.tc_desk.specs.Effects.{tried, followed, tried_with, reported};
+ghost use Rattle.tc_desk.specs.Effects.{MayMove, OnlyMoves, tried, followed, tried_with, reported};
 
 use crate::commands::activity_at;
 use std::alloc::Allocator;
-use tc_book::records::Records;
-use tc_book::stamps::Stamp;
-use tc_types::causes::Cause;
-use tc_types::lawful::is_lawful;
-use tc_types::numbers::RequestNumber;
-use tc_types::places::Place;
+use tc_book::{Records, Stamp};
+use tc_types::{Cause, Place, RequestNumber, is_lawful};
 
 /// Moves request `n`, if it stands at one of these places. Only its approvers move one with the cause `approve`.
 pub(crate) fn try_move<A: Allocator + Copy + Drop>(
@@ -24,16 +19,9 @@ pub(crate) fn try_move<A: Allocator + Copy + Drop>(
     to: Place,
     cause: Cause,
 )
-    requires room { length records.old.book.history < records.old.most_rows }
-    requires lawful { (at : Option Place) → is_among places.now at ≡ true → is_lawful at to cause ≡ true }
-    requires own { cause ≢ cause_of.Approve }
+    requires may { MayMove 1 records.old places.now to cause }
     ensures book { records.new.book ≡ tried stamp.now records.old.book n places.now to cause }
-    ensures rows_kept { records.old.most_rows ≤ records.new.most_rows }
-    ensures rows { length records.new.book.history ≤ length records.old.book.history + 1 }
-    ensures requests { records.new.book.requests ≡ records.old.book.requests }
-    ensures approvals { records.new.book.approvals ≡ records.old.book.approvals }
-    ensures stack_approvals { records.new.book.stack_approvals ≡ records.old.book.stack_approvals }
-    ensures log { records.new.book.log ≡ records.old.book.log }
+    ensures only { OnlyMoves 1 records.old records.new }
 {
     let Some(request) = records.number_of(n) else {
         return;
@@ -52,16 +40,9 @@ pub(crate) fn follow<A: Allocator + Copy + Drop>(
     to: Place,
     cause: Cause,
 )
-    requires room { length records.old.book.history < records.old.most_rows }
-    requires lawful { (at : Option Place) → is_among places.now at ≡ true → is_lawful at to cause ≡ true }
-    requires own { cause ≢ cause_of.Approve }
+    requires may { MayMove 1 records.old places.now to cause }
     ensures book { records.new.book ≡ followed stamp.now records.old.book activity places.now to cause }
-    ensures rows_kept { records.old.most_rows ≤ records.new.most_rows }
-    ensures rows { length records.new.book.history ≤ length records.old.book.history + 1 }
-    ensures requests { records.new.book.requests ≡ records.old.book.requests }
-    ensures approvals { records.new.book.approvals ≡ records.old.book.approvals }
-    ensures stack_approvals { records.new.book.stack_approvals ≡ records.old.book.stack_approvals }
-    ensures log { records.new.book.log ≡ records.old.book.log }
+    ensures only { OnlyMoves 1 records.old records.new }
 {
     if let Some(n) = activity {
         try_move(records, stamp, n, places, to, cause);
@@ -77,17 +58,10 @@ pub(crate) fn try_move_with<A: Allocator + Copy + Drop>(
     to: Place,
     cause: Cause,
 )
-    requires room { length records.old.book.history + 1 < records.old.most_rows }
-    requires lawful { (at : Option Place) → is_among places.now at ≡ true → is_lawful at to cause ≡ true }
-    requires own { cause ≢ cause_of.Approve }
+    requires may { MayMove 2 records.old places.now to cause }
     requires rides { (at : Option Place) → is_among (Riding ∷ []) at ≡ true → is_lawful at to cause ≡ true }
     ensures book { records.new.book ≡ tried_with stamp.now records.old.book request places.now to cause }
-    ensures rows_kept { records.old.most_rows ≤ records.new.most_rows }
-    ensures rows { length records.new.book.history ≤ length records.old.book.history + 2 }
-    ensures requests { records.new.book.requests ≡ records.old.book.requests }
-    ensures approvals { records.new.book.approvals ≡ records.old.book.approvals }
-    ensures stack_approvals { records.new.book.stack_approvals ≡ records.old.book.stack_approvals }
-    ensures log { records.new.book.log ≡ records.old.book.log }
+    ensures only { OnlyMoves 2 records.old records.new }
 {
     if records.stands(request.get(), places) {
         let activity = activity_at(records, request.get());
@@ -105,12 +79,7 @@ pub(crate) fn report<A: Allocator + Copy + Drop>(
 )
     requires room { length records.old.book.history < records.old.most_rows }
     ensures book { records.new.book ≡ reported stamp.now records.old.book request to }
-    ensures rows_kept { records.old.most_rows ≤ records.new.most_rows }
-    ensures rows { length records.new.book.history ≤ length records.old.book.history + 1 }
-    ensures requests { records.new.book.requests ≡ records.old.book.requests }
-    ensures approvals { records.new.book.approvals ≡ records.old.book.approvals }
-    ensures stack_approvals { records.new.book.stack_approvals ≡ records.old.book.stack_approvals }
-    ensures log { records.new.book.log ≡ records.old.book.log }
+    ensures only { OnlyMoves 1 records.old records.new }
 {
     if is_lawful(records.place_of(request.get()), to, Cause::Report) {
         records.record(*stamp, request, to, Cause::Report);

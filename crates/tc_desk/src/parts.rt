@@ -1,39 +1,28 @@
 //! The parts of the desk: its book, its link, the rehearsal spacecraft and the mirror of its schedule, and the acts on them.
-ghost use Rattle.std.specs.Prelude.{◌≡◌, ◌⊎◌, ◌↔◌, ◌+◌, ◌==◌, ◌≤◌, IsTrue, true, false, length, IfErr, IfOk, OnOk, []};
+ghost use Rattle.std.specs.Prelude.{◌≡◌, ◌↔◌, ◌+◌, ◌==◌, ◌≤◌, IsTrue, true, false, length, IfErr, IfOk, OnOk, []};
 ghost use Rattle.tc_types.specs.declared.refusals.Refusal.TheVariants.{BadDirective, Memory};
 ghost use Rattle.tc_types.specs.declared.acts.Act.TheVariants as act;
-ghost use Rattle.tc_types.specs.Tables.{applied};
 ghost use Rattle.tc_book.specs.Good.{IsGoodBook};
-ghost use Rattle.tc_book.specs.Tables.{image_of};
-ghost use Rattle.tc_book.specs.Batch.{GoesOn, HoldsRoom};
+ghost use Rattle.tc_book.specs.Batch.{GoesOn};
 ghost use Rattle.tc_desk.specs.State.{IsConfig, IsRing, first_k, new_desk};
 ghost use Rattle.tc_desk.specs.Acts.{is_question};
-ghost use Rattle.tc_desk.specs.Machine.{rows_new};
+ghost use Rattle.tc_desk.specs.Machine.{MakesRows};
 ghost use Rattle.tc_farm.specs.Farm.{new_farm};
 ghost use Rattle.tc_world.specs.Window.{IsClaimed};
 ghost use Rattle.tc_desk.specs.Downlink.{came_down};
-ghost use Rattle.tc_desk.specs.Parts.{IsCounted, IsEven, IsPutCount, Responds};
+ghost use Rattle.tc_desk.specs.Parts.{IsEven, Performs, Responds};
 
 use crate::configs::Config;
 use crate::dones::{Acted, Done};
 use crate::flights::Flight;
 use std::alloc::Allocator;
 use std::marker::Model;
-use tc_board::boards::Board;
-use tc_board::mirrors::Mirror;
-use tc_book::drafts::Draft;
-use tc_book::records::Records;
-use tc_book::stamps::Stamp;
-use tc_farm::farms::Farm;
-use tc_fop::fops::Fop;
-use tc_types::acts::{Act, LinkAct};
-use tc_types::frames::Frame;
-use tc_types::numbers::Moment;
-use tc_types::refusals::Refusal;
-use tc_types::reports::Report;
-use tc_world::carriers::Carrier;
-use tc_world::events::Indication;
-use tc_world::worlds::World;
+use tc_board::{Board, Mirror};
+use tc_book::{Draft, Records, Stamp};
+use tc_farm::Farm;
+use tc_fop::Fop;
+use tc_types::{Act, Frame, LinkAct, Moment, Refusal, Report};
+use tc_world::{Carrier, LinkIndication, World};
 
 /// K, the FOP sliding window width, as a desk is made, where the FARM's window lets it be so wide.
 const K: u8 = 10;
@@ -65,12 +54,12 @@ pub(crate) struct Parts<
 }
 
 /// How many items came down.
-fn count_down(said: &[Indication]) -> usize
+fn count_down(said: &[LinkIndication]) -> usize
     ensures { result ≡ length (came_down said.now) }
 {
     match said.first() {
-        Some(Indication::Received(_)) => 1,
-        None | Some(Indication::Fop(_) | Indication::Farm(_) | Indication::Lost) => 0,
+        Some(LinkIndication::Received(_)) => 1,
+        None | Some(LinkIndication::Fop(_) | LinkIndication::Farm(_) | LinkIndication::Lost) => 0,
     }
 }
 
@@ -103,9 +92,7 @@ pub(crate) fn farm_of(config: Config) -> Result<Farm, Refusal>
     ensures config { OnOk result (IsConfig config) }
     ensures refused { IfErr result (λ refusal. (refusal ≡ BadDirective) × (¬ IsConfig config)) }
 {
-    let Some(farm) = Farm::new(config.window) else {
-        return Err(Refusal::BadDirective);
-    };
+    let farm = Farm::new(config.window).ok_or(Refusal::BadDirective)?;
     if config.channel > 63 || !is_ring(config.ring) {
         return Err(Refusal::BadDirective);
     }
@@ -133,21 +120,6 @@ impl<U: Carrier<Frame> + Drop, D: Carrier<Report> + Drop, A: Allocator + Copy + 
     D,
     A,
 > {
-    /// The parts of a desk where nothing happened yet, over these carriers, which are empty. `BadDirective` unless the window
-    /// is even and 2 to 254, the channel 0 to 63, and the links are lists or rings of 1 to 4,096 items; else `Memory` where that
-    /// is refused.
-    pub(crate) fn new(alloc: A, config: Config, up: U, down: D) -> Result<Self, Refusal>
-        requires up { U.kind.content up ≡ [] }
-        requires down { D.kind.content down ≡ [] }
-        ensures desk { IfOk result (λ parts. parts ≡ new_desk config up down) }
-        ensures good { IfOk result (λ parts. IsGoodBook parts.book) }
-        ensures config { IfOk result (λ parts. IsConfig config) }
-        ensures refused { IfErr result (λ refusal. ((refusal ≡ BadDirective) × (¬ IsConfig config)) ⊎ ((refusal ≡ Memory) × IsConfig config)) }
-    {
-        let farm = farm_of(config)?;
-        Parts::over(alloc, Records::new(alloc), config, farm, up, down)
-    }
-
     /// The parts of a desk over this book, where nothing happened yet on the link, over these carriers, which are empty. Answers
     /// `Memory` where that is refused.
     pub(crate) fn over(
@@ -178,9 +150,7 @@ impl<U: Carrier<Frame> + Drop, D: Carrier<Report> + Drop, A: Allocator + Copy + 
 
     /// Carries an act on the link out.
     fn fly(&mut self, stamp: Stamp, given: LinkAct) -> Result<Flight<A>, Refusal>
-        ensures answers { Responds U.kind D.kind (λ flight. flight.said) (λ flight. flight.first) self.old stamp (act.Link given) self.new result }
-        ensures put { IfOk result (λ flight. IsPutCount self.old given flight.said flight.put) }
-        ensures room { IfOk result (λ flight. HoldsRoom self.old.book self.new.book flight.draft.moves flight.draft.batch) }
+        ensures { Performs U.kind D.kind self.old stamp (act.Link given) self.new result }
     {
         match given {
             LinkAct::Release { request } => self.release(stamp, request),
@@ -199,21 +169,13 @@ impl<U: Carrier<Frame> + Drop, D: Carrier<Report> + Drop, A: Allocator + Copy + 
     /// Carries an act out.
     fn perform(&mut self, stamp: Stamp, act: Act) -> Result<Flight<A>, Refusal>
         requires { is_question act ≡ false }
-        ensures answers { Responds U.kind D.kind (λ flight. flight.said) (λ flight. flight.first) self.old stamp act self.new result }
-        ensures put { IfOk result (λ flight. IsCounted self.old act flight.said flight.put) }
-        ensures room { IfOk result (λ flight. HoldsRoom self.old.book self.new.book flight.draft.moves flight.draft.batch) }
+        ensures performs { Performs U.kind D.kind self.old stamp act self.new result }
         ensures goes_on { OnOk result (GoesOn self.old.book self.new.book) }
     {
         match act {
             Act::Book(given) => self.on_book(stamp, given),
-            Act::Link(given) => {
-                let flight = self.fly(stamp, given)?;
-                Ok(flight)
-            }
-            Act::Step(given) => {
-                let flight = self.step(stamp, given)?;
-                Ok(flight)
-            }
+            Act::Link(given) => self.fly(stamp, given),
+            Act::Step(given) => self.step(stamp, given),
             Act::Ask(_) => unreachable!(),
         }
     }
@@ -223,8 +185,7 @@ impl<U: Carrier<Frame> + Drop, D: Carrier<Report> + Drop, A: Allocator + Copy + 
         requires { is_question act ≡ false }
         ensures answers { Responds U.kind D.kind (λ acted. acted.done.said) (λ acted. acted.done.first) self.old stamp act self.new result }
         ensures kept { IfOk result (λ acted. IsEven D.kind self.old act self.new acted.done.said acted.kept) }
-        ensures moves { IfOk result (λ acted. acted.done.moves.items ≡ rows_new self.old self.new) }
-        ensures batch { IfOk result (λ acted. applied acted.done.batch.items (image_of self.old.book) ≡ image_of self.new.book) }
+        ensures made { IfOk result (λ acted. MakesRows self.old self.new acted.done.moves.items acted.done.batch.items) }
         ensures good_before { IsGoodBook self.old.book }
         ensures good { IsGoodBook self.new.book }
         ensures claims { IfOk result (λ acted. self.new.world.clean ≡ true → IsClaimed self.new.world) }

@@ -2,17 +2,13 @@
 ghost use Rattle.std.specs.Prelude.{◌≡◌, ◌+◌, ◌<◌, ◌≤◌, true, min, if◌then◌else◌, length};
 ghost use Rattle.std.specs.List.{list_any};
 ghost use Rattle.tc_board.specs.Mirror.{is_listed_of};
-ghost use Rattle.tc_desk.specs.Effects.{is_completed, is_failed, inserted, removed, emptied, besides_at};
+ghost use Rattle.tc_desk.specs.Effects.{OnlyMoves, is_completed, is_failed, inserted, removed, emptied, besides_at};
 
 use crate::moving::try_move;
 use std::alloc::Allocator;
-use tc_board::mirrors::Mirror;
-use tc_book::records::Records;
-use tc_book::stamps::Stamp;
-use tc_types::causes::Cause;
-use tc_types::places::Place;
-use tc_types::reports::Verification;
-use tc_types::requests::{Command, Request};
+use tc_board::Mirror;
+use tc_book::{Records, Stamp};
+use tc_types::{Cause, Command, Place, Request, Verification};
 
 /// Whether a report tells a completion.
 fn is_completed(verification: &Verification) -> bool
@@ -55,11 +51,7 @@ fn insert<A: Allocator + Copy + Drop>(
 )
     requires room { length records.old.book.history < records.old.most_rows }
     ensures book { records.new.book ≡ inserted stamp.now verification.now target records.old.book }
-    ensures rows { length records.new.book.history ≤ length records.old.book.history + 1 }
-    ensures requests { records.new.book.requests ≡ records.old.book.requests }
-    ensures approvals { records.new.book.approvals ≡ records.old.book.approvals }
-    ensures stack_approvals { records.new.book.stack_approvals ≡ records.old.book.stack_approvals }
-    ensures log { records.new.book.log ≡ records.old.book.log }
+    ensures only { OnlyMoves 1 records.old records.new }
 {
     let from = [Place::Riding, Place::Doubtful];
     if is_completed(verification) {
@@ -85,12 +77,7 @@ fn remove<A: Allocator + Copy + Drop>(
 )
     requires room { list_any (is_listed_of n) mirror.now.told.activities ≡ true → length records.old.book.history < records.old.most_rows }
     ensures book { records.new.book ≡ removed stamp.now mirror.now.told records.old.book n }
-    ensures rows_kept { records.old.most_rows ≤ records.new.most_rows }
-    ensures rows { length records.new.book.history ≤ length records.old.book.history + (if list_any (is_listed_of n) mirror.now.told.activities then 1 else 0) }
-    ensures requests { records.new.book.requests ≡ records.old.book.requests }
-    ensures approvals { records.new.book.approvals ≡ records.old.book.approvals }
-    ensures stack_approvals { records.new.book.stack_approvals ≡ records.old.book.stack_approvals }
-    ensures log { records.new.book.log ≡ records.old.book.log }
+    ensures only { OnlyMoves (if list_any (is_listed_of n) mirror.now.told.activities then 1 else 0) records.old records.new }
 {
     if mirror.is_there(n) {
         try_move(
@@ -108,11 +95,7 @@ fn remove<A: Allocator + Copy + Drop>(
 fn empty<A: Allocator + Copy + Drop>(records: &mut Records<A>, stamp: &Stamp, mirror: &Mirror<A>)
     requires room { length records.old.book.history + min (length mirror.now.told.activities) 65535 ≤ records.old.most_rows }
     ensures book { records.new.book ≡ emptied stamp.now mirror.now.told records.old.book }
-    ensures rows { length records.new.book.history ≤ length records.old.book.history + min (length mirror.now.told.activities) 65535 }
-    ensures requests { records.new.book.requests ≡ records.old.book.requests }
-    ensures approvals { records.new.book.approvals ≡ records.old.book.approvals }
-    ensures stack_approvals { records.new.book.stack_approvals ≡ records.old.book.stack_approvals }
-    ensures log { records.new.book.log ≡ records.old.book.log }
+    ensures only { OnlyMoves (min (length mirror.now.told.activities) 65535) records.old records.new }
 {
     for n in 1..records.count() + 1 {
         remove(records, stamp, mirror, n);
@@ -129,11 +112,7 @@ pub(crate) fn hear_besides<A: Allocator + Copy + Drop>(
 )
     requires room { length records.old.book.history + 1 + min (length mirror.now.told.activities) 65535 ≤ records.old.most_rows }
     ensures book { records.new.book ≡ besides_at stamp.now mirror.now.told verification.now request.now records.old.book }
-    ensures rows { length records.new.book.history ≤ length records.old.book.history + 1 + min (length mirror.now.told.activities) 65535 }
-    ensures requests { records.new.book.requests ≡ records.old.book.requests }
-    ensures approvals { records.new.book.approvals ≡ records.old.book.approvals }
-    ensures stack_approvals { records.new.book.stack_approvals ≡ records.old.book.stack_approvals }
-    ensures log { records.new.book.log ≡ records.old.book.log }
+    ensures only { OnlyMoves (1 + min (length mirror.now.told.activities) 65535) records.old records.new }
 {
     let Some(request) = request else {
         return;

@@ -9,11 +9,10 @@ ghost use Rattle.tc_desk.specs.StatusLines.{fop_state_name, farm_state_name, ale
 use crate::statuses::LinkStatus;
 use std::alloc::{AllocError, Allocator};
 use std::fmt::Write;
-use tc_farm::farms::{FarmState, FarmView};
-use tc_fop::signals;
+use tc_farm::{FarmState, FarmView};
 use tc_fop::signals::{AlertKind, FopState};
-use tc_fop::views::FopView;
-use tc_world::events::Indication;
+use tc_fop::{FopView, signals};
+use tc_world::LinkIndication;
 
 /// The number of a state of FOP-1.
 fn fop_state_name(state: FopState) -> &'static str
@@ -177,27 +176,27 @@ pub fn carriers_text<A: Allocator + Copy>(
 #[tactic(auto, using(crate::proofs::StatusLemmas::told_one))]
 pub fn told_text<A: Allocator + Copy>(
     alloc: A,
-    said: &Indication,
+    said: &LinkIndication,
 ) -> Result<Option<String<A>>, AllocError>
     ensures text { IfOk result (λ text. MatchOption text (told_line said.now ≡ None) (λ t. told_line said.now ≡ Some (string_bytes t))) }
     ensures one_line { IfOk result (λ text. IfSome (told_line said.now) (λ line. IsTrue (is_one_line line))) }
 {
     match said {
-        Indication::Fop(signals::Indication::Started) => {
+        LinkIndication::Fop(signals::Indication::Started) => {
             Ok(Some(String::from_str(alloc, "started")?))
         }
-        Indication::Fop(signals::Indication::Alert(kind)) => {
+        LinkIndication::Fop(signals::Indication::Alert(kind)) => {
             let name = alert_name(*kind);
             Ok(Some(format!(in alloc; "alert {name}")?))
         }
-        Indication::Fop(
+        LinkIndication::Fop(
             signals::Indication::Sent(_)
             | signals::Indication::Confirmed(_)
             | signals::Indication::GivenBack(_)
             | signals::Indication::InDoubt(_),
         )
-        | Indication::Farm(_)
-        | Indication::Received(_)
-        | Indication::Lost => Ok(None),
+        | LinkIndication::Farm(_)
+        | LinkIndication::Received(_)
+        | LinkIndication::Lost => Ok(None),
     }
 }

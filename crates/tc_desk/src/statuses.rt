@@ -1,8 +1,8 @@
 //! What the questions `link` and `schedule` tell.
 use std::alloc::Allocator;
-use tc_farm::farms::FarmView;
-use tc_fop::views::FopView;
-use tc_types::activities::ListedActivity;
+use tc_farm::FarmView;
+use tc_fop::FopView;
+use tc_types::ListedActivity;
 
 /// How the FOP, the FARM and the carriers stand.
 #[derive(Clone, Copy, Debug, PartialEq, Eq)]

@@ -1,13 +1,13 @@
 -- FARM-1, the frame acceptance and reporting mechanism (CCSDS 232.1-B, section 6), as a table: a frame's case by its
 -- distance from V(R), and for each case and state what is done. PW = NW = W / 2.
 use Rattle.std.specs.Prelude.{◌≡◌, ℕ, ◌+◌, ◌-◌, ◌/◌, ◌%◌, ◌<◌, ◌≤◌, ◌==◌, nat_lt, nat_le, Bool, true, false, if◌then◌else◌}
-use Rattle.tc_types.specs.declared.frames.Frame.{Frame}
-use Rattle.tc_types.specs.declared.frames.Frame.TheVariants.{Ad, Unlock, SetVr}
+use Rattle.tc_types.specs.declared.link.frames.Frame.{Frame}
+use Rattle.tc_types.specs.declared.link.frames.Frame.TheVariants.{Ad, Unlock, SetVr}
 use Rattle.tc_farm.specs.declared.farms.FarmState.{FarmState}
 use Rattle.tc_farm.specs.declared.farms.FarmState.TheVariants.{Open, Wait, Lockout}
 use Rattle.tc_farm.specs.declared.farms.FarmView.{FarmView}
-use Rattle.tc_farm.specs.declared.farms.Verdict.{Verdict}
-use Rattle.tc_farm.specs.declared.farms.Verdict.TheVariants.{Accepted, Discarded, Control}
+use Rattle.tc_farm.specs.declared.farms.FrameVerdict.{FrameVerdict}
+use Rattle.tc_farm.specs.declared.farms.FrameVerdict.TheVariants.{Accepted, Discarded, Control}
 
 -- how far a number is ahead of another, modulo 256
 abbrev pub distance : ℕ → ℕ → ℕ
@@ -93,7 +93,7 @@ farm_after farm Unlock free_buffer = unlocked farm
 farm_after farm (SetVr v) free_buffer = with_vr v farm.state farm
 
 -- what is answered to a frame
-abbrev pub verdict_of : FarmView → Frame → Bool → Verdict
+abbrev pub verdict_of : FarmView → Frame → Bool → FrameVerdict
 verdict_of farm (Ad ns request body) free_buffer = if is_accept (cell_of farm ns free_buffer) then Accepted request body else Discarded
 verdict_of farm Unlock free_buffer = Control
 verdict_of farm (SetVr v) free_buffer = Control
@@ -139,3 +139,8 @@ pub record IsFarm (farm : FarmView) : Type 0 where
   -- the state Wait has the Wait flag, and Wait implies Retransmit
   pub waiting : is_waiting farm.state ≡ true → farm.wait ≡ true
   pub wait_implies_retransmit : farm.wait ≡ true → farm.retransmit ≡ true
+
+-- the variables that were to come, which are those of a FARM that calls can reach
+pub record Becomes (after new : FarmView) : Type 0 where
+  pub variables : new ≡ after
+  pub sound : IsFarm new

@@ -1,13 +1,13 @@
 -- What holds of the FARM-1 table, in the words of its users.
 use Rattle.std.specs.Prelude.{◌≡◌, ℕ, ◌+◌, ◌%◌, ◌<◌, Bool, true}
-use Rattle.tc_types.specs.declared.telecommands.Payload.{Payload}
-use Rattle.tc_types.specs.declared.frames.Frame.{Frame}
-use Rattle.tc_types.specs.declared.frames.Frame.TheVariants.{Ad, Unlock, SetVr}
+use Rattle.tc_types.specs.declared.link.telecommands.Payload.{Payload}
+use Rattle.tc_types.specs.declared.link.frames.Frame.{Frame}
+use Rattle.tc_types.specs.declared.link.frames.Frame.TheVariants.{Ad, Unlock, SetVr}
 use Rattle.tc_farm.specs.declared.clcws.Clcw.{Clcw}
 use Rattle.tc_farm.specs.declared.farms.FarmState.TheVariants.{Open}
 use Rattle.tc_farm.specs.declared.farms.FarmView.{FarmView}
-use Rattle.tc_farm.specs.declared.farms.Verdict.{Verdict}
-use Rattle.tc_farm.specs.declared.farms.Verdict.TheVariants.{Accepted, Discarded, Control}
+use Rattle.tc_farm.specs.declared.farms.FrameVerdict.{FrameVerdict}
+use Rattle.tc_farm.specs.declared.farms.FrameVerdict.TheVariants.{Accepted, Discarded, Control}
 
 -- A frame that is accepted: it has the number that is expected, the FARM is open and a buffer is free; the answer has
 -- its own request and body, and the next number is expected.
@@ -30,7 +30,7 @@ IsControl before Unlock after = after.vr ≡ before.vr
 IsControl before (SetVr v) after = Unit {0}
 
 -- what each verdict says of the frame and of V(R): V(R) moves only by an acceptance or a Set V(R)
-abbrev pub Says : Verdict → FarmView → Frame → Bool → FarmView → Type 0
+abbrev pub Says : FrameVerdict → FarmView → Frame → Bool → FarmView → Type 0
 Says (Accepted request body) before frame free_buffer after = IsInOrder before frame free_buffer request body after
 Says Discarded before frame free_buffer after = after.vr ≡ before.vr
 Says Control before frame free_buffer after = IsControl before frame after

@@ -3,9 +3,7 @@ ghost use Rattle.std.specs.Prelude.{◌≡◌, ◌+◌, ◌%◌, ◌<◌};
 
 use crate::clcws::Clcw;
 use std::marker::Model;
-use tc_types::frames::Frame;
-use tc_types::numbers::RequestNumber;
-use tc_types::telecommands::Payload;
+use tc_types::{Frame, Payload, RequestNumber};
 
 /// The states of FARM-1 (CCSDS 232.1-B, 6.1.2).
 #[derive(Clone, Copy, Debug, PartialEq, Eq)]
@@ -39,7 +37,7 @@ pub struct FarmView {
 
 /// What the FARM says of a frame.
 #[derive(Clone, Copy, Debug, PartialEq, Eq)]
-pub enum Verdict {
+pub enum FrameVerdict {
     /// The frame was taken: this request, and the part of it that flies.
     Accepted {
         request: RequestNumber,
@@ -70,7 +68,7 @@ impl Model for Farm {
 
 impl Farm {
     ghost use Rattle.std.specs.Prelude.{◌≡◌, ◌≢◌, ◌↔◌, IsSome, IfSome, true};
-    ghost use Rattle.tc_farm.specs.Farm.{IsWindowWidth, IsFarm, new_farm, farm_after, verdict_of, released, changed, cell_of, is_accept, unlocked, with_vr};
+    ghost use Rattle.tc_farm.specs.Farm.{IsWindowWidth, IsFarm, new_farm, farm_after, verdict_of, released, changed, cell_of, is_accept, unlocked, with_vr, Becomes};
     ghost use Rattle.tc_farm.specs.FarmLaws.{Says, Reports};
 
     /// A FARM with window width W = `w`, open, that expects the number 0; `None` unless W is even and 2 to 254.
@@ -95,31 +93,31 @@ impl Farm {
     }
 
     /// A frame came; `free_buffer` says whether a buffer of the spacecraft is free for it. What is answered to it.
-    pub fn frame(&mut self, frame: Frame, free_buffer: bool) -> Verdict
+    pub fn frame(&mut self, frame: Frame, free_buffer: bool) -> FrameVerdict
         ensures after { self.new ≡ farm_after self.old frame free_buffer }
         ensures answered { result ≡ verdict_of self.old frame free_buffer }
         // accepted only in order, in Open and with a free buffer; V(R) moves only by an acceptance or a Set V(R)
         ensures in_order { Says result self.old frame free_buffer self.new }
         // Lockout is left only by an Unlock
         ensures locked_out { self.old.state ≡ FarmState.Lockout → frame ≢ Frame.Unlock → self.new.state ≡ FarmState.Lockout }
-        ensures wait_implies_retransmit { self.new.wait ≡ true → self.new.retransmit ≡ true }
+        // Wait implies Retransmit among what stands
         ensures sound { IsFarm self.new }
     {
         match frame {
             Frame::Ad { ns, request, body } => {
                 if self.take(ns, free_buffer) {
-                    Verdict::Accepted { request, body }
+                    FrameVerdict::Accepted { request, body }
                 } else {
-                    Verdict::Discarded
+                    FrameVerdict::Discarded
                 }
             }
             Frame::Unlock => {
                 self.unlock();
-                Verdict::Control
+                FrameVerdict::Control
             }
             Frame::SetVr(vr) => {
                 self.set_vr(vr);
-                Verdict::Control
+                FrameVerdict::Control
             }
         }
     }
@@ -128,7 +126,7 @@ impl Farm {
     pub fn release(&mut self)
         ensures after { self.new ≡ released self.old }
         ensures locked_out { self.old.state ≡ FarmState.Lockout → self.new.state ≡ FarmState.Lockout }
-        ensures wait_implies_retransmit { self.new.wait ≡ true → self.new.retransmit ≡ true }
+        ensures sound { IsFarm self.new }
     {
         self.variables.wait = false;
         if self.variables.state == FarmState::Wait {
@@ -156,17 +154,15 @@ impl Farm {
     pub fn view(&self) -> FarmView
         ensures same { result ≡ self.now }
         ensures sound { IsFarm result }
-        ensures wait_implies_retransmit { result.wait ≡ true → result.retransmit ≡ true }
     {
         self.variables
     }
 
     /// A type-AD frame with this number came: whether it is accepted.
     fn take(&mut self, ns: u8, free_buffer: bool) -> bool
-        ensures after { self.new ≡ changed (cell_of self.old ns free_buffer) self.old }
+        ensures after { Becomes (changed (cell_of self.old ns free_buffer) self.old) self.new }
         ensures accepted { result ≡ is_accept (cell_of self.old ns free_buffer) }
         ensures in_order { result ≡ true → ns ≡ self.old.vr }
-        ensures kept { IsFarm self.new }
     {
         let farm = &mut self.variables;
         let half = farm.window / 2;
@@ -200,8 +196,7 @@ impl Farm {
 
     /// An Unlock came.
     fn unlock(&mut self)
-        ensures after { self.new ≡ unlocked self.old }
-        ensures kept { IsFarm self.new }
+        ensures { Becomes (unlocked self.old) self.new }
     {
         let farm = &mut self.variables;
         farm.farm_b = one_more(farm.farm_b);
@@ -213,8 +208,7 @@ impl Farm {
 
     /// A Set V(R) came: the number `vr` is expected next, unless the FARM is in Lockout.
     fn set_vr(&mut self, vr: u8)
-        ensures after { self.new ≡ with_vr vr self.old.state self.old }
-        ensures kept { IsFarm self.new }
+        ensures { Becomes (with_vr vr self.old.state self.old) self.new }
     {
         let farm = &mut self.variables;
         farm.farm_b = one_more(farm.farm_b);

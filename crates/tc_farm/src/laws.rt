@@ -1,8 +1,8 @@
 //! What the table says, in the words of frames. This function does nothing: its clause is the law.
 ghost use Rattle.std.specs.Prelude.{◌≡◌, ◌⊎◌, ◌+◌, ◌/◌, ◌%◌, ◌<◌, ℕ, Bool, true, false};
-ghost use Rattle.tc_types.specs.declared.frames.Frame.TheVariants.{Ad};
-ghost use Rattle.tc_types.specs.declared.telecommands.Payload.{Payload};
-ghost use Rattle.tc_types.specs.declared.frames.Frame.{Frame};
+ghost use Rattle.tc_types.specs.declared.link.frames.Frame.TheVariants.{Ad};
+ghost use Rattle.tc_types.specs.declared.link.telecommands.Payload.{Payload};
+ghost use Rattle.tc_types.specs.declared.link.frames.Frame.{Frame};
 ghost use Rattle.tc_farm.specs.declared.farms.FarmView.{FarmView};
 ghost use Rattle.tc_farm.specs.Farm.{IsFarm, distance, farm_after, verdict_of};
 ghost use Rattle.tc_farm.specs.FarmLaws.{IsNumbered, Says};

@@ -3,14 +3,14 @@ use Rattle.std.proofs.Common.{◌≡◌, ℕ, ◌==◌, Bool, true, false, not, 
 use Rattle.std.specs.List.{list_all}
 use Rattle.std.proofs.lemmas.Bool.{true≢false, false≢true}
 use Rattle.std.proofs.lemmas.List.{append-nil}
-use Rattle.tc_types.specs.declared.frames.Frame.TheVariants as frame
+use Rattle.tc_types.specs.declared.link.frames.Frame.TheVariants as frame
 use Rattle.tc_farm.specs.declared.clcws.Clcw.{Clcw}
-use Rattle.tc_fop.specs.declared.rows.Row.{Row}
-use Rattle.tc_fop.specs.declared.rows.Row.TheVariants.{P1, P2, P3, P4, P5, P6, P7, P8, P9, P10, P11, P12, P13, P14, P15, P16}
+use Rattle.tc_fop.specs.declared.fop_rows.FopRow.{FopRow}
+use Rattle.tc_fop.specs.declared.fop_rows.FopRow.TheVariants.{P1, P2, P3, P4, P5, P6, P7, P8, P9, P10, P11, P12, P13, P14, P15, P16}
 use Rattle.tc_fop.specs.declared.signals.AlertKind.{AlertKind}
 use Rattle.tc_fop.specs.declared.signals.AlertKind.TheVariants as alert
-use Rattle.tc_types.specs.declared.directives.Directive.{Directive}
-use Rattle.tc_types.specs.declared.directives.Directive.TheVariants as directive
+use Rattle.tc_types.specs.declared.link.directives.Directive.{Directive}
+use Rattle.tc_types.specs.declared.link.directives.Directive.TheVariants as directive
 use Rattle.tc_fop.specs.declared.signals.FopState.{FopState}
 use Rattle.tc_fop.specs.declared.signals.FopState.TheVariants.{Active, RetransmitWithoutWait, RetransmitWithWait, InitialisingWithoutBc, InitialisingWithBc}
 use Rattle.tc_fop.specs.declared.signals.Indication.TheVariants as indication
@@ -69,7 +69,7 @@ stops_behind false d m new out e = λ stopped before.
     (d, alert.Limit, ap (λ (o : Out). o.indications) e.1 ∙ ap (λ l. front ++ l) (append-nil (given_back alert.Limit (change (Remove d) m))))
 
 -- a cell goes on or stops
-of_cell : (P : List Action → Type 0) (row : Row) (s : FopState) → ((todo : List Action) → list_all stays todo ≡ true → P todo) → ((kind : AlertKind) → P (alerts kind)) → ((d : ℕ) → P (remove_some d ++ alerts alert.Limit)) → P (cell row s)
+of_cell : (P : List Action → Type 0) (row : FopRow) (s : FopState) → ((todo : List Action) → list_all stays todo ≡ true → P todo) → ((kind : AlertKind) → P (alerts kind)) → ((d : ℕ) → P (remove_some d ++ alerts alert.Limit)) → P (cell row s)
 of_cell P P1 s go stop limit = by_state (λ t. P (cell P1 t)) (go ([]) refl) (stop alert.Synch) (stop alert.Synch) (go (CancelTimer ∷ To Active ∷ Begin ∷ []) refl) (go (CancelTimer ∷ DropControl ∷ To Active ∷ Begin ∷ []) refl) (go [] refl) s
 of_cell P (P2 d) s go stop limit = by_state (λ t. P (cell (P2 d) t)) (go (Remove d ∷ CancelTimer ∷ look) refl) (go (Remove d ∷ CancelTimer ∷ To Active ∷ look) refl) (go (Remove d ∷ CancelTimer ∷ To Active ∷ look) refl) (go ([]) refl) (go ([]) refl) (go [] refl) s
 of_cell P P3 s go stop limit = by_state (λ t. P (cell P3 t)) (stop alert.Clcw) (stop alert.Clcw) (stop alert.Clcw) (stop alert.Clcw) (go ([]) refl) (go [] refl) s

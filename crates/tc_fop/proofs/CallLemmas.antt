@@ -5,12 +5,12 @@ use Rattle.std.proofs.lemmas.List.{append-nil}
 use Rattle.tc_types.specs.declared.refusals.Refusal.TheVariants.{WaitQueueFull, ServiceNotActive}
 use Rattle.tc_farm.specs.declared.clcws.Clcw.{Clcw}
 use Rattle.tc_farm.specs.Farm.{distance}
-use Rattle.tc_fop.specs.declared.rows.Row.{Row}
-use Rattle.tc_fop.specs.declared.rows.Row.TheVariants.{P1, P2, P3, P4, P5, P6, P7, P8, P9, P10, P11, P12, P13, P14, P15, P16}
+use Rattle.tc_fop.specs.declared.fop_rows.FopRow.{FopRow}
+use Rattle.tc_fop.specs.declared.fop_rows.FopRow.TheVariants.{P1, P2, P3, P4, P5, P6, P7, P8, P9, P10, P11, P12, P13, P14, P15, P16}
 use Rattle.tc_fop.specs.declared.signals.AlertKind.{AlertKind}
 use Rattle.tc_fop.specs.declared.signals.AlertKind.TheVariants as alert
-use Rattle.tc_types.specs.declared.directives.Directive.{Directive}
-use Rattle.tc_types.specs.declared.directives.Directive.TheVariants as directive
+use Rattle.tc_types.specs.declared.link.directives.Directive.{Directive}
+use Rattle.tc_types.specs.declared.link.directives.Directive.TheVariants as directive
 use Rattle.tc_fop.specs.declared.signals.FopState.{FopState}
 use Rattle.tc_fop.specs.declared.signals.FopState.TheVariants.{Active, RetransmitWithoutWait, RetransmitWithWait, InitialisingWithoutBc, InitialisingWithBc, Initial}
 use Rattle.tc_fop.specs.Machine.{Machine, Waiting, Out, Action, Remove, InitiateRetransmission, StartTimer, CancelTimer, LowerTimer, CountOne, SendControl, DropControl, Begin, To, Wait, SetVsAndNn, SetKTo, SetT1To, SetLimitTo, nothing, change, after, option_list, given_back}
@@ -49,7 +49,7 @@ abbrev pub Acknowledges : ℕ → Machine → Option Clcw → Type 0
 Acknowledges d m heard = (d ≡ acknowledged m heard) × (d ≤ distance m.vs m.nn)
 
 -- what a row says of d and w
-abbrev Says : Row → ℕ → ℕ → Type 0
+abbrev Says : FopRow → ℕ → ℕ → Type 0
 Says P1 d w = d ≡ 0
 Says (P2 x) d w = (x ≡ d) × (x ≤ w)
 Says (P6 x) d w = (x ≡ d) × (x ≤ w)
@@ -62,7 +62,7 @@ row_says : (s : Seen) → Says (row_seen s) s.d s.w
 row_says s = grind arith
 
 -- the same of what was heard
-abbrev Allows : Row → Machine → Option Clcw → Type 0
+abbrev Allows : FopRow → Machine → Option Clcw → Type 0
 Allows P1 m heard = IsLevel heard m
 Allows (P2 d) m heard = Acknowledges d m heard
 Allows (P6 d) m heard = Acknowledges d m heard
@@ -71,7 +71,7 @@ Allows (P9 d) m heard = Acknowledges d m heard
 Allows (P10 d) m heard = Acknowledges d m heard
 Allows row m heard = Unit {0}
 
-allows : (m : Machine) (word : Clcw) (row : Row) → Says row (distance word.report m.nn) (distance m.vs m.nn) → Allows row m (Some word)
+allows : (m : Machine) (word : Clcw) (row : FopRow) → Says row (distance word.report m.nn) (distance m.vs m.nn) → Allows row m (Some word)
 allows m word P1 t = (word, refl, t)
 allows m word (P2 d) t = t
 allows m word (P6 d) t = t
@@ -257,7 +257,7 @@ controls c q e =
     (record { starting = ap (λ s. is_starting s) q; state = refl; vs = refl; nn = refl; control = refl }) (inr refl) e.0
     (e.1 ∙ ap (λ l. record { frames = l; indications = [] }) (append-nil (option_list c.machine.control)))
 
-cell_moves : (c : Call) (row : Row) → Allows row c.machine c.heard → (s : FopState) → Moved c s (cell row s)
+cell_moves : (c : Call) (row : FopRow) → Allows row c.machine c.heard → (s : FopState) → Moved c s (cell row s)
 cell_moves c P1 a s = by_state (λ t. Moved c t (cell P1 t)) (idle c Active) (stops c alert.Synch RetransmitWithoutWait refl) (stops c alert.Synch RetransmitWithWait refl) (begins c a) (begins_dropped c a) (idle c Initial) s
 cell_moves c (P2 d) a s = by_state (λ t. Moved c t (cell (P2 d) t)) (looks_cancelled c d a Active refl) (looks_active_cancelled c d a RetransmitWithoutWait refl) (looks_active_cancelled c d a RetransmitWithWait refl) (idle c InitialisingWithoutBc) (idle c InitialisingWithBc) (idle c Initial) s
 cell_moves c P3 a s = by_state (λ t. Moved c t (cell P3 t)) (stops c alert.Clcw Active refl) (stops c alert.Clcw RetransmitWithoutWait refl) (stops c alert.Clcw RetransmitWithWait refl) (λ q e. gives_up c alert.Clcw e) (idle c InitialisingWithBc) (idle c Initial) s

@@ -8,13 +8,13 @@ use Rattle.std.proofs.lemmas.List.{append-nil, take-map}
 use Rattle.std.proofs.lemmas.List.Folds.{list_any-append}
 use Rattle.tc_farm.specs.declared.clcws.Clcw.{Clcw}
 use Rattle.tc_farm.specs.Farm.{distance}
-use Rattle.tc_types.specs.declared.frames.Frame.TheVariants as frame
-use Rattle.tc_fop.specs.declared.rows.Row.{Row}
-use Rattle.tc_fop.specs.declared.rows.Row.TheVariants.{P1, P2, P3, P4, P5, P6, P7, P8, P9, P10, P11, P12, P13, P14, P15, P16}
+use Rattle.tc_types.specs.declared.link.frames.Frame.TheVariants as frame
+use Rattle.tc_fop.specs.declared.fop_rows.FopRow.{FopRow}
+use Rattle.tc_fop.specs.declared.fop_rows.FopRow.TheVariants.{P1, P2, P3, P4, P5, P6, P7, P8, P9, P10, P11, P12, P13, P14, P15, P16}
 use Rattle.tc_fop.specs.declared.signals.AlertKind.{AlertKind}
 use Rattle.tc_fop.specs.declared.signals.AlertKind.TheVariants as alert
-use Rattle.tc_types.specs.declared.directives.Directive.{Directive}
-use Rattle.tc_types.specs.declared.directives.Directive.TheVariants as directive
+use Rattle.tc_types.specs.declared.link.directives.Directive.{Directive}
+use Rattle.tc_types.specs.declared.link.directives.Directive.TheVariants as directive
 use Rattle.tc_fop.specs.declared.signals.FopState.{FopState}
 use Rattle.tc_fop.specs.declared.signals.FopState.TheVariants.{Active, RetransmitWithoutWait, RetransmitWithWait, InitialisingWithoutBc, InitialisingWithBc}
 use Rattle.tc_fop.specs.declared.signals.Indication.TheVariants as indication
@@ -57,7 +57,7 @@ run_unconfirmed (a ∷ todo) m h =
     ∙ run_unconfirmed todo (change a m) x.1
 
 -- how many a row removes
-abbrev pub removed : Row → ℕ
+abbrev pub removed : FopRow → ℕ
 removed P1 = 0
 removed (P2 d) = d
 removed P3 = 0
@@ -87,7 +87,7 @@ removes_first : (P : List Action → Type 0) (none : Bool) (d : ℕ) (rest : Lis
 removes_first P true d rest all behind = all
 removes_first P false d rest all behind = behind
 
-pub of_cell : (P : List Action → Type 0) (row : Row) (s : FopState) → ((todo : List Action) → list_all is_unremoving todo ≡ true → P todo) → ((d : ℕ) (todo : List Action) → d ≤ removed row → list_all is_unremoving todo ≡ true → P (Remove d ∷ todo)) → P (cell row s)
+pub of_cell : (P : List Action → Type 0) (row : FopRow) (s : FopState) → ((todo : List Action) → list_all is_unremoving todo ≡ true → P todo) → ((d : ℕ) (todo : List Action) → d ≤ removed row → list_all is_unremoving todo ≡ true → P (Remove d ∷ todo)) → P (cell row s)
 of_cell P P1 s all behind = by_state (λ t. P (cell P1 t)) (all ([]) refl) (all (alerts alert.Synch) refl) (all (alerts alert.Synch) refl) (all (CancelTimer ∷ To Active ∷ Begin ∷ []) refl) (all (CancelTimer ∷ DropControl ∷ To Active ∷ Begin ∷ []) refl) (all [] refl) s
 of_cell P (P2 d) s all behind = by_state (λ t. P (cell (P2 d) t)) (behind d (CancelTimer ∷ look) (omega arith) refl) (behind d (CancelTimer ∷ To Active ∷ look) (omega arith) refl) (behind d (CancelTimer ∷ To Active ∷ look) (omega arith) refl) (all ([]) refl) (all ([]) refl) (all [] refl) s
 of_cell P P3 s all behind = by_state (λ t. P (cell P3 t)) (all (alerts alert.Clcw) refl) (all (alerts alert.Clcw) refl) (all (alerts alert.Clcw) refl) (all (alerts alert.Clcw) refl) (all ([]) refl) (all [] refl) s
@@ -261,7 +261,7 @@ stop_window : (none : Bool) (d : ℕ) → ends_well ((if none then [] else Remov
 stop_window true d = refl
 stop_window false d = refl
 
-cell_window : (row : Row) (s : FopState) → ends_well (cell row s) ≡ true
+cell_window : (row : FopRow) (s : FopState) → ends_well (cell row s) ≡ true
 cell_window P1 s = by_state (λ t. ends_well (cell P1 t) ≡ true) refl refl refl refl refl refl s
 cell_window (P2 d) s = by_state (λ t. ends_well (cell (P2 d) t) ≡ true) refl refl refl refl refl refl s
 cell_window P3 s = by_state (λ t. ends_well (cell P3 t) ≡ true) refl refl refl refl refl refl s

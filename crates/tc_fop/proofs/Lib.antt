@@ -1,5 +1,6 @@
 pub mod AlertLemmas
 pub mod CallLemmas
+mod Carrying
 pub mod FairLemmas
 mod WidthLemmas
 pub mod FrameLemmas

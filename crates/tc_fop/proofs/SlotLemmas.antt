@@ -5,7 +5,7 @@ use Rattle.std.proofs.lemmas.List.{append_assoc, append-nil, length-map, map-app
 use Rattle.tc_fop.specs.declared.queues.Offer.{Offer}
 use Rattle.tc_fop.specs.declared.queues.Outstanding.{Outstanding}
 use Rattle.tc_fop.specs.declared.signals.Indication.{Indication}
-use Rattle.tc_types.specs.declared.frames.Frame.{Frame}
+use Rattle.tc_types.specs.declared.link.frames.Frame.{Frame}
 use Rattle.tc_fop.specs.Machine.{Out, joined}
 use Rattle.tc_fop.specs.Queued.{held_of}
 use Rattle.tc_fop.specs.Standing.{AreNumbered}

@@ -4,15 +4,15 @@ use Rattle.std.specs.List.{flat_map, list_all}
 use Rattle.std.proofs.lemmas.Bool.{false≢true}
 use Rattle.std.proofs.lemmas.List.{append-nil}
 use Rattle.tc_farm.specs.declared.clcws.Clcw.{Clcw}
-use Rattle.tc_fop.specs.declared.rows.Row.{Row}
-use Rattle.tc_fop.specs.declared.rows.Row.TheVariants.{P1, P2, P3, P4, P5, P6, P7, P8, P9, P10, P11, P12, P13, P14, P15, P16}
-use Rattle.tc_types.specs.declared.frames.Frame.TheVariants as frame
+use Rattle.tc_fop.specs.declared.fop_rows.FopRow.{FopRow}
+use Rattle.tc_fop.specs.declared.fop_rows.FopRow.TheVariants.{P1, P2, P3, P4, P5, P6, P7, P8, P9, P10, P11, P12, P13, P14, P15, P16}
+use Rattle.tc_types.specs.declared.link.frames.Frame.TheVariants as frame
 use Rattle.tc_types.specs.declared.refusals.Refusal.TheVariants.{WaitQueueFull, ServiceNotActive, BadDirective}
 use Rattle.tc_fop.specs.declared.signals.AlertKind.TheVariants as alert
 use Rattle.tc_fop.specs.declared.signals.Indication.{Indication}
 use Rattle.tc_fop.specs.declared.signals.Indication.TheVariants as indication
-use Rattle.tc_types.specs.declared.directives.Directive.{Directive}
-use Rattle.tc_types.specs.declared.directives.Directive.TheVariants as directive
+use Rattle.tc_types.specs.declared.link.directives.Directive.{Directive}
+use Rattle.tc_types.specs.declared.link.directives.Directive.TheVariants as directive
 use Rattle.tc_fop.specs.declared.signals.FopState.{FopState}
 use Rattle.tc_fop.specs.declared.signals.FopState.TheVariants.{Active, RetransmitWithoutWait, RetransmitWithWait, InitialisingWithoutBc, InitialisingWithBc, Initial}
 use Rattle.tc_fop.specs.Machine.{Machine, Held, Waiting, Out, Action, Remove, Alert, LowerTimer, Wait, StartTimer, SendControl, Begin, To, Initiate, SetVsAlone, SetVsAndNn, SetKTo, SetT1To, SetLimitTo, change, after, output, option_list}
@@ -36,7 +36,7 @@ removing_inner : (none : Bool) (d : ℕ) → list_all is_inner ((if none then []
 removing_inner true d = refl
 removing_inner false d = refl
 
-pub cell_inner : (row : Row) (s : FopState) → list_all is_inner (cell row s) ≡ true
+pub cell_inner : (row : FopRow) (s : FopState) → list_all is_inner (cell row s) ≡ true
 cell_inner P1 s = by_state (λ t. list_all is_inner (cell P1 t) ≡ true) refl refl refl refl refl refl s
 cell_inner (P2 d) s = by_state (λ t. list_all is_inner (cell (P2 d) t) ≡ true) refl refl refl refl refl refl s
 cell_inner P3 s = by_state (λ t. list_all is_inner (cell P3 t) ≡ true) refl refl refl refl refl refl s

@@ -1,11 +1,10 @@
 -- An offer that waits while the window is closed.
-use Rattle.std.proofs.Common.{◌≡◌, Bool, true, false, if◌then◌else◌, Some, IsOk, List, [], ◌∷◌, map, refl, sym, ◌∙◌, ap}
+use Rattle.std.proofs.Common.{◌≡◌, Bool, true, false, if◌then◌else◌, Some, IsOk, IfOk, List, [], ◌∷◌, map, refl, sym, ◌∙◌, ap}
 use Rattle.std.proofs.lemmas.Bool.{true≢false}
 use Rattle.tc_fop.specs.declared.signals.FopState.{FopState}
 use Rattle.tc_fop.specs.Machine.{Machine, Held, Waiting, Action, Wait, Resend, Transmit, change, after, output, nothing, joined, cleared, flagged_of, is_window_open, due_from, transmitted, transmits, frame_of}
 use Rattle.tc_fop.specs.Calls.{offered, is_taking, look_in}
 use Rattle.tc_fop.specs.Standing.{IsFop}
-use Rattle.tc_fop.specs.Views.{Carried}
 use Rattle.tc_fop.proofs.TableLemmas.{by_state, of_offer}
 
 clear_of : (flag : Bool) (held : Held) (others : List Held) → held.flagged ≡ flag → (if flag then held ∷ flagged_of others else flagged_of others) ≡ []
@@ -34,9 +33,9 @@ looks_idly false m w o e f =
           ∙ ap (λ (l : List Held). joined nothing (joined (record { frames = map frame_of l; indications = [] }) (joined nothing nothing))) f),
     )
 
-pub waits_only : (m : Machine) (w : Waiting) → IsFop m → is_window_open m ≡ false → IsOk (offered m w) → Carried (offered m w) m (change (Wait w) m) nothing
+pub waits_only : (m : Machine) (w : Waiting) → IsFop m → is_window_open m ≡ false → IsOk (offered m w) → IfOk (offered m w) (λ (actions : List Action). WaitsBy actions m w)
 waits_only m w h closed =
-    of_offer (λ given. IsOk given → Carried given m (change (Wait w) m) nothing) (is_taking m.state) m.waiting (Wait w ∷ look_in m.state)
+    of_offer (λ given. IsOk given → IfOk given (λ (actions : List Action). WaitsBy actions m w)) (is_taking m.state) m.waiting (Wait w ∷ look_in m.state)
     (λ e. absurd (true≢false (sym e)))
     (λ e. absurd (true≢false (sym e)))
     (λ none ok. by_state (λ (s : FopState). WaitsBy (Wait w ∷ look_in s) m w)

@@ -6,8 +6,8 @@ use Rattle.tc_fop.specs.declared.signals.FopState.TheVariants.{Active, Retransmi
 use Rattle.tc_fop.specs.declared.signals.AlertKind.{AlertKind}
 use Rattle.tc_fop.specs.declared.signals.AlertKind.TheVariants as alert
 use Rattle.tc_fop.specs.Machine.{Action, Remove, InitiateRetransmission, Resend, Transmit, Alert, StartTimer, CancelTimer, CountOne, SendControl, DropControl, Begin, To}
-use Rattle.tc_fop.specs.declared.rows.Row.{Row}
-use Rattle.tc_fop.specs.declared.rows.Row.TheVariants.{P1, P2, P3, P4, P5, P6, P7, P8, P9, P10, P11, P12, P13, P14, P15, P16}
+use Rattle.tc_fop.specs.declared.fop_rows.FopRow.{FopRow}
+use Rattle.tc_fop.specs.declared.fop_rows.FopRow.TheVariants.{P1, P2, P3, P4, P5, P6, P7, P8, P9, P10, P11, P12, P13, P14, P15, P16}
 
 -- send what is flagged, then transmit what waits
 abbrev pub look : List Action
@@ -25,7 +25,7 @@ remove_some d = if d == 0 then [] else Remove d ∷ []
 abbrev pub cannot_occur : List Action
 cannot_occur = []
 
-abbrev pub cell : Row → FopState → List Action
+abbrev pub cell : FopRow → FopState → List Action
 cell row Initial = []
 cell P1 Active = []
 cell P1 RetransmitWithoutWait = alerts alert.Synch
@@ -131,5 +131,5 @@ abbrev pub does_nothing : List Action → Bool
 does_nothing [] = true
 does_nothing (first ∷ others) = false
 
-abbrev pub is_ignored : Row → FopState → Bool
+abbrev pub is_ignored : FopRow → FopState → Bool
 is_ignored row state = does_nothing (cell row state)

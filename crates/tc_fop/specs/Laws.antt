@@ -1,7 +1,7 @@
 -- Of which calls a law speaks: P takes what is offered, the machine before and after, and the output.
 use Rattle.std.specs.Prelude.{ℕ, Option, Ok, List, [], ◌∷◌}
 use Rattle.tc_farm.specs.declared.clcws.Clcw.{Clcw}
-use Rattle.tc_types.specs.declared.directives.Directive.{Directive}
+use Rattle.tc_types.specs.declared.link.directives.Directive.{Directive}
 use Rattle.tc_fop.specs.Machine.{Machine, Waiting, Out}
 use Rattle.tc_fop.specs.Calls.{offered, directed, reported, ticked, Answers}
 use Rattle.tc_fop.specs.Standing.{IsFop}

@@ -2,14 +2,14 @@
 -- confirmed, what is sent again, what is sent for the first time, and where the service stands after.
 use Rattle.std.specs.Prelude.{◌≡◌, ℕ, ◌+◌, ◌%◌, ◌<◌, ◌≤◌, Bool, true, false, is_some, ◌⊎◌, if◌then◌else◌, Option, Some, None, List, [], ◌∷◌, ◌++◌, map, take, drop, length}
 use Rattle.std.specs.List.{flat_map}
-use Rattle.tc_types.specs.declared.frames.Frame.{Frame}
-use Rattle.tc_types.specs.declared.frames.Frame.TheVariants as frame
+use Rattle.tc_types.specs.declared.link.frames.Frame.{Frame}
+use Rattle.tc_types.specs.declared.link.frames.Frame.TheVariants as frame
 use Rattle.tc_farm.specs.declared.clcws.Clcw.{Clcw}
 use Rattle.tc_farm.specs.Farm.{distance}
 use Rattle.tc_fop.specs.declared.signals.FopState.{FopState}
 use Rattle.tc_fop.specs.declared.signals.FopState.TheVariants.{Active, RetransmitWithoutWait, RetransmitWithWait, InitialisingWithoutBc, InitialisingWithBc, Initial}
-use Rattle.tc_types.specs.declared.directives.Directive.{Directive}
-use Rattle.tc_types.specs.declared.directives.Directive.TheVariants as directive
+use Rattle.tc_types.specs.declared.link.directives.Directive.{Directive}
+use Rattle.tc_types.specs.declared.link.directives.Directive.TheVariants as directive
 use Rattle.tc_fop.specs.declared.signals.Indication.{Indication}
 use Rattle.tc_fop.specs.declared.signals.Indication.TheVariants as indication
 use Rattle.tc_fop.specs.Machine.{Machine, Waiting, Out, frame_of, option_list, nothing}

@@ -3,8 +3,8 @@
 use Rattle.std.specs.Prelude.{◌≡◌, ℕ, ◌<◌, ◌≤◌, ◌==◌, nat_lt, Bool, true, false, not, if◌then◌else◌, Option, Some, None}
 use Rattle.tc_farm.specs.declared.clcws.Clcw.{Clcw}
 use Rattle.tc_farm.specs.Farm.{distance}
-use Rattle.tc_fop.specs.declared.rows.Row.{Row}
-use Rattle.tc_fop.specs.declared.rows.Row.TheVariants.{P1, P2, P3, P4, P5, P6, P7, P8, P9, P10, P11, P12, P13, P14, P15, P16}
+use Rattle.tc_fop.specs.declared.fop_rows.FopRow.{FopRow}
+use Rattle.tc_fop.specs.declared.fop_rows.FopRow.TheVariants.{P1, P2, P3, P4, P5, P6, P7, P8, P9, P10, P11, P12, P13, P14, P15, P16}
 use Rattle.tc_fop.specs.Machine.{Machine}
 
 -- What a row is about: d = (N(R) - NN(R)) mod 256, w = (V(S) - NN(R)) mod 256, the flags, the limit and the count.
@@ -30,7 +30,7 @@ seen_in m word = record {
 
 -- When a row applies, as a reviewer reads it: one line a row. P16, P15 and P14 are tested first, so the others are
 -- without Lockout and with d <= w.
-abbrev pub When : Row → Seen → Type 0
+abbrev pub When : FopRow → Seen → Type 0
 When P1 s = (s.lockout ≡ false) × (s.d ≡ s.w) × (s.w ≡ 0) × (s.retransmit ≡ false) × (s.wait ≡ false)
 When (P2 d) s = (s.lockout ≡ false) × (s.d ≡ d) × (s.d ≡ s.w) × (0 < s.w) × (s.retransmit ≡ false) × (s.wait ≡ false)
 When P3 s = (s.lockout ≡ false) × (s.d ≡ s.w) × (s.retransmit ≡ false) × (s.wait ≡ true)
@@ -49,7 +49,7 @@ When P15 s = s.lockout ≡ true
 When P16 s = ⊥
 
 -- the row of what is seen
-abbrev pub row_seen : Seen → Row
+abbrev pub row_seen : Seen → FopRow
 row_seen s =
     if s.lockout then P15
     else if nat_lt s.w s.d then P14
@@ -65,6 +65,6 @@ row_seen s =
     else P13
 
 -- the row of a control word; P16 is one that is not valid
-abbrev pub row_of : Machine → Option Clcw → Row
+abbrev pub row_of : Machine → Option Clcw → FopRow
 row_of m None = P16
 row_of m (Some word) = row_seen (seen_in m word)

@@ -1,18 +1,17 @@
 //! What is done at a control word (CCSDS 232.1-B, 5.3).
 ghost use Rattle.std.specs.Prelude.{◌≡◌, ◌≤◌, length, true, IsTrue, ◌↔◌};
-ghost use Rattle.tc_fop.specs.Machine.{nothing, output};
+ghost use Rattle.tc_fop.specs.Machine.{nothing};
 ghost use Rattle.tc_fop.specs.Cells.{cell, is_ignored};
 ghost use Rattle.tc_fop.specs.Calls.{is_taking, reported};
 ghost use Rattle.tc_fop.specs.Rows.{row_of};
-ghost use Rattle.tc_fop.specs.Standing.{IsFop};
-ghost use Rattle.tc_fop.specs.Views.{Becomes, Fits, Carried};
+ghost use Rattle.tc_fop.specs.Views.{Performs, Fits, Carried, MayRemove};
 
-use crate::outputs::Draft;
-use crate::rows::Row;
+use crate::fop_rows::FopRow;
+use crate::outputs::{Blank, OutputDraft};
 use crate::signals::{AlertKind, FopState};
 use crate::variables::Variables;
 use std::alloc::Allocator;
-use tc_farm::clcws::Clcw;
+use tc_farm::Clcw;
 
 /// Whether the state is S1.
 fn is_active(state: FopState) -> bool
@@ -22,20 +21,20 @@ fn is_active(state: FopState) -> bool
 }
 
 /// Whether nothing is done at a word of this row in this state.
-fn does_nothing(row: Row, state: FopState) -> bool
+fn does_nothing(row: FopRow, state: FopState) -> bool
     ensures { result ≡ is_ignored row state }
 {
     match state {
         FopState::Initial => true,
-        FopState::Active => matches!(row, Row::P1 | Row::P5),
-        FopState::RetransmitWithoutWait => matches!(row, Row::P11 | Row::P13),
-        FopState::RetransmitWithWait => matches!(row, Row::P12),
+        FopState::Active => matches!(row, FopRow::P1 | FopRow::P5),
+        FopState::RetransmitWithoutWait => matches!(row, FopRow::P11 | FopRow::P13),
+        FopState::RetransmitWithWait => matches!(row, FopRow::P12),
         FopState::InitialisingWithoutBc => match row {
-            Row::P1 | Row::P3 | Row::P4 | Row::P14 | Row::P15 | Row::P16 => false,
+            FopRow::P1 | FopRow::P3 | FopRow::P4 | FopRow::P14 | FopRow::P15 | FopRow::P16 => false,
             _ => true,
         },
         FopState::InitialisingWithBc => match row {
-            Row::P1 | Row::P16 => false,
+            FopRow::P1 | FopRow::P16 => false,
             _ => true,
         },
     }
@@ -50,12 +49,10 @@ impl<A: Allocator + Copy + Drop> Variables<A> {
     }
 
     /// Removes what is acknowledged, and stops for the limit.
-    fn stop_at_limit(&mut self, acknowledged: u8, out: &mut Draft<A>)
-        requires taking { is_taking self.old.state ≡ true }
-        requires there { acknowledged ≤ length self.old.sent }
+    fn stop_at_limit(&mut self, acknowledged: u8, out: &mut OutputDraft<A>)
+        requires there { MayRemove acknowledged self.old }
         requires start { out.old ≡ nothing }
-        ensures machine { Becomes (cell (Row.P8 acknowledged) self.old.state) self.old self.new }
-        ensures out { out.new ≡ output (cell (Row.P8 acknowledged) self.old.state) self.old }
+        ensures { Performs (cell (FopRow.P8 acknowledged) self.old.state) self.old self.new out.new }
     {
         let _state = self.state(); // read for what it tells the prover alone
         if acknowledged > 0 {
@@ -65,126 +62,124 @@ impl<A: Allocator + Copy + Drop> Variables<A> {
     }
 
     /// A control word in S1, S2 or S3.
-    fn sending(&mut self, row: Row, out: &mut Draft<A>)
+    fn sending(&mut self, row: FopRow, blank: Blank<A>) -> OutputDraft<A>
         requires taking { is_taking self.old.state ≡ true }
         requires fits { Fits row self.old }
-        requires start { out.old ≡ nothing }
-        ensures machine { Becomes (cell row self.old.state) self.old self.new }
-        ensures out { out.new ≡ output (cell row self.old.state) self.old }
+        ensures { Performs (cell row self.old.state) self.old self.new result }
     {
         let state = self.state();
+        let mut out = blank.open();
         match row {
-            Row::P1 | Row::P5 => {
+            FopRow::P1 | FopRow::P5 => {
                 if !is_active(state) {
-                    self.alert(AlertKind::Synch, out);
+                    self.alert(AlertKind::Synch, &mut out);
                 }
             }
-            Row::P2(acknowledged) => {
-                self.remove(acknowledged, out);
+            FopRow::P2(acknowledged) => {
+                self.remove(acknowledged, &mut out);
                 self.cancel_timer();
                 self.enter(FopState::Active);
-                self.look(out);
+                self.look(&mut out);
             }
-            Row::P6(acknowledged) => {
-                self.remove(acknowledged, out);
+            FopRow::P6(acknowledged) => {
+                self.remove(acknowledged, &mut out);
                 self.enter(FopState::Active);
-                self.look(out);
+                self.look(&mut out);
             }
-            Row::P8(acknowledged) => self.stop_at_limit(acknowledged, out),
-            Row::P9(acknowledged) => {
-                self.remove(acknowledged, out);
-                self.retransmit(out);
+            FopRow::P8(acknowledged) => self.stop_at_limit(acknowledged, &mut out),
+            FopRow::P9(acknowledged) => {
+                self.remove(acknowledged, &mut out);
+                self.retransmit(&mut out);
                 self.enter(FopState::RetransmitWithoutWait);
-                self.transmit(out);
+                self.transmit(&mut out);
             }
-            Row::P10(acknowledged) => {
-                self.remove(acknowledged, out);
+            FopRow::P10(acknowledged) => {
+                self.remove(acknowledged, &mut out);
                 self.enter(FopState::RetransmitWithWait);
             }
-            Row::P11 => {
+            FopRow::P11 => {
                 if !matches!(state, FopState::RetransmitWithoutWait) {
-                    self.retransmit(out);
+                    self.retransmit(&mut out);
                     self.enter(FopState::RetransmitWithoutWait);
-                    self.transmit(out);
+                    self.transmit(&mut out);
                 }
             }
-            Row::P12 => self.enter(FopState::RetransmitWithWait),
-            Row::P13 => self.enter(FopState::RetransmitWithoutWait),
-            Row::P4 => self.alert(AlertKind::Synch, out),
-            Row::P14 => self.alert(AlertKind::NnR, out),
-            Row::P15 => self.alert(AlertKind::Lockout, out),
-            Row::P3 | Row::P7 | Row::P16 => self.alert(AlertKind::Clcw, out),
+            FopRow::P12 => self.enter(FopState::RetransmitWithWait),
+            FopRow::P13 => self.enter(FopState::RetransmitWithoutWait),
+            FopRow::P4 => self.alert(AlertKind::Synch, &mut out),
+            FopRow::P14 => self.alert(AlertKind::NnR, &mut out),
+            FopRow::P15 => self.alert(AlertKind::Lockout, &mut out),
+            FopRow::P3 | FopRow::P7 | FopRow::P16 => self.alert(AlertKind::Clcw, &mut out),
         }
+        out
     }
 
     /// A control word in S4, where nothing is out and there is no BC frame.
-    fn checking(&mut self, row: Row, out: &mut Draft<A>)
+    fn checking(&mut self, row: FopRow, blank: Blank<A>) -> OutputDraft<A>
         requires state { self.old.state ≡ FopState.InitialisingWithoutBc }
-        requires start { out.old ≡ nothing }
-        ensures machine { Becomes (cell row self.old.state) self.old self.new }
-        ensures out { out.new ≡ output (cell row self.old.state) self.old }
+        ensures { Performs (cell row self.old.state) self.old self.new result }
     {
         let _state = self.state(); // read for what it tells the prover alone
+        let mut out = blank.open();
         match row {
-            Row::P1 => self.begin(out),
-            Row::P3 | Row::P16 => self.alert(AlertKind::Clcw, out),
-            Row::P4 => self.alert(AlertKind::Synch, out),
-            Row::P14 => self.alert(AlertKind::NnR, out),
-            Row::P15 => self.alert(AlertKind::Lockout, out),
+            FopRow::P1 => self.begin(&mut out),
+            FopRow::P3 | FopRow::P16 => self.alert(AlertKind::Clcw, &mut out),
+            FopRow::P4 => self.alert(AlertKind::Synch, &mut out),
+            FopRow::P14 => self.alert(AlertKind::NnR, &mut out),
+            FopRow::P15 => self.alert(AlertKind::Lockout, &mut out),
             // these cannot come: V(S) is NN(R), so that nothing is out
-            Row::P2(_)
-            | Row::P5
-            | Row::P6(_)
-            | Row::P7
-            | Row::P8(_)
-            | Row::P9(_)
-            | Row::P10(_)
-            | Row::P11
-            | Row::P12
-            | Row::P13 => {}
+            FopRow::P2(_)
+            | FopRow::P5
+            | FopRow::P6(_)
+            | FopRow::P7
+            | FopRow::P8(_)
+            | FopRow::P9(_)
+            | FopRow::P10(_)
+            | FopRow::P11
+            | FopRow::P12
+            | FopRow::P13 => {}
         }
+        out
     }
 
     /// A control word in S5, where the BC frame is not acknowledged yet.
-    fn commanding(&mut self, row: Row, out: &mut Draft<A>)
+    fn commanding(&mut self, row: FopRow, blank: Blank<A>) -> OutputDraft<A>
         requires state { self.old.state ≡ FopState.InitialisingWithBc }
-        requires start { out.old ≡ nothing }
-        ensures machine { Becomes (cell row self.old.state) self.old self.new }
-        ensures out { out.new ≡ output (cell row self.old.state) self.old }
+        ensures { Performs (cell row self.old.state) self.old self.new result }
     {
         let _state = self.state(); // read for what it tells the prover alone
+        let mut out = blank.open();
         match row {
-            Row::P1 => self.begin(out),
-            Row::P16 => self.alert(AlertKind::Clcw, out),
-            Row::P3 | Row::P4 | Row::P14 | Row::P15 => {}
+            FopRow::P1 => self.begin(&mut out),
+            FopRow::P16 => self.alert(AlertKind::Clcw, &mut out),
+            FopRow::P3 | FopRow::P4 | FopRow::P14 | FopRow::P15 => {}
             // these cannot come: V(S) is NN(R), so that nothing is out
-            Row::P2(_)
-            | Row::P5
-            | Row::P6(_)
-            | Row::P7
-            | Row::P8(_)
-            | Row::P9(_)
-            | Row::P10(_)
-            | Row::P11
-            | Row::P12
-            | Row::P13 => {}
+            FopRow::P2(_)
+            | FopRow::P5
+            | FopRow::P6(_)
+            | FopRow::P7
+            | FopRow::P8(_)
+            | FopRow::P9(_)
+            | FopRow::P10(_)
+            | FopRow::P11
+            | FopRow::P12
+            | FopRow::P13 => {}
         }
+        out
     }
 
     /// A control word, or one that is not valid.
-    pub(crate) fn clcw(&mut self, word: Option<Clcw>, out: &mut Draft<A>)
-        requires start { out.old ≡ nothing }
-        ensures machine { Carried (reported self.old word) self.old self.new out.new }
-        ensures fop { IsFop self.new }
+    pub(crate) fn clcw(&mut self, word: Option<Clcw>, blank: Blank<A>) -> OutputDraft<A>
+        ensures { Carried (reported self.old word) self.old self.new result }
     {
         let row = self.row(word);
         match self.state() {
             FopState::Active | FopState::RetransmitWithoutWait | FopState::RetransmitWithWait => {
-                self.sending(row, out)
+                self.sending(row, blank)
             }
-            FopState::InitialisingWithoutBc => self.checking(row, out),
-            FopState::InitialisingWithBc => self.commanding(row, out),
-            FopState::Initial => {}
+            FopState::InitialisingWithoutBc => self.checking(row, blank),
+            FopState::InitialisingWithBc => self.commanding(row, blank),
+            FopState::Initial => blank.open(),
         }
     }
 }

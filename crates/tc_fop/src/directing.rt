@@ -1,32 +1,29 @@
 //! What is done at an offer and at a directive (CCSDS 232.1-B, 5.2.2).
 ghost use Rattle.std.specs.Prelude.{◌≡◌, IsTrue, IsOk, ◌↔◌};
-ghost use Rattle.tc_fop.specs.Machine.{nothing};
 ghost use Rattle.tc_fop.specs.Calls.{offered, directed, is_initial};
 ghost use Rattle.tc_fop.specs.Queued.{waiting_of};
-ghost use Rattle.tc_fop.specs.Standing.{IsFop};
 ghost use Rattle.tc_fop.specs.Views.{Carried};
 
-use crate::outputs::Draft;
+use crate::outputs::{Blank, OutputDraft};
 use crate::queues::Offer;
 use crate::signals::{AlertKind, FopState};
 use crate::variables::Variables;
 use std::alloc::Allocator;
-use tc_types::directives::Directive;
-use tc_types::frames::Frame;
+use tc_types::{Directive, Frame};
 
 impl<A: Allocator + Copy + Drop> Variables<A> {
     /// A request that waits now, and may be transmitted at once in S1 and S2.
-    pub(crate) fn offer(&mut self, offer: Offer, out: &mut Draft<A>)
+    pub(crate) fn offer(&mut self, offer: Offer, blank: Blank<A>) -> OutputDraft<A>
         requires taken { IsOk (offered self.old (waiting_of offer)) }
-        requires start { out.old ≡ nothing }
-        ensures machine { Carried (offered self.old (waiting_of offer)) self.old self.new out.new }
-        ensures fop { IsFop self.new }
+        ensures { Carried (offered self.old (waiting_of offer)) self.old self.new result }
     {
         let state = self.state();
+        let mut out = blank.open();
         self.accept(offer);
         if matches!(state, FopState::Active | FopState::RetransmitWithoutWait) {
-            self.look(out);
+            self.look(&mut out);
         }
+        out
     }
 
     /// Whether the directive can be carried out now.
@@ -48,24 +45,23 @@ impl<A: Allocator + Copy + Drop> Variables<A> {
     }
 
     /// Carries out a directive that is allowed now.
-    pub(crate) fn carry_out(&mut self, directive: &Directive, out: &mut Draft<A>)
+    pub(crate) fn carry_out(&mut self, directive: &Directive, blank: Blank<A>) -> OutputDraft<A>
         requires allowed { IsOk (directed self.old directive.now) }
-        requires start { out.old ≡ nothing }
-        ensures machine { Carried (directed self.old directive.now) self.old self.new out.new }
-        ensures fop { IsFop self.new }
+        ensures { Carried (directed self.old directive.now) self.old self.new result }
     {
         let state = self.state();
+        let mut out = blank.open();
         match *directive {
-            Directive::InitiateNone => self.begin_at_once(out),
+            Directive::InitiateNone => self.begin_at_once(&mut out),
             Directive::InitiateCheck => self.await_check(),
-            Directive::InitiateUnlock => self.command(&Frame::Unlock, out),
+            Directive::InitiateUnlock => self.command(&Frame::Unlock, &mut out),
             Directive::InitiateSetVr(vr) => {
                 self.set_vs(vr);
-                self.command(&Frame::SetVr(vr), out);
+                self.command(&Frame::SetVr(vr), &mut out);
             }
             Directive::Terminate => {
                 if !matches!(state, FopState::Initial) {
-                    self.alert(AlertKind::Term, out);
+                    self.alert(AlertKind::Term, &mut out);
                 }
             }
             Directive::SetVs(vs) => self.set_both(vs),
@@ -73,5 +69,6 @@ impl<A: Allocator + Copy + Drop> Variables<A> {
             Directive::SetT1(t1) => self.set_t1(t1),
             Directive::SetLimit(limit) => self.set_limit(limit),
         }
+        out
     }
 }

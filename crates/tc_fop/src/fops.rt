@@ -4,30 +4,27 @@ ghost use Rattle.std.specs.List.{list_any};
 ghost use Rattle.tc_fop.specs.Machine.{Waiting, nothing, is_window_open};
 ghost use Rattle.tc_fop.specs.Rows.{row_of};
 ghost use Rattle.tc_fop.specs.Cells.{is_ignored};
-ghost use Rattle.tc_fop.specs.Calls.{new_machine, offered, directed, reported, ticked, Answers};
+ghost use Rattle.tc_fop.specs.Calls.{new_machine, offered, directed, reported, ticked};
 ghost use Rattle.tc_fop.specs.Standing.{IsFop};
 ghost use Rattle.tc_fop.specs.Requests.{waiting_requests};
-ghost use Rattle.tc_fop.specs.Views.{FopModel, Responds, view_of};
+ghost use Rattle.tc_fop.specs.Views.{FopModel, MayAnswer, Responds, view_of};
 
-use crate::outputs::{Draft, Output};
+use crate::outputs::{Blank, Output};
 use crate::queues::Offer;
 use crate::signals::FopState;
 use crate::variables::Variables;
 use crate::views::FopView;
-use std::alloc::Allocator;
+use std::alloc::{AllocError, Allocator};
 use std::marker::Model;
-use tc_farm::clcws::Clcw;
-use tc_types::directives::Directive;
-use tc_types::numbers::RequestNumber;
-use tc_types::refusals::Refusal;
-use tc_types::telecommands::Payload;
+use tc_farm::Clcw;
+use tc_types::{Directive, Payload, Refusal, RequestNumber};
 
 /// FOP-1. A contract sees its machine, and whether the memory of the next call was taken.
 #[derive(Drop)]
 pub struct Fop<A: Allocator + Copy + Drop> {
     alloc: A,
     variables: Variables<A>,
-    spare: Option<Draft<A>>,
+    spare: Option<Blank<A>>,
 }
 
 impl<A: Allocator + Copy + Drop> Model for Fop<A> {
@@ -35,7 +32,7 @@ impl<A: Allocator + Copy + Drop> Model for Fop<A> {
 
     ghost view = { λ f. record { machine = f.variables; ready = is_some f.spare } };
 
-    ghost invariant = { λ f. IsFop f.variables × IfSome f.spare (λ out. out ≡ nothing) };
+    ghost invariant = { λ f. IsFop f.variables };
 }
 
 impl<A: Allocator + Copy + Drop> Fop<A> {
@@ -58,29 +55,27 @@ impl<A: Allocator + Copy + Drop> Fop<A> {
     }
 
     /// Takes the memory of the next call that is not refused. The machine is as before either way.
-    pub fn reserve(&mut self) -> Result<(), Refusal>
+    pub fn reserve(&mut self) -> Result<(), AllocError>
         ensures machine { self.new.machine ≡ self.old.machine }
         ensures ready { OnOk result (self.new.ready ≡ true) }
         ensures kept { IfErr result (λ e. self.new.ready ≡ self.old.ready) }
         ensures already { self.old.ready ≡ true → IsOk result }
-        ensures memory { IfErr result (λ e. e ≡ Refusal.Memory) }
         ensures fop { IsFop self.new.machine }
     {
         if self.spare.is_none() {
-            self.spare = Some(Draft::new(self.alloc)?);
+            self.spare = Some(Blank::new(self.alloc)?);
         }
         Ok(())
     }
 
     /// The empty output that `reserve` took.
-    fn take_spare(&mut self) -> Draft<A>
+    fn take_spare(&mut self) -> Blank<A>
         requires ready { self.old.ready ≡ true }
         ensures machine { self.new.machine ≡ self.old.machine }
         ensures fop { IsFop self.old.machine }
-        ensures empty { result ≡ nothing }
     {
         match self.spare.take() {
-            Some(out) => out,
+            Some(blank) => blank,
             None => unreachable!(), // `ready` says that there is one
         }
     }
@@ -158,22 +153,18 @@ impl<A: Allocator + Copy + Drop> Fop<A> {
     pub fn hold(&mut self, request: RequestNumber, body: Payload)
         requires taken { IsOk (offered self.old.machine (record { request = request; body = body })) }
         requires closed { is_window_open self.old.machine ≡ false }
-        ensures answers { Answers (offered self.old.machine (record { request = request; body = body })) self.old.machine self.new.machine (Ok nothing) }
-        ensures fop { IsFop self.new.machine }
+        ensures { Responds (offered self.old.machine (record { request = request; body = body })) self.old self.new (Ok nothing) }
     {
         self.variables.accept_only(Offer { request, body });
     }
 
     /// The same where it is known that the offer is not refused, and its memory was taken by `reserve`.
     pub fn offer_reserved(&mut self, request: RequestNumber, body: Payload) -> Output<A>
-        requires taken { IsOk (offered self.old.machine (record { request = request; body = body })) }
-        requires ready { self.old.ready ≡ true }
-        ensures answers { Answers (offered self.old.machine (record { request = request; body = body })) self.old.machine self.new.machine (Ok result) }
-        ensures fop { IsFop self.new.machine }
+        requires { MayAnswer (offered self.old.machine (record { request = request; body = body })) self.old }
+        ensures { Responds (offered self.old.machine (record { request = request; body = body })) self.old self.new (Ok result) }
     {
-        let mut out = self.take_spare();
-        self.variables.offer(Offer { request, body }, &mut out);
-        Output::of(out)
+        let blank = self.take_spare();
+        Output::of(self.variables.offer(Offer { request, body }, blank))
     }
 
     /// Carries out a directive. `BadDirective` where it cannot be carried out now or its number is 0, else `Memory`;
@@ -190,14 +181,11 @@ impl<A: Allocator + Copy + Drop> Fop<A> {
 
     /// The same where it is known that the directive is not refused, and its memory was taken by `reserve`.
     pub fn directive_reserved(&mut self, directive: &Directive) -> Output<A>
-        requires taken { IsOk (directed self.old.machine directive.now) }
-        requires ready { self.old.ready ≡ true }
-        ensures answers { Answers (directed self.old.machine directive.now) self.old.machine self.new.machine (Ok result) }
-        ensures fop { IsFop self.new.machine }
+        requires { MayAnswer (directed self.old.machine directive.now) self.old }
+        ensures { Responds (directed self.old.machine directive.now) self.old self.new (Ok result) }
     {
-        let mut out = self.take_spare();
-        self.variables.carry_out(directive, &mut out);
-        Output::of(out)
+        let blank = self.take_spare();
+        Output::of(self.variables.carry_out(directive, blank))
     }
 
     /// A control word, or `None` for one that is not valid. `Memory` changes nothing.
@@ -216,12 +204,10 @@ impl<A: Allocator + Copy + Drop> Fop<A> {
     /// The same where its memory was taken by `reserve`.
     pub fn clcw_reserved(&mut self, word: Option<Clcw>) -> Output<A>
         requires ready { self.old.ready ≡ true }
-        ensures answers { Answers (reported self.old.machine word) self.old.machine self.new.machine (Ok result) }
-        ensures fop { IsFop self.new.machine }
+        ensures { Responds (reported self.old.machine word) self.old self.new (Ok result) }
     {
-        let mut out = self.take_spare();
-        self.variables.clcw(word, &mut out);
-        Output::of(out)
+        let blank = self.take_spare();
+        Output::of(self.variables.clcw(word, blank))
     }
 
     /// One tick of the timer. `Memory` changes nothing.
@@ -235,12 +221,10 @@ impl<A: Allocator + Copy + Drop> Fop<A> {
     /// The same where its memory was taken by `reserve`.
     pub fn tick_reserved(&mut self) -> Output<A>
         requires ready { self.old.ready ≡ true }
-        ensures answers { Answers (ticked self.old.machine) self.old.machine self.new.machine (Ok result) }
-        ensures fop { IsFop self.new.machine }
+        ensures { Responds (ticked self.old.machine) self.old self.new (Ok result) }
     {
-        let mut out = self.take_spare();
-        self.variables.tick(&mut out);
-        Output::of(out)
+        let blank = self.take_spare();
+        Output::of(self.variables.tick(blank))
     }
 
     /// What a status line prints. It takes no memory.

@@ -3,7 +3,7 @@ ghost use Rattle.std.specs.Prelude.{◌≡◌, ◌≤◌, ◌<◌, Bool, Option,
 ghost use Rattle.tc_farm.specs.declared.clcws.Clcw.{Clcw};
 ghost use Rattle.tc_farm.specs.Farm.{distance};
 ghost use Rattle.tc_fop.specs.declared.signals.FopState.TheVariants.{InitialisingWithoutBc, InitialisingWithBc, Initial};
-ghost use Rattle.tc_fop.specs.declared.rows.Row.{Row};
+ghost use Rattle.tc_fop.specs.declared.fop_rows.FopRow.{FopRow};
 ghost use Rattle.tc_fop.specs.Machine.{Machine, Waiting, Out, Wait, after, change};
 ghost use Rattle.tc_fop.specs.Rows.{Seen, When, row_seen};
 ghost use Rattle.tc_fop.specs.Laws.{AtWords, AtTicks, AtOffers, AtDirectives};
@@ -11,7 +11,7 @@ ghost use Rattle.tc_fop.specs.Requests.{KeepsRequests, KeepsOrder, KeepsWindow, 
 ghost use Rattle.tc_fop.specs.Calls.{offered, directed, reported, ticked, Answers};
 ghost use Rattle.tc_fop.specs.Width.{AllLeaveK, k_after};
 ghost use Rattle.tc_fop.specs.Moves.{MovesIn, Initiates, is_initiation};
-ghost use Rattle.tc_types.specs.declared.directives.Directive.{Directive};
+ghost use Rattle.tc_types.specs.declared.link.directives.Directive.{Directive};
 ghost use Rattle.tc_fop.specs.Standing.{IsFop, is_starting};
 ghost use Rattle.std.specs.List.{list_all};
 ghost use Rattle.tc_fop.specs.Cells.{cell};
@@ -22,7 +22,7 @@ ghost use Rattle.tc_fop.specs.Fair.{IsHeardFairly, alerts_in, is_retransmitting,
 /// The row that is chosen applies, and no other row does.
 pub fn one_row_applies()
     ensures chosen { (s : Seen) → 1 ≤ s.limit → When (row_seen s) s }
-    ensures only { (s : Seen) (row : Row) → 1 ≤ s.count → When row s → row ≡ row_seen s }
+    ensures only { (s : Seen) (row : FopRow) → 1 ≤ s.count → When row s → row ≡ row_seen s }
 {}
 
 /// No request is lost between the queues, and none leaves them twice: an alert gives each back once.

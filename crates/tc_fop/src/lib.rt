@@ -3,13 +3,17 @@
 
 mod control_words;
 mod directing;
-pub mod fops;
+mod fop_rows;
+mod fops;
 pub mod laws;
-pub mod outputs;
-pub mod queues;
-pub mod rows;
+mod outputs;
+mod queues;
 pub mod signals;
 mod slots;
 mod ticks;
 mod variables;
-pub mod views;
+mod views;
+
+pub use fops::Fop;
+pub use outputs::{MOST_FRAMES, MOST_INDICATIONS_A_CALL, Output};
+pub use views::FopView;

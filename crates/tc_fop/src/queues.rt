@@ -2,13 +2,11 @@
 ghost use Rattle.std.specs.Prelude.{◌≡◌, ◌+◌, ◌<◌, ◌≤◌, [], length, map, take, drop};
 ghost use Rattle.tc_fop.specs.Machine.{joined};
 
-use crate::outputs::Draft;
+use crate::outputs::OutputDraft;
 use crate::signals::Indication;
 use crate::slots::SentSlots;
 use std::alloc::Allocator;
-use tc_types::frames::Frame;
-use tc_types::numbers::RequestNumber;
-use tc_types::telecommands::Payload;
+use tc_types::{Frame, Payload, RequestNumber};
 
 /// A request that waits for its first transmission.
 #[derive(Clone, Copy, Debug, PartialEq, Eq)]
@@ -34,7 +32,7 @@ pub struct Outstanding {
 pub(crate) fn confirm_front<A: Allocator + Copy + Drop>(
     sent: &mut SentSlots<A>,
     count: u8,
-    out: &mut Draft<A>,
+    out: &mut OutputDraft<A>,
 )
     requires there { count ≤ length sent.old }
     requires room { length out.old.indications + count ≤ 257 }
@@ -50,7 +48,7 @@ pub(crate) fn confirm_front<A: Allocator + Copy + Drop>(
 }
 
 /// Sends the frame of each request again, from the front, under the number that it had.
-pub(crate) fn send_again<A: Allocator + Copy + Drop>(sent: &SentSlots<A>, out: &mut Draft<A>)
+pub(crate) fn send_again<A: Allocator + Copy + Drop>(sent: &SentSlots<A>, out: &mut OutputDraft<A>)
     requires room { length out.old.frames + length sent.now ≤ 256 }
     ensures out { out.new ≡ joined out.old (record { frames = map (λ held. Frame.Ad held.ns held.request held.body) sent.now; indications = [] }) }
 {
@@ -67,7 +65,7 @@ pub(crate) fn send_again<A: Allocator + Copy + Drop>(sent: &SentSlots<A>, out: &
 }
 
 /// Indicates of each request, from the front, that it is in doubt.
-pub(crate) fn doubt_all<A: Allocator + Copy + Drop>(sent: &SentSlots<A>, out: &mut Draft<A>)
+pub(crate) fn doubt_all<A: Allocator + Copy + Drop>(sent: &SentSlots<A>, out: &mut OutputDraft<A>)
     requires room { length out.old.indications + length sent.now ≤ 257 }
     ensures out { out.new ≡ joined out.old (record { frames = []; indications = map (λ held. Indication.InDoubt held.request) sent.now }) }
 {

@@ -1,5 +1,5 @@
 //! The states of the FOP, and its indications.
-use tc_types::numbers::RequestNumber;
+use tc_types::RequestNumber;
 
 /// The states of FOP-1 (CCSDS 232.1-B, 5.1.2).
 #[derive(Clone, Copy, Debug, PartialEq, Eq)]

@@ -1,11 +1,10 @@
 //! The Sent_Queue: a slot for each number that a frame may have.
-ghost use Rattle.std.specs.Prelude.{◌≡◌, ◌+◌, ◌%◌, ◌<◌, ◌↔◌, [], ◌∷◌, ◌++◌, length, drop, slice_get, Some, IfOk, IfErr, IsTrue};
+ghost use Rattle.std.specs.Prelude.{◌≡◌, ◌+◌, ◌%◌, ◌<◌, ◌↔◌, [], ◌∷◌, ◌++◌, length, drop, slice_get, Some, IfOk, IsTrue};
 ghost use Rattle.tc_fop.specs.declared.queues.Outstanding.{Outstanding};
 
 use crate::queues::{Offer, Outstanding};
-use std::alloc::Allocator;
+use std::alloc::{AllocError, Allocator};
 use std::marker::Model;
-use tc_types::refusals::Refusal;
 
 /// How many numbers there are.
 const SLOTS: usize = 256;
@@ -32,14 +31,11 @@ impl<A: Allocator + Copy + Drop> Model for SentSlots<A> {
 }
 
 impl<A: Allocator + Copy + Drop> SentSlots<A> {
-    /// No request in any slot. `Memory` where the memory of the slots is refused.
-    pub(crate) fn new(alloc: A) -> Result<Self, Refusal>
-        ensures ok { IfOk result (λ sent. sent ≡ []) }
-        ensures err { IfErr result (λ e. e ≡ Refusal.Memory) }
+    /// No request in any slot.
+    pub(crate) fn new(alloc: A) -> Result<Self, AllocError>
+        ensures { IfOk result (λ sent. sent ≡ []) }
     {
-        let Ok(mut slots) = Vec::with_capacity(alloc, SLOTS) else {
-            return Err(Refusal::Memory);
-        };
+        let mut slots = Vec::with_capacity(alloc, SLOTS)?;
         for _ in 0..SLOTS {
             slots.push_reserved(None);
         }

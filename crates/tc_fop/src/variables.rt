@@ -1,6 +1,6 @@
 //! The variables of FOP-1 (CCSDS 232.1-B, 5.1) and the actions on them. A method knows what stands between calls once it
 //! has read a field; some read one for that alone.
-ghost use Rattle.std.specs.Prelude.{◌≡◌, ◌+◌, ◌<◌, ◌≤◌, ◌==◌, nat_lt, [], ◌∷◌, length, map, option_map, true, false, None, Some, IfOk, IfErr, is_some, IsOk, IsTrue, ◌↔◌, if◌then◌else◌};
+ghost use Rattle.std.specs.Prelude.{◌≡◌, ◌+◌, ◌<◌, ◌≤◌, ◌==◌, nat_lt, [], ◌∷◌, length, map, option_map, true, false, None, Some, IfOk, is_some, IsOk, IsTrue, ◌↔◌, if◌then◌else◌};
 ghost use Rattle.std.specs.List.{list_any};
 ghost use Rattle.tc_fop.specs.Machine.{Machine, CancelTimer, InitiateRetransmission, Resend, Transmit, Remove, Alert, StartTimer, LowerTimer, CountOne, SendControl, DropControl, Begin, To, Wait, Initiate, SetVsAlone, SetVsAndNn, SetKTo, SetT1To, SetLimitTo, joined, nothing, is_window_open, change, said, transmitted, transmits};
 ghost use Rattle.tc_fop.specs.Rows.{row_of};
@@ -9,20 +9,18 @@ ghost use Rattle.tc_fop.specs.Cells.{look};
 ghost use Rattle.tc_fop.specs.Standing.{IsFop, is_starting, has_control};
 ghost use Rattle.tc_fop.specs.Queued.{held_of, waiting_of};
 ghost use Rattle.tc_fop.specs.Requests.{waiting_requests};
-ghost use Rattle.tc_fop.specs.Views.{Becomes, Carried, Fits, view_of};
+ghost use Rattle.tc_fop.specs.Views.{Acts, Becomes, Carried, Fits, HasRoom, MayRemove, view_of};
 
-use crate::outputs::Draft;
+use crate::fop_rows::FopRow;
+use crate::outputs::OutputDraft;
 use crate::queues::{Offer, Outstanding, confirm_front, doubt_all, send_again};
-use crate::rows::Row;
 use crate::signals::{AlertKind, FopState, Indication};
 use crate::slots::SentSlots;
 use crate::views::FopView;
-use std::alloc::Allocator;
+use std::alloc::{AllocError, Allocator};
 use std::marker::Model;
-use tc_farm::clcws::Clcw;
-use tc_types::frames::Frame;
-use tc_types::numbers::RequestNumber;
-use tc_types::refusals::Refusal;
+use tc_farm::Clcw;
+use tc_types::{Frame, RequestNumber};
 
 /// The variables of FOP-1. A contract sees the machine that they are. The memory of the Sent_Queue is taken by `new`.
 #[derive(Drop)]
@@ -73,14 +71,13 @@ impl<A: Allocator + Copy + Drop> Model for Variables<A> {
 }
 
 impl<A: Allocator + Copy + Drop> Variables<A> {
-    /// S6 with these settings. `Memory` where the room of the Sent_Queue is refused.
-    pub(crate) fn new(alloc: A, k: u8, t1: u16, limit: u8) -> Result<Self, Refusal>
+    /// S6 with these settings. It takes the room of the Sent_Queue.
+    pub(crate) fn new(alloc: A, k: u8, t1: u16, limit: u8) -> Result<Self, AllocError>
         requires k { 0 < k }
         requires t1 { 0 < t1 }
         requires limit { 0 < limit }
         ensures ok { IfOk result (λ v. v ≡ new_machine k t1 limit) }
         ensures fop { IfOk result (λ v. IsFop v) }
-        ensures err { IfErr result (λ e. e ≡ Refusal.Memory) }
     {
         let sent = SentSlots::new(alloc)?;
         Ok(Variables {
@@ -164,35 +161,35 @@ impl<A: Allocator + Copy + Drop> Variables<A> {
     }
 
     /// The row of a control word.
-    pub(crate) fn row(&self, word: Option<Clcw>) -> Row
+    pub(crate) fn row(&self, word: Option<Clcw>) -> FopRow
         ensures row { result ≡ row_of self.now word }
         ensures fits { is_taking self.now.state ≡ true → Fits result self.now }
     {
         let nn = self.nn; // read here: both returns that follow need what stands between calls
         let Some(word) = word else {
-            return Row::P16;
+            return FopRow::P16;
         };
         if word.lockout {
-            return Row::P15;
+            return FopRow::P15;
         }
         let acknowledged = word.report.wrapping_sub(nn);
         let out = self.vs.wrapping_sub(nn);
         if acknowledged > out {
-            Row::P14
+            FopRow::P14
         } else if acknowledged == out {
             match (word.retransmit, word.wait) {
-                (true, _) => Row::P4,
-                (false, true) => Row::P3,
-                (false, false) if acknowledged == 0 => Row::P1,
-                (false, false) => Row::P2(acknowledged),
+                (true, _) => FopRow::P4,
+                (false, true) => FopRow::P3,
+                (false, false) if acknowledged == 0 => FopRow::P1,
+                (false, false) => FopRow::P2(acknowledged),
             }
         } else if !word.retransmit {
             if word.wait {
-                Row::P7
+                FopRow::P7
             } else if acknowledged == 0 {
-                Row::P5
+                FopRow::P5
             } else {
-                Row::P6(acknowledged)
+                FopRow::P6(acknowledged)
             }
         } else {
             self.row_of_missing(word.wait, acknowledged)
@@ -200,23 +197,23 @@ impl<A: Allocator + Copy + Drop> Variables<A> {
     }
 
     /// The row where a frame is missing.
-    fn row_of_missing(&self, wait: bool, acknowledged: u8) -> Row
-        ensures { result ≡ (if self.now.limit == 1 then Row.P8 acknowledged else if nat_lt 0 acknowledged then (if wait then Row.P10 acknowledged else Row.P9 acknowledged) else if wait then Row.P12 else if nat_lt self.now.count self.now.limit then Row.P11 else Row.P13) }
+    fn row_of_missing(&self, wait: bool, acknowledged: u8) -> FopRow
+        ensures { result ≡ (if self.now.limit == 1 then FopRow.P8 acknowledged else if nat_lt 0 acknowledged then (if wait then FopRow.P10 acknowledged else FopRow.P9 acknowledged) else if wait then FopRow.P12 else if nat_lt self.now.count self.now.limit then FopRow.P11 else FopRow.P13) }
     {
         if self.limit == 1 {
-            Row::P8(acknowledged)
+            FopRow::P8(acknowledged)
         } else if acknowledged > 0 {
             if wait {
-                Row::P10(acknowledged)
+                FopRow::P10(acknowledged)
             } else {
-                Row::P9(acknowledged)
+                FopRow::P9(acknowledged)
             }
         } else if wait {
-            Row::P12
+            FopRow::P12
         } else if self.count < self.limit {
-            Row::P11
+            FopRow::P11
         } else {
-            Row::P13
+            FopRow::P13
         }
     }
 
@@ -246,12 +243,10 @@ impl<A: Allocator + Copy + Drop> Variables<A> {
 
     /// The acknowledged requests leave the front of the Sent_Queue.
     #[tactic(auto, using(crate::proofs::QueueLemmas::queues))]
-    pub(crate) fn remove(&mut self, acknowledged: u8, out: &mut Draft<A>)
-        requires taking { is_taking self.old.state ≡ true }
-        requires there { acknowledged ≤ length self.old.sent }
+    pub(crate) fn remove(&mut self, acknowledged: u8, out: &mut OutputDraft<A>)
+        requires there { MayRemove acknowledged self.old }
         requires room { length out.old.indications + acknowledged ≤ 257 }
-        ensures machine { Becomes (Remove acknowledged ∷ []) self.old self.new }
-        ensures out { out.new ≡ joined out.old (said (Remove acknowledged) self.old) }
+        ensures { Acts (Remove acknowledged ∷ []) (said (Remove acknowledged) self.old) self.old self.new out.old out.new }
     {
         confirm_front(&mut self.sent, acknowledged, out);
         self.nn = self.nn.wrapping_add(acknowledged);
@@ -260,12 +255,11 @@ impl<A: Allocator + Copy + Drop> Variables<A> {
 
     /// Sends all that is out again, counts it, and starts the timer.
     #[tactic(auto, using(crate::proofs::QueueLemmas::queues))]
-    pub(crate) fn retransmit(&mut self, out: &mut Draft<A>)
+    pub(crate) fn retransmit(&mut self, out: &mut OutputDraft<A>)
         requires taking { is_taking self.old.state ≡ true }
         requires counted { self.old.count < 255 }
         requires room { length out.old.frames + length self.old.sent ≤ 256 }
-        ensures machine { Becomes (InitiateRetransmission ∷ Resend ∷ []) self.old self.new }
-        ensures out { out.new ≡ joined out.old (said Resend (change InitiateRetransmission self.old)) }
+        ensures acts { Acts (InitiateRetransmission ∷ Resend ∷ []) (said Resend (change InitiateRetransmission self.old)) self.old self.new out.old out.new }
         ensures frames { length out.new.frames ≡ length out.old.frames + length self.old.sent }
     {
         send_again(&self.sent, out);
@@ -275,11 +269,10 @@ impl<A: Allocator + Copy + Drop> Variables<A> {
 
     /// The first transmission of a request, under the next number.
     #[tactic(auto, using(crate::proofs::QueueLemmas::queues))]
-    fn send_first(&mut self, offer: &Offer, out: &mut Draft<A>)
+    fn send_first(&mut self, offer: &Offer, out: &mut OutputDraft<A>)
         requires taking { is_taking self.old.state ≡ true }
         requires few { length self.old.sent < 255 }
-        requires frame { length out.old.frames < 256 }
-        requires indication { length out.old.indications < 257 }
+        requires room { HasRoom out.old }
         ensures machine { self.new ≡ transmitted (Some (waiting_of offer.now)) self.old }
         ensures fop { IsFop self.new }
         ensures out { out.new ≡ joined out.old (transmits (Some (waiting_of offer.now)) self.old.vs) }
@@ -305,11 +298,9 @@ impl<A: Allocator + Copy + Drop> Variables<A> {
     }
 
     /// Transmits the waiting request, if there is one and the window is open.
-    pub(crate) fn transmit(&mut self, out: &mut Draft<A>)
-        requires frame { length out.old.frames < 256 }
-        requires indication { length out.old.indications < 257 }
-        ensures machine { Becomes (Transmit ∷ []) self.old self.new }
-        ensures out { out.new ≡ joined out.old (said Transmit self.old) }
+    pub(crate) fn transmit(&mut self, out: &mut OutputDraft<A>)
+        requires { HasRoom out.old }
+        ensures { Acts (Transmit ∷ []) (said Transmit self.old) self.old self.new out.old out.new }
     {
         let outstanding = self.vs.wrapping_sub(self.nn);
         if outstanding < self.k {
@@ -321,11 +312,9 @@ impl<A: Allocator + Copy + Drop> Variables<A> {
 
     /// Transmits where nothing is to be sent again.
     #[tactic(auto, using(crate::proofs::QueueLemmas::queues))]
-    pub(crate) fn look(&mut self, out: &mut Draft<A>)
-        requires frame { length out.old.frames < 256 }
-        requires indication { length out.old.indications < 257 }
-        ensures machine { Becomes look self.old self.new }
-        ensures out { out.new ≡ joined out.old (said Transmit self.old) }
+    pub(crate) fn look(&mut self, out: &mut OutputDraft<A>)
+        requires { HasRoom out.old }
+        ensures { Acts look (said Transmit self.old) self.old self.new out.old out.new }
     {
         let _ns = self.vs; // read for what it tells the prover alone
         self.transmit(out);
@@ -333,7 +322,7 @@ impl<A: Allocator + Copy + Drop> Variables<A> {
 
     /// The service stops: both queues are given back, and the timer and a BC copy go.
     #[tactic(auto, using(crate::proofs::QueueLemmas::queues))]
-    pub(crate) fn alert(&mut self, kind: AlertKind, out: &mut Draft<A>)
+    pub(crate) fn alert(&mut self, kind: AlertKind, out: &mut OutputDraft<A>)
         requires room { length out.old.indications + length self.old.sent ≤ 255 }
         ensures machine { Becomes (Alert kind ∷ []) self.old self.new }
         ensures out { out.new ≡ joined out.old (said (Alert kind) self.old) }
@@ -350,11 +339,10 @@ impl<A: Allocator + Copy + Drop> Variables<A> {
     }
 
     /// The service begins after the check or a BC frame.
-    pub(crate) fn begin(&mut self, out: &mut Draft<A>)
+    pub(crate) fn begin(&mut self, out: &mut OutputDraft<A>)
         requires starting { is_starting self.old.state ≡ true }
         requires room { length out.old.indications < 257 }
-        ensures machine { Becomes (CancelTimer ∷ DropControl ∷ To FopState.Active ∷ Begin ∷ []) self.old self.new }
-        ensures out { out.new ≡ joined out.old (said Begin self.old) }
+        ensures { Acts (CancelTimer ∷ DropControl ∷ To FopState.Active ∷ Begin ∷ []) (said Begin self.old) self.old self.new out.old out.new }
     {
         self.timer = 0;
         self.control = None;
@@ -363,12 +351,11 @@ impl<A: Allocator + Copy + Drop> Variables<A> {
     }
 
     /// Sends the BC frame again, counts it, and starts the timer.
-    pub(crate) fn repeat_control(&mut self, out: &mut Draft<A>)
+    pub(crate) fn repeat_control(&mut self, out: &mut OutputDraft<A>)
         requires state { has_control self.old.state ≡ true }
         requires counted { self.old.count < 255 }
         requires room { length out.old.frames < 256 }
-        ensures machine { Becomes (SendControl ∷ CountOne ∷ StartTimer ∷ []) self.old self.new }
-        ensures out { out.new ≡ joined out.old (said SendControl self.old) }
+        ensures { Acts (SendControl ∷ CountOne ∷ StartTimer ∷ []) (said SendControl self.old) self.old self.new out.old out.new }
     {
         let Some(frame) = self.control else {
             unreachable!() // in S5 the copy of the BC frame is there
@@ -391,19 +378,17 @@ impl<A: Allocator + Copy + Drop> Variables<A> {
     pub(crate) fn accept_only(&mut self, offer: Offer)
         requires taken { IsOk (offered self.old (waiting_of offer)) }
         requires closed { is_window_open self.old ≡ false }
-        ensures machine { Carried (offered self.old (waiting_of offer)) self.old self.new nothing }
-        ensures fop { IsFop self.new }
+        ensures { Carried (offered self.old (waiting_of offer)) self.old self.new nothing }
     {
         let _state = self.state(); // read for what it tells the prover alone
         self.accept(offer);
     }
 
     /// The service begins with no check.
-    pub(crate) fn begin_at_once(&mut self, out: &mut Draft<A>)
+    pub(crate) fn begin_at_once(&mut self, out: &mut OutputDraft<A>)
         requires initial { is_initial self.old.state ≡ true }
         requires room { length out.old.indications < 257 }
-        ensures machine { Becomes (Initiate None ∷ To FopState.Active ∷ Begin ∷ []) self.old self.new }
-        ensures out { out.new ≡ joined out.old (said Begin self.old) }
+        ensures { Acts (Initiate None ∷ To FopState.Active ∷ Begin ∷ []) (said Begin self.old) self.old self.new out.old out.new }
     {
         self.count = 1;
         self.nn = self.vs;
@@ -423,11 +408,10 @@ impl<A: Allocator + Copy + Drop> Variables<A> {
     }
 
     /// Sends a BC frame, and waits for its acknowledgement before the service begins.
-    pub(crate) fn command(&mut self, frame: &Frame, out: &mut Draft<A>)
+    pub(crate) fn command(&mut self, frame: &Frame, out: &mut OutputDraft<A>)
         requires initial { is_initial self.old.state ≡ true }
         requires room { length out.old.frames < 256 }
-        ensures machine { Becomes (Initiate (Some frame.now) ∷ SendControl ∷ StartTimer ∷ To FopState.InitialisingWithBc ∷ []) self.old self.new }
-        ensures out { out.new ≡ joined out.old (record { frames = frame.now ∷ []; indications = [] }) }
+        ensures { Acts (Initiate (Some frame.now) ∷ SendControl ∷ StartTimer ∷ To FopState.InitialisingWithBc ∷ []) (record { frames = frame.now ∷ []; indications = [] }) self.old self.new out.old out.new }
     {
         self.count = 1;
         self.nn = self.vs;

@@ -5,19 +5,19 @@ use Rattle.std.specs.Str.Parse.{AllDigits, digits_value, digits_value_after}
 use Rattle.httparse.specs.declared.spans.HeaderSpan.{HeaderSpan}
 use Rattle.httparse.specs.Spans.{IsHeaderWithin, header_bytes}
 use Rattle.tc_front.specs.Fields.{values, found_of, found_view, several}
-use Rattle.tc_front.specs.declared.fields.Found.{Found}
-use Rattle.tc_front.specs.declared.fields.Found.TheVariants.{Absent, One, Many}
+use Rattle.tc_front.specs.declared.fields.FieldValues.{FieldValues}
+use Rattle.tc_front.specs.declared.fields.FieldValues.TheVariants.{Absent, One, Many}
 use Rattle.tc_front.proofs.WordLemmas.{differ, agree}
 use Rattle.std.proofs.lemmas.List.Elements.{All-tail}
 use Rattle.std.proofs.lemmas.Str.{digit_value_digit}
 use Rattle.std.proofs.lemmas.Bool.{cases_lt}
 
-abbrev pub with_found : Found → List (List ℕ) → List (List ℕ)
+abbrev pub with_found : FieldValues → List (List ℕ) → List (List ℕ)
 with_found Absent rest = rest
 with_found (One value) rest = value.now ∷ rest
 with_found Many rest = rest
 
-abbrev pub IsFew : Found → Type 0
+abbrev pub IsFew : FieldValues → Type 0
 IsFew Absent = Unit {0}
 IsFew (One value) = Unit {0}
 IsFew Many = ⊥
@@ -44,13 +44,13 @@ pub behind : (head : List ℕ) (left rest : List HeaderSpan) (h : HeaderSpan) �
 behind head left rest h is all = All-tail (IsHeaderWithin (length head)) h rest (rw is at all)
 
 -- what was found before, and one more
-pub twice : (all now rest : List (List ℕ)) (value : List ℕ) (found : Found) → IsFew found → (found ≢ Absent) → all ≡ with_found found now → now ≡ value ∷ rest → found_of all ≡ several
+pub twice : (all now rest : List (List ℕ)) (value : List ℕ) (found : FieldValues) → IsFew found → (found ≢ Absent) → all ≡ with_found found now → now ≡ value ∷ rest → found_of all ≡ several
 twice all now rest value Absent few some is one = absurd (some refl)
 twice all now rest value (One v) few some is one = rw is (rw one refl)
 twice all now rest value Many few some is one = absurd few
 
 -- what was found, where no header is left
-pub found_all : (all now : List (List ℕ)) (found : Found) → IsFew found → all ≡ with_found found now → now ≡ [] → found_of all ≡ found_view found
+pub found_all : (all now : List (List ℕ)) (found : FieldValues) → IsFew found → all ≡ with_found found now → now ≡ [] → found_of all ≡ found_view found
 found_all all now Absent few is none = rw is (rw none refl)
 found_all all now (One v) few is none = rw is (rw none refl)
 found_all all now Many few is none = absurd few

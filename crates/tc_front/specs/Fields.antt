@@ -3,8 +3,8 @@ use Rattle.std.specs.Prelude.{◌≡◌, ℕ, ◌<◌, Bool, if◌then◌else◌
 use Rattle.std.specs.Char.{to_ascii_lowercase}
 use Rattle.std.specs.Str.Parse.{AllDigits}
 use Rattle.tc_routes.specs.Paths.{same}
-use Rattle.tc_front.specs.declared.fields.Found.{Found}
-use Rattle.tc_front.specs.declared.fields.Found.TheVariants as found
+use Rattle.tc_front.specs.declared.fields.FieldValues.{FieldValues}
+use Rattle.tc_front.specs.declared.fields.FieldValues.TheVariants as found
 
 -- the same letters, of either case
 abbrev pub same_name : List ℕ → List ℕ → Bool
@@ -28,7 +28,7 @@ found_of (value ∷ []) = single value
 found_of (value ∷ other ∷ more) = several
 
 -- what the code found, with the bytes of the value
-abbrev pub found_view : Found → Held
+abbrev pub found_view : FieldValues → Held
 found_view found.Absent = absent
 found_view (found.One value) = single value.now
 found_view found.Many = several

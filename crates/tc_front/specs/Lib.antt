@@ -5,3 +5,4 @@ pub mod Front
 pub mod Watch
 pub mod Read
 pub mod Write
+pub mod Lines

@@ -9,7 +9,7 @@ use httparse::spans::HeaderSpan;
 
 /// The values of the fields of one name.
 #[derive(Clone, Copy, Debug)]
-pub(crate) enum Found<'a> {
+pub(crate) enum FieldValues<'a> {
     /// There is no such field.
     Absent,
     /// There is one, and this is its value.
@@ -26,17 +26,17 @@ fn is_named(field: &[u8], name: &[u8]) -> bool
 }
 
 /// The values of the fields of a name. The white space around a value is no part of it (RFC 9112, section 5.1).
-pub(crate) fn find<'a>(head: &'a [u8], headers: &[HeaderSpan], name: &[u8]) -> Found<'a>
+pub(crate) fn find<'a>(head: &'a [u8], headers: &[HeaderSpan], name: &[u8]) -> FieldValues<'a>
     requires { All (IsHeaderWithin (length head.now)) headers.now }
     ensures { found_of (values name.now (map (header_bytes head.now) headers.now)) ≡ found_view result }
 {
-    let mut found = Found::Absent;
+    let mut found = FieldValues::Absent;
     let mut left = headers;
     while let Some((header, rest)) = left.split_first() {
         if is_named(header.name.of(head), name) {
             match found {
-                Found::Absent => found = Found::One(header.value.of(head)),
-                _ => return Found::Many,
+                FieldValues::Absent => found = FieldValues::One(header.value.of(head)),
+                _ => return FieldValues::Many,
             }
         }
         left = rest;

@@ -7,7 +7,7 @@ ghost use Rattle.tc_front.specs.Judge.{IsGoodHead, Judges, JudgesHead, unfit};
 use crate::judge::{Judgement, Refused, judge_parts};
 use httparse::Status;
 use httparse::spans::{EMPTY_HEADER_SPAN, HeaderSpan, RequestSpans, parse_request};
-use tc_routes::routes::Routes;
+use tc_routes::Routes;
 
 /// The most header lines of a head. It is this desk's own limit.
 const MOST_HEADERS: usize = 64;
@@ -25,9 +25,7 @@ fn good_head(text: &[u8], headers: &mut [HeaderSpan]) -> Option<RequestSpans>
 {
     match parse_request(text, headers) {
         Ok(Status::Complete(head)) if head.len == text.len() => Some(head),
-        Ok(Status::Complete(_)) => None,
-        Ok(Status::Partial) => None,
-        Err(_) => None,
+        _ => None,
     }
 }
 

@@ -6,13 +6,12 @@ ghost use Rattle.tc_front.specs.Fields.{found_view};
 ghost use Rattle.tc_routes.specs.Paths.{named_by, texts_of};
 ghost use Rattle.tc_front.specs.Judge.{JudgesBody, JudgesGet, JudgesParts, JudgesPost, JudgesQuestion, method_of};
 
-use crate::fields::{Found, body_length, find};
+use crate::fields::{FieldValues, body_length, find};
 use crate::questions::query_of;
 use httparse::spans::HeaderSpan;
-use tc_routes::paths::{Path, Post, Question};
-use tc_routes::routes::Routes;
-use tc_types::acts::Query;
-use tc_types::readers::is;
+use tc_routes::{Path, Post, Question, Routes};
+use tc_types::Query;
+use tc_types::read::readers::is;
 
 /// The largest body, in bytes. It is this desk's own limit.
 const LARGEST_BODY: usize = 65_536;
@@ -55,28 +54,28 @@ fn judge_question(question: Question<'_>) -> Judgement
 
 /// What a question asks, whose head has these lengths of a body: none, or one that is 0. That another is refused is this
 /// desk's own (RFC 9110, section 9.3.1: content of a GET has no meaning).
-fn judge_get(lengths: Found<'_>, question: Question<'_>) -> Judgement
+fn judge_get(lengths: FieldValues<'_>, question: Question<'_>) -> Judgement
     ensures { JudgesGet (found_view lengths.entry) (texts_of question.entry) result }
 {
     match lengths {
-        Found::Absent => judge_question(question),
-        Found::One(value) => {
+        FieldValues::Absent => judge_question(question),
+        FieldValues::One(value) => {
             if is(value, b"0") {
                 judge_question(question)
             } else {
                 Judgement::Refused(Refused::Bad)
             }
         }
-        Found::Many => Judgement::Refused(Refused::Bad),
+        FieldValues::Many => Judgement::Refused(Refused::Bad),
     }
 }
 
 /// What is posted, where the head has exactly one length of a body (RFC 9112, section 6.3).
-fn judge_post(lengths: Found<'_>, post: Post) -> Judgement
+fn judge_post(lengths: FieldValues<'_>, post: Post) -> Judgement
     ensures { JudgesPost (found_view lengths.entry) post result }
 {
     match lengths {
-        Found::One(value) => match body_length(value) {
+        FieldValues::One(value) => match body_length(value) {
             Some(size) if size > LARGEST_BODY => Judgement::Refused(Refused::Large),
             Some(size) => Judgement::Posts { post, size },
             None => Judgement::Refused(Refused::Bad),
@@ -86,7 +85,7 @@ fn judge_post(lengths: Found<'_>, post: Post) -> Judgement
 }
 
 /// What a path asks whose method fits, where no transfer coding is named.
-fn judge_body(lengths: Found<'_>, path: Path<'_>) -> Judgement
+fn judge_body(lengths: FieldValues<'_>, path: Path<'_>) -> Judgement
     ensures { JudgesBody (found_view lengths.entry) (named_by path.entry) result }
 {
     match path {
@@ -125,7 +124,7 @@ pub(crate) fn judge_parts(
         return Judgement::Refused(Refused::OtherMethod);
     }
     match find(head, headers, b"transfer-encoding") {
-        Found::Absent => {}
+        FieldValues::Absent => {}
         _ => return Judgement::Refused(Refused::Bad),
     }
     let lengths = find(head, headers, b"content-length");

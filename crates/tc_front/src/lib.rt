@@ -8,11 +8,18 @@
 
 mod ends;
 mod fields;
-pub mod front;
+mod front;
 mod heads;
-pub mod judge;
+mod judge;
 pub mod laws;
+mod lines;
 mod questions;
-pub mod read;
+mod read;
 mod watch;
-pub mod write;
+mod write;
+
+pub use front::{Decision, decide};
+pub use judge::Refused;
+pub use lines::length_line;
+pub use read::read_front;
+pub use write::{Unwritten, write_whole};

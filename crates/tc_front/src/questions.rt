@@ -2,9 +2,9 @@
 ghost use Rattle.tc_front.specs.Judge.{AsksFor, AsksHistory, AsksReport, AsksRequest};
 ghost use Rattle.tc_routes.specs.Paths.{texts_of};
 
-use tc_routes::paths::Question;
-use tc_types::acts::Query;
-use tc_types::readers::{moment, number};
+use tc_routes::Question;
+use tc_types::Query;
+use tc_types::read::readers::{moment, number};
 
 /// What a path asks: nothing where a number in it is not in form, or past its range.
 pub(crate) fn query_of(question: Question<'_>) -> Option<Query>

@@ -7,9 +7,10 @@ ghost use Rattle.tc_front.specs.Read.{CanGoOn, HasStopped, NoFront};
 
 use crate::watch::Watch;
 use std::alloc::AllocError;
+use std::io;
 use std::io::Read;
-use tc_routes::routes::Routes;
-use tc_types::counted::Counted;
+use tc_routes::Routes;
+use tc_types::{Counted, Refusal};
 
 /// How many times a reader is read at most. Each read gives a byte, and a text of so many decides: a head has 8,192 at most, and a
 /// body 65,536.
@@ -32,6 +33,31 @@ impl From<AllocError> for FrontFault {
 
     fn from(_error: AllocError) -> FrontFault {
         FrontFault::Memory
+    }
+}
+
+impl From<io::Error> for FrontFault {
+    ghost use Rattle.std.specs.Prelude.{◌≡◌};
+    ghost use Rattle.tc_front.specs.declared.read.FrontFault.TheVariants.{Unread};
+
+    ghost from_gives = { λ _ fault. fault ≡ Unread };
+
+    fn from(_error: io::Error) -> FrontFault {
+        FrontFault::Unread
+    }
+}
+
+impl From<FrontFault> for Refusal {
+    ghost use Rattle.std.specs.Prelude.{◌≡◌};
+    ghost use Rattle.tc_front.specs.Read.{refusal_of};
+
+    ghost from_gives = { λ fault refusal. refusal ≡ refusal_of fault };
+
+    fn from(fault: FrontFault) -> Refusal {
+        match fault {
+            FrontFault::Unread => Refusal::ReadFault,
+            FrontFault::Memory => Refusal::Memory,
+        }
     }
 }
 
@@ -65,9 +91,7 @@ pub fn read_front<R: Read>(
     let mut watch = Watch::new();
     'reads: loop {
         text.reserve(buffer.len())?;
-        let Ok(count) = reader.read(&mut buffer) else {
-            return Err(FrontFault::Unread);
-        };
+        let count = reader.read(&mut buffer)?;
         if count == 0 {
             return Err(FrontFault::Unread);
         }

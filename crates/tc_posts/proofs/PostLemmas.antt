@@ -6,10 +6,10 @@ use Rattle.std.specs.String.{string_bytes}
 use Rattle.tc_types.specs.Lines.{spaced}
 use Rattle.tc_types.specs.Words.{words}
 use Rattle.tc_posts.specs.Posting.{Posts, PostsWords, SendsMoment, sent, sent_act}
-use Rattle.tc_posts.specs.declared.posting.Post.{Post}
+use Rattle.tc_posts.specs.declared.posting.Posting.{Posting}
 
 -- what stands behind the second space is the third word and those behind it
-pub posts_parts : (line moment by act : List ℕ) (post : Post) → words 32 line ≡ moment ∷ by ∷ words 32 act
+pub posts_parts : (line moment by act : List ℕ) (post : Posting) → words 32 line ≡ moment ∷ by ∷ words 32 act
     → string_bytes post.act ≡ sent 201 act → string_bytes post.by ≡ sent 17 by → SendsMoment moment post.moment → Posts line post
 posts_parts line moment by act post parts has_act has_by has_moment =
     subst (λ ws. PostsWords ws line post) (sym parts)

@@ -2,7 +2,7 @@
 use Rattle.std.proofs.Common.{Bor, ◌≡◌, ◌∙◌, ◌+◌, ◌-◌, ℕ, List, [], ◌∷◌, Option, Some, None, Result, Ok, Err, ap, drop, length, refl, subst, sym, take}
 use Rattle.std.proofs.Math.Seq.{take-length}
 use Rattle.std.proofs.lemmas.List.{length-drop}
-use Rattle.std.specs.Prelude.{IfErr, IfNone, MatchResult}
+use Rattle.std.specs.Prelude.{IfErr, IfNone, IsErrAnd, MatchResult, ok_or}
 use Rattle.std.specs.Result.{result_ok}
 use Rattle.std.specs.Str.{IsUtf8}
 use Rattle.memchr.specs.Find.{FindsNeedle}
@@ -12,6 +12,22 @@ use Rattle.serde_json.specs.Read.{read}
 use Rattle.tc_posts.specs.declared.told.Untellable.{Untellable}
 use Rattle.tc_posts.specs.declared.told.Untellable.TheVariants.{NoResponse, Memory}
 use Rattle.tc_posts.specs.Told.{IsBody, IsTold, IsUnsaid, IsUntold, Says}
+
+-- what an `ok_or` found, and why it found nothing
+pub found_some : {X E : Type 0} (o : Option X) (r : Result X E) (x : X) → o ≡ result_ok r → r ≡ Ok x → o ≡ Some x
+found_some o r x ok is = ok ∙ ap result_ok is
+
+pub found_none : {X E : Type 0} (o : Option X) (r : Result X E) (e : E) → o ≡ result_ok r → r ≡ Err e → o ≡ None
+found_none o r e ok is = ok ∙ ap result_ok is
+
+pub found_why : {X E : Type 0} (o : Option X) (r : Result X E) (e given : E) → r ≡ ok_or o given → o ≡ None → r ≡ Err e → e ≡ given
+found_why {X} {E} o r e given value none is =
+    let same : (let left : Result X E = Err e in left) ≡ Err given = sym is ∙ (value ∙ ap (λ (found : Option X). ok_or found given) none) in cc
+
+-- the error that a `?` makes
+pub is_err : {X : Type 0} (result : Result X Untellable) (why : Untellable) → IsErrAnd result (λ out. out ≡ why) → result ≡ Err why
+is_err (Ok x) why h = absurd h
+is_err (Err out) why h = ap Err h
 
 abbrev empty_line : List ℕ
 empty_line = 13 ∷ 10 ∷ 13 ∷ 10 ∷ []

@@ -4,9 +4,10 @@ use Rattle.std.specs.Fmt.{decimal}
 use Rattle.std.specs.String.{string_bytes}
 use Rattle.serde_json.specs.Data.{Data, member, negative, no_members, null, number, object, string, unsigned}
 use Rattle.serde_json.specs.Written.{compact_text}
+pub use Rattle.tc_front.specs.Lines.{length_line, line_end}
 use Rattle.tc_types.specs.Lines.{spaced}
 use Rattle.tc_types.specs.Words.{words}
-use Rattle.tc_posts.specs.declared.posting.Post.{Post}
+use Rattle.tc_posts.specs.declared.posting.Posting.{Posting}
 use Rattle.tc_posts.specs.declared.posting.PostedMoment.{PostedMoment}
 use Rattle.tc_posts.specs.declared.posting.PostedMoment.TheVariants.{Nothing, Number, NoNumber}
 
@@ -35,12 +36,12 @@ SendsMoment text NoNumber = (n : ℕ) → n < 2 ^ 32 → ¬ (text ≡ decimal n)
 SendsMoment text Nothing = ⊥
 
 -- A line is MOMENT PERSON ACT, parted at its first two spaces. One with fewer spaces is posted as an act of nobody, at no moment.
-abbrev pub PostsWords : List (List ℕ) → List ℕ → Post → Type 0
+abbrev pub PostsWords : List (List ℕ) → List ℕ → Posting → Type 0
 PostsWords (moment ∷ by ∷ third ∷ others) line post =
     (string_bytes post.act ≡ sent_act (spaced (third ∷ others))) × (string_bytes post.by ≡ sent_name by) × SendsMoment moment post.moment
 PostsWords fewer line post = (string_bytes post.act ≡ sent_act line) × (string_bytes post.by ≡ []) × (post.moment ≡ Nothing)
 
-abbrev pub Posts : List ℕ → Post → Type 0
+abbrev pub Posts : List ℕ → Posting → Type 0
 Posts line post = PostsWords (words 32 line) line post
 
 -- ---- the bytes of a request
@@ -55,20 +56,12 @@ moment_data Nothing = null
 abbrev pub post_data : List ℕ → List ℕ → Data → Data
 post_data act by moment = object (member (codes "act") (string act) (member (codes "by") (string by) (member (codes "moment") moment no_members)))
 
-abbrev pub body_of : Post → List ℕ
+abbrev pub body_of : Posting → List ℕ
 body_of post = compact_text (post_data (string_bytes post.act) (string_bytes post.by) (moment_data post.moment))
-
--- CR LF
-abbrev pub line_end : List ℕ
-line_end = 13 ∷ 10 ∷ []
 
 -- the line of the host, which is this machine at a port
 abbrev pub host_line : ℕ → List ℕ
 host_line port = codes "Host: 127.0.0.1:" ++ decimal port
-
--- the line of the body's length
-abbrev pub length_line : ℕ → List ℕ
-length_line size = codes "Content-Length: " ++ decimal size
 
 -- the request line and three header lines, with an empty line behind them
 abbrev pub post_head : ℕ → ℕ → List ℕ
@@ -77,7 +70,7 @@ post_head port size =
     ++ length_line size ++ (line_end ++ line_end)
 
 -- the request that posts this, at this port
-abbrev pub post_bytes : ℕ → Post → List ℕ
+abbrev pub post_bytes : ℕ → Posting → List ℕ
 post_bytes port post = post_head port (length (body_of post)) ++ body_of post
 
 -- the request that asks for the places

@@ -3,13 +3,14 @@ ghost use Rattle.std.specs.Prelude.{◌≡◌, ◌++◌, ◌∷◌, [], IfOk, On
 ghost use Rattle.std.specs.String.{string_bytes};
 ghost use Rattle.serde_json.specs.View.{view};
 ghost use Rattle.serde_json.specs.Written.{compact_text};
-ghost use Rattle.tc_posts.specs.declared.posting.Post.{Post};
-ghost use Rattle.tc_posts.specs.Posting.{Posts, SendsMoment, ascii, body_of, host_line, length_line, moment_data, places_bytes, post_bytes, post_data, post_head, sent};
+ghost use Rattle.tc_posts.specs.declared.posting.Posting.{Posting};
+ghost use Rattle.tc_posts.specs.Posting.{Posts, SendsMoment, ascii, body_of, host_line, moment_data, places_bytes, post_bytes, post_data, post_head, sent};
 
 use serde_json::{Value, json};
 use std::alloc::{AllocError, Global};
-use tc_types::readers;
-use tc_types::words::cut;
+use tc_front::length_line;
+use tc_types::cut;
+use tc_types::read::readers;
 
 /// How many bytes of an act are sent at most: one more than an act may have.
 const MOST_ACT: usize = 201;
@@ -30,7 +31,7 @@ pub enum PostedMoment {
 
 /// What is posted of a line.
 #[derive(Drop)]
-pub struct Post {
+pub struct Posting {
     pub act: String,
     pub by: String,
     pub moment: PostedMoment,
@@ -70,10 +71,10 @@ fn posted_moment(text: &[u8]) -> PostedMoment
 }
 
 /// What is posted of a line that has fewer than two spaces.
-fn post_of_part(alloc: Global, line: &[u8]) -> Result<Post, AllocError>
+fn post_of_part(alloc: Global, line: &[u8]) -> Result<Posting, AllocError>
     ensures { IfOk result (λ post. (string_bytes post.act ≡ sent 201 line.now) × (string_bytes post.by ≡ []) × (post.moment ≡ PostedMoment.Nothing)) }
 {
-    Ok(Post {
+    Ok(Posting {
         act: sent(alloc, line, MOST_ACT)?,
         by: String::new(alloc),
         moment: PostedMoment::Nothing,
@@ -81,10 +82,10 @@ fn post_of_part(alloc: Global, line: &[u8]) -> Result<Post, AllocError>
 }
 
 /// What is posted of these parts of a line.
-fn post_of_parts(alloc: Global, moment: &[u8], by: &[u8], act: &[u8]) -> Result<Post, AllocError>
+fn post_of_parts(alloc: Global, moment: &[u8], by: &[u8], act: &[u8]) -> Result<Posting, AllocError>
     ensures { IfOk result (λ post. (string_bytes post.act ≡ sent 201 act.now) × (string_bytes post.by ≡ sent 17 by.now) × SendsMoment moment.now post.moment) }
 {
-    Ok(Post {
+    Ok(Posting {
         act: sent(alloc, act, MOST_ACT)?,
         by: sent(alloc, by, MOST_NAME)?,
         moment: posted_moment(moment),
@@ -92,7 +93,7 @@ fn post_of_parts(alloc: Global, moment: &[u8], by: &[u8], act: &[u8]) -> Result<
 }
 
 /// What is posted of a line.
-fn post_of(alloc: Global, line: &[u8]) -> Result<Post, AllocError>
+fn post_of(alloc: Global, line: &[u8]) -> Result<Posting, AllocError>
     ensures { IfOk result (Posts line.now) }
 {
     let (moment, rest) = cut(line, b' ');
@@ -125,7 +126,7 @@ fn post_value(alloc: Global, act: &str, by: &str, moment: Value) -> Result<Value
 }
 
 /// The body that posts this.
-fn body_of(alloc: Global, post: &Post) -> Result<String, AllocError>
+fn body_of(alloc: Global, post: &Posting) -> Result<String, AllocError>
     ensures { IfOk result (λ body. string_bytes body ≡ body_of post.now) }
 {
     post_value(
@@ -144,13 +145,6 @@ fn host_line(alloc: Global, port: u16) -> Result<String, AllocError>
     format!(in alloc; "Host: 127.0.0.1:{port}")
 }
 
-/// The line of the body's length, without its end.
-fn length_line(alloc: Global, size: usize) -> Result<String, AllocError>
-    ensures { IfOk result (λ line. string_bytes line ≡ length_line size) }
-{
-    format!(in alloc; "Content-Length: {size}")
-}
-
 /// The head of a request that posts a body of so many bytes.
 fn post_head(alloc: Global, port: u16, size: usize) -> Result<String, AllocError>
     ensures { IfOk result (λ head. string_bytes head ≡ post_head port size) }
@@ -164,7 +158,7 @@ fn post_head(alloc: Global, port: u16, size: usize) -> Result<String, AllocError
 }
 
 /// The request that posts this.
-fn request_of(alloc: Global, port: u16, post: &Post) -> Result<String, AllocError>
+fn request_of(alloc: Global, port: u16, post: &Posting) -> Result<String, AllocError>
     ensures { IfOk result (λ request. string_bytes request ≡ post_bytes port post.now) }
 {
     let body = body_of(alloc, post)?;
@@ -176,7 +170,7 @@ fn request_of(alloc: Global, port: u16, post: &Post) -> Result<String, AllocErro
 /// The request that posts a line of a script to a server of this machine at a port. Of an act no more than 201 bytes are sent and of a name
 /// no more than 17, so that one that is too long stays so. Fails where memory is refused.
 pub fn post_request(alloc: Global, port: u16, line: &[u8]) -> Result<String, AllocError>
-    ensures { IfOk result (λ request. (post : Post) × Posts line.now post × (string_bytes request ≡ post_bytes port post)) }
+    ensures { IfOk result (λ request. (post : Posting) × Posts line.now post × (string_bytes request ≡ post_bytes port post)) }
 {
     let post = post_of(alloc, line)?;
     request_of(alloc, port, &post)

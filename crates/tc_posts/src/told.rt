@@ -1,17 +1,16 @@
 //! What a response says (RFC 9112; RFC 8259).
-ghost use Rattle.std.specs.Prelude.{◌≡◌, ◌↔◌, ℕ, List, Some, None, Err, IfErr, IfNone, IfOk, IfSome, OnOk, drop, map, option_map};
+ghost use Rattle.std.specs.Prelude.{◌≡◌, ℕ, List, Err, IfErr, IfNone, IfOk, IfSome, map, option_map};
 ghost use Rattle.std.specs.Str.{IsUtf8};
 ghost use Rattle.std.specs.String.{string_bytes};
-ghost use Rattle.serde_json.specs.Errors.{IsMemory};
 ghost use Rattle.serde_json.specs.Read.{read};
 ghost use Rattle.serde_json.specs.View.{items_view, view};
-ghost use Rattle.tc_posts.specs.Told.{IsBody, IsTold, IsUnsaid, IsUntold, Says, Tells, lines_in, lines_text, refusal_in, text_of};
+ghost use Rattle.tc_posts.specs.Told.{IsBody, IsTold, IsUnsaid, IsUntold, Says, Tells, lines_in, lines_text, refusal_in};
 
 use bstr::ByteSlice;
 use serde_json::{Error, Value};
 use std::alloc::{AllocError, Global};
 use std::str;
-use tc_report::texts::add_line;
+use tc_report::add_line;
 
 /// What a response says.
 #[derive(Drop)]
@@ -29,6 +28,34 @@ pub enum Untellable {
     NoResponse,
     /// There was no memory to read it.
     Memory,
+}
+
+impl From<AllocError> for Untellable {
+    ghost use Rattle.std.specs.Prelude.{◌≡◌};
+    ghost use Rattle.tc_posts.specs.declared.told.Untellable.TheVariants.{Memory};
+
+    ghost from_gives = { λ _ why. why ≡ Memory };
+
+    fn from(_error: AllocError) -> Untellable {
+        Untellable::Memory
+    }
+}
+
+impl From<Error> for Untellable {
+    ghost use Rattle.std.specs.Prelude.{◌≡◌, ◌↔◌};
+    ghost use Rattle.serde_json.specs.Errors.{IsMemory};
+    ghost use Rattle.tc_posts.specs.declared.told.Untellable.TheVariants.{Memory};
+
+    ghost from_gives = { λ error why. (why ≡ Memory) ↔ IsMemory error };
+
+    /// A body that was not read as JSON says nothing, or found no memory.
+    fn from(error: Error) -> Untellable {
+        if error.is_memory() {
+            Untellable::Memory
+        } else {
+            Untellable::NoResponse
+        }
+    }
 }
 
 /// The body of a response, where it is a text.
@@ -70,27 +97,10 @@ fn told_by(alloc: Global, value: &Value) -> Result<Told, Untellable>
     ensures told { IfOk result (λ told. IsTold (view value.now) (string_bytes told.text) told.refusal) }
     ensures untold { IfErr result (IsUnsaid (view value.now)) }
 {
-    let Some(refusal) = refusal_in(value) else {
-        return Err(Untellable::NoResponse);
-    };
-    match lines_in(value) {
-        Some(lines) => match lines_text(alloc, lines) {
-            Ok(text) => Ok(Told { text, refusal }),
-            Err(_) => Err(Untellable::Memory),
-        },
-        None => Err(Untellable::NoResponse),
-    }
-}
-
-/// Why a body says nothing that was not read as JSON.
-fn why_unread(error: &Error) -> Untellable
-    ensures { (result ≡ Untellable.Memory) ↔ IsMemory error.now }
-{
-    if error.is_memory() {
-        Untellable::Memory
-    } else {
-        Untellable::NoResponse
-    }
+    let refusal = refusal_in(value).ok_or(Untellable::NoResponse)?;
+    let lines = lines_in(value).ok_or(Untellable::NoResponse)?;
+    let text = lines_text(alloc, lines)?;
+    Ok(Told { text, refusal })
 }
 
 /// What a body says.
@@ -98,10 +108,8 @@ fn told_in(alloc: Global, body: &str) -> Result<Told, Untellable>
     ensures told { IfOk result (λ told. Says body.now (string_bytes told.text) told.refusal) }
     ensures untold { result ≡ Err Untellable.NoResponse → (text : List ℕ) (refusal : ℕ) → ¬ (Says body.now text refusal) }
 {
-    match Value::from_str(alloc, body) {
-        Ok(value) => told_by(alloc, &value),
-        Err(error) => Err(why_unread(&error)),
-    }
+    let value = Value::from_str(alloc, body)?;
+    told_by(alloc, &value)
 }
 
 /// What the response of a desk says: the lines of a reply, and what it is refused with.
@@ -113,8 +121,6 @@ pub fn read_told(alloc: Global, response: &[u8]) -> Result<Told, Untellable>
     ensures told { IfOk result (λ told. Tells response.now (string_bytes told.text) told.refusal) }
     ensures untold { IfErr result (IsUntold response.now) }
 {
-    match body_of(response) {
-        Some(body) => told_in(alloc, body),
-        None => Err(Untellable::NoResponse),
-    }
+    let body = body_of(response).ok_or(Untellable::NoResponse)?;
+    told_in(alloc, body)
 }

@@ -3,3 +3,4 @@ pub mod Procedures
 pub mod Logs
 pub mod GoodLogs
 pub mod KeptLogs
+pub mod Faults

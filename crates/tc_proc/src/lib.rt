@@ -1,11 +1,18 @@
 //! Procedures, read from texts of comma-separated values, what is recorded of the steps of an execution, and the log of all of it.
 #![tactic(auto)]
 
-pub mod executions;
-pub mod logs;
-pub mod procedures;
-pub mod readers;
-pub mod records;
+mod executions;
+mod faults;
+mod logs;
+mod procedures;
+mod readers;
+mod records;
 mod reopening;
 mod states;
 mod steps;
+
+pub use executions::Execution;
+pub use faults::ReopenFault;
+pub use logs::ProcedureLog;
+pub use procedures::{Procedure, Step};
+pub use readers::{read_procedure, why_no_procedure};

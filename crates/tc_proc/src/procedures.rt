@@ -3,7 +3,7 @@ ghost use Rattle.std.specs.Prelude.{◌≡◌};
 ghost use Rattle.tc_proc.specs.Procedures.{IsProcedure};
 
 use std::marker::Model;
-use tc_types::step_texts::StepText;
+use tc_types::StepText;
 
 /// The most steps that a procedure has.
 pub const MOST_STEPS: u16 = 100;

@@ -13,14 +13,10 @@ ghost use Rattle.tc_proc.specs.Procedures.{IsStep, AreSteps, step_record, step_r
 
 use crate::procedures::{MOST_STEPS, Procedure, Step};
 use csv::ByteRecord;
-use std::alloc::Global;
-use tc_csv::columns::Column;
-use tc_csv::faults::{Fault, NotRead, Rule};
-use tc_csv::fields::{field, optional_number};
-use tc_csv::tables::read_table;
-use tc_types::readers::{number, yes_or_no};
-use tc_types::refusals::Refusal;
-use tc_types::step_texts::StepText;
+use std::alloc::{AllocError, Global};
+use tc_csv::{Column, Fault, NotRead, Rule, field, optional_number, read_table};
+use tc_types::read::readers::{number, yes_or_no};
+use tc_types::{Refusal, StepText};
 
 /// The columns of the text of a procedure.
 const COLUMNS: [Column; 4] = [Column::Step, Column::Text, Column::Second, Column::Request];
@@ -29,10 +25,7 @@ const COLUMNS: [Column; 4] = [Column::Step, Column::Text, Column::Second, Column
 fn text_of(row: u32, field: &[u8]) -> Result<StepText, NotRead>
     ensures { Judged (λ text. (text ≡ field.now) × (is_step_text field.now ≡ true)) (λ fault. (is_step_text field.now ≡ false) × (fault ≡ record { row = row; rule = TheText })) result }
 {
-    match StepText::read(field) {
-        Some(text) => Ok(text),
-        None => Err(NotRead::wrong(row, Rule::StepText)),
-    }
+    StepText::read(field).ok_or(NotRead::wrong(row, Rule::StepText))
 }
 
 /// The step of a row with this number.
@@ -46,12 +39,8 @@ fn step_of(row: u32, fields: &ByteRecord) -> Result<Step, NotRead>
         return Err(NotRead::wrong(row, Rule::StepNumber));
     }
     let text = text_of(row, field(fields, 1))?;
-    let Some(is_countersigned) = yes_or_no(field(fields, 2)) else {
-        return Err(NotRead::wrong(row, Rule::Second));
-    };
-    let Some(request) = optional_number(field(fields, 3)) else {
-        return Err(NotRead::wrong(row, Rule::StepRequest));
-    };
+    let is_countersigned = yes_or_no(field(fields, 2)).ok_or(NotRead::wrong(row, Rule::Second))?;
+    let request = optional_number(field(fields, 3)).ok_or(NotRead::wrong(row, Rule::StepRequest))?;
     Ok(Step {
         text,
         is_countersigned,
@@ -67,9 +56,7 @@ fn steps_of(alloc: Global, rows: &[ByteRecord]) -> Result<Vec<Step>, NotRead>
     let mut steps = Vec::new(alloc);
     for (index, fields) in rows.iter().enumerate() {
         let step = step_of(index as u32 + 1, fields)?;
-        if steps.push(step).is_err() {
-            return Err(NotRead::Memory);
-        }
+        steps.push(step)?;
     }
     Ok(steps)
 }
@@ -97,17 +84,14 @@ pub fn read_procedure(alloc: Global, text: &[u8]) -> Result<Procedure, Refusal>
     }
 }
 
-/// Why a text spells no procedure: the first rule that it breaks, and where; `None` where it spells one.
-///
-/// It is refused for want of memory alone.
-pub fn why_no_procedure(alloc: Global, text: &[u8]) -> Result<Option<Fault>, Refusal>
+/// Why a text spells no procedure: the first rule that it breaks, and where; `None` where it spells one. Fails where memory is refused.
+pub fn why_no_procedure(alloc: Global, text: &[u8]) -> Result<Option<Fault>, AllocError>
     ensures told { IfOk result (Tells text.now) }
-    ensures refused { IfErr result (λ why. why ≡ Memory) }
     ensures only { (fault : SomeFault) → IsProcedureFault text.now fault → IfOk result (λ told. told ≡ Some fault) }
 {
     match read_steps(alloc, text) {
         Ok(_) => Ok(None),
         Err(NotRead::Wrong(fault)) => Ok(Some(fault)),
-        Err(NotRead::Memory) => Err(Refusal::Memory),
+        Err(NotRead::Memory) => Err(AllocError),
     }
 }

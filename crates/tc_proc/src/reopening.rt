@@ -5,12 +5,9 @@ ghost use Rattle.tc_types.specs.History.{AllAfter};
 ghost use Rattle.tc_types.specs.Names.{is_same_name};
 ghost use Rattle.tc_proc.specs.GoodLogs.{HasNewName, IsNextStep};
 
+use crate::procedures::MOST_STEPS;
 use crate::steps::is_known;
-use tc_types::names::{Name, is_same_name};
-use tc_types::rows::{LoadedProcedure, ProcedureStep};
-
-/// The most steps that a procedure has.
-const MOST_STEPS: u32 = 100;
+use tc_types::{LoadedProcedure, Name, ProcedureStep, is_same_name};
 
 /// Whether a procedure has a name that none of these has.
 fn has_new_name(before: &[LoadedProcedure], procedure: &LoadedProcedure) -> bool
@@ -61,7 +58,7 @@ fn is_next_step(before: &[ProcedureStep], step: &ProcedureStep) -> bool
     requires { AllAfter IsNextStep [] before.now }
     ensures { IsTrue result ↔ IsNextStep before.now step.now }
 {
-    step.step <= MOST_STEPS && step.step as usize == next_number(before, &step.procedure)
+    step.step <= u32::from(MOST_STEPS) && step.step as usize == next_number(before, &step.procedure)
 }
 
 /// Whether each step is the next of its procedure.

@@ -1,8 +1,7 @@
 //! The steps of procedures, as a log keeps them.
-ghost use Rattle.std.specs.Prelude.{◌≡◌, ◌+◌, ◌-◌, ◌<◌, ◌≤◌, ◌&&◌, ◌==◌, ◌++◌, ◌∷◌, [], false, length, vec_len, vec_capacity, IfOk, IfErr, IfSome, OnOk};
+ghost use Rattle.std.specs.Prelude.{◌≡◌, ◌+◌, ◌-◌, ◌<◌, ◌≤◌, ◌&&◌, ◌==◌, ◌++◌, ◌∷◌, [], false, length, vec_len, vec_capacity, IfOk, IfSome, OnOk};
 ghost use Rattle.std.specs.List.{list_any, find, AllByRecursion};
 ghost use Rattle.std.specs.Option.{option_map_or, option_copied};
-ghost use Rattle.tc_types.specs.declared.refusals.Refusal.TheVariants.{Memory};
 ghost use Rattle.tc_types.specs.Names.{is_same_name};
 ghost use Rattle.tc_types.specs.Numbers.{IsRequestNumber};
 ghost use Rattle.tc_proc.specs.Logs.{is_past, names_unknown, kept_step, kept_steps};
@@ -12,10 +11,7 @@ ghost use Rattle.tc_proc.specs.KeptLogs.{marks_in, is_step, request_in_steps};
 
 use crate::procedures::Step;
 use std::alloc::{AllocError, Allocator};
-use tc_types::names::{Name, is_same_name};
-use tc_types::numbers::RequestNumber;
-use tc_types::refusals::Refusal;
-use tc_types::rows::{LoadedProcedure, ProcedureStep};
+use tc_types::{LoadedProcedure, Name, ProcedureStep, RequestNumber, is_same_name};
 
 /// Whether a procedure with this name is among these.
 pub(crate) fn is_known(loaded: &[LoadedProcedure], name: &Name) -> bool
@@ -91,20 +87,17 @@ fn add_mark<A: Allocator>(
     Ok(())
 }
 
-/// Of each step of the procedure with this name, whether it wants a second person. Refused with `Memory` alone.
+/// Of each step of the procedure with this name, whether it wants a second person.
 pub(crate) fn marks_of<A: Allocator + Copy + Drop>(
     alloc: A,
     steps: &[ProcedureStep],
     name: &Name,
-) -> Result<Vec<bool, A>, Refusal>
-    ensures marks { IfOk result (λ v. v.items ≡ marks_in name.now steps.now) }
-    ensures refused { IfErr result (λ why. why ≡ Memory) }
+) -> Result<Vec<bool, A>, AllocError>
+    ensures { IfOk result (λ v. v.items ≡ marks_in name.now steps.now) }
 {
     let mut marks = Vec::new(alloc);
     for step in steps {
-        if add_mark(&mut marks, step, name).is_err() {
-            return Err(Refusal::Memory);
-        }
+        add_mark(&mut marks, step, name)?;
     }
     Ok(marks)
 }

@@ -8,7 +8,7 @@ use Rattle.jiff_core.specs.DateTime.{civil_nanos}
 use Rattle.jiff_core.proofs.DateLemmas.{epoch_day_injective}
 use Rattle.jiff_core.proofs.DateTimeLemmas.{civil_nanos_injective, time_nanos_injective}
 use Rattle.jiff_fmt.specs.Text.{datetime_text}
-use Rattle.tc_types.specs.declared.moves.Move.{Move}
+use Rattle.tc_types.specs.declared.history.moves.Move.{Move}
 use Rattle.tc_types.specs.History.{shift_rows}
 use Rattle.tc_types.specs.Lines.{spaced, from_word, place_name, cause_name, places_line}
 use Rattle.tc_report.specs.ShiftReport.{IsTimeText, IsReportLine, IsReportHead, IsReport, left_in, right_in}

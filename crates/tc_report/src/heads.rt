@@ -1,17 +1,15 @@
 //! The lines before those of the moves.
-ghost use Rattle.std.specs.Prelude.{◌≡◌, ◌++◌, ◌∷◌, [], ℕ, List, IfOk, IsTrue, sum, codes};
+ghost use Rattle.std.specs.Prelude.{◌≡◌, ◌++◌, ◌∷◌, [], ℕ, List, IfOk, sum, codes};
 ghost use Rattle.std.specs.String.{string_bytes};
 ghost use Rattle.std.specs.Fmt.{decimal};
-ghost use Rattle.tc_types.specs.Words.{is_one_line};
-ghost use Rattle.tc_report.specs.ShiftReport.{IsReportHead};
+ghost use Rattle.tc_report.specs.ShiftReport.{IsReportHead, premise_text};
 ghost use Rattle.tc_report.specs.Texts.{ended, AreLines};
 
+use crate::premises::Premise;
 use crate::texts::add_line;
 use crate::times::time_text;
 use std::alloc::{AllocError, Allocator};
-use tc_types::numbers::Moment;
-use tc_types::places::PLACES;
-use tc_types::texts::places_text;
+use tc_types::{Moment, PLACES, places_text};
 
 /// A line: words, and what they are about.
 fn line_of<A: Allocator + Copy>(alloc: A, words: &str, about: &str) -> Result<String<A>, AllocError>
@@ -27,20 +25,19 @@ fn moves_line<A: Allocator + Copy>(alloc: A, many: usize) -> Result<String<A>, A
     format!(in alloc; "moves {many}")
 }
 
-/// The lines before those of the moves: the shift from `from` on and before `to`, the word that says what holds of the link, which has no LF, how
-/// many requests were entered and how many stand at each place, and how many moves follow.
+/// The lines before those of the moves: the shift from `from` on and before `to`, what holds of the link, how many requests
+/// were entered and how many stand at each place, and how many moves follow.
 pub fn head_text<A: Allocator + Copy>(
     alloc: A,
-    premise: &str,
+    premise: Premise,
     entered: u32,
     places: &[u32; PLACES],
     many: usize,
     from: Moment,
     to: Moment,
 ) -> Result<String<A>, AllocError>
-    requires counted { entered ≡ sum places.now }
-    requires one_line { IsTrue (is_one_line premise.now) }
-    ensures { IfOk result (λ t. (lines : List (List ℕ)) × IsReportHead premise.now places.now many from to lines × AreLines lines × (string_bytes t ≡ ended lines)) }
+    requires { entered ≡ sum places.now }
+    ensures { IfOk result (λ t. (lines : List (List ℕ)) × IsReportHead (premise_text premise) places.now many from to lines × AreLines lines × (string_bytes t ≡ ended lines)) }
 {
     let begins = time_text(from);
     let ends = time_text(to);
@@ -50,7 +47,10 @@ pub fn head_text<A: Allocator + Copy>(
         line_of(alloc, "from ", begins.as_str())?.as_str(),
     )?;
     add_line(&mut head, line_of(alloc, "to   ", ends.as_str())?.as_str())?;
-    add_line(&mut head, line_of(alloc, "premise ", premise)?.as_str())?;
+    add_line(
+        &mut head,
+        line_of(alloc, "premise ", premise.name())?.as_str(),
+    )?;
     add_line(&mut head, places_text(alloc, entered, places)?.as_str())?;
     add_line(&mut head, moves_line(alloc, many)?.as_str())?;
     Ok(head)

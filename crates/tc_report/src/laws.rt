@@ -1,6 +1,6 @@
 //! What holds of any report. This function does nothing: its clause is the law.
 ghost use Rattle.std.specs.Prelude.{◌≡◌, ℕ, List};
-ghost use Rattle.tc_types.specs.declared.moves.Move.{Move};
+ghost use Rattle.tc_types.specs.declared.history.moves.Move.{Move};
 ghost use Rattle.tc_report.specs.ShiftReport.{IsReport};
 
 /// A report is a function of what it tells of: no two texts are that of one shift. A moment has one date and time in UTC, and each line one

@@ -5,10 +5,17 @@
 #![tactic(auto)]
 
 mod columns;
-pub mod heads;
+mod heads;
 pub mod laws;
-pub mod reports;
-pub mod rows;
-pub mod shifts;
-pub mod texts;
-pub mod times;
+mod move_lines;
+mod premises;
+mod reports;
+mod shifts;
+mod texts;
+mod times;
+
+pub use heads::head_text;
+pub use move_lines::add_rows;
+pub use premises::Premise;
+pub use reports::{END, report_text};
+pub use texts::add_line;

@@ -7,7 +7,7 @@ use arrayvec::ArrayString;
 use jiff::Timestamp;
 use jiff::fmt::temporal::DateTimePrinter;
 use jiff::tz::Offset;
-use tc_types::numbers::Moment;
+use tc_types::Moment;
 
 /// What a clock at UTC shows at a moment: `YYYY-MM-DD hh:mm:ss`.
 #[tactic(auto, using(crate::proofs::LineLemmas::time_one))]

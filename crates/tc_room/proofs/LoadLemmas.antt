@@ -5,11 +5,11 @@ use Rattle.sqlite_trees.specs.declared.store.Store.{Ghosts}
 use Rattle.sqlite.specs.Held.{state}
 use Rattle.sqlite.specs.State.{HasCleanDisk}
 use Rattle.tc_types.specs.declared.loads.LoadKind.{LoadKind}
-use Rattle.tc_types.specs.declared.moves.Move.{Move}
+use Rattle.tc_types.specs.declared.history.moves.Move.{Move}
 use Rattle.tc_types.specs.declared.refusals.Refusal.{Refusal}
-use Rattle.tc_world.specs.declared.events.Indication.{Indication}
+use Rattle.tc_world.specs.declared.events.LinkIndication.{LinkIndication}
 use Rattle.tc_book.specs.declared.stamps.Stamp.{Stamp}
-use Rattle.tc_desk.specs.declared.firsts.First.{First}
+use Rattle.tc_desk.specs.declared.firsts.FirstLine.{FirstLine}
 use Rattle.tc_desk.specs.Loads.{Loading, HasLoaded, RefusesLoad, LoadStep}
 use Rattle.tc_desk.specs.Machine.{rows_new}
 use Rattle.tc_desk.specs.Replies.{Reply, act_reply, refusal_reply}
@@ -44,6 +44,6 @@ pub load_refused : (old new : LinkState) (stamp : Stamp) (given : Loading) (refu
 load_refused old new stamp given refusal why = inr (refusal, why, refl)
 
 -- the desk loaded it
-pub load_carried : (old new : LinkState) (stamp : Stamp) (given : Loading) (line : First) (said : List Indication) (moves : List Move)
+pub load_carried : (old new : LinkState) (stamp : Stamp) (given : Loading) (line : FirstLine) (said : List LinkIndication) (moves : List Move)
     → HasLoaded stamp given old new said line → moves ≡ rows_new old new → LoadStep old stamp given (act_reply line said moves) new
 load_carried old new stamp given line said moves has are = inl (record { line = line; all = said; has = has; reply = ap (act_reply line said) are })

@@ -2,12 +2,12 @@
 use Rattle.std.proofs.Common.{◌≡◌, ℕ, ◌+◌, ◌<◌, false, List, [], ◌∷◌, ◌++◌, length, get_or, take, refl, sym, subst}
 use Rattle.std.proofs.lemmas.List.{take_more}
 use Rattle.tc_report.proofs.TextLemmas.{lines-append}
-use Rattle.tc_types.specs.declared.moves.Move.{Move}
-use Rattle.tc_world.specs.declared.events.Indication.{Indication}
+use Rattle.tc_types.specs.declared.history.moves.Move.{Move}
+use Rattle.tc_world.specs.declared.events.LinkIndication.{LinkIndication}
 use Rattle.tc_book.specs.declared.firsts.First.{First as BookFirst}
 use Rattle.tc_book.specs.declared.firsts.First.TheVariants as book_first
-use Rattle.tc_desk.specs.declared.firsts.First.{First}
-use Rattle.tc_desk.specs.declared.firsts.First.TheVariants as first
+use Rattle.tc_desk.specs.declared.firsts.FirstLine.{FirstLine}
+use Rattle.tc_desk.specs.declared.firsts.FirstLine.TheVariants as first
 use Rattle.tc_desk.specs.Replies.{act_reply}
 use Rattle.tc_room.specs.Replies.{AreLines, is_refused}
 
@@ -19,7 +19,7 @@ lines_more {X} lines_of joined xs i x low is before one =
     subst AreLines (sym all) (lines-append (lines_of (take i xs)) (lines_of (get_or xs i x ∷ [])) before (subst (λ (y : X). AreLines (lines_of (y ∷ []))) is one))
 
 -- the reply to an act that was done is no refusal
-pub act_grants : (line : First) (said : List Indication) (rows : List Move) → is_refused (act_reply line said rows) ≡ false
+pub act_grants : (line : FirstLine) (said : List LinkIndication) (rows : List Move) → is_refused (act_reply line said rows) ≡ false
 act_grants (first.Book given) said rows = book_grants given
   where
     book_grants : (given : BookFirst) → is_refused (act_reply (first.Book given) said rows) ≡ false

@@ -1,6 +1,7 @@
 -- The steps of a room.
 use Rattle.std.proofs.Common.{◌≡◌, ◌∙◌, inl, inr, ℕ, zero, suc, nat_lt, map, take, [], ◌∷◌, arith, Bool, true, false, Option, Some, None, Result, Ok, Err, List, refl, sym, ap, subst, length}
-use Rattle.std.specs.Prelude.{◌≢◌, ◌≤◌, ◌↔◌, IsTrue, is_none}
+use Rattle.std.specs.Prelude.{◌≢◌, ◌≤◌, ◌↔◌, IsErrAnd, IsTrue, is_none, ok_or}
+use Rattle.std.specs.Result.{result_ok}
 use Rattle.std.proofs.lemmas.List.{length-map, length-take}
 use Rattle.std.proofs.lemmas.Bool.Decides.{nat_tests}
 use Rattle.sqlite_trees.specs.declared.store.Store.{Ghosts}
@@ -9,7 +10,7 @@ use Rattle.sqlite.specs.State.{HasCleanDisk}
 use Rattle.tc_types.specs.ActGrammar.{HasLongAct, SpellsLine, act_text}
 use Rattle.tc_types.specs.History.{entered, count_at, counts_of}
 use Rattle.tc_types.specs.Tables.{empty_image, tallies_by}
-use Rattle.tc_types.specs.declared.rows.Tally.{Tally}
+use Rattle.tc_types.specs.declared.tables.rows.Tally.{Tally}
 use Rattle.tc_types.specs.declared.acts.Line.{Line}
 use Rattle.tc_types.specs.declared.refusals.Refusal.{Refusal}
 use Rattle.tc_types.specs.declared.refusals.Refusal.TheVariants.{BadText, Store, TooLong, UnknownRequest}
@@ -19,8 +20,8 @@ use Rattle.tc_types.specs.declared.acts.Query.{Query}
 use Rattle.tc_types.specs.declared.acts.Query.TheVariants as query
 use Rattle.tc_types.specs.declared.requests.Request.{Request}
 use Rattle.tc_types.specs.RequestLine.{request_line}
-use Rattle.tc_types.specs.declared.moves.Move.{Move}
-use Rattle.tc_world.specs.declared.events.Indication.{Indication}
+use Rattle.tc_types.specs.declared.history.moves.Move.{Move}
+use Rattle.tc_world.specs.declared.events.LinkIndication.{LinkIndication}
 use Rattle.tc_world.specs.EitherLink.{either}
 use Rattle.tc_book.specs.declared.stamps.Stamp.{Stamp}
 use Rattle.tc_book.specs.Book.{Book, empty_book, is_unknown, place_in, request_at}
@@ -29,7 +30,7 @@ use Rattle.tc_book.specs.Good.{IsGoodBook}
 use Rattle.tc_book.specs.Sound.{IsSound}
 use Rattle.tc_book.specs.Tables.{image_of}
 use Rattle.tc_desk.specs.declared.configs.Config.{Config}
-use Rattle.tc_desk.specs.declared.firsts.First.{First}
+use Rattle.tc_desk.specs.declared.firsts.FirstLine.{FirstLine}
 use Rattle.tc_desk.specs.Acts.{is_question, refusal_of}
 use Rattle.tc_desk.specs.Machine.{Carries, DeskStep, Does, Refuses, Serves, StaysSame, rows_new}
 use Rattle.tc_desk.specs.Replies.{Reply, act_reply, history_lines, Replies, refusal_reply, request_lines}
@@ -71,7 +72,7 @@ pub refused : (old new : LinkState) (stamp : Stamp) (given : Act) (refusal : Ref
 refused old new stamp given refusal why = inr (refusal, why, refl)
 
 -- the desk carried an act out
-pub carried : (old new : LinkState) (stamp : Stamp) (given : Act) (first : First) (said : List Indication) (rows : List Move) → is_question given ≡ false
+pub carried : (old new : LinkState) (stamp : Stamp) (given : Act) (first : FirstLine) (said : List LinkIndication) (rows : List Move) → is_question given ≡ false
     → refusal_of stamp old given ≡ None → Does either either stamp given old new said first → rows ≡ rows_new old new
     → DeskStep either either old stamp given (act_reply first said rows) new
 carried old new stamp given first said rows acts free does are = inl (by_kind given acts (record { first = first; all = said; free = free; does = does; reply = ap (act_reply first said) are }))
@@ -95,6 +96,22 @@ request_told desk stamp n found request is unknown some = answered desk stamp (q
   where
     known : is_unknown desk.book n ≡ false
     known = sym unknown ∙ ap is_none some
+
+-- the error that a `?` makes
+pub is_err : {X : Type 0} (result : Result X Refusal) (why : Refusal) → IsErrAnd result (λ told. told ≡ why) → result ≡ Err why
+is_err (Ok x) why h = absurd h
+is_err (Err told) why h = ap Err h
+
+-- what an `ok_or` found, and why it found nothing
+pub found_some : {X E : Type 0} (o : Option X) (r : Result X E) (x : X) → o ≡ result_ok r → r ≡ Ok x → o ≡ Some x
+found_some o r x ok is = ok ∙ ap result_ok is
+
+pub found_none : {X E : Type 0} (o : Option X) (r : Result X E) (e : E) → o ≡ result_ok r → r ≡ Err e → o ≡ None
+found_none o r e ok is = ok ∙ ap result_ok is
+
+pub found_why : {X E : Type 0} (o : Option X) (r : Result X E) (e given : E) → r ≡ ok_or o given → o ≡ None → r ≡ Err e → e ≡ given
+found_why {X} {E} o r e given value none is =
+    let same : (let left : Result X E = Err e in left) ≡ Err given = sym is ∙ (value ∙ ap (λ (found : Option X). ok_or found given) none) in cc
 
 -- a question that is refused leaves all as it was
 pub stays : (desk : LinkState) → StaysSame either either desk desk

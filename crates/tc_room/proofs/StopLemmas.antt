@@ -12,8 +12,8 @@ use Rattle.tc_types.specs.declared.acts.LinkAct.{LinkAct}
 use Rattle.tc_types.specs.declared.acts.LinkAct.TheVariants as link_act
 use Rattle.tc_types.specs.declared.acts.Query.{Query}
 use Rattle.tc_types.specs.declared.acts.Query.TheVariants as query
-use Rattle.tc_types.specs.declared.rows.BegunExecution.{BegunExecution}
-use Rattle.tc_types.specs.declared.rows.StepRecord.{StepRecord}
+use Rattle.tc_types.specs.declared.tables.rows.BegunExecution.{BegunExecution}
+use Rattle.tc_types.specs.declared.tables.rows.StepRecord.{StepRecord}
 use Rattle.tc_stack.specs.Approvals.{ApprovalState}
 use Rattle.tc_proc.specs.Logs.{LogState, execution_at, tests_at}
 use Rattle.tc_fop.specs.declared.views.FopView.{FopView}
@@ -25,6 +25,7 @@ use Rattle.tc_book.specs.Logs.{record_made, released_with, step_tests}
 use Rattle.tc_fop.specs.Views.{view_of}
 use Rattle.tc_desk.specs.State.{widest_k}
 use Rattle.tc_desk.specs.Acts.{link_tests, refusal_of, tests_behind, tests_of}
+use Rattle.tc_desk.specs.Loads.{Loading, Stack, Procedure, tests_of_load}
 use Rattle.tc_room.specs.Joined.{LinkState, Standing}
 use Rattle.tc_room.specs.Room.{Stops}
 
@@ -127,6 +128,15 @@ pub act_told : (stamp : Stamp) (at : LinkState) (given : Act) (refusal : Refusal
     → (refusal_of stamp at given ≡ Some refusal) ⊎ ((refusal_of stamp at given ≡ None) × (refusal ≡ Memory)) → is_before_31 refusal ≡ true
 act_told stamp at given refusal why = told_by (tests_of stamp at given) refusal (of_act stamp at given) why
 
+-- so it is of a load
+of_load : (stamp : Stamp) (book : Book) (given : Loading) → are_before_31 (tests_of_load stamp book given) ≡ true
+of_load stamp book (Stack name rows) = refl
+of_load stamp book (Procedure name steps) = refl
+
+pub load_told : (stamp : Stamp) (book : Book) (given : Loading) (refusal : Refusal)
+    → (first_refusal (tests_of_load stamp book given) ≡ Some refusal) ⊎ ((first_refusal (tests_of_load stamp book given) ≡ None) × (refusal ≡ Memory)) → is_before_31 refusal ≡ true
+load_told stamp book given refusal why = told_by (tests_of_load stamp book given) refusal (of_load stamp book given) why
+
 -- ---- what stops a room
 
 true_false : true ≡ false → ⊥
@@ -161,3 +171,10 @@ pub stops_refused : {X S : Type 0} (old new : Standing S) (result : Result X Ref
 stops_refused {X} old new result refusal gone was is low =
     keeps_going old new result was is (λ told. not_late refusal Store low refl (err_same {X = X} refusal Store (sym gone ∙ told)))
     (λ told. not_late refusal Stopped low refl (err_same {X = X} refusal Stopped (sym gone ∙ told)))
+
+-- a room stops with an answer 31
+pub stops_failed : {X S : Type 0} (old new : Standing S) (result : Result X Refusal) → result ≡ Err Store → new.stopped ≡ true → Stops old result new
+stops_failed {X} old new result gone now = record { stopped = ((λ is. inr gone), (λ cause. now)); same = λ told. absurd (not_stopped (err_same {X = X} Store Stopped (sym gone ∙ told))) }
+  where
+    not_stopped : Store ≡ Stopped → ⊥
+    not_stopped is = cc

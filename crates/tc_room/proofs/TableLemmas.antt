@@ -7,7 +7,7 @@ use Rattle.sqlite_catalog.specs.Listing.{IsSound as IsListed}
 use Rattle.sqlite.specs.Effect.{Database}
 use Rattle.sqlite.specs.Held.{Held, state}
 use Rattle.sqlite.specs.State.{HasCleanDisk, Survives}
-use Rattle.tc_types.specs.declared.rows.Row.{Row}
+use Rattle.tc_types.specs.declared.tables.rows.Row.{Row}
 use Rattle.tc_types.specs.Tables.{Image, applied}
 use Rattle.tc_book.specs.Book.{Book}
 use Rattle.tc_book.specs.Tables.{image_of}

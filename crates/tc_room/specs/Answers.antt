@@ -5,10 +5,12 @@ use Rattle.sqlite_trees.specs.declared.store.Store.{Ghosts}
 use Rattle.tc_types.specs.declared.refusals.Refusal.{Refusal}
 use Rattle.tc_types.specs.declared.refusals.Refusal.TheVariants.{BadText, TooLong}
 use Rattle.tc_types.specs.declared.acts.Act.TheVariants as act
+use Rattle.tc_types.specs.declared.acts.Query.{Query}
 use Rattle.tc_types.specs.declared.acts.Query.TheVariants as query
 use Rattle.tc_types.specs.declared.acts.Line.{Line}
 use Rattle.tc_types.specs.ActGrammar.{HasLongAct, SpellsLine, act_text}
 use Rattle.tc_book.specs.declared.stamps.Stamp.{Stamp}
+use Rattle.tc_desk.specs.Headline.{TellsTrue}
 use Rattle.tc_desk.specs.Machine.{stamp_of}
 use Rattle.tc_desk.specs.Replies.{Reply, refusal_reply}
 use Rattle.tc_room.specs.declared.answers.Answer.{Answer}
@@ -30,9 +32,13 @@ AnswersLine g old line reply new =
     ((refusal : Refusal) × IsUnread line refusal × (reply ≡ refusal_reply refusal) × (new ≡ old))
     ⊎ ((read : Line) × SpellsLine line read × ¬ HasLongAct line × RoomStep g old (stamp_of read) read.act reply new)
 
--- the question `places`, whoever asks
+-- a question, whoever asks
+abbrev pub Asks : {S : Type 0} → Ghosts S → Standing S → Query → Reply → Standing S → Type 0
+Asks g old asked reply new = (stamp : Stamp) → RoomStep g old stamp (act.Ask asked) reply new
+
+-- the question `places`
 abbrev pub AsksPlaces : {S : Type 0} → Ghosts S → Standing S → Reply → Standing S → Type 0
-AsksPlaces g old reply new = (stamp : Stamp) → RoomStep g old stamp (act.Ask query.Places) reply new
+AsksPlaces g old reply new = Asks g old query.Places reply new
 
 -- what a reply refuses with, if it is a refusal
 abbrev pub RefusesWith : Reply → Option Refusal → Type 0
@@ -43,3 +49,15 @@ RefusesWith reply (Some refusal) = reply ≡ refusal_reply refusal
 abbrev pub Says : Reply → Result Answer Untold → Type 0
 Says reply (Ok answer) = (string_bytes answer.text ≡ ended reply) × AreLines reply × RefusesWith reply answer.refusal
 Says reply (Err untold) = RefusesWith reply untold.refusal
+
+-- What came to a room made a reply of this kind, and the answer says it; as many rows of the history stood once the room was opened.
+pub record Replied {S : Type 0} (Makes : Reply → Standing S → Type 0) (old : Standing S) (result : Result Answer Untold) (new : Standing S) : Type 0 where
+  pub reply : Reply
+  pub made : Makes reply new
+  pub says : Says reply result
+  pub opened : new.opened ≡ old.opened
+
+-- The same, and what the rows since then tell of the link is true, and while every start was good the FARM is not in Lockout.
+pub record Answered {S : Type 0} (Makes : Reply → Standing S → Type 0) (old : Standing S) (result : Result Answer Untold) (new : Standing S) : Type 0 where
+  pub replied : Replied Makes old result new
+  pub told : TellsTrue new.opened new.desk

@@ -1,26 +1,21 @@
 -- What opens a room over tables that were left.
-use Rattle.std.specs.Prelude.{◌≡◌, ◌⊎◌, ℕ, true, false, Result, Ok, Err, List, [], drop, length}
+use Rattle.std.specs.Prelude.{◌≡◌, ◌⊎◌, ℕ, true, false, List, [], drop, length}
 use Rattle.sqlite_trees.specs.Tree.{Trees}
 use Rattle.sqlite_trees.specs.declared.store.Store.{Ghosts}
 use Rattle.sqlite.specs.Effect.{Database}
 use Rattle.sqlite.specs.Held.{Held, state}
 use Rattle.sqlite.specs.State.{HasCleanDisk}
 use Rattle.tc_sql.specs.Builds.{no_schema}
-use Rattle.tc_types.specs.declared.frames.Frame.{Frame}
-use Rattle.tc_types.specs.declared.reports.Report.{Report}
-use Rattle.tc_types.specs.declared.moves.Move.{Move}
-use Rattle.tc_types.specs.declared.refusals.Refusal.{Refusal}
-use Rattle.tc_types.specs.declared.refusals.Refusal.TheVariants.{Memory, Store}
-use Rattle.tc_types.specs.declared.rows.Row.{Row}
+use Rattle.tc_types.specs.declared.link.frames.Frame.{Frame}
+use Rattle.tc_types.specs.declared.link.reports.Report.{Report}
+use Rattle.tc_types.specs.declared.history.moves.Move.{Move}
+use Rattle.tc_types.specs.declared.tables.rows.Row.{Row}
 use Rattle.tc_types.specs.Tables.{Image, empty_image, applied}
-use Rattle.tc_images.specs.declared.images.Image.{Image as Loaded}
-use Rattle.tc_images.specs.Images.{rows_in}
 use Rattle.tc_world.specs.EitherLink.{IsMade}
 use Rattle.tc_book.specs.Sound.{IsSound}
 use Rattle.tc_book.specs.Tables.{image_of}
 use Rattle.tc_desk.specs.declared.configs.Config.{Config}
 use Rattle.tc_desk.specs.Opening.{reopened_parts}
-use Rattle.tc_store.specs.declared.faults.StoreFault.{StoreFault}
 use Rattle.tc_store.specs.Schema.{Holds}
 use Rattle.tc_store.specs.Shows.{ShowsAll}
 use Rattle.tc_store.specs.Told.{IsTold}
@@ -40,17 +35,6 @@ pub record ReadsLeft (config : Config) (moment : ℕ) (image : Image) (desk : Li
   pub reopened : IsReopened config moment image desk
   pub made : moves ≡ drop (length image.moves) desk.book.history
   pub writes : applied batch image ≡ image_of desk.book
-
--- the same over what was read of tables, which was read
-abbrev pub ReadsFrom : Config → ℕ → Result Loaded StoreFault → LinkState → List Move → List Row → Type 0
-ReadsFrom config moment (Ok image) desk moves batch = ReadsLeft config moment (rows_in image) desk moves batch
-ReadsFrom config moment (Err fault) desk moves batch = ⊥
-
--- Why no desk is opened over what was read: 31 where it could not be read, or no desk could have written it, and there alone; 30 for want of
--- memory.
-abbrev pub IsWhyUnopened : Result Loaded StoreFault → Refusal → Type 0
-IsWhyUnopened (Ok image) why = (why ≡ Memory) ⊎ ((why ≡ Store) × ¬ IsSound (rows_in image))
-IsWhyUnopened (Err fault) why = why ≡ Store
 
 -- tables that show rows as a desk writes them, and no others
 abbrev pub ShowsDesk : Database → Type 0

@@ -2,8 +2,8 @@
 use Rattle.std.specs.Prelude.{ℕ, ◌==◌, Bool, false, List, [], ◌∷◌, filter, map, nat_eq, codes}
 use Rattle.std.specs.List.{starts_with}
 use Rattle.tc_types.specs.ProcedureLines.{execution_line, record_line}
-use Rattle.tc_types.specs.declared.rows.BegunExecution.{BegunExecution}
-use Rattle.tc_types.specs.declared.rows.StepRecord.{StepRecord}
+use Rattle.tc_types.specs.declared.tables.rows.BegunExecution.{BegunExecution}
+use Rattle.tc_types.specs.declared.tables.rows.StepRecord.{StepRecord}
 use Rattle.tc_desk.specs.Replies.{Reply}
 pub use Rattle.tc_report.specs.Texts.{AreLines, ended}
 

@@ -3,8 +3,8 @@ use Rattle.std.specs.Prelude.{◌≡◌, ◌↔◌, ◌⊎◌, true, false, None
 use Rattle.sqlite_trees.specs.declared.store.Store.{Ghosts}
 use Rattle.sqlite.specs.Held.{state}
 use Rattle.sqlite.specs.State.{HasCleanDisk}
-use Rattle.tc_types.specs.declared.frames.Frame.{Frame}
-use Rattle.tc_types.specs.declared.reports.Report.{Report}
+use Rattle.tc_types.specs.declared.link.frames.Frame.{Frame}
+use Rattle.tc_types.specs.declared.link.reports.Report.{Report}
 use Rattle.tc_types.specs.declared.refusals.Refusal.{Refusal}
 use Rattle.tc_types.specs.declared.refusals.Refusal.TheVariants.{Store, Stopped}
 use Rattle.tc_types.specs.declared.acts.Act.{Act}
@@ -15,6 +15,7 @@ use Rattle.tc_book.specs.Tables.{image_of}
 use Rattle.tc_desk.specs.declared.configs.Config.{Config}
 use Rattle.tc_desk.specs.State.{new_desk}
 use Rattle.tc_desk.specs.Acts.{refusal_of}
+use Rattle.tc_desk.specs.Headline.{TellsTrue}
 use Rattle.tc_desk.specs.Machine.{DeskStep}
 use Rattle.tc_desk.specs.Replies.{Reply, refusal_reply}
 use Rattle.tc_store.specs.Schema.{Holds}
@@ -73,3 +74,10 @@ AnswersStep lines g old stamp given new (Err refusal) = RoomStep g old stamp giv
 pub record Stops {X S : Type 0} (old : Standing S) (result : Result X Refusal) (new : Standing S) : Type 0 where
   pub stopped : (new.stopped ≡ true) ↔ ((old.stopped ≡ true) ⊎ (result ≡ Err Store))
   pub same : result ≡ Err Stopped → (old.stopped ≡ true) × (new ≡ old)
+
+-- What every call of a room keeps to: it stops with an answer 31 alone; as many rows of the history stood once it was opened; and what the rows since
+-- then tell of the link is true, and while every start was good the FARM is not in Lockout.
+pub record Keeps {X S : Type 0} (old : Standing S) (result : Result X Refusal) (new : Standing S) : Type 0 where
+  pub stops : Stops old result new
+  pub opened : new.opened ≡ old.opened
+  pub told : TellsTrue new.opened new.desk

@@ -3,18 +3,18 @@ ghost use Rattle.std.specs.Prelude.{◌≡◌, ◌≤◌, ◌^◌, IfSome, OnSom
 ghost use Rattle.sqlite.specs.Held.{state};
 ghost use Rattle.sqlite.specs.State.{HasCleanDisk};
 ghost use Rattle.tc_types.specs.Tables.{Image};
-ghost use Rattle.tc_types.specs.declared.rows.Tally.{Tally};
+ghost use Rattle.tc_types.specs.declared.tables.rows.Tally.{Tally};
 ghost use Rattle.tc_store.specs.Schema.{Holds};
 ghost use Rattle.tc_room.specs.Crash.{Leaves};
 ghost use Rattle.tc_room.specs.Joined.{HasImage};
 
 use sqlite::Alter;
-use tc_store::tables::Tables;
-use tc_types::places::PLACES;
+use tc_store::Tables;
+use tc_types::PLACES;
 
 /// How many requests were entered, and how many stand at each place.
 #[derive(Clone, Copy, Debug, PartialEq, Eq)]
-pub struct Counts {
+pub struct PlaceCounts {
     /// How many were entered.
     pub entered: u32,
     /// How many stand at each place, in order of number.
@@ -34,7 +34,7 @@ pub(crate) fn total(places: &[u32; PLACES]) -> Option<u32>
 
 /// How many requests were entered and how many stand at each place: the amounts of the tallies. `None` where they cannot be read, or are
 /// more together than there are numbers.
-pub(crate) fn count_all<S: Alter + Drop>(tables: &mut Tables<S>) -> Option<Counts>
+pub(crate) fn count_all<S: Alter + Drop>(tables: &mut Tables<S>) -> Option<PlaceCounts>
     ensures places { HasCleanDisk (state S.Store tables.new) → IfSome result (λ found. (image : Image) → HasImage S.Store tables.old image → found.places ≡ map (λ (t : Tally). t.amount) image.tallies) }
     ensures entered { IfSome result (λ found. found.entered ≡ sum found.places) }
     ensures same { HasCleanDisk (state S.Store tables.new) → OnSome result ((image : Image) → HasImage S.Store tables.old image → HasImage S.Store tables.new image) }
@@ -44,5 +44,5 @@ pub(crate) fn count_all<S: Alter + Drop>(tables: &mut Tables<S>) -> Option<Count
 {
     let places = tables.counts().ok()?;
     let entered = total(&places)?;
-    Some(Counts { entered, places })
+    Some(PlaceCounts { entered, places })
 }

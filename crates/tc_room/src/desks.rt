@@ -1,25 +1,18 @@
 //! The desk of a room: its links are lists or rings, as it was chosen.
-ghost use Rattle.std.specs.Prelude.{◌≡◌, ◌⊎◌, ◌↔◌, [], true, IfErr, IfOk, IsTrue, OnOk, drop, length};
-ghost use Rattle.tc_types.specs.declared.refusals.Refusal.TheVariants.{BadDirective, Memory, Store};
-ghost use Rattle.tc_types.specs.Tables.{applied};
-ghost use Rattle.tc_images.specs.Images.{rows_in};
+ghost use Rattle.std.specs.Prelude.{◌≡◌, ◌↔◌, [], true, IfErr, IfOk, IsTrue, length};
+ghost use Rattle.tc_types.specs.declared.refusals.Refusal.TheVariants.{Memory};
+ghost use Rattle.tc_types.specs.Images.{rows_in};
 ghost use Rattle.tc_book.specs.Good.{IsGoodBook};
-ghost use Rattle.tc_book.specs.Sound.{IsSound};
-ghost use Rattle.tc_book.specs.Tables.{image_of};
-ghost use Rattle.tc_desk.specs.State.{IsConfig, IsRing};
+ghost use Rattle.tc_desk.specs.Opening.{MakesOpening, OpensOf};
+ghost use Rattle.tc_desk.specs.State.{IsConfig, IsRing, MakesOf};
 ghost use Rattle.tc_world.specs.EitherLink.{IsMade, content_of};
 ghost use Rattle.tc_room.specs.Opening.{IsReopened};
 ghost use Rattle.tc_room.specs.Room.{IsNewDesk};
 
 use std::alloc::Global;
-use tc_desk::configs::Config;
-use tc_desk::desks::{Desk, Reopened};
-use tc_images::images::Image;
-use tc_types::frames::Frame;
-use tc_types::numbers::Moment;
-use tc_types::refusals::Refusal;
-use tc_types::reports::Report;
-use tc_world::link_carriers::LinkCarrier;
+use tc_desk::{Config, Desk, Reopened};
+use tc_types::{Frame, Image, Moment, Refusal, Report};
+use tc_world::LinkCarrier;
 
 /// A desk over two lists or two rings.
 pub type LinkDesk = Desk<LinkCarrier<Frame, Global>, LinkCarrier<Report, Global>, Global>;
@@ -73,8 +66,7 @@ struct Links {
 fn make_links(alloc: Global, config: Config) -> Result<Links, Refusal>
     ensures up { IfOk result (λ links. IsMade config.ring links.up × (content_of links.up ≡ [])) }
     ensures down { IfOk result (λ links. IsMade config.ring links.down × (content_of links.down ≡ [])) }
-    ensures config { OnOk result (IsConfig config) }
-    ensures refused { IfErr result (λ refusal. ((refusal ≡ BadDirective) × (¬ IsConfig config)) ⊎ ((refusal ≡ Memory) × IsConfig config)) }
+    ensures choice { MakesOf config result }
 {
     if !is_fit(config) {
         return Err(Refusal::BadDirective);
@@ -91,8 +83,7 @@ pub fn make_desk(alloc: Global, config: Config) -> Result<LinkDesk, Refusal>
     ensures opened { IfOk result (λ desk. desk.opened ≡ 0) }
     ensures whole { IfOk result (λ desk. desk.whole ≡ true) }
     ensures good { IfOk result (λ desk. IsGoodBook desk.parts.book) }
-    ensures config { OnOk result (IsConfig config) }
-    ensures refused { IfErr result (λ refusal. ((refusal ≡ BadDirective) × (¬ IsConfig config)) ⊎ ((refusal ≡ Memory) × IsConfig config)) }
+    ensures choice { MakesOf config result }
 {
     let Links { up, down } = make_links(alloc, config)?;
     Desk::new(alloc, config, up, down)
@@ -110,12 +101,8 @@ pub fn reopen_desk(
     ensures desk { IfOk result (λ opened. IsReopened config moment (rows_in image.now) opened.desk.parts) }
     ensures opened { IfOk result (λ opened. opened.desk.opened ≡ length opened.desk.parts.book.history) }
     ensures whole { IfOk result (λ opened. opened.desk.whole ≡ true) }
-    ensures good { IfOk result (λ opened. IsGoodBook opened.desk.parts.book) }
-    ensures config { OnOk result (IsConfig config) }
-    ensures sound { OnOk result (IsSound (rows_in image.now)) }
-    ensures moves { IfOk result (λ opened. opened.done.moves.items ≡ drop (length image.now.moves.items) opened.desk.parts.book.history) }
-    ensures batch { IfOk result (λ opened. applied opened.done.batch.items (rows_in image.now) ≡ image_of opened.desk.parts.book) }
-    ensures refused { IfErr result (λ refusal. ((refusal ≡ BadDirective) × (¬ IsConfig config)) ⊎ ((refusal ≡ Memory) × IsConfig config) ⊎ ((refusal ≡ Store) × IsConfig config × (¬ IsSound (rows_in image.now)))) }
+    ensures made { IfOk result (λ opened. MakesOpening (rows_in image.now) opened.desk.parts.book opened.done.moves.items opened.done.batch.items) }
+    ensures choice { OpensOf config (rows_in image.now) result }
 {
     let Links { up, down } = make_links(alloc, config)?;
     Desk::reopen(alloc, image, config, moment, up, down)

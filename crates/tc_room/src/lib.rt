@@ -2,11 +2,22 @@
 //! line of a script is answered as the desk machine answers it.
 #![tactic(auto)]
 
-pub mod answers;
-pub mod closed;
-pub mod counts;
-pub mod desks;
-pub mod loadings;
-pub mod opening;
-pub mod replies;
-pub mod rooms;
+mod answers;
+mod closed;
+mod counts;
+mod desks;
+mod loadings;
+mod opening;
+mod replies;
+mod rooms;
+
+pub use answers::{
+    Answer, Untold, answer_line, answer_load, answer_loading, answer_places, answer_query,
+    answer_read, refusal_answer,
+};
+pub use closed::{closed_head, closed_page};
+pub use desks::reopen_desk;
+pub use loadings::is_too_long;
+pub use opening::OpenedRoom;
+pub use replies::opening_reply;
+pub use rooms::Room;

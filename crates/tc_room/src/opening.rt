@@ -1,61 +1,34 @@
 //! How a room is opened over a database: an empty one becomes the tables of a desk where nothing happened yet, and over the tables that
 //! were left in another the desk is opened again.
-ghost use Rattle.std.specs.Prelude.{◌≡◌, ◌≢◌, ◌⊎◌, ◌↔◌, true, false, [], drop, length, IsTrue, IfErr, IfOk, OnOk};
+ghost use Rattle.std.specs.Prelude.{◌≡◌, ◌≢◌, ◌⊎◌, ◌↔◌, false, [], IsTrue, IfErr, IfOk, OnOk};
 ghost use Rattle.sqlite.specs.Held.{state};
 ghost use Rattle.sqlite.specs.State.{HasCleanDisk};
 ghost use Rattle.sqlite.specs.Steps.{over_memory};
 ghost use Rattle.tc_sql.specs.Builds.{no_schema};
 ghost use Rattle.tc_types.specs.declared.refusals.Refusal.TheVariants.{BadDirective, Memory, Store};
 ghost use Rattle.tc_types.specs.Tables.{Image as Rows, empty_image};
-ghost use Rattle.tc_book.specs.Good.{IsGoodBook};
 ghost use Rattle.tc_desk.specs.State.{IsConfig};
 ghost use Rattle.tc_store.specs.Schema.{schema_1, Holds};
 ghost use Rattle.tc_store.specs.Told.{IsTold};
 ghost use Rattle.tc_room.specs.Crash.{HasRows, LeavesOr};
-ghost use Rattle.tc_room.specs.Opening.{IsWhyUnopened, KeepsTables, LeavesOpening, OpensAs, OpensLeft, OpensTo, ReadsFrom, ShowsDesk};
+ghost use Rattle.tc_room.specs.Opening.{KeepsTables, LeavesOpening, OpensAs, OpensLeft, OpensTo, ShowsDesk};
 ghost use Rattle.tc_room.specs.Room.{IsJustOpened};
 
-use crate::desks::{ReopenedDesk, is_fit, make_desk, reopen_desk};
+use crate::desks::{is_fit, make_desk, reopen_desk};
 use crate::rooms::Room;
 use sqlite::{Alter, Connection, MemStore};
 use std::alloc::Global;
-use tc_desk::configs::Config;
-use tc_desk::desks::Reopened;
-use tc_images::images::Image;
-use tc_store::faults::StoreFault;
-use tc_store::tables::Tables;
-use tc_types::moves::Move;
-use tc_types::numbers::Moment;
-use tc_types::refusals::Refusal;
+use tc_desk::{Config, Reopened};
+use tc_store::{StoreFault, Tables};
+use tc_types::{Moment, Move, Refusal};
 
 /// A room that was opened.
 #[derive(Drop)]
-pub struct Opened<S: Alter + Drop> {
+pub struct OpenedRoom<S: Alter + Drop> {
     /// The room.
     pub room: Room<S>,
     /// The moves that the opening made, by the desk itself, in order.
     pub moves: Vec<Move>,
-}
-
-/// Opens a desk over what was read of the tables. `Store` where they could not be read, or no desk could have written what was; `Memory`
-/// where that is refused to the desk.
-fn reopen(
-    alloc: Global,
-    loaded: Result<Image, StoreFault>,
-    config: Config,
-    moment: Moment,
-) -> Result<ReopenedDesk, Refusal>
-    requires fit { IsConfig config }
-    ensures read { IfOk result (λ opened. ReadsFrom config moment loaded opened.desk.parts opened.done.moves.items opened.done.batch.items) }
-    ensures opened { IfOk result (λ opened. opened.desk.opened ≡ length opened.desk.parts.book.history) }
-    ensures whole { IfOk result (λ opened. opened.desk.whole ≡ true) }
-    ensures good { IfOk result (λ opened. IsGoodBook opened.desk.parts.book) }
-    ensures refused { IfErr result (λ why. IsWhyUnopened loaded why) }
-{
-    match loaded {
-        Ok(image) => reopen_desk(alloc, &image, config, moment),
-        Err(_fault) => Err(Refusal::Store),
-    }
 }
 
 /// Opens a room over tables that were left, and writes what that makes of them in one batch.
@@ -64,7 +37,7 @@ fn open_left<S: Alter + Drop>(
     tables: Tables<S>,
     config: Config,
     moment: Moment,
-) -> Result<Opened<S>, (Refusal, Connection<S>)>
+) -> Result<OpenedRoom<S>, (Refusal, Connection<S>)>
     requires fit { IsConfig config }
     ensures left { IfOk result (λ opened. HasCleanDisk (state S.Store opened.room.tables) → (image : Rows) → IsTold image → Holds (state S.Store tables).now image → OpensLeft S.Store config moment image opened.moves.items opened.room) }
     ensures going { IfOk result (λ opened. opened.room.stopped ≡ false) }
@@ -74,13 +47,16 @@ fn open_left<S: Alter + Drop>(
     ensures memory { IfErr result (λ e. e.0 ≡ Memory → HasCleanDisk (state S.Store e.1) → (state S.Store tables).now.schema ≡ schema_1 → ShowsDesk (state S.Store tables).now) }
 {
     let mut tables = tables;
-    let loaded = tables.load();
-    let Reopened { desk, done } = match reopen(alloc, loaded, config, moment) {
+    let image = match tables.load() {
+        Ok(image) => image,
+        Err(_) => return Err((Refusal::Store, tables.into_connection())),
+    };
+    let Reopened { desk, done } = match reopen_desk(alloc, &image, config, moment) {
         Ok(left) => left,
         Err(refusal) => return Err((refusal, tables.into_connection())),
     };
     match tables.write(&done.batch) {
-        Ok(()) => Ok(Opened {
+        Ok(()) => Ok(OpenedRoom {
             room: Room::over(desk, tables),
             moves: done.moves,
         }),
@@ -93,7 +69,7 @@ fn open_new<S: Alter + Drop>(
     alloc: Global,
     store: Connection<S>,
     config: Config,
-) -> Result<Opened<S>, (Refusal, Connection<S>)>
+) -> Result<OpenedRoom<S>, (Refusal, Connection<S>)>
     requires fit { IsConfig config }
     ensures made { IfOk result (λ opened. IsJustOpened S.Store config opened.room) }
     ensures none { IfOk result (λ opened. opened.moves.items ≡ []) }
@@ -108,7 +84,7 @@ fn open_new<S: Alter + Drop>(
         Err(refusal) => return Err((refusal, store)),
     };
     match Tables::create(alloc, store) {
-        Ok(tables) => Ok(Opened {
+        Ok(tables) => Ok(OpenedRoom {
             room: Room::over(desk, tables),
             moves: Vec::new(alloc),
         }),
@@ -127,7 +103,7 @@ impl<S: Alter + Drop> Room<S> {
         store: Connection<S>,
         config: Config,
         moment: Moment,
-    ) -> Result<Opened<S>, (Refusal, Connection<S>)>
+    ) -> Result<OpenedRoom<S>, (Refusal, Connection<S>)>
         ensures opened { IfOk result (λ opened. OpensAs S.Store config moment store opened.moves.items opened.room) }
         ensures going { IfOk result (λ opened. opened.room.stopped ≡ false) }
         ensures ours { OnOk result (((state S.Store store).now.schema ≡ no_schema) ⊎ ((state S.Store store).now.schema ≡ schema_1)) }

@@ -7,8 +7,8 @@ use Rattle.matchit.specs.Level.{IsText}
 use Rattle.matchit.specs.Params.{walk, part_of, AllText}
 use Rattle.matchit.specs.Router.{RouteOf}
 use Rattle.tc_types.specs.Words.{words}
-use Rattle.tc_routes.specs.declared.routes.Kind.{Kind}
-use Rattle.tc_routes.specs.declared.routes.Kind.TheVariants as kind
+use Rattle.tc_routes.specs.declared.routes.RouteKind.{RouteKind}
+use Rattle.tc_routes.specs.declared.routes.RouteKind.TheVariants as kind
 use Rattle.tc_routes.specs.Paths.{Named, same, is_filled, two_texts, path_of, request as request_named, history as history_named, report as report_named}
 use Rattle.tc_routes.specs.Routes.{KindRoutes, desk_routes, named_at, first_text, second_text}
 use Rattle.tc_routes.proofs.SeekLaws.{steps, is_plain, no_rows, text_steps, fits, any_fits, unfit, one_param, two_params, last_param, no_second, first_param, no_first}
@@ -17,18 +17,18 @@ use Rattle.tc_routes.proofs.WalkLaws.{is_ascii, one_walk, two_walk}
 use Rattle.tc_routes.proofs.TextLaws.{bytes_text, ascii_text, text_parts, bytes_behind}
 use Rattle.tc_routes.proofs.RouteLaws.{history, report, request, rows, desk_rows}
 
-abbrev pub pairs_of : RouteOf Kind → List ℕ → List (List ℕ × List ℕ)
+abbrev pub pairs_of : RouteOf RouteKind → List ℕ → List (List ℕ × List ℕ)
 pairs_of route path = walk route.pattern route.text path route.names 0 0
 
-abbrev named_by_pairs : Kind → List (List ℕ × List ℕ) → Named
+abbrev named_by_pairs : RouteKind → List (List ℕ × List ℕ) → Named
 named_by_pairs kind pairs = named_at kind (first_text pairs) (second_text pairs)
 
 -- what was found for a path is what the path says, and its texts are texts
-abbrev pub IsRouted : List ℕ → Option (RouteOf Kind) → Type 0
+abbrev pub IsRouted : List ℕ → Option (RouteOf RouteKind) → Type 0
 IsRouted path None = path_of path ≡ None
 IsRouted path (Some route) = AllText (pairs_of route path) × (path_of path ≡ Some (named_by_pairs route.value (pairs_of route path)))
 
-routed : (path : List ℕ) (route : RouteOf Kind) (pairs : List (List ℕ × List ℕ)) → pairs_of route path ≡ pairs → AllText pairs → path_of path ≡ Some (named_by_pairs route.value pairs) → IsRouted path (Some route)
+routed : (path : List ℕ) (route : RouteOf RouteKind) (pairs : List (List ℕ × List ℕ)) → pairs_of route path ≡ pairs → AllText pairs → path_of path ≡ Some (named_by_pairs route.value pairs) → IsRouted path (Some route)
 routed path route pairs is text said = (subst AllText (sym is) text, said ∙ ap (λ l. Some (named_by_pairs route.value l)) (sym is))
 
 abbrev Finds : List ℕ → Type 0
@@ -83,12 +83,12 @@ report_alone = subst (IsRouted (codes "/report")) (sym (text_steps (codes "/repo
 -- ---- the last text of a path
 
 -- the last parameter takes all, where the words are one that is not empty; else it takes nothing
-abbrev Last : RouteOf Kind → List ℕ → Type 0
+abbrev Last : RouteOf RouteKind → List ℕ → Type 0
 Last route path =
     ((seek 0 (one_param route) path ≡ Some route) × (words 47 path ≡ path ∷ []) × (is_filled path ≡ true))
     ⊎ ((seek 0 (one_param route) path ≡ None) × IsNoLast (words 47 path))
 
-last_text : (route : RouteOf Kind) (path : List ℕ) → IsText path → Last route path
+last_text : (route : RouteOf RouteKind) (path : List ℕ) → IsText path → Last route path
 unfolding seek
 last_text route [] small = inr (refl, record { first = []; rest = []; is = refl; why = inl refl })
 last_text route (b ∷ path) small = by (parted (b ∷ path))
@@ -111,8 +111,8 @@ request_more path small text = subst (IsRouted (codes "/requests/" ++ path)) (sy
 -- ---- paths with two texts
 
 -- a route of two parameters behind a text of bytes
-module _ (text written : List ℕ) (name other : ℕ × ℕ) (kind : Kind) (named : List ℕ → List ℕ → Named) where
-  abbrev two_route : RouteOf Kind
+module _ (text written : List ℕ) (name other : ℕ × ℕ) (kind : RouteKind) (named : List ℕ → List ℕ → Named) where
+  abbrev two_route : RouteOf RouteKind
   two_route = record { pattern = text ++ param_token ∷ slash ∷ param_token ∷ []; text = written; names = name ∷ other ∷ []; value = kind }
 
   record IsTwo : Type 0 where
@@ -307,7 +307,7 @@ not_found router path text held same_text small whole none =
     let nothing : first desk_routes path ≡ None = sym (ap₂ first held same_text) ∙ none in
     sym (subst (IsRouted path) nothing (law path (bytes_text path small) whole))
 
-pub found : (router : KindRoutes) (path text shown : List ℕ) (route : RouteOf Kind) (one two first_bytes second_bytes : List ℕ) → router ≡ desk_routes → text ≡ path → shown ≡ text
+pub found : (router : KindRoutes) (path text shown : List ℕ) (route : RouteOf RouteKind) (one two first_bytes second_bytes : List ℕ) → router ≡ desk_routes → text ≡ path → shown ≡ text
     → ((i : ℕ) → get_or path i 0 < 256) → IsUtf8 path → first router text ≡ Some route
     → (AllText (pairs_of route shown) → (one ≡ first_text (pairs_of route shown)) × (two ≡ second_text (pairs_of route shown))) → first_bytes ≡ one → second_bytes ≡ two
     → Some (named_at route.value first_bytes second_bytes) ≡ path_of path

@@ -5,35 +5,35 @@ use Rattle.matchit.specs.Rows.{param_token}
 use Rattle.matchit.specs.Route.{Scan, parse_route}
 use Rattle.matchit.specs.Router.{RouteOf, InsertsRead}
 use Rattle.matchit.specs.declared.InsertError.{InsertError}
-use Rattle.tc_routes.specs.declared.routes.Kind.{Kind}
-use Rattle.tc_routes.specs.declared.routes.Kind.TheVariants as kind
+use Rattle.tc_routes.specs.declared.routes.RouteKind.{RouteKind}
+use Rattle.tc_routes.specs.declared.routes.RouteKind.TheVariants as kind
 use Rattle.tc_routes.specs.Routes.{KindRoutes, with_read, with_route, desk_routes}
 
-abbrev pub route : List ℕ → List ℕ → List (ℕ × ℕ) → Kind → RouteOf Kind
+abbrev pub route : List ℕ → List ℕ → List (ℕ × ℕ) → RouteKind → RouteOf RouteKind
 route pattern text names kind = record { pattern = pattern; text = text; names = names; value = kind }
 
-abbrev pub acts : RouteOf Kind
+abbrev pub acts : RouteOf RouteKind
 acts = route (codes "/acts") (codes "/acts") [] kind.Acts
 
-abbrev pub history : RouteOf Kind
+abbrev pub history : RouteOf RouteKind
 history = route (codes "/history/" ++ param_token ∷ 47 ∷ param_token ∷ []) (codes "/history/{request}/{after}") ((10, 17) ∷ (20, 25) ∷ []) kind.History
 
-abbrev pub places : RouteOf Kind
+abbrev pub places : RouteOf RouteKind
 places = route (codes "/places") (codes "/places") [] kind.Places
 
-abbrev pub procedures : RouteOf Kind
+abbrev pub procedures : RouteOf RouteKind
 procedures = route (codes "/procedures") (codes "/procedures") [] kind.Procedures
 
-abbrev pub report : RouteOf Kind
+abbrev pub report : RouteOf RouteKind
 report = route (codes "/report/" ++ param_token ∷ 47 ∷ param_token ∷ []) (codes "/report/{from}/{to}") ((9, 13) ∷ (16, 18) ∷ []) kind.Report
 
-abbrev pub request : RouteOf Kind
+abbrev pub request : RouteOf RouteKind
 request = route (codes "/requests/" ++ param_token ∷ []) (codes "/requests/{number}") ((11, 17) ∷ []) kind.Request
 
-abbrev pub stacks : RouteOf Kind
+abbrev pub stacks : RouteOf RouteKind
 stacks = route (codes "/stacks") (codes "/stacks") [] kind.Stacks
 
-abbrev pub row : RouteOf Kind → List ℕ × RouteOf Kind
+abbrev pub row : RouteOf RouteKind → List ℕ × RouteOf RouteKind
 row route = (route.pattern, route)
 
 -- the rows in their order
@@ -44,12 +44,12 @@ pub desk_rows : desk_routes ≡ rows
 unfolding matchit_on_literals with_route desk_routes
 desk_rows = refl
 
-made : (read : Result Scan InsertError) (kind : Kind) (old new : KindRoutes) → InsertsRead read kind old new (Ok tt) → new ≡ with_read read kind old
+made : (read : Result Scan InsertError) (kind : RouteKind) (old new : KindRoutes) → InsertsRead read kind old new (Ok tt) → new ≡ with_read read kind old
 made (Ok scan) kind old new inserted = inserted.1
 made (Err error) kind old new inserted = inserted.0
 
 -- an insert that was made leaves the rows with the route
-pub made_route : (route : List ℕ) (kind : Kind) (old new : KindRoutes) (r : Result (Unit {0}) InsertError) → InsertsRead (parse_route route) kind old new r → OnOk r (new ≡ with_route route kind old)
+pub made_route : (route : List ℕ) (kind : RouteKind) (old new : KindRoutes) (r : Result (Unit {0}) InsertError) → InsertsRead (parse_route route) kind old new r → OnOk r (new ≡ with_route route kind old)
 unfolding with_route
 made_route route kind old new (Ok tt) inserted = made (parse_route route) kind old new inserted
 made_route route kind old new (Err error) inserted = tt

@@ -5,21 +5,21 @@ use Rattle.matchit.specs.Order.{placed}
 use Rattle.matchit.specs.Route.{Scan, parse_route}
 use Rattle.matchit.specs.Router.{RouteOf, route_from, nearest}
 use Rattle.matchit.specs.declared.InsertError.{InsertError}
-use Rattle.tc_routes.specs.declared.routes.Kind.{Kind}
-use Rattle.tc_routes.specs.declared.routes.Kind.TheVariants as kind
+use Rattle.tc_routes.specs.declared.routes.RouteKind.{RouteKind}
+use Rattle.tc_routes.specs.declared.routes.RouteKind.TheVariants as kind
 use Rattle.tc_routes.specs.declared.paths.Post.TheVariants as post
 use Rattle.tc_routes.specs.Paths.{Named, posts_to, asks_for, places_text, request, history, report}
 
 abbrev pub KindRoutes : Type 0
-KindRoutes = RowsOf (RouteOf Kind)
+KindRoutes = RowsOf (RouteOf RouteKind)
 
 -- the rows with the route that was read
-abbrev pub with_read : Result Scan InsertError → Kind → KindRoutes → KindRoutes
+abbrev pub with_read : Result Scan InsertError → RouteKind → KindRoutes → KindRoutes
 with_read (Ok scan) kind rows = placed (scan.pattern, route_from scan kind) rows
 with_read (Err error) kind rows = rows
 
 -- the rows with the route that this text spells
-unfoldable pub with_route : List ℕ → Kind → KindRoutes → KindRoutes
+unfoldable pub with_route : List ℕ → RouteKind → KindRoutes → KindRoutes
 with_route route kind rows = with_read (parse_route route) kind rows
 
 -- one route for each path
@@ -39,7 +39,7 @@ IsFree (Ok scan) rows = nearest scan.pattern rows ≡ None
 IsFree (Err error) rows = ⊥
 
 -- what a match of this kind names, by its two texts
-abbrev pub named_at : Kind → List ℕ → List ℕ → Named
+abbrev pub named_at : RouteKind → List ℕ → List ℕ → Named
 named_at kind.Acts first second = posts_to post.Acts
 named_at kind.Stacks first second = posts_to post.Stacks
 named_at kind.Procedures first second = posts_to post.Procedures

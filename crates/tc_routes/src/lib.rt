@@ -4,5 +4,8 @@
 //! for every target (`Routes::path_of`).
 #![tactic(auto)]
 
-pub mod paths;
-pub mod routes;
+mod paths;
+mod routes;
+
+pub use paths::{Path, Post, Question};
+pub use routes::Routes;

@@ -14,7 +14,7 @@ use std::str;
 
 /// Which path a route is of.
 #[derive(Clone, Copy, Drop)]
-pub(crate) enum Kind {
+pub(crate) enum RouteKind {
     Acts,
     Stacks,
     Procedures,
@@ -25,20 +25,20 @@ pub(crate) enum Kind {
 }
 
 /// The path of this kind with these texts, which are empty where it has none.
-fn path_at<'a>(kind: Kind, first: &'a [u8], second: &'a [u8]) -> Path<'a>
+fn path_at<'a>(kind: RouteKind, first: &'a [u8], second: &'a [u8]) -> Path<'a>
     ensures { named_by result ≡ named_at kind first.now second.now }
 {
     match kind {
-        Kind::Acts => Path::Posts(Post::Acts),
-        Kind::Stacks => Path::Posts(Post::Stacks),
-        Kind::Procedures => Path::Posts(Post::Procedures),
-        Kind::Places => Path::Asks(Question::Places),
-        Kind::Request => Path::Asks(Question::Request { number: first }),
-        Kind::History => Path::Asks(Question::History {
+        RouteKind::Acts => Path::Posts(Post::Acts),
+        RouteKind::Stacks => Path::Posts(Post::Stacks),
+        RouteKind::Procedures => Path::Posts(Post::Procedures),
+        RouteKind::Places => Path::Asks(Question::Places),
+        RouteKind::Request => Path::Asks(Question::Request { number: first }),
+        RouteKind::History => Path::Asks(Question::History {
             request: first,
             after: second,
         }),
-        Kind::Report => Path::Asks(Question::Report {
+        RouteKind::Report => Path::Asks(Question::Report {
             from: first,
             to: second,
         }),
@@ -46,7 +46,7 @@ fn path_at<'a>(kind: Kind, first: &'a [u8], second: &'a [u8]) -> Path<'a>
 }
 
 /// Adds a route that conflicts with none there. Fails only where memory is refused.
-fn add(router: &mut Router<Kind>, route: &str, kind: Kind) -> Result<(), AllocError>
+fn add(router: &mut Router<RouteKind>, route: &str, kind: RouteKind) -> Result<(), AllocError>
     requires { IsFree (parse_route route.now) router.old }
     ensures { OnOk result (router.new ≡ with_route route.now kind router.old) }
 {
@@ -73,10 +73,10 @@ fn texts<'v>(params: &Params<'_, 'v>) -> (&'v str, &'v str)
     }
 }
 
-/// The desk's routes. They are made once, and answer as often as asked without any more memory.
+/// The desk's routes. Once they are made they answer as often as asked without any more memory.
 #[derive(Drop)]
 pub struct Routes {
-    router: Router<Kind>,
+    router: Router<RouteKind>,
 }
 
 impl Model for Routes {
@@ -94,13 +94,17 @@ impl Routes {
     /// The desk's routes. Fails only where memory is refused.
     pub fn new(alloc: Global) -> Result<Routes, AllocError> {
         let mut router = Router::new(alloc);
-        add(&mut router, "/acts", Kind::Acts)?;
-        add(&mut router, "/stacks", Kind::Stacks)?;
-        add(&mut router, "/procedures", Kind::Procedures)?;
-        add(&mut router, "/places", Kind::Places)?;
-        add(&mut router, "/requests/{number}", Kind::Request)?;
-        add(&mut router, "/history/{request}/{after}", Kind::History)?;
-        add(&mut router, "/report/{from}/{to}", Kind::Report)?;
+        add(&mut router, "/acts", RouteKind::Acts)?;
+        add(&mut router, "/stacks", RouteKind::Stacks)?;
+        add(&mut router, "/procedures", RouteKind::Procedures)?;
+        add(&mut router, "/places", RouteKind::Places)?;
+        add(&mut router, "/requests/{number}", RouteKind::Request)?;
+        add(
+            &mut router,
+            "/history/{request}/{after}",
+            RouteKind::History,
+        )?;
+        add(&mut router, "/report/{from}/{to}", RouteKind::Report)?;
         Ok(Routes { router })
     }
 

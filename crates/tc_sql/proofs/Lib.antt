@@ -1,6 +1,7 @@
 pub mod Casts
 pub mod Keys
 pub mod Parts
+pub mod SchemaLemmas
 pub mod Inserts
 pub mod Appends
 pub mod Changes

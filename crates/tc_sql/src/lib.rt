@@ -3,4 +3,6 @@
 //! A crate above names its own tables and cites them. Whether two schemas are one is the only code.
 #![tactic(auto)]
 
-pub mod schemas;
+mod schemas;
+
+pub use schemas::is_same_schema;

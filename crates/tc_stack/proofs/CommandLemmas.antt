@@ -10,7 +10,7 @@ use Rattle.std.proofs.lemmas.Fmt.{decimal_injective}
 use Rattle.tc_csv.specs.declared.faults.Rule.{Rule}
 use Rattle.tc_csv.specs.Faults.{KeepsAll, FirstBroken}
 use Rattle.tc_csv.specs.Rows.{IsOnly}
-use Rattle.tc_stack.specs.declared.commands.Kind.{Kind}
+use Rattle.tc_stack.specs.declared.commands.CommandKind.{CommandKind}
 use Rattle.tc_stack.specs.Stacks.{named_line, IsEarlier}
 use Rattle.tc_stack.specs.StackTexts.{kind_of, kind_words, IsKind, IsScheduling, IsTargetField, IsTimeField, SpellsCommand, SpellsKind, KeepsRow}
 use Rattle.tc_stack.specs.CommandTexts.{IsCommandAt, SpellsRest, KeepsRest, rest_rules, command_rules}
@@ -35,11 +35,11 @@ some_same a b same = ap (got a) same
     got else (Some x) = x
 
 -- the kind that was read is the one that is spelled
-kind_same : (fields : List (List ℕ)) (read other : Kind) → Reads kind_words IsKind (get_or fields 2 [] ∷ get_or fields 3 [] ∷ []) (Some read) → SpellsKind fields other → read ≡ other
+kind_same : (fields : List (List ℕ)) (read other : CommandKind) → Reads kind_words IsKind (get_or fields 2 [] ∷ get_or fields 3 [] ∷ []) (Some read) → SpellsKind fields other → read ≡ other
 kind_same fields read other reads spelled = some_same read other (reads.only other spelled.1 spelled.0)
 
 -- the command that was read is the one that is spelled
-pub command_only : (line : ℕ) (fields : List (List ℕ)) (read : Kind) (c : Command) → Reads kind_words IsKind (get_or fields 2 [] ∷ get_or fields 3 [] ∷ []) (Some read)
+pub command_only : (line : ℕ) (fields : List (List ℕ)) (read : CommandKind) (c : Command) → Reads kind_words IsKind (get_or fields 2 [] ∷ get_or fields 3 [] ∷ []) (Some read)
     → IsOnly (λ c. SpellsRest read (get_or fields 4 []) (get_or fields 5 []) c × IsCommandAt line c) c → IsOnly (λ c. SpellsCommand fields c × IsCommandAt line c) c
 command_only line fields read c reads is = (
   (record { kind = reads.found.0 ∙ ap kind_words (sym is.0.0.0); target = is.0.0.1; time = is.0.0.2 }, is.0.1),
@@ -47,12 +47,12 @@ command_only line fields read c reads is = (
 )
 
 -- the first rule of target and time that is broken is the first of the command's
-pub command_broken : (line : ℕ) (fields : List (List ℕ)) (read : Kind) (service : ℕ) (broken : Rule) → Reads decimal (λ n. (0 < n) × (n < 256)) (get_or fields 2 []) (Some service)
+pub command_broken : (line : ℕ) (fields : List (List ℕ)) (read : CommandKind) (service : ℕ) (broken : Rule) → Reads decimal (λ n. (0 < n) × (n < 256)) (get_or fields 2 []) (Some service)
     → Reads kind_words IsKind (get_or fields 2 [] ∷ get_or fields 3 [] ∷ []) (Some read) → FirstBroken (KeepsRest line read (get_or fields 4 []) (get_or fields 5 [])) rest_rules broken
     → FirstBroken (KeepsRow line fields) command_rules broken
 command_broken line fields read service broken any reads first = inr ((service, any.found.1, any.found.0), inr ((read, (reads.found.0, reads.found.1)), by_rule first))
   where
-    other_kind : (Is : Kind → Type 0) → (Is read → ⊥) → (k : Kind) → SpellsKind fields k → Is k → ⊥
+    other_kind : (Is : CommandKind → Type 0) → (Is read → ⊥) → (k : CommandKind) → SpellsKind fields k → Is k → ⊥
     other_kind Is never k spelled is = never (subst Is (sym (kind_same fields read k reads spelled)) is)
 
     by_rule : FirstBroken (KeepsRest line read (get_or fields 4 []) (get_or fields 5 [])) rest_rules broken → FirstBroken (KeepsRow line fields) rest_rules broken

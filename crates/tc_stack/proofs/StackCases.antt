@@ -8,7 +8,7 @@ use Rattle.jiff.proofs.OnLiterals.{jiff_on_literals}
 use Rattle.tc_types.specs.declared.requests.Ack.{Ack}
 use Rattle.tc_types.specs.declared.requests.Outcome.TheVariants.{Completes}
 use Rattle.tc_types.specs.declared.requests.Command.TheVariants.{Plain, InsertActivity}
-use Rattle.tc_types.specs.declared.places.Place.TheVariants.{Entered, Accepted, Completed}
+use Rattle.tc_types.specs.declared.history.places.Place.TheVariants.{Entered, Accepted, Completed}
 use Rattle.tc_types.specs.Grammar.{ack_word, yes_no, outcome_word}
 use Rattle.std.specs.Fmt.{decimal}
 use Rattle.tc_csv.specs.Tables.{records_of, header}

@@ -8,7 +8,7 @@ use Rattle.tc_csv.specs.declared.faults.Rule.{Rule}
 use Rattle.tc_csv.specs.Faults.{KeepsAll, FirstBroken}
 use Rattle.tc_csv.specs.Rows.{IsOnly}
 use Rattle.tc_csv.proofs.RowLemmas.{broken_among, broken_behind}
-use Rattle.tc_stack.specs.declared.rows.Conduct.{Conduct}
+use Rattle.tc_stack.specs.declared.stack_rows.Conduct.{Conduct}
 use Rattle.tc_stack.specs.declared.stacks.StackRow.{StackRow}
 use Rattle.tc_stack.specs.StackTexts.{IsScheduling, SpellsCommand, SpellsRow, KeepsRow, row_rules}
 use Rattle.tc_stack.specs.CommandTexts.{IsCommandAt, command_rules}

@@ -5,7 +5,7 @@ use Rattle.tc_types.specs.Grammar.{IsCommand}
 use Rattle.tc_csv.specs.declared.faults.Rule.{Rule}
 use Rattle.tc_csv.specs.declared.faults.Rule.TheVariants as rule
 use Rattle.tc_csv.specs.Tables.{number_field}
-use Rattle.tc_stack.specs.declared.commands.Kind.{Kind}
+use Rattle.tc_stack.specs.declared.commands.CommandKind.{CommandKind}
 use Rattle.tc_stack.specs.Stacks.{IsEarlier, named_line}
 use Rattle.tc_stack.specs.StackTexts.{kind_of, IsTargetField, IsTimeField, SpellsTime}
 
@@ -14,7 +14,7 @@ abbrev pub IsCommandAt : ℕ → Command → Type 0
 IsCommandAt line given = IsCommand given × IfSome (named_line given) (IsEarlier line)
 
 -- a command is of this kind, and these fields spell its target and its time
-abbrev pub SpellsRest : Kind → List ℕ → List ℕ → Command → Type 0
+abbrev pub SpellsRest : CommandKind → List ℕ → List ℕ → Command → Type 0
 SpellsRest kind target time given = (kind_of given ≡ kind) × (target ≡ number_field (named_line given)) × SpellsTime given time
 
 -- the rules of target and time
@@ -26,7 +26,7 @@ KeepsPair IsTarget IsTime rule.Target = IsTarget
 KeepsPair IsTarget IsTime rule.Time = IsTime
 KeepsPair IsTarget IsTime other = ⊤
 
-abbrev pub KeepsRest : ℕ → Kind → List ℕ → List ℕ → Rule → Type 0
+abbrev pub KeepsRest : ℕ → CommandKind → List ℕ → List ℕ → Rule → Type 0
 KeepsRest line kind target time = KeepsPair (IsTargetField line kind target) (IsTimeField kind time)
 
 -- the rules of the fields that a command has

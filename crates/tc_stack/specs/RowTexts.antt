@@ -8,7 +8,7 @@ use Rattle.tc_csv.specs.declared.faults.Rule.{Rule}
 use Rattle.tc_csv.specs.declared.faults.Rule.TheVariants as rule
 use Rattle.tc_csv.specs.Rows.{IsOnly}
 use Rattle.tc_csv.specs.Tables.{number_field}
-use Rattle.tc_stack.specs.declared.rows.Conduct.{Conduct}
+use Rattle.tc_stack.specs.declared.stack_rows.Conduct.{Conduct}
 use Rattle.tc_stack.specs.Stacks.{IsEarlier}
 use Rattle.tc_stack.specs.declared.stacks.StackRow.{StackRow}
 use Rattle.tc_stack.specs.StackTexts.{IsScheduling, SpellsRow, SpellsStack}

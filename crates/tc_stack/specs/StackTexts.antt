@@ -19,8 +19,8 @@ use Rattle.tc_csv.specs.declared.faults.Fault.{Fault}
 use Rattle.tc_csv.specs.Faults.{KeepsAll, FirstBrokenRow}
 use Rattle.tc_csv.specs.Rows.{SpellRows, IsOnly}
 use Rattle.tc_csv.specs.Tables.{records_of, number_field, KeepsTable, table_rules, IsTableFault}
-use Rattle.tc_stack.specs.declared.commands.Kind.{Kind}
-use Rattle.tc_stack.specs.declared.commands.Kind.TheVariants as kind
+use Rattle.tc_stack.specs.declared.commands.CommandKind.{CommandKind}
+use Rattle.tc_stack.specs.declared.commands.CommandKind.TheVariants as kind
 use Rattle.tc_stack.specs.declared.stacks.StackRow.{StackRow}
 use Rattle.tc_stack.specs.Stacks.{IsEarlier, IsRow, IsStack, named_line, first_barred}
 
@@ -31,7 +31,7 @@ stack_columns =
 
 -- ---- what is commanded
 
-abbrev pub kind_of : Command → Kind
+abbrev pub kind_of : Command → CommandKind
 kind_of (command.Plain service subtype) = kind.Plain service subtype
 kind_of command.EnableSchedule = kind.Enable
 kind_of command.DisableSchedule = kind.Disable
@@ -43,7 +43,7 @@ kind_of (command.ShiftAll offset) = kind.ShiftAll
 kind_of command.SummarizeAll = kind.Summarize
 
 -- service and subtype (ECSS-E-ST-70-41C, service 11, for the subtypes)
-abbrev pub kind_words : Kind → List (List ℕ)
+abbrev pub kind_words : CommandKind → List (List ℕ)
 kind_words (kind.Plain service subtype) = decimal service ∷ decimal subtype ∷ []
 kind_words kind.Enable = decimal 11 ∷ decimal 1 ∷ []
 kind_words kind.Disable = decimal 11 ∷ decimal 2 ∷ []
@@ -54,11 +54,11 @@ kind_words kind.Shift = decimal 11 ∷ decimal 7 ∷ []
 kind_words kind.ShiftAll = decimal 11 ∷ decimal 15 ∷ []
 kind_words kind.Summarize = decimal 11 ∷ decimal 17 ∷ []
 
-abbrev pub IsKind : Kind → Type 0
+abbrev pub IsKind : CommandKind → Type 0
 IsKind (kind.Plain service subtype) = IsService service × IsSubtype subtype
 IsKind other = Unit {0}
 
-abbrev pub is_plain : Kind → Bool
+abbrev pub is_plain : CommandKind → Bool
 is_plain (kind.Plain service subtype) = true
 is_plain other = false
 
@@ -108,18 +108,18 @@ row_rules =
     ∷ rule.Outcome ∷ []
 
 -- service and subtype are those of a kind of command
-abbrev pub SpellsKind : List (List ℕ) → Kind → Type 0
+abbrev pub SpellsKind : List (List ℕ) → CommandKind → Type 0
 SpellsKind fields given = (get_or fields 2 [] ∷ get_or fields 3 [] ∷ [] ≡ kind_words given) × IsKind given
 
 -- a target of a command of this kind, on this line: an earlier line, or nothing
-abbrev pub IsTargetField : ℕ → Kind → List ℕ → Type 0
+abbrev pub IsTargetField : ℕ → CommandKind → List ℕ → Type 0
 IsTargetField line kind.Insert field = (named : ℕ) × IsEarlier line named × (field ≡ decimal named)
 IsTargetField line kind.Delete field = (named : ℕ) × IsEarlier line named × (field ≡ decimal named)
 IsTargetField line kind.Shift field = (named : ℕ) × IsEarlier line named × (field ≡ decimal named)
 IsTargetField line other field = field ≡ []
 
 -- a time of a command of this kind: an instant, seconds, or nothing
-abbrev pub IsTimeField : Kind → List ℕ → Type 0
+abbrev pub IsTimeField : CommandKind → List ℕ → Type 0
 IsTimeField kind.Insert field = (time : ℕ) × IsMoment time × IsInstant time field
 IsTimeField kind.Shift field = (offset : ℤ) × IsOffset offset × (field ≡ signed_decimal offset)
 IsTimeField kind.ShiftAll field = (offset : ℤ) × IsOffset offset × (field ≡ signed_decimal offset)
@@ -135,9 +135,9 @@ KeepsRow line fields rule.FieldCount = length fields ≡ 10
 KeepsRow line fields rule.Line = get_or fields 0 [] ≡ decimal line
 KeepsRow line fields rule.Apid = (apid : ℕ) × IsApid apid × (get_or fields 1 [] ≡ decimal apid)
 KeepsRow line fields rule.Service = (service : ℕ) × ((0 < service) × (service < 256)) × (get_or fields 2 [] ≡ decimal service)
-KeepsRow line fields rule.Subtype = (given : Kind) × SpellsKind fields given
-KeepsRow line fields rule.Target = (given : Kind) × SpellsKind fields given × IsTargetField line given (get_or fields 4 [])
-KeepsRow line fields rule.Time = (given : Kind) × SpellsKind fields given × IsTimeField given (get_or fields 5 [])
+KeepsRow line fields rule.Subtype = (given : CommandKind) × SpellsKind fields given
+KeepsRow line fields rule.Target = (given : CommandKind) × SpellsKind fields given × IsTargetField line given (get_or fields 4 [])
+KeepsRow line fields rule.Time = (given : CommandKind) × SpellsKind fields given × IsTimeField given (get_or fields 5 [])
 KeepsRow line fields rule.Ack = (ack : Ack) × (IsScheduling (get_or fields 2 []) → ack.completion ≡ true) × (get_or fields 6 [] ≡ ack_word ack)
 KeepsRow line fields rule.Critical = (critical : Bool) × (get_or fields 7 [] ≡ yes_no critical)
 KeepsRow line fields rule.After = (after : Option ℕ) × IfSome after (IsEarlier line) × (get_or fields 8 [] ≡ number_field after)

@@ -2,8 +2,8 @@
 use Rattle.std.specs.Prelude.{◌≡◌, ⊤, ℕ, ◌+◌, ◌-◌, ◌<◌, ◌≤◌, ◌==◌, Bool, true, false, not, ◌&&◌, ◌||◌, if◌then◌else◌, Option, Some, None, IfSome, List, [], ◌∷◌, length, slice_get}
 use Rattle.tc_types.specs.declared.requests.Command.{Command}
 use Rattle.tc_types.specs.declared.requests.Command.TheVariants as command
-use Rattle.tc_types.specs.declared.places.Place.{Place}
-use Rattle.tc_types.specs.declared.places.Place.TheVariants as place
+use Rattle.tc_types.specs.declared.history.places.Place.{Place}
+use Rattle.tc_types.specs.declared.history.places.Place.TheVariants as place
 use Rattle.tc_types.specs.Grammar.{IsEntry}
 use Rattle.tc_types.specs.Schedule.{is_schedule}
 use Rattle.tc_stack.specs.declared.stacks.StackRow.{StackRow}

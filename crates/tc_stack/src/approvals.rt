@@ -5,8 +5,7 @@ ghost use Rattle.tc_stack.specs.Approvals.{unapproved, wanted, is_complete, is_s
 ghost use Rattle.tc_stack.specs.Given.{persons_of};
 
 use std::marker::Model;
-use tc_types::names::Name;
-use tc_types::refusals::Refusal;
+use tc_types::{Name, Refusal};
 
 /// Who approved so far.
 #[derive(Clone, Copy, Debug, PartialEq, Eq)]
@@ -132,11 +131,8 @@ impl Approvals {
         ensures complete { IfOk result (λ complete. complete ≡ is_complete self.new) }
         ensures sound { IsApproval self.new }
     {
-        if is_same_person(&self.author, &person) {
-            return Err(Refusal::SamePerson);
-        }
-        if self.has(&person) || self.is_complete() {
-            return Err(Refusal::ApprovedAlready);
+        if let Some(why) = self.refusal(&person) {
+            return Err(why);
         }
         self.given = self.given.with(person);
         Ok(self.is_complete())

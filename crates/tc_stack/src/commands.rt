@@ -7,21 +7,19 @@ ghost use Rattle.tc_types.specs.Grammar.{Reads};
 ghost use Rattle.tc_csv.specs.Faults.{FirstBroken};
 ghost use Rattle.tc_csv.specs.Rows.{IsOnly};
 ghost use Rattle.tc_stack.specs.Stacks.{IsEarlier};
-ghost use Rattle.tc_stack.specs.declared.commands.Kind.TheVariants.{Insert, Delete, Shift, ShiftAll};
+ghost use Rattle.tc_stack.specs.declared.commands.CommandKind.TheVariants.{Insert, Delete, Shift, ShiftAll};
 ghost use Rattle.tc_stack.specs.StackTexts.{kind_words, IsKind, is_plain, IsInstant, SpellsCommand, KeepsRow};
 ghost use Rattle.tc_stack.specs.CommandTexts.{IsCommandAt, SpellsRest, KeepsPair, KeepsRest, rest_rules, command_rules};
 
 use crate::instants::instant;
 use csv::ByteRecord;
-use tc_csv::faults::Rule;
-use tc_csv::fields::field;
-use tc_types::numbers::{Service, Subtype};
-use tc_types::readers::{number, offset, service, subtype};
-use tc_types::requests::Command;
+use tc_csv::{Rule, field};
+use tc_types::read::readers::{number, offset, service, subtype};
+use tc_types::{Command, Service, Subtype};
 
 /// What a command is, but for its target and its time.
 #[derive(Clone, Copy, Debug, PartialEq, Eq)]
-pub(crate) enum Kind {
+pub(crate) enum CommandKind {
     /// Any service but 11.
     Plain { service: Service, subtype: Subtype },
     /// TC[11,1].
@@ -63,33 +61,33 @@ pub(crate) fn earlier(line: u32, field: &[u8]) -> Option<u32>
 }
 
 /// A command of any service but 11.
-fn plain(service_field: &[u8], subtype_field: &[u8]) -> Option<Kind>
+fn plain(service_field: &[u8], subtype_field: &[u8]) -> Option<CommandKind>
     ensures { Reads kind_words (λ k. IsKind k × (is_plain k ≡ true)) (service_field.now ∷ subtype_field.now ∷ []) result }
 {
     let service = service(service_field)?;
     let subtype = subtype(subtype_field)?;
-    Some(Kind::Plain { service, subtype })
+    Some(CommandKind::Plain { service, subtype })
 }
 
 /// A command of the on-board schedule, service 11.
-fn scheduling(subtype_field: &[u8]) -> Option<Kind>
+fn scheduling(subtype_field: &[u8]) -> Option<CommandKind>
     ensures { Reads kind_words (λ k. IsKind k × (is_plain k ≡ false)) (decimal 11 ∷ subtype_field.now ∷ []) result }
 {
     match number(subtype_field)? {
-        1 => Some(Kind::Enable),
-        2 => Some(Kind::Disable),
-        3 => Some(Kind::Reset),
-        4 => Some(Kind::Insert),
-        5 => Some(Kind::Delete),
-        7 => Some(Kind::Shift),
-        15 => Some(Kind::ShiftAll),
-        17 => Some(Kind::Summarize),
+        1 => Some(CommandKind::Enable),
+        2 => Some(CommandKind::Disable),
+        3 => Some(CommandKind::Reset),
+        4 => Some(CommandKind::Insert),
+        5 => Some(CommandKind::Delete),
+        7 => Some(CommandKind::Shift),
+        15 => Some(CommandKind::ShiftAll),
+        17 => Some(CommandKind::Summarize),
         _ => None,
     }
 }
 
 /// What is commanded, but for target and time.
-fn read_kind(service_field: &[u8], subtype_field: &[u8]) -> Option<Kind>
+fn read_kind(service_field: &[u8], subtype_field: &[u8]) -> Option<CommandKind>
     ensures { Reads kind_words IsKind (service_field.now ∷ subtype_field.now ∷ []) result }
 {
     match number(service_field)? {
@@ -117,12 +115,8 @@ fn insert(line: u32, target: &[u8], time: &[u8]) -> Result<Command, Rule>
     ensures found { IfOk result (IsOnly (λ c. SpellsRest Insert target.now time.now c × IsCommandAt line c)) }
     ensures broken { IfErr result (FirstBroken (KeepsRest line Insert target.now time.now) rest_rules) }
 {
-    let Some(target) = earlier(line, target) else {
-        return Err(Rule::Target);
-    };
-    let Some(time) = instant(time) else {
-        return Err(Rule::Time);
-    };
+    let target = earlier(line, target).ok_or(Rule::Target)?;
+    let time = instant(time).ok_or(Rule::Time)?;
     Ok(Command::InsertActivity { target, time })
 }
 
@@ -131,9 +125,7 @@ fn delete(line: u32, target: &[u8], time: &[u8]) -> Result<Command, Rule>
     ensures found { IfOk result (IsOnly (λ c. SpellsRest Delete target.now time.now c × IsCommandAt line c)) }
     ensures broken { IfErr result (FirstBroken (KeepsRest line Delete target.now time.now) rest_rules) }
 {
-    let Some(target) = earlier(line, target) else {
-        return Err(Rule::Target);
-    };
+    let target = earlier(line, target).ok_or(Rule::Target)?;
     if !time.is_empty() {
         return Err(Rule::Time);
     }
@@ -145,12 +137,8 @@ fn shift(line: u32, target: &[u8], time: &[u8]) -> Result<Command, Rule>
     ensures found { IfOk result (IsOnly (λ c. SpellsRest Shift target.now time.now c × IsCommandAt line c)) }
     ensures broken { IfErr result (FirstBroken (KeepsRest line Shift target.now time.now) rest_rules) }
 {
-    let Some(target) = earlier(line, target) else {
-        return Err(Rule::Target);
-    };
-    let Some(offset) = offset(time) else {
-        return Err(Rule::Time);
-    };
+    let target = earlier(line, target).ok_or(Rule::Target)?;
+    let offset = offset(time).ok_or(Rule::Time)?;
     Ok(Command::ShiftActivity { target, offset })
 }
 
@@ -162,28 +150,30 @@ fn shift_all(line: u32, target: &[u8], time: &[u8]) -> Result<Command, Rule>
     if !target.is_empty() {
         return Err(Rule::Target);
     }
-    let Some(offset) = offset(time) else {
-        return Err(Rule::Time);
-    };
+    let offset = offset(time).ok_or(Rule::Time)?;
     Ok(Command::ShiftAll { offset })
 }
 
 /// The command of this kind with this target and time.
-fn rest_of(line: u32, kind: Kind, target: &[u8], time: &[u8]) -> Result<Command, Rule>
+fn rest_of(line: u32, kind: CommandKind, target: &[u8], time: &[u8]) -> Result<Command, Rule>
     requires { IsKind kind }
     ensures found { IfOk result (IsOnly (λ c. SpellsRest kind target.now time.now c × IsCommandAt line c)) }
     ensures broken { IfErr result (FirstBroken (KeepsRest line kind target.now time.now) rest_rules) }
 {
     match kind {
-        Kind::Plain { service, subtype } => bare(Command::Plain { service, subtype }, target, time),
-        Kind::Enable => bare(Command::EnableSchedule, target, time),
-        Kind::Disable => bare(Command::DisableSchedule, target, time),
-        Kind::Reset => bare(Command::ResetSchedule, target, time),
-        Kind::Insert => insert(line, target, time),
-        Kind::Delete => delete(line, target, time),
-        Kind::Shift => shift(line, target, time),
-        Kind::ShiftAll => shift_all(line, target, time),
-        Kind::Summarize => bare(Command::SummarizeAll, target, time),
+        CommandKind::Plain { service, subtype } => bare(
+            Command::Plain { service, subtype },
+            target,
+            time,
+        ),
+        CommandKind::Enable => bare(Command::EnableSchedule, target, time),
+        CommandKind::Disable => bare(Command::DisableSchedule, target, time),
+        CommandKind::Reset => bare(Command::ResetSchedule, target, time),
+        CommandKind::Insert => insert(line, target, time),
+        CommandKind::Delete => delete(line, target, time),
+        CommandKind::Shift => shift(line, target, time),
+        CommandKind::ShiftAll => shift_all(line, target, time),
+        CommandKind::Summarize => bare(Command::SummarizeAll, target, time),
     }
 }
 
@@ -195,11 +185,6 @@ pub(crate) fn command_of(line: u32, fields: &ByteRecord) -> Result<Command, Rule
     if any_service(field(fields, 2)).is_none() {
         return Err(Rule::Service);
     }
-    let Some(kind) = read_kind(field(fields, 2), field(fields, 3)) else {
-        return Err(Rule::Subtype);
-    };
-    match rest_of(line, kind, field(fields, 4), field(fields, 5)) {
-        Ok(command) => Ok(command),
-        Err(rule) => Err(rule),
-    }
+    let kind = read_kind(field(fields, 2), field(fields, 3)).ok_or(Rule::Subtype)?;
+    rest_of(line, kind, field(fields, 4), field(fields, 5))
 }

@@ -3,7 +3,7 @@ ghost use Rattle.std.specs.Prelude.{◌≡◌};
 ghost use Rattle.tc_stack.specs.Stacks.{at_line, is_free, may_release};
 
 use crate::stacks::{Stack, row_at};
-use tc_types::places::Place;
+use tc_types::Place;
 
 /// The place of a line, if there is such a line.
 fn place_at(places: &[Place], line: u32) -> Option<Place>

@@ -1,10 +1,15 @@
 //! Who approved what, stacks of requests and their interlocks: the rules of each, and the texts that stacks are read from.
 #![tactic(auto)]
 
-pub mod approvals;
+mod approvals;
 mod commands;
-pub mod instants;
-pub mod interlocks;
-pub mod readers;
-mod rows;
-pub mod stacks;
+mod instants;
+mod interlocks;
+mod readers;
+mod stack_rows;
+mod stacks;
+
+pub use approvals::Approvals;
+pub use instants::instant;
+pub use readers::{read_stack, why_no_stack};
+pub use stacks::{Stack, StackRow};

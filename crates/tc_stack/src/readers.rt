@@ -10,16 +10,12 @@ ghost use Rattle.tc_stack.specs.Stacks.{named_line, is_barred, names_barred, fir
 ghost use Rattle.tc_stack.specs.StackTexts.{KeepsRow, row_rules, SpellsStack, IsStackFault, Tells};
 ghost use Rattle.tc_stack.specs.RowTexts.{SpellsOnlyRow, IsOnlyStack};
 
-use crate::rows::row_of;
+use crate::stack_rows::row_of;
 use crate::stacks::{MOST_ROWS, Stack, StackRow, row_at};
 use csv::ByteRecord;
-use std::alloc::Global;
-use tc_csv::columns::Column;
-use tc_csv::faults::{Fault, NotRead, Rule};
-use tc_csv::tables::read_table;
-use tc_types::entries::Entry;
-use tc_types::refusals::Refusal;
-use tc_types::requests::Command;
+use std::alloc::{AllocError, Global};
+use tc_csv::{Column, Fault, NotRead, Rule, read_table};
+use tc_types::{Command, Entry, Refusal};
 
 /// The columns of the text of a stack.
 const COLUMNS: [Column; 10] = [
@@ -43,11 +39,7 @@ fn rows_of(alloc: Global, records: &[ByteRecord]) -> Result<Vec<StackRow>, NotRe
     let mut rows = Vec::new(alloc);
     for (index, fields) in records.iter().enumerate() {
         match row_of(index as u32 + 1, fields) {
-            Ok(row) => {
-                if rows.push(row).is_err() {
-                    return Err(NotRead::Memory);
-                }
-            }
+            Ok(row) => rows.push(row)?,
             Err(rule) => return Err(NotRead::wrong(index as u32 + 1, rule)),
         }
     }
@@ -128,17 +120,14 @@ pub fn read_stack(alloc: Global, text: &[u8]) -> Result<Stack, Refusal>
     }
 }
 
-/// Why a text spells no stack: the first rule that it breaks, and where; `None` where it spells one.
-///
-/// It is refused for want of memory alone.
-pub fn why_no_stack(alloc: Global, text: &[u8]) -> Result<Option<Fault>, Refusal>
+/// Why a text spells no stack: the first rule that it breaks, and where; `None` where it spells one. Fails where memory is refused.
+pub fn why_no_stack(alloc: Global, text: &[u8]) -> Result<Option<Fault>, AllocError>
     ensures told { IfOk result (Tells text.now) }
-    ensures refused { IfErr result (λ why. why ≡ Memory) }
     ensures only { (fault : SomeFault) → IsStackFault text.now fault → IfOk result (λ told. told ≡ Some fault) }
 {
     match read_rows(alloc, text) {
         Ok(_) => Ok(None),
         Err(NotRead::Wrong(fault)) => Ok(Some(fault)),
-        Err(NotRead::Memory) => Err(Refusal::Memory),
+        Err(NotRead::Memory) => Err(AllocError),
     }
 }

@@ -3,7 +3,7 @@ ghost use Rattle.std.specs.Prelude.{◌≡◌};
 ghost use Rattle.tc_stack.specs.Stacks.{IsStack, at_line};
 
 use std::marker::Model;
-use tc_types::entries::Entry;
+use tc_types::Entry;
 
 /// The most rows that a stack has.
 pub const MOST_ROWS: u16 = 200;

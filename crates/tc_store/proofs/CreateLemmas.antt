@@ -7,8 +7,8 @@ use Rattle.sqlite_schema.specs.declared.schema.Schema.{Schema}
 use Rattle.sqlite.specs.Held.{Held, state}
 use Rattle.tc_sql.specs.Builds.{BuildsTo}
 use Rattle.tc_sql.proofs.Creates.{makes}
-use Rattle.tc_types.specs.declared.places.Place.{Place}
-use Rattle.tc_types.specs.declared.rows.Row.{Row}
+use Rattle.tc_types.specs.declared.history.places.Place.{Place}
+use Rattle.tc_types.specs.declared.tables.rows.Row.{Row}
 use Rattle.tc_store.specs.Tallies.{first_tally}
 use Rattle.tc_store.specs.Steps.{Goes, Ran, Defined, Step}
 use Rattle.tc_store.proofs.StepLemmas.{goes_same, goes_then, step_more}

@@ -7,8 +7,8 @@ use Rattle.sqlite_trees.specs.declared.store.Store.{Ghosts}
 use Rattle.sqlite.specs.State.{State, Executes}
 use Rattle.sqlite.specs.Held.{Held, state}
 use Rattle.tc_store.specs.Steps.{Ran, Step}
-use Rattle.tc_types.specs.declared.rows.BegunExecution.{BegunExecution}
-use Rattle.tc_types.specs.declared.rows.Row.TheVariants.{Begun}
+use Rattle.tc_types.specs.declared.tables.rows.BegunExecution.{BegunExecution}
+use Rattle.tc_types.specs.declared.tables.rows.Row.TheVariants.{Begun}
 use Rattle.tc_types.specs.Tables.{execution_key}
 use Rattle.tc_sql.specs.Puts.{PutsInto, HasInserted}
 use Rattle.tc_sql.proofs.Inserts.{puts}

@@ -26,10 +26,14 @@ use Rattle.tc_store.specs.Meta.{meta_tree, version_shown}
 use Rattle.tc_store.specs.Loads.{all_version_columns}
 use Rattle.tc_store.specs.Told.{IsTold, IsToldRequest, IsToldStep, IsToldRecord}
 use Rattle.tc_store.specs.Shows.{ShowsRows, ShowsRequests, ShowsStacks, ShowsProcedures, ShowsAll}
-use Rattle.tc_store.specs.Reads.{Stays, Spares}
+use Rattle.tc_store.specs.Reads.{Stays, Spares, Reads, OnlyReads}
 use Rattle.tc_store.proofs.ReadLemmas.{rising, still_holds, fails_holding}
 
 -- ---- what a read leaves
+
+pub on_ok : {T E : Type 0} (r : Result T E) (P Q : Type 0) → OnOk r P → (P → Q) → OnOk r Q
+on_ok (Ok x) P Q h f = f h
+on_ok (Err e) P Q h f = tt
 
 module _ {S : Type 0} (g : Ghosts S) where
   pub stays_same : (held : Held S) → Stays g held held
@@ -71,6 +75,16 @@ module _ {S : Type 0} (g : Ghosts S) where
 
   pub spares_in_crash : (old new : Held S) (image : Image) → Holds (state g old).now image → Spares g old new → Survives (state g old) (state g new) (λ _. ⊥)
   spares_in_crash old new image h it = survives_weaker (state g old) (state g new) _ _ (λ clean db none. none image h) it.crash
+
+  -- so it is of what a call that only reads leaves of tables that hold an image
+  pub only_reads : {T E : Type 0} {Finds : Database → T → Type 0} (old new : Held S) (r : Result T E) → Reads g Finds old new r → OnlyReads g old new r
+  only_reads old new r it = record {
+    same = λ clean image held. on_ok r _ _ (it.same clean) (λ stays. stays.holds image held);
+    kept = it.left.kept;
+    crash = λ image held. spares_in_crash old new image held it.left;
+    clean = λ clean. clean_before old new it.left clean;
+    outside = it.left.outside;
+  }
 
   module _ (text : List ℕ) (plain : IsPlain (understood schema_1 text)) (params : Row) (old new : Held S) where
     quiet : Survives (state g old) (state g new) (CommitsShowing text params (state g old)) → Survives (state g old) (state g new) (λ _. (image : Image) → Holds (state g old).now image → ⊥)
@@ -151,10 +165,6 @@ read_more shown Told rows all items k d x within told are reads so_far =
 pub all_told : {X : Type 0} (xs : List X) → AllByRecursion (λ (_ : X). Unit {0}) xs
 all_told [] = tt
 all_told (x ∷ xs) = (tt, all_told xs)
-
-pub on_ok : {T E : Type 0} (r : Result T E) (P Q : Type 0) → OnOk r P → (P → Q) → OnOk r Q
-on_ok (Ok x) P Q h f = f h
-on_ok (Err e) P Q h f = tt
 
 -- what was read of requests, of stacks and of procedures is one image
 pub joined : (db : Database) → ShowsRows (db.trees meta_tree) all_version_columns (version_shown ∷ [])

@@ -9,8 +9,8 @@ use Rattle.sqlite_trees.specs.declared.store.Store.{Ghosts}
 use Rattle.sqlite.specs.State.{State, Executes}
 use Rattle.sqlite.specs.Held.{Held, state}
 use Rattle.tc_store.specs.Steps.{Ran, Step}
-use Rattle.tc_types.specs.declared.rows.ProcedureStep.{ProcedureStep}
-use Rattle.tc_types.specs.declared.rows.Row.TheVariants.{StepLoaded}
+use Rattle.tc_types.specs.declared.tables.rows.ProcedureStep.{ProcedureStep}
+use Rattle.tc_types.specs.declared.tables.rows.Row.TheVariants.{StepLoaded}
 use Rattle.tc_sql.specs.Puts.{PutsInto}
 use Rattle.tc_sql.specs.Numbered.{numbered, IsKeyedAt, AreAlike, HasAppended}
 use Rattle.tc_sql.proofs.Appends.{appends, same_text}

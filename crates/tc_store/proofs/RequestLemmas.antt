@@ -8,10 +8,10 @@ use Rattle.sqlite_trees.specs.declared.store.Store.{Ghosts}
 use Rattle.sqlite.specs.State.{State, Executes}
 use Rattle.sqlite.specs.Held.{Held, state}
 use Rattle.tc_store.specs.Steps.{Ran, Step}
-use Rattle.tc_types.specs.declared.places.Place.TheVariants as place
+use Rattle.tc_types.specs.declared.history.places.Place.TheVariants as place
 use Rattle.tc_types.specs.declared.requests.Request.{Request}
-use Rattle.tc_types.specs.declared.rows.PlacedRequest.{PlacedRequest}
-use Rattle.tc_types.specs.declared.rows.Row.TheVariants.{Entered, Placed}
+use Rattle.tc_types.specs.declared.tables.rows.PlacedRequest.{PlacedRequest}
+use Rattle.tc_types.specs.declared.tables.rows.Row.TheVariants.{Entered, Placed}
 use Rattle.tc_types.specs.Tables.{request_key}
 use Rattle.tc_sql.specs.Puts.{PutsInto, UpsertsIn, HasPut, HasInserted}
 use Rattle.tc_sql.proofs.Inserts.{puts}

@@ -11,7 +11,7 @@ use Rattle.sqlite_tied.specs.Compute.{everything}
 use Rattle.sqlite.specs.Listing.{understood}
 use Rattle.tc_types.specs.Tables as tables
 use Rattle.tc_types.specs.Tables.{Image, with_row}
-use Rattle.tc_types.specs.declared.rows.Row.{Row}
+use Rattle.tc_types.specs.declared.tables.rows.Row.{Row}
 use Rattle.tc_sql.specs.Forms.{table_of}
 use Rattle.tc_sql.specs.Builds.{no_schema, Builds}
 use Rattle.tc_sql.specs.Contents.{Matches, has_tree, rows_in, with_rows, are_tables}

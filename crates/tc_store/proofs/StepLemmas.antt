@@ -1,5 +1,6 @@
 -- How the steps of a transaction follow one another.
-use Rattle.std.proofs.Common.{◌≡◌, true, inl, ℕ, ◌+◌, ◌<◌, ◌≤◌, arith, length, take, get_or, List, [], ◌∷◌, ◌++◌, refl, subst, sym, ◌∙◌, take_all}
+use Rattle.std.proofs.Common.{◌≡◌, true, inl, ℕ, ◌+◌, ◌<◌, ◌≤◌, arith, length, take, get_or, List, [], ◌∷◌, ◌++◌, Result, IfOk, refl, subst, sym, ◌∙◌, take_all}
+use Rattle.std.specs.Borrow.{MutBor}
 use Rattle.std.proofs.lemmas.List.{take_more}
 use Rattle.std.proofs.lemmas.List.Sums.{fold_more}
 use Rattle.sqlite_trees.specs.Tree.{Trees}
@@ -8,11 +9,11 @@ use Rattle.sqlite_catalog.specs.Listing.{IsSound}
 use Rattle.sqlite.specs.State.{State, HasCleanDisk, KeepsCommit, Survives}
 use Rattle.sqlite.specs.Held.{Held, state}
 use Rattle.sqlite.proofs.StateLemmas.{survives_then}
-use Rattle.tc_types.specs.declared.rows.Row.{Row}
+use Rattle.tc_types.specs.declared.tables.rows.Row.{Row}
 use Rattle.tc_types.specs.Tables.{Image, with_row, applied}
 use Rattle.tc_sql.specs.Contents.{Matches}
 use Rattle.tc_store.specs.Schema.{schema_1, contents, Holds}
-use Rattle.tc_store.specs.Steps.{Goes, IsNewIn, AreNew, Step, HasBatch}
+use Rattle.tc_store.specs.Steps.{Goes, Does, IsNewIn, AreNew, Step, HasBatch}
 
 pub survives_same : (a : State) (P : Trees → Type 0) → Survives a a P
 survives_same a P = record { clean = omega arith; shield = λ h. h; counts = omega arith; limit = refl; closes = λ clean stays. inl stays; crash = λ clean db left. inl left }
@@ -33,6 +34,11 @@ new_more image [] row all one = (one, tt)
 new_more image (first ∷ rows) row all one = (all.0, new_more (with_row image first) rows row all.1 one)
 
 module _ {S : Type 0} (g : Ghosts S) where
+  -- what is done where a call was Ok follows from what that call did
+  pub does_then : {T E : Type 0} {Done Other : T → Held S → Held S → Type 0} (old new : MutBor (Held S)) (r : Result T E) → Does g Done old new r
+      → (IfOk r (λ x. Done x old.now new.now) → IfOk r (λ x. Other x old.now new.now)) → Does g Other old new r
+  does_then old new r it other = record { same_reference = it.same_reference; done = λ clean inside. other (it.done clean inside); kept = it.kept; survives = it.survives }
+
   pub goes_same : (a : Held S) → Goes g a a
   goes_same a = record { committed = refl; mode = refl; is_open = refl }
 

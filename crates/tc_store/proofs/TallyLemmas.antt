@@ -11,9 +11,9 @@ use Rattle.sqlite_trees.specs.Tree.{IsTable}
 use Rattle.sqlite_trees.specs.declared.store.Store.{Ghosts}
 use Rattle.sqlite.specs.State.{State, Executes, Shown}
 use Rattle.sqlite.specs.Held.{Held, state}
-use Rattle.tc_types.specs.declared.places.Place.TheVariants as place
-use Rattle.tc_types.specs.declared.rows.Row.TheVariants.{Tallied}
-use Rattle.tc_types.specs.declared.rows.Tally.{Tally}
+use Rattle.tc_types.specs.declared.history.places.Place.TheVariants as place
+use Rattle.tc_types.specs.declared.tables.rows.Row.TheVariants.{Tallied}
+use Rattle.tc_types.specs.declared.tables.rows.Tally.{Tally}
 use Rattle.tc_types.specs.Tables.{Image, tally_key}
 use Rattle.tc_sql.specs.Lists.{ListsFrom, no_limit}
 use Rattle.tc_sql.specs.Puts.{ReplacesIn, HasPut}

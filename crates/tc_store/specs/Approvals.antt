@@ -6,8 +6,9 @@ use Rattle.sqlite_value.specs.Order.{Row}
 use Rattle.sqlite_value.specs.Keys.{plain}
 use Rattle.sqlite_schema.specs.declared.schema.Kind.TheVariants as kind
 use Rattle.sqlite_sql.specs.Term.{Term, lit, col}
-use Rattle.tc_types.specs.declared.rows.Approval.{Approval}
+use Rattle.tc_types.specs.declared.tables.rows.Approval.{Approval}
 use Rattle.tc_sql.specs.Forms.{Form, column_of}
+use Rattle.tc_store.specs.declared.approvals.TheConstants.{CREATE, PUT}
 
 -- behind that of `tally`; the next one is its index
 abbrev pub approval_tree : ℕ
@@ -28,10 +29,10 @@ approval_form = record {
 }
 
 abbrev pub approval_text : List ℕ
-approval_text = codes "CREATE TABLE request_approval (request INTEGER NOT NULL, person TEXT NOT NULL, PRIMARY KEY (request, person)) STRICT"
+approval_text = CREATE.now
 
 abbrev pub approval_put : List ℕ
-approval_put = codes "INSERT INTO request_approval (request, person) VALUES (?1, ?2)"
+approval_put = PUT.now
 
 abbrev pub approval_terms : List Term
 approval_terms = lit Null ∷ col 0 0 ∷ col 0 1 ∷ []

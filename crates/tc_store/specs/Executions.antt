@@ -4,8 +4,9 @@ use Rattle.sqlite_value.specs.declared.value.Value.TheVariants.{Null, Int, Text}
 use Rattle.sqlite_value.specs.Order.{Row}
 use Rattle.sqlite_schema.specs.declared.schema.Kind.TheVariants as kind
 use Rattle.sqlite_sql.specs.Term.{Term, lit, col}
-use Rattle.tc_types.specs.declared.rows.BegunExecution.{BegunExecution}
+use Rattle.tc_types.specs.declared.tables.rows.BegunExecution.{BegunExecution}
 use Rattle.tc_sql.specs.Forms.{Form, column_of}
+use Rattle.tc_store.specs.declared.executions.TheConstants.{CREATE, PUT}
 
 -- behind the index of `step`
 abbrev pub execution_tree : ℕ
@@ -22,10 +23,10 @@ execution_form = record {
 }
 
 abbrev pub execution_text : List ℕ
-execution_text = codes "CREATE TABLE execution (num INTEGER PRIMARY KEY, procedure TEXT NOT NULL, person TEXT NOT NULL, moment INTEGER NOT NULL) STRICT"
+execution_text = CREATE.now
 
 abbrev pub execution_put : List ℕ
-execution_put = codes "INSERT INTO execution (num, procedure, person, moment) VALUES (?1, ?2, ?3, ?4)"
+execution_put = PUT.now
 
 abbrev pub execution_terms : List Term
 execution_terms = col 0 0 ∷ lit Null ∷ col 0 1 ∷ col 0 2 ∷ col 0 3 ∷ []

@@ -6,6 +6,7 @@ use Rattle.sqlite_value.specs.Keys.{plain}
 use Rattle.sqlite_schema.specs.declared.schema.Kind.TheVariants as kind
 use Rattle.sqlite_sql.specs.Term.{Term, lit}
 use Rattle.tc_sql.specs.Forms.{Form, column_of}
+use Rattle.tc_store.specs.declared.creates.TheConstants.{CREATE_META, PUT_VERSION}
 
 abbrev pub meta_tree : ℕ
 meta_tree = 0
@@ -21,10 +22,10 @@ meta_form = record {
 }
 
 abbrev pub meta_text : List ℕ
-meta_text = codes "CREATE TABLE meta (name TEXT PRIMARY KEY, value INTEGER NOT NULL) STRICT"
+meta_text = CREATE_META.now
 
 abbrev pub meta_put : List ℕ
-meta_put = codes "INSERT INTO meta (name, value) VALUES ('schema', 1)"
+meta_put = PUT_VERSION.now
 
 -- the schema has version 1
 abbrev pub version_row : Row

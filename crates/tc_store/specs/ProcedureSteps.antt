@@ -6,8 +6,9 @@ use Rattle.sqlite_value.specs.Order.{Row}
 use Rattle.sqlite_value.specs.Keys.{plain}
 use Rattle.sqlite_schema.specs.declared.schema.Kind.TheVariants as kind
 use Rattle.sqlite_sql.specs.Term.{Term, lit, col}
-use Rattle.tc_types.specs.declared.rows.ProcedureStep.{ProcedureStep}
+use Rattle.tc_types.specs.declared.tables.rows.ProcedureStep.{ProcedureStep}
 use Rattle.tc_sql.specs.Forms.{Form, column_of}
+use Rattle.tc_store.specs.declared.procedure_steps.TheConstants.{CREATE, PUT}
 
 -- behind the index of `procedure`; the next one is its own index
 abbrev pub step_tree : ℕ
@@ -29,10 +30,10 @@ step_form = record {
 }
 
 abbrev pub step_text : List ℕ
-step_text = codes "CREATE TABLE step (procedure TEXT NOT NULL, step INTEGER NOT NULL, body TEXT NOT NULL, countersign INTEGER NOT NULL, request INTEGER NOT NULL, PRIMARY KEY (procedure, step)) STRICT"
+step_text = CREATE.now
 
 abbrev pub step_put : List ℕ
-step_put = codes "INSERT INTO step (procedure, step, body, countersign, request) VALUES (?1, ?2, ?3, ?4, ?5)"
+step_put = PUT.now
 
 abbrev pub step_terms : List Term
 step_terms = lit Null ∷ col 0 0 ∷ col 0 1 ∷ col 0 2 ∷ col 0 3 ∷ col 0 4 ∷ []

@@ -6,8 +6,9 @@ use Rattle.sqlite_value.specs.Order.{Row}
 use Rattle.sqlite_value.specs.Keys.{plain}
 use Rattle.sqlite_schema.specs.declared.schema.Kind.TheVariants as kind
 use Rattle.sqlite_sql.specs.Term.{Term, lit, col}
-use Rattle.tc_types.specs.declared.rows.LoadedProcedure.{LoadedProcedure}
+use Rattle.tc_types.specs.declared.tables.rows.LoadedProcedure.{LoadedProcedure}
 use Rattle.tc_sql.specs.Forms.{Form, column_of}
+use Rattle.tc_store.specs.declared.procedures.TheConstants.{CREATE, PUT}
 
 -- behind the index of `stack_approval`; the next one is its own index
 abbrev pub procedure_tree : ℕ
@@ -28,10 +29,10 @@ procedure_form = record {
 }
 
 abbrev pub procedure_text : List ℕ
-procedure_text = codes "CREATE TABLE procedure (name TEXT PRIMARY KEY, author TEXT NOT NULL) STRICT"
+procedure_text = CREATE.now
 
 abbrev pub procedure_put : List ℕ
-procedure_put = codes "INSERT INTO procedure (name, author) VALUES (?1, ?2)"
+procedure_put = PUT.now
 
 abbrev pub procedure_terms : List Term
 procedure_terms = lit Null ∷ col 0 0 ∷ col 0 1 ∷ []

@@ -8,16 +8,16 @@ use Rattle.sqlite_trees.specs.Tree.{rowid, IsTable}
 use Rattle.sqlite_sql.specs.Term.{Term, eval_all}
 use Rattle.sqlite.specs.Effect.{Database}
 use Rattle.tc_types.specs.declared.requests.Body.{Body}
-use Rattle.tc_types.specs.declared.moves.Move.{Move}
-use Rattle.tc_types.specs.declared.rows.PlacedRequest.{PlacedRequest}
-use Rattle.tc_types.specs.declared.rows.Tally.{Tally}
-use Rattle.tc_types.specs.declared.rows.Approval.{Approval}
-use Rattle.tc_types.specs.declared.rows.LoadedStack.{LoadedStack}
-use Rattle.tc_types.specs.declared.rows.StackApproval.{StackApproval}
-use Rattle.tc_types.specs.declared.rows.LoadedProcedure.{LoadedProcedure}
-use Rattle.tc_types.specs.declared.rows.ProcedureStep.{ProcedureStep}
-use Rattle.tc_types.specs.declared.rows.BegunExecution.{BegunExecution}
-use Rattle.tc_types.specs.declared.rows.StepRecord.{StepRecord}
+use Rattle.tc_types.specs.declared.history.moves.Move.{Move}
+use Rattle.tc_types.specs.declared.tables.rows.PlacedRequest.{PlacedRequest}
+use Rattle.tc_types.specs.declared.tables.rows.Tally.{Tally}
+use Rattle.tc_types.specs.declared.tables.rows.Approval.{Approval}
+use Rattle.tc_types.specs.declared.tables.rows.LoadedStack.{LoadedStack}
+use Rattle.tc_types.specs.declared.tables.rows.StackApproval.{StackApproval}
+use Rattle.tc_types.specs.declared.tables.rows.LoadedProcedure.{LoadedProcedure}
+use Rattle.tc_types.specs.declared.tables.rows.ProcedureStep.{ProcedureStep}
+use Rattle.tc_types.specs.declared.tables.rows.BegunExecution.{BegunExecution}
+use Rattle.tc_types.specs.declared.tables.rows.StepRecord.{StepRecord}
 use Rattle.tc_types.specs.Grammar.{outcome_word}
 use Rattle.tc_types.specs.Tables.{Image}
 use Rattle.tc_store.specs.Meta.{meta_tree, version_shown}

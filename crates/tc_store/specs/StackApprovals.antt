@@ -7,8 +7,9 @@ use Rattle.sqlite_value.specs.Order.{Row}
 use Rattle.sqlite_value.specs.Keys.{plain}
 use Rattle.sqlite_schema.specs.declared.schema.Kind.TheVariants as kind
 use Rattle.sqlite_sql.specs.Term.{Term, lit, col}
-use Rattle.tc_types.specs.declared.rows.StackApproval.{StackApproval}
+use Rattle.tc_types.specs.declared.tables.rows.StackApproval.{StackApproval}
 use Rattle.tc_sql.specs.Forms.{Form, column_of}
+use Rattle.tc_store.specs.declared.stacks.TheConstants.{CREATE_APPROVAL, PUT_APPROVAL}
 
 -- behind the index of `stack`; the next one is its own index
 abbrev pub stack_approval_tree : ℕ
@@ -29,10 +30,10 @@ stack_approval_form = record {
 }
 
 abbrev pub stack_approval_text : List ℕ
-stack_approval_text = codes "CREATE TABLE stack_approval (stack TEXT NOT NULL, person TEXT NOT NULL, PRIMARY KEY (stack, person)) STRICT"
+stack_approval_text = CREATE_APPROVAL.now
 
 abbrev pub stack_approval_put : List ℕ
-stack_approval_put = codes "INSERT INTO stack_approval (stack, person) VALUES (?1, ?2)"
+stack_approval_put = PUT_APPROVAL.now
 
 abbrev pub stack_approval_terms : List Term
 stack_approval_terms = lit Null ∷ col 0 0 ∷ col 0 1 ∷ []

@@ -6,8 +6,9 @@ use Rattle.sqlite_value.specs.Order.{Row}
 use Rattle.sqlite_value.specs.Keys.{plain}
 use Rattle.sqlite_schema.specs.declared.schema.Kind.TheVariants as kind
 use Rattle.sqlite_sql.specs.Term.{Term, lit, col}
-use Rattle.tc_types.specs.declared.rows.LoadedStack.{LoadedStack}
+use Rattle.tc_types.specs.declared.tables.rows.LoadedStack.{LoadedStack}
 use Rattle.tc_sql.specs.Forms.{Form, column_of}
+use Rattle.tc_store.specs.declared.stacks.TheConstants.{CREATE_STACK, PUT_STACK}
 
 -- behind the index of `request_approval`; the next one is its own index
 abbrev pub stack_tree : ℕ
@@ -28,10 +29,10 @@ stack_form = record {
 }
 
 abbrev pub stack_text : List ℕ
-stack_text = codes "CREATE TABLE stack (name TEXT PRIMARY KEY, author TEXT NOT NULL, critical INTEGER NOT NULL) STRICT"
+stack_text = CREATE_STACK.now
 
 abbrev pub stack_put : List ℕ
-stack_put = codes "INSERT INTO stack (name, author, critical) VALUES (?1, ?2, ?3)"
+stack_put = PUT_STACK.now
 
 abbrev pub stack_terms : List Term
 stack_terms = lit Null ∷ col 0 0 ∷ col 0 1 ∷ col 0 2 ∷ []

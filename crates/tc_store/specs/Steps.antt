@@ -1,5 +1,6 @@
 -- What a statement or a batch does to the tables inside a transaction, and what it leaves after a crash.
-use Rattle.std.specs.Prelude.{◌≡◌, ℕ, ◌==◌, true, false, List, [], ◌∷◌, Ok, ⊤}
+use Rattle.std.specs.Prelude.{◌≡◌, ℕ, ◌==◌, true, false, List, [], ◌∷◌, Result, Ok, IfOk, IsTrue, ⊤}
+use Rattle.std.specs.Borrow.{MutBor}
 use Rattle.std.specs.List.{list_any}
 use Rattle.sqlite_value.specs.Order.{Row as Values}
 use Rattle.sqlite_schema.specs.declared.schema.Schema.{Schema}
@@ -7,21 +8,21 @@ use Rattle.sqlite_trees.specs.Tree.{Trees}
 use Rattle.sqlite_trees.specs.declared.store.Store.{Ghosts}
 use Rattle.sqlite_catalog.specs.Listing.{IsSound}
 use Rattle.sqlite.specs.Effect.{Database}
-use Rattle.sqlite.specs.State.{State, Executes}
+use Rattle.sqlite.specs.State.{State, Executes, HasCleanDisk, KeepsCommit, Survives}
 use Rattle.sqlite.specs.Held.{Held, state}
 use Rattle.sqlite.specs.Steps.{FailsToCommit}
 use Rattle.sqlite.specs.declared.error.Error.{Error}
-use Rattle.tc_types.specs.declared.rows.PlacedRequest.{PlacedRequest}
-use Rattle.tc_types.specs.declared.moves.Move.{Move}
-use Rattle.tc_types.specs.declared.rows.Approval.{Approval}
-use Rattle.tc_types.specs.declared.rows.LoadedStack.{LoadedStack}
-use Rattle.tc_types.specs.declared.rows.StackApproval.{StackApproval}
-use Rattle.tc_types.specs.declared.rows.LoadedProcedure.{LoadedProcedure}
-use Rattle.tc_types.specs.declared.rows.ProcedureStep.{ProcedureStep}
-use Rattle.tc_types.specs.declared.rows.BegunExecution.{BegunExecution}
-use Rattle.tc_types.specs.declared.rows.StepRecord.{StepRecord}
-use Rattle.tc_types.specs.declared.rows.Row.{Row}
-use Rattle.tc_types.specs.declared.rows.Row.TheVariants.{Entered, Placed, Moved, Tallied, Approved, Loaded, StackApproved, ProcedureLoaded, StepLoaded, Begun, Recorded}
+use Rattle.tc_types.specs.declared.tables.rows.PlacedRequest.{PlacedRequest}
+use Rattle.tc_types.specs.declared.history.moves.Move.{Move}
+use Rattle.tc_types.specs.declared.tables.rows.Approval.{Approval}
+use Rattle.tc_types.specs.declared.tables.rows.LoadedStack.{LoadedStack}
+use Rattle.tc_types.specs.declared.tables.rows.StackApproval.{StackApproval}
+use Rattle.tc_types.specs.declared.tables.rows.LoadedProcedure.{LoadedProcedure}
+use Rattle.tc_types.specs.declared.tables.rows.ProcedureStep.{ProcedureStep}
+use Rattle.tc_types.specs.declared.tables.rows.BegunExecution.{BegunExecution}
+use Rattle.tc_types.specs.declared.tables.rows.StepRecord.{StepRecord}
+use Rattle.tc_types.specs.declared.tables.rows.Row.{Row}
+use Rattle.tc_types.specs.declared.tables.rows.Row.TheVariants.{Entered, Placed, Moved, Tallied, Approved, Loaded, StackApproved, ProcedureLoaded, StepLoaded, Begun, Recorded}
 use Rattle.tc_types.specs.Tables.{Image, empty_image, with_row, applied}
 use Rattle.tc_sql.specs.Builds.{BuildsTo, no_schema}
 use Rattle.tc_sql.specs.Contents.{Matches}
@@ -34,6 +35,13 @@ use Rattle.tc_store.specs.Records.{is_same_record}
 use Rattle.tc_store.specs.Schema.{schema_1, contents, Holds}
 use Rattle.tc_store.specs.declared.faults.StoreFault.{StoreFault}
 use Rattle.tc_store.specs.declared.faults.StoreFault.TheVariants.{Commit}
+
+-- What a call inside a transaction does: this, where it is Ok. Whatever it answers, nothing is committed, and a crash leaves no other tables than before.
+pub record Does {S T E : Type 0} (g : Ghosts S) (Done : T → Held S → Held S → Type 0) (old new : MutBor (Held S)) (result : Result T E) : Type 0 where
+  pub same_reference : new.ghost_name ≡ old.ghost_name
+  pub done : HasCleanDisk (state g new.now) → IsTrue old.now.in_transaction → IfOk result (λ x. Done x old.now new.now)
+  pub kept : HasCleanDisk (state g new.now) → IsTrue old.now.in_transaction → KeepsCommit (state g old.now) (state g new.now)
+  pub survives : Survives (state g old.now) (state g new.now) (λ _. ⊥)
 
 -- the transaction goes on, and nothing was committed
 pub record Goes {S : Type 0} (g : Ghosts S) (old new : Held S) : Type 0 where
@@ -89,6 +97,10 @@ pub record Step {S : Type 0} (g : Ghosts S) (rows : List Row) (old new : Held S)
   pub fresh : (image : Image) → Holds (state g old).now image → AreNew image rows
   pub holds : (image : Image) → Holds (state g old).now image → Holds (state g new).now (applied rows image)
   pub goes : Goes g old new
+
+-- what a call does that writes these rows inside a transaction
+abbrev pub Puts : {S T E : Type 0} → Ghosts S → List Row → MutBor (Held S) → MutBor (Held S) → Result T E → Type 0
+Puts g rows old new result = Does g (λ _. Step g rows) old new result
 
 -- a transaction in which all of it was done came to its commit, and the commit failed
 pub record FailsAtCommit {S : Type 0} (g : Ghosts S) (Done : Held S → Held S → Type 0) (old new : Held S) (error : Error) : Type 0 where

@@ -4,12 +4,13 @@ use Rattle.sqlite_value.specs.declared.value.Value.TheVariants.{Null, Int}
 use Rattle.sqlite_value.specs.Order.{Row}
 use Rattle.sqlite_schema.specs.declared.schema.Kind.TheVariants as kind
 use Rattle.sqlite_sql.specs.Term.{Term, lit, col}
-use Rattle.tc_types.specs.declared.places.Place.{Place}
-use Rattle.tc_types.specs.declared.rows.Tally.{Tally}
-use Rattle.tc_types.specs.declared.rows.Row.{Row as Entry}
-use Rattle.tc_types.specs.declared.rows.Row.TheVariants.{Tallied}
+use Rattle.tc_types.specs.declared.history.places.Place.{Place}
+use Rattle.tc_types.specs.declared.tables.rows.Tally.{Tally}
+use Rattle.tc_types.specs.declared.tables.rows.Row.{Row as Entry}
+use Rattle.tc_types.specs.declared.tables.rows.Row.TheVariants.{Tallied}
 use Rattle.tc_types.specs.Lawful.{place_number}
 use Rattle.tc_sql.specs.Forms.{Form, column_of}
+use Rattle.tc_store.specs.declared.tallies.TheConstants.{CREATE, PUT, AMOUNTS}
 
 -- behind that of the index of `move`
 abbrev pub tally_tree : ℕ
@@ -26,10 +27,10 @@ tally_form = record {
 }
 
 abbrev pub tally_text : List ℕ
-tally_text = codes "CREATE TABLE tally (place INTEGER PRIMARY KEY, amount INTEGER NOT NULL) STRICT"
+tally_text = CREATE.now
 
 abbrev pub tally_put : List ℕ
-tally_put = codes "INSERT OR REPLACE INTO tally (place, amount) VALUES (?1, ?2)"
+tally_put = PUT.now
 
 abbrev pub tally_terms : List Term
 tally_terms = col 0 0 ∷ lit Null ∷ col 0 1 ∷ []
@@ -53,4 +54,4 @@ abbrev pub tally_shown : Tally → Row
 tally_shown t = Int (pos t.amount) ∷ []
 
 abbrev pub tallies_text : List ℕ
-tallies_text = codes "SELECT amount FROM tally ORDER BY place"
+tallies_text = AMOUNTS.now

@@ -3,9 +3,9 @@ use Rattle.std.specs.Prelude.{◌≡◌, ◌≢◌, ◌==◌, ℕ, ℤ, [], Some
 use Rattle.std.specs.List.{AllByRecursion}
 use Rattle.tc_types.specs.declared.requests.Origin.{Origin}
 use Rattle.tc_types.specs.declared.requests.Command.{Command}
-use Rattle.tc_types.specs.declared.rows.PlacedRequest.{PlacedRequest}
-use Rattle.tc_types.specs.declared.rows.ProcedureStep.{ProcedureStep}
-use Rattle.tc_types.specs.declared.rows.StepRecord.{StepRecord}
+use Rattle.tc_types.specs.declared.tables.rows.PlacedRequest.{PlacedRequest}
+use Rattle.tc_types.specs.declared.tables.rows.ProcedureStep.{ProcedureStep}
+use Rattle.tc_types.specs.declared.tables.rows.StepRecord.{StepRecord}
 use Rattle.tc_types.specs.Grammar.{IsCommand, IsOutcome}
 use Rattle.tc_types.specs.Schedule.{is_schedule}
 use Rattle.tc_types.specs.Tables.{Image}

@@ -1,91 +1,64 @@
 //! The values of a row that is read. Each function fails where the value is not one that the desk writes.
-ghost use Rattle.std.specs.Prelude.{◌≡◌, ◌≢◌, ℕ, pos, true, if◌then◌else◌, Bool, List, [], string_bytes, Option, Some, IfOk, IfErr};
+ghost use Rattle.std.specs.Prelude.{◌≡◌, ◌≢◌, ℕ, pos, if◌then◌else◌, Bool, List, [], string_bytes, Option, Some, IfOk};
 ghost use Rattle.sqlite_value.specs.declared.value.Value.TheVariants.{Int, Text};
 ghost use Rattle.sqlite_value.specs.Order.{column};
-ghost use Rattle.tc_types.specs.declared.places.Place.{Place as SomePlace};
-ghost use Rattle.tc_types.specs.declared.causes.Cause.{Cause as SomeCause};
+ghost use Rattle.tc_types.specs.declared.history.places.Place.{Place as SomePlace};
+ghost use Rattle.tc_types.specs.declared.history.causes.Cause.{Cause as SomeCause};
 ghost use Rattle.tc_types.specs.Lawful.{place_number, cause_number};
 ghost use Rattle.tc_types.specs.declared.verdicts.Verdict.{Verdict as SomeVerdict};
 ghost use Rattle.tc_types.specs.Verdicts.{verdict_number};
 ghost use Rattle.tc_store.specs.Moves.{from_number};
 ghost use Rattle.tc_store.specs.ProcedureSteps.{released_number};
 ghost use Rattle.tc_store.specs.Records.{second_text};
-ghost use Rattle.tc_store.specs.Faults.{is_of_read};
 
-use crate::faults::StoreFault;
+use crate::faults::ReadFault;
 use sqlite::Row;
-use tc_types::causes::Cause;
-use tc_types::names::Name;
-use tc_types::numbers::{Moment, RequestNumber};
-use tc_types::places::Place;
-use tc_types::step_texts::StepText;
-use tc_types::verdicts::Verdict;
+use tc_types::{Cause, Moment, Name, Place, RequestNumber, StepText, Verdict};
 
 /// A number.
-pub(crate) fn number_at(row: &Row, at: usize) -> Result<u32, StoreFault>
+pub(crate) fn number_at(row: &Row, at: usize) -> Result<u32, ReadFault>
     ensures reads { IfOk result (λ n. column row.now at ≡ Int (pos n)) }
-    ensures kind { IfErr result (λ e. is_of_read e ≡ true) }
 {
-    match row.get(at) {
-        Ok(number) => Ok(number),
-        Err(error) => Err(StoreFault::Read(error)),
-    }
+    Ok(row.get(at)?)
 }
 
 /// A number of one byte.
-fn byte_at(row: &Row, at: usize) -> Result<u8, StoreFault>
+fn byte_at(row: &Row, at: usize) -> Result<u8, ReadFault>
     ensures reads { IfOk result (λ n. column row.now at ≡ Int (pos n)) }
-    ensures kind { IfErr result (λ e. is_of_read e ≡ true) }
 {
     let number = number_at(row, at)?;
-    match u8::try_from(number) {
-        Ok(byte) => Ok(byte),
-        Err(_) => Err(StoreFault::Damaged),
-    }
+    u8::try_from(number).map_err(|_| ReadFault::Damaged)
 }
 
 /// The number of a request.
-pub(crate) fn request_at(row: &Row, at: usize) -> Result<RequestNumber, StoreFault>
+pub(crate) fn request_at(row: &Row, at: usize) -> Result<RequestNumber, ReadFault>
     ensures reads { IfOk result (λ n. column row.now at ≡ Int (pos n)) }
-    ensures kind { IfErr result (λ e. is_of_read e ≡ true) }
 {
     let number = number_at(row, at)?;
-    match RequestNumber::new(number) {
-        Some(request) => Ok(request),
-        None => Err(StoreFault::Damaged),
-    }
+    RequestNumber::new(number).ok_or(ReadFault::Damaged)
 }
 
 /// A moment.
-pub(crate) fn moment_at(row: &Row, at: usize) -> Result<Moment, StoreFault>
+pub(crate) fn moment_at(row: &Row, at: usize) -> Result<Moment, ReadFault>
     ensures reads { IfOk result (λ n. column row.now at ≡ Int (pos n)) }
-    ensures kind { IfErr result (λ e. is_of_read e ≡ true) }
 {
     let seconds = number_at(row, at)?;
-    match Moment::new(seconds) {
-        Some(moment) => Ok(moment),
-        None => Err(StoreFault::Damaged),
-    }
+    Moment::new(seconds).ok_or(ReadFault::Damaged)
 }
 
 /// A place by its number.
-pub(crate) fn place_at(row: &Row, at: usize) -> Result<Place, StoreFault>
+pub(crate) fn place_at(row: &Row, at: usize) -> Result<Place, ReadFault>
     ensures same { IfOk result (λ place. (was : SomePlace) → column row.now at ≡ Int (pos (place_number was)) → place ≡ was) }
     ensures reads { IfOk result (λ place. column row.now at ≡ Int (pos (place_number place))) }
-    ensures kind { IfErr result (λ e. is_of_read e ≡ true) }
 {
     let number = byte_at(row, at)?;
-    match Place::from_number(number) {
-        Some(place) => Ok(place),
-        None => Err(StoreFault::Damaged),
-    }
+    Place::from_number(number).ok_or(ReadFault::Damaged)
 }
 
 /// A place by its number, or nowhere by 0.
-pub(crate) fn from_at(row: &Row, at: usize) -> Result<Option<Place>, StoreFault>
+pub(crate) fn from_at(row: &Row, at: usize) -> Result<Option<Place>, ReadFault>
     ensures same { IfOk result (λ place. (was : Option SomePlace) → column row.now at ≡ Int (pos (from_number was)) → place ≡ was) }
     ensures reads { IfOk result (λ place. column row.now at ≡ Int (pos (from_number place))) }
-    ensures kind { IfErr result (λ e. is_of_read e ≡ true) }
 {
     let number = byte_at(row, at)?;
     if number == 0 {
@@ -93,82 +66,64 @@ pub(crate) fn from_at(row: &Row, at: usize) -> Result<Option<Place>, StoreFault>
     }
     match Place::from_number(number) {
         Some(place) => Ok(Some(place)),
-        None => Err(StoreFault::Damaged),
+        None => Err(ReadFault::Damaged),
     }
 }
 
 /// A cause by its number.
-pub(crate) fn cause_at(row: &Row, at: usize) -> Result<Cause, StoreFault>
+pub(crate) fn cause_at(row: &Row, at: usize) -> Result<Cause, ReadFault>
     ensures same { IfOk result (λ cause. (was : SomeCause) → column row.now at ≡ Int (pos (cause_number was)) → cause ≡ was) }
     ensures reads { IfOk result (λ cause. column row.now at ≡ Int (pos (cause_number cause))) }
-    ensures kind { IfErr result (λ e. is_of_read e ≡ true) }
 {
     let number = byte_at(row, at)?;
-    match Cause::from_number(number) {
-        Some(cause) => Ok(cause),
-        None => Err(StoreFault::Damaged),
-    }
+    Cause::from_number(number).ok_or(ReadFault::Damaged)
 }
 
 /// A name.
-pub(crate) fn name_at(row: &Row, at: usize) -> Result<Name, StoreFault>
+pub(crate) fn name_at(row: &Row, at: usize) -> Result<Name, ReadFault>
     ensures reads { IfOk result (λ name. column row.now at ≡ Text name) }
-    ensures kind { IfErr result (λ e. is_of_read e ≡ true) }
 {
-    let text: String = match row.get(at) {
-        Ok(text) => text,
-        Err(error) => return Err(StoreFault::Read(error)),
-    };
-    match Name::read(text.as_bytes()) {
-        Some(name) => Ok(name),
-        None => Err(StoreFault::Damaged),
-    }
+    let text = text_at(row, at)?;
+    Name::read(text.as_bytes()).ok_or(ReadFault::Damaged)
 }
 
 /// A number of either sign.
-pub(crate) fn signed_at(row: &Row, at: usize) -> Result<i64, StoreFault>
+pub(crate) fn signed_at(row: &Row, at: usize) -> Result<i64, ReadFault>
     ensures reads { IfOk result (λ n. column row.now at ≡ Int n) }
-    ensures kind { IfErr result (λ e. is_of_read e ≡ true) }
 {
-    match row.get(at) {
-        Ok(number) => Ok(number),
-        Err(error) => Err(StoreFault::Read(error)),
-    }
+    Ok(row.get(at)?)
 }
 
 /// Whether something is so: 1 where it is, and 0 where it is not.
-pub(crate) fn flag_at(row: &Row, at: usize) -> Result<bool, StoreFault>
+pub(crate) fn flag_at(row: &Row, at: usize) -> Result<bool, ReadFault>
     ensures same { IfOk result (λ flag. (was : Bool) → column row.now at ≡ Int (if was then pos 1 else pos 0) → flag ≡ was) }
     ensures reads { IfOk result (λ flag. column row.now at ≡ Int (if flag then pos 1 else pos 0)) }
-    ensures kind { IfErr result (λ e. is_of_read e ≡ true) }
 {
     match number_at(row, at)? {
         0 => Ok(false),
         1 => Ok(true),
-        _ => Err(StoreFault::Damaged),
+        _ => Err(ReadFault::Damaged),
     }
 }
 
 /// What became of a step, by its number.
-pub(crate) fn verdict_at(row: &Row, at: usize) -> Result<Verdict, StoreFault>
+pub(crate) fn verdict_at(row: &Row, at: usize) -> Result<Verdict, ReadFault>
     ensures same { IfOk result (λ verdict. (was : SomeVerdict) → column row.now at ≡ Int (pos (verdict_number was)) → verdict ≡ was) }
     ensures reads { IfOk result (λ verdict. column row.now at ≡ Int (pos (verdict_number verdict))) }
-    ensures kind { IfErr result (λ e. is_of_read e ≡ true) }
 {
     match number_at(row, at)? {
         1 => Ok(Verdict::Done),
         2 => Ok(Verdict::Skipped),
         3 => Ok(Verdict::Failed),
-        _ => Err(StoreFault::Damaged),
+        _ => Err(ReadFault::Damaged),
     }
 }
 
 /// The number of a request, or none by 0.
-pub(crate) fn released_at(row: &Row, at: usize) -> Result<Option<RequestNumber>, StoreFault>
+pub(crate) fn released_at(row: &Row, at: usize) -> Result<Option<RequestNumber>, ReadFault>
     ensures same { IfOk result (λ request. (was : Option ℕ) → was ≢ Some 0 → column row.now at ≡ Int (pos (released_number was)) → request ≡ was) }
     ensures reads { IfOk result (λ request. column row.now at ≡ Int (pos (released_number request))) }
     ensures told { IfOk result (λ request. request ≢ Some 0) }
-    ensures kind { IfErr result (λ e. is_of_read e ≡ true) }
 {
     let number = number_at(row, at)?;
     if number == 0 {
@@ -176,27 +131,22 @@ pub(crate) fn released_at(row: &Row, at: usize) -> Result<Option<RequestNumber>,
     }
     match RequestNumber::new(number) {
         Some(request) => Ok(Some(request)),
-        None => Err(StoreFault::Damaged),
+        None => Err(ReadFault::Damaged),
     }
 }
 
 /// A text.
-pub(crate) fn text_at(row: &Row, at: usize) -> Result<String, StoreFault>
+pub(crate) fn text_at(row: &Row, at: usize) -> Result<String, ReadFault>
     ensures reads { IfOk result (λ text. column row.now at ≡ Text (string_bytes text)) }
-    ensures kind { IfErr result (λ e. is_of_read e ≡ true) }
 {
-    match row.get(at) {
-        Ok(text) => Ok(text),
-        Err(error) => Err(StoreFault::Read(error)),
-    }
+    Ok(row.get(at)?)
 }
 
 /// A name, or none by an empty text.
-pub(crate) fn second_at(row: &Row, at: usize) -> Result<Option<Name>, StoreFault>
+pub(crate) fn second_at(row: &Row, at: usize) -> Result<Option<Name>, ReadFault>
     ensures same { IfOk result (λ name. (was : Option (List ℕ)) → was ≢ Some [] → column row.now at ≡ Text (second_text was) → name ≡ was) }
     ensures reads { IfOk result (λ name. column row.now at ≡ Text (second_text name)) }
     ensures told { IfOk result (λ name. name ≢ Some []) }
-    ensures kind { IfErr result (λ e. is_of_read e ≡ true) }
 {
     let text = text_at(row, at)?;
     if text.is_empty() {
@@ -204,18 +154,14 @@ pub(crate) fn second_at(row: &Row, at: usize) -> Result<Option<Name>, StoreFault
     }
     match Name::read(text.as_bytes()) {
         Some(name) => Ok(Some(name)),
-        None => Err(StoreFault::Damaged),
+        None => Err(ReadFault::Damaged),
     }
 }
 
 /// What is done at a step.
-pub(crate) fn step_text_at(row: &Row, at: usize) -> Result<StepText, StoreFault>
+pub(crate) fn step_text_at(row: &Row, at: usize) -> Result<StepText, ReadFault>
     ensures reads { IfOk result (λ text. column row.now at ≡ Text text) }
-    ensures kind { IfErr result (λ e. is_of_read e ≡ true) }
 {
     let text = text_at(row, at)?;
-    match StepText::read(text.as_bytes()) {
-        Some(text) => Ok(text),
-        None => Err(StoreFault::Damaged),
-    }
+    StepText::read(text.as_bytes()).ok_or(ReadFault::Damaged)
 }

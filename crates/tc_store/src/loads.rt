@@ -1,33 +1,32 @@
 //! How all tables are read.
-ghost use Rattle.std.specs.Prelude.{◌≡◌, true, false, IsTrue, IfOk, IfErr, OnOk};
+ghost use Rattle.std.specs.Prelude.{◌≡◌, IfOk};
 ghost use Rattle.std.specs.List.{AllByRecursion};
-ghost use Rattle.sqlite.specs.State.{HasCleanDisk, Survives};
+ghost use Rattle.sqlite.specs.State.{HasCleanDisk};
 ghost use Rattle.sqlite.specs.Held.{state};
 ghost use Rattle.tc_types.specs.Tables.{Image as Rows};
-ghost use Rattle.tc_images.specs.Images.{rows_in};
-ghost use Rattle.tc_store.specs.Schema.{schema_1, contents, Holds};
+ghost use Rattle.tc_types.specs.Images.{rows_in};
+ghost use Rattle.tc_store.specs.Schema.{schema_1, Holds};
 ghost use Rattle.tc_store.specs.Told.{IsTold, IsToldRequest, IsToldStep, IsToldRecord};
 ghost use Rattle.tc_store.specs.Shows.{ShowsRequests, ShowsStacks, ShowsProcedures, ShowsAll};
-ghost use Rattle.tc_store.specs.Reads.{Stays, Spares};
-ghost use Rattle.tc_store.specs.Faults.{is_of_read};
+ghost use Rattle.tc_store.specs.Reads.{Reads};
 
 mod approvals;
 mod bodies;
 mod commands;
 mod executions;
 pub(crate) mod judges;
-mod moves;
+pub(crate) mod moves;
 mod procedures;
 mod records;
 mod requests;
-pub(crate) mod rows;
 mod stack_approvals;
 mod stacks;
 mod steps;
+pub(crate) mod table_rows;
 mod tallies;
 mod versions;
 
-use crate::faults::StoreFault;
+use crate::faults::ReadFault;
 use crate::loads::approvals::load_approvals;
 use crate::loads::executions::load_executions;
 use crate::loads::moves::load_moves;
@@ -41,11 +40,9 @@ use crate::loads::tallies::load_tallies;
 use crate::loads::versions::check_version;
 use sqlite::{Alter, Connection};
 use std::alloc::Global;
-use tc_images::images::Image;
-use tc_types::moves::Move;
-use tc_types::rows::{
-    Approval, BegunExecution, LoadedProcedure, LoadedStack, PlacedRequest, ProcedureStep,
-    StackApproval, StepRecord, Tally,
+use tc_types::{
+    Approval, BegunExecution, Image, LoadedProcedure, LoadedStack, Move, PlacedRequest,
+    ProcedureStep, StackApproval, StepRecord, Tally,
 };
 
 /// What the tables tell of requests.
@@ -77,13 +74,10 @@ struct OfProcedures {
 fn load_of_requests<S: Alter>(
     conn: &mut Connection<S>,
     alloc: Global,
-) -> Result<OfRequests, StoreFault>
+) -> Result<OfRequests, ReadFault>
     ensures rows { HasCleanDisk (state S.Store conn.new) → IfOk result (λ found. (image : Rows) → IsTold image → Holds (state S.Store conn.old).now image → (found.requests.items ≡ image.requests) × (found.moves.items ≡ image.moves) × (found.tallies.items ≡ image.tallies) × (found.approvals.items ≡ image.approvals)) }
-    ensures shown { HasCleanDisk (state S.Store conn.new) → IfOk result (λ found. (state S.Store conn.old).now.schema ≡ schema_1 → ShowsRequests (state S.Store conn.old).now found.requests.items found.moves.items found.tallies.items found.approvals.items) }
+    ensures reads { Reads S.Store (λ db found. db.schema ≡ schema_1 → ShowsRequests db found.requests.items found.moves.items found.tallies.items found.approvals.items) conn.old conn.new result }
     ensures told { IfOk result (λ found. AllByRecursion IsToldRequest found.requests.items) }
-    ensures same { HasCleanDisk (state S.Store conn.new) → OnOk result (Stays S.Store conn.old conn.new) }
-    ensures left { Spares S.Store conn.old conn.new }
-    ensures kind { IfErr result (λ e. is_of_read e ≡ true) }
 {
     let requests = load_requests(conn, alloc)?;
     let moves = load_moves(conn, alloc)?;
@@ -98,12 +92,9 @@ fn load_of_requests<S: Alter>(
 }
 
 /// Reads what they tell of stacks.
-fn load_of_stacks<S: Alter>(conn: &mut Connection<S>, alloc: Global) -> Result<OfStacks, StoreFault>
+fn load_of_stacks<S: Alter>(conn: &mut Connection<S>, alloc: Global) -> Result<OfStacks, ReadFault>
     ensures rows { HasCleanDisk (state S.Store conn.new) → IfOk result (λ found. (image : Rows) → IsTold image → Holds (state S.Store conn.old).now image → (found.stacks.items ≡ image.stacks) × (found.approvals.items ≡ image.stack_approvals)) }
-    ensures shown { HasCleanDisk (state S.Store conn.new) → IfOk result (λ found. (state S.Store conn.old).now.schema ≡ schema_1 → ShowsStacks (state S.Store conn.old).now found.stacks.items found.approvals.items) }
-    ensures same { HasCleanDisk (state S.Store conn.new) → OnOk result (Stays S.Store conn.old conn.new) }
-    ensures left { Spares S.Store conn.old conn.new }
-    ensures kind { IfErr result (λ e. is_of_read e ≡ true) }
+    ensures reads { Reads S.Store (λ db found. db.schema ≡ schema_1 → ShowsStacks db found.stacks.items found.approvals.items) conn.old conn.new result }
 {
     let stacks = load_stacks(conn, alloc)?;
     let approvals = load_stack_approvals(conn, alloc)?;
@@ -114,13 +105,10 @@ fn load_of_stacks<S: Alter>(conn: &mut Connection<S>, alloc: Global) -> Result<O
 fn load_of_procedures<S: Alter>(
     conn: &mut Connection<S>,
     alloc: Global,
-) -> Result<OfProcedures, StoreFault>
+) -> Result<OfProcedures, ReadFault>
     ensures rows { HasCleanDisk (state S.Store conn.new) → IfOk result (λ found. (image : Rows) → IsTold image → Holds (state S.Store conn.old).now image → (found.procedures.items ≡ image.procedures) × (found.steps.items ≡ image.steps) × (found.executions.items ≡ image.executions) × (found.records.items ≡ image.records)) }
-    ensures shown { HasCleanDisk (state S.Store conn.new) → IfOk result (λ found. (state S.Store conn.old).now.schema ≡ schema_1 → ShowsProcedures (state S.Store conn.old).now found.procedures.items found.steps.items found.executions.items found.records.items) }
+    ensures reads { Reads S.Store (λ db found. db.schema ≡ schema_1 → ShowsProcedures db found.procedures.items found.steps.items found.executions.items found.records.items) conn.old conn.new result }
     ensures told { IfOk result (λ found. AllByRecursion IsToldStep found.steps.items × AllByRecursion IsToldRecord found.records.items) }
-    ensures same { HasCleanDisk (state S.Store conn.new) → OnOk result (Stays S.Store conn.old conn.new) }
-    ensures left { Spares S.Store conn.old conn.new }
-    ensures kind { IfErr result (λ e. is_of_read e ≡ true) }
 {
     let procedures = load_procedures(conn, alloc)?;
     let steps = load_steps(conn, alloc)?;
@@ -134,14 +122,15 @@ fn load_of_procedures<S: Alter>(
     })
 }
 
-/// Reads all tables, where the schema is of version 1.
-fn load_tables<S: Alter>(conn: &mut Connection<S>, alloc: Global) -> Result<Image, StoreFault>
+/// All rows of all tables. `Damaged` where a row is not one that a desk writes, or the schema is of no version that it has. The tables
+/// stay, also where the read fails.
+pub(crate) fn load_tables<S: Alter>(
+    conn: &mut Connection<S>,
+    alloc: Global,
+) -> Result<Image, ReadFault>
     ensures image { HasCleanDisk (state S.Store conn.new) → IfOk result (λ loaded. (image : Rows) → IsTold image → Holds (state S.Store conn.old).now image → rows_in loaded ≡ image) }
     ensures told { IfOk result (λ loaded. IsTold (rows_in loaded)) }
-    ensures shown { HasCleanDisk (state S.Store conn.new) → IfOk result (λ loaded. (state S.Store conn.old).now.schema ≡ schema_1 → ShowsAll (state S.Store conn.old).now (rows_in loaded)) }
-    ensures same { HasCleanDisk (state S.Store conn.new) → OnOk result (Stays S.Store conn.old conn.new) }
-    ensures left { Spares S.Store conn.old conn.new }
-    ensures kind { IfErr result (λ e. is_of_read e ≡ true) }
+    ensures reads { Reads S.Store (λ db loaded. db.schema ≡ schema_1 → ShowsAll db (rows_in loaded)) conn.old conn.new result }
 {
     check_version(conn)?;
     let book = load_of_requests(conn, alloc)?;
@@ -159,24 +148,4 @@ fn load_tables<S: Alter>(conn: &mut Connection<S>, alloc: Global) -> Result<Imag
         executions: log.executions,
         records: log.records,
     })
-}
-
-/// All rows of all tables. `Damaged` where a row is not one that a desk writes, or the schema is of no version that it has. The tables
-/// stay, also where the read fails.
-pub(crate) fn load_all<S: Alter>(
-    conn: &mut Connection<S>,
-    alloc: Global,
-) -> Result<Image, StoreFault>
-    ensures image { HasCleanDisk (state S.Store conn.new) → IfOk result (λ loaded. (image : Rows) → IsTold image → Holds (state S.Store conn.old).now image → rows_in loaded ≡ image) }
-    ensures told { IfOk result (λ loaded. IsTold (rows_in loaded)) }
-    ensures shown { HasCleanDisk (state S.Store conn.new) → IfOk result (λ loaded. (state S.Store conn.old).now.schema ≡ schema_1 → ShowsAll (state S.Store conn.old).now (rows_in loaded)) }
-    ensures contents { HasCleanDisk (state S.Store conn.new) → IfOk result (λ loaded. (image : Rows) → Holds (state S.Store conn.old).now image → contents (rows_in loaded) ≡ contents image) }
-    ensures same { HasCleanDisk (state S.Store conn.new) → (image : Rows) → Holds (state S.Store conn.old).now image → OnOk result (Holds (state S.Store conn.new).now image) }
-    ensures kept { HasCleanDisk (state S.Store conn.new) → IsTrue (state S.Store conn.new).is_open → (image : Rows) → Holds (state S.Store conn.old).now image → Holds (state S.Store conn.new).now image }
-    ensures crash { (image : Rows) → Holds (state S.Store conn.old).now image → Survives (state S.Store conn.old) (state S.Store conn.new) (λ _. ⊥) }
-    ensures clean { HasCleanDisk (state S.Store conn.new) → HasCleanDisk (state S.Store conn.old) }
-    ensures kind { IfErr result (λ e. is_of_read e ≡ true) }
-    ensures outside { conn.old.in_transaction ≡ false → conn.new.in_transaction ≡ false }
-{
-    load_tables(conn, alloc)
 }

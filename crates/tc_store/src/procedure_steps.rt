@@ -1,15 +1,20 @@
 //! The table `step`.
-ghost use Rattle.std.specs.Prelude.{◌≡◌, [], ◌∷◌, IsTrue, OnOk};
-ghost use Rattle.sqlite.specs.State.{HasCleanDisk, KeepsCommit, Survives};
-ghost use Rattle.sqlite.specs.Held.{state};
-ghost use Rattle.tc_types.specs.declared.rows.Row.TheVariants.{StepLoaded};
+ghost use Rattle.std.specs.Prelude.{◌≡◌, [], ◌∷◌};
+ghost use Rattle.tc_types.specs.declared.tables.rows.Row.TheVariants.{StepLoaded};
 ghost use Rattle.tc_store.specs.ProcedureSteps.{released_number};
-ghost use Rattle.tc_store.specs.Steps.{Step};
+ghost use Rattle.tc_store.specs.Steps.{Puts};
 
 use crate::steps::run;
 use sqlite::{Alter, Error, Transaction, params};
-use tc_types::numbers::RequestNumber;
-use tc_types::rows::ProcedureStep;
+use tc_types::{ProcedureStep, RequestNumber};
+
+/// The text that makes the table.
+pub(crate) const CREATE: &str =
+    "CREATE TABLE step (procedure TEXT NOT NULL, step INTEGER NOT NULL, body TEXT NOT NULL, countersign INTEGER NOT NULL, request INTEGER NOT NULL, PRIMARY KEY (procedure, step)) STRICT";
+
+/// The text that writes a row.
+const PUT: &str =
+    "INSERT INTO step (procedure, step, body, countersign, request) VALUES (?1, ?2, ?3, ?4, ?5)";
 
 /// The number of the request that a step releases, 0 for none.
 fn request_code(request: Option<RequestNumber>) -> u32
@@ -26,15 +31,12 @@ pub(crate) fn put_step<S: Alter>(
     tx: &mut Transaction<'_, S>,
     row: ProcedureStep,
 ) -> Result<usize, Error>
-    ensures same_reference { tx.new.conn.ghost_name ≡ tx.old.conn.ghost_name }
-    ensures put { HasCleanDisk (state S.Store tx.new.conn.now) → IsTrue tx.old.conn.now.in_transaction → OnOk result (Step S.Store (StepLoaded row ∷ []) tx.old.conn.now tx.new.conn.now) }
-    ensures kept { HasCleanDisk (state S.Store tx.new.conn.now) → IsTrue tx.old.conn.now.in_transaction → KeepsCommit (state S.Store tx.old.conn.now) (state S.Store tx.new.conn.now) }
-    ensures survives { Survives (state S.Store tx.old.conn.now) (state S.Store tx.new.conn.now) (λ _. ⊥) }
+    ensures { Puts S.Store (StepLoaded row ∷ []) tx.old.conn tx.new.conn result }
 {
     let request = request_code(row.request);
     run(
         tx,
-        "INSERT INTO step (procedure, step, body, countersign, request) VALUES (?1, ?2, ?3, ?4, ?5)",
+        PUT,
         params![
             row.procedure.as_str(),
             row.step,

@@ -1,17 +1,25 @@
 //! The table `request`.
-ghost use Rattle.std.specs.Prelude.{◌≡◌, [], ◌∷◌, IsTrue, IfOk, OnOk};
-ghost use Rattle.sqlite.specs.State.{HasCleanDisk, KeepsCommit, Survives};
-ghost use Rattle.sqlite.specs.Held.{state};
-ghost use Rattle.tc_types.specs.declared.rows.Row.TheVariants.{Entered, Placed};
+ghost use Rattle.std.specs.Prelude.{◌≡◌, [], ◌∷◌};
+ghost use Rattle.tc_types.specs.declared.tables.rows.Row.TheVariants.{Entered, Placed};
 ghost use Rattle.tc_store.specs.Requests.{ack_number, service_of, subtype_of, target_of, time_of, stack_of, line_of, prior_of, request_given};
-ghost use Rattle.tc_store.specs.Steps.{Ran, Step};
+ghost use Rattle.tc_store.specs.Steps.{Ran, Does, Puts};
 
 use crate::steps::run;
 use sqlite::{Alter, Error, Transaction, params};
 use std::alloc::Global;
-use tc_types::places::Place;
-use tc_types::requests::{Ack, Body, Command, Origin, Request};
-use tc_types::rows::PlacedRequest;
+use tc_types::{Ack, Body, Command, Origin, Place, PlacedRequest, Request};
+
+/// The text that makes the table.
+pub(crate) const CREATE: &str =
+    "CREATE TABLE request (num INTEGER PRIMARY KEY, apid INTEGER NOT NULL, cnt INTEGER NOT NULL, ack INTEGER NOT NULL, critical INTEGER NOT NULL, service INTEGER NOT NULL, subtype INTEGER NOT NULL, target INTEGER NOT NULL, at_time INTEGER NOT NULL, outcome TEXT NOT NULL, author TEXT NOT NULL, stack TEXT NOT NULL, line INTEGER NOT NULL, prior INTEGER NOT NULL, place INTEGER NOT NULL) STRICT";
+
+/// The text that writes a row.
+const PUT: &str =
+    "INSERT INTO request (num, apid, cnt, ack, critical, service, subtype, target, at_time, outcome, author, stack, line, prior, place) VALUES (?1, ?2, ?3, ?4, ?5, ?6, ?7, ?8, ?9, ?10, ?11, ?12, ?13, ?14, ?15)";
+
+/// The text that writes a row over the one with its number.
+const PUT_PLACED: &str =
+    "INSERT INTO request (num, apid, cnt, ack, critical, service, subtype, target, at_time, outcome, author, stack, line, prior, place) VALUES (?1, ?2, ?3, ?4, ?5, ?6, ?7, ?8, ?9, ?10, ?11, ?12, ?13, ?14, ?15) ON CONFLICT (num) DO UPDATE SET apid = excluded.apid, cnt = excluded.cnt, ack = excluded.ack, critical = excluded.critical, service = excluded.service, subtype = excluded.subtype, target = excluded.target, at_time = excluded.at_time, outcome = excluded.outcome, author = excluded.author, stack = excluded.stack, line = excluded.line, prior = excluded.prior, place = excluded.place";
 
 /// The reports that are asked for: 8 for acceptance, 4 for start, 2 for progress, 1 for completion.
 fn ack_code(ack: Ack) -> u32
@@ -109,10 +117,7 @@ fn put_columns<S: Alter>(
     text: &str,
     row: PlacedRequest,
 ) -> Result<usize, Error>
-    ensures same_reference { tx.new.conn.ghost_name ≡ tx.old.conn.ghost_name }
-    ensures ran { HasCleanDisk (state S.Store tx.new.conn.now) → IsTrue tx.old.conn.now.in_transaction → IfOk result (λ count. Ran S.Store text.now (request_given row) count tx.old.conn.now tx.new.conn.now) }
-    ensures kept { HasCleanDisk (state S.Store tx.new.conn.now) → IsTrue tx.old.conn.now.in_transaction → KeepsCommit (state S.Store tx.old.conn.now) (state S.Store tx.new.conn.now) }
-    ensures survives { Survives (state S.Store tx.old.conn.now) (state S.Store tx.new.conn.now) (λ _. ⊥) }
+    ensures { Does S.Store (Ran S.Store text.now (request_given row)) tx.old.conn tx.new.conn result }
 {
     let Request {
         number,
@@ -165,15 +170,12 @@ pub(crate) fn put_request<S: Alter>(
     alloc: Global,
     request: Request,
 ) -> Result<usize, Error>
-    ensures same_reference { tx.new.conn.ghost_name ≡ tx.old.conn.ghost_name }
-    ensures put { HasCleanDisk (state S.Store tx.new.conn.now) → IsTrue tx.old.conn.now.in_transaction → OnOk result (Step S.Store (Entered request ∷ []) tx.old.conn.now tx.new.conn.now) }
-    ensures kept { HasCleanDisk (state S.Store tx.new.conn.now) → IsTrue tx.old.conn.now.in_transaction → KeepsCommit (state S.Store tx.old.conn.now) (state S.Store tx.new.conn.now) }
-    ensures survives { Survives (state S.Store tx.old.conn.now) (state S.Store tx.new.conn.now) (λ _. ⊥) }
+    ensures { Puts S.Store (Entered request ∷ []) tx.old.conn tx.new.conn result }
 {
     put_columns(
         tx,
         alloc,
-        "INSERT INTO request (num, apid, cnt, ack, critical, service, subtype, target, at_time, outcome, author, stack, line, prior, place) VALUES (?1, ?2, ?3, ?4, ?5, ?6, ?7, ?8, ?9, ?10, ?11, ?12, ?13, ?14, ?15)",
+        PUT,
         PlacedRequest {
             request,
             place: Place::Entered,
@@ -187,15 +189,7 @@ pub(crate) fn put_placed<S: Alter>(
     alloc: Global,
     row: PlacedRequest,
 ) -> Result<usize, Error>
-    ensures same_reference { tx.new.conn.ghost_name ≡ tx.old.conn.ghost_name }
-    ensures put { HasCleanDisk (state S.Store tx.new.conn.now) → IsTrue tx.old.conn.now.in_transaction → OnOk result (Step S.Store (Placed row ∷ []) tx.old.conn.now tx.new.conn.now) }
-    ensures kept { HasCleanDisk (state S.Store tx.new.conn.now) → IsTrue tx.old.conn.now.in_transaction → KeepsCommit (state S.Store tx.old.conn.now) (state S.Store tx.new.conn.now) }
-    ensures survives { Survives (state S.Store tx.old.conn.now) (state S.Store tx.new.conn.now) (λ _. ⊥) }
+    ensures { Puts S.Store (Placed row ∷ []) tx.old.conn tx.new.conn result }
 {
-    put_columns(
-        tx,
-        alloc,
-        "INSERT INTO request (num, apid, cnt, ack, critical, service, subtype, target, at_time, outcome, author, stack, line, prior, place) VALUES (?1, ?2, ?3, ?4, ?5, ?6, ?7, ?8, ?9, ?10, ?11, ?12, ?13, ?14, ?15) ON CONFLICT (num) DO UPDATE SET apid = excluded.apid, cnt = excluded.cnt, ack = excluded.ack, critical = excluded.critical, service = excluded.service, subtype = excluded.subtype, target = excluded.target, at_time = excluded.at_time, outcome = excluded.outcome, author = excluded.author, stack = excluded.stack, line = excluded.line, prior = excluded.prior, place = excluded.place",
-        row,
-    )
+    put_columns(tx, alloc, PUT_PLACED, row)
 }

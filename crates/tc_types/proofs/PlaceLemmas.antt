@@ -1,7 +1,7 @@
 -- A place has its number alone.
 use Rattle.std.proofs.Common.{◌≡◌, ℕ, ◌-◌, slice_get, Option, Some, refl, sym, ap, ◌∙◌}
-use Rattle.tc_types.specs.declared.places.Place.{Place}
-use Rattle.tc_types.specs.declared.places.Place.TheVariants.{Entered, Approved, Queued, Sent, Confirmed, Riding, Scheduled, Accepted, Started, Completed, Failed, Doubtful, Withdrawn, Deleted, Closed}
+use Rattle.tc_types.specs.declared.history.places.Place.{Place}
+use Rattle.tc_types.specs.declared.history.places.Place.TheVariants.{Entered, Approved, Queued, Sent, Confirmed, Riding, Scheduled, Accepted, Started, Completed, Failed, Doubtful, Withdrawn, Deleted, Closed}
 use Rattle.tc_types.specs.Lawful.{place_number, all_places}
 
 -- the place with a number, if it is any's

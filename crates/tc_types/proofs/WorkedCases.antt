@@ -1,12 +1,12 @@
 -- The definitions carried out on values whose texts were written by hand: acts, a script line, and the lines that are
--- printed. (`negsuc n` is the number below zero by n + 1.)
+-- printed; and the limits, as numbers. (`negsuc n` is the number below zero by n + 1.)
 use Rattle.std.proofs.Common.{◌≡◌, pos, negsuc, Bool, true, false, Some, None, [], ◌∷◌, map, refl}
 use Rattle.std.specs.Prelude.{codes}
 use Rattle.std.specs.Fmt.{digits}
-use Rattle.tc_types.specs.declared.places.Place.TheVariants.{Confirmed, Entered, Riding, Withdrawn}
-use Rattle.tc_types.specs.declared.causes.Cause.TheVariants as cause
+use Rattle.tc_types.specs.declared.history.places.Place.TheVariants.{Confirmed, Entered, Riding, Withdrawn}
+use Rattle.tc_types.specs.declared.history.causes.Cause.TheVariants as cause
 use Rattle.tc_types.specs.declared.refusals.Refusal.TheVariants as refusal
-use Rattle.tc_types.specs.declared.moves.Move.{Move}
+use Rattle.tc_types.specs.declared.history.moves.Move.{Move}
 use Rattle.tc_types.specs.declared.requests.Ack.{Ack}
 use Rattle.tc_types.specs.declared.requests.Identity.{Identity}
 use Rattle.tc_types.specs.declared.requests.Request.{Request}
@@ -15,14 +15,15 @@ use Rattle.tc_types.specs.declared.requests.Outcome.TheVariants as outcome
 use Rattle.tc_types.specs.declared.requests.Command.{Command}
 use Rattle.tc_types.specs.declared.requests.Command.TheVariants as command
 use Rattle.tc_types.specs.declared.acts.BookAct.TheVariants.{Approve, ApproveStack, Begin, Close, Enter, Withdraw}
-use Rattle.tc_types.specs.declared.directives.Directive.TheVariants as directive
+use Rattle.tc_types.specs.declared.link.directives.Directive.TheVariants as directive
 use Rattle.tc_types.specs.declared.acts.LinkAct.TheVariants as link_act
 use Rattle.tc_types.specs.declared.acts.Act.{Act}
 use Rattle.tc_types.specs.declared.acts.Act.TheVariants as act
 use Rattle.tc_types.specs.declared.acts.Query.TheVariants as query
-use Rattle.tc_types.specs.declared.reports.Verification.TheVariants as verification
+use Rattle.tc_types.specs.declared.link.reports.Verification.TheVariants as verification
 use Rattle.tc_types.specs.Grammar.{outcome_word}
 use Rattle.tc_types.specs.ActGrammar.{act_text, line_text}
+use Rattle.tc_types.specs.Limits.{most_requests, most_moves, most_stacks, most_stack_rows, most_procedures, most_steps, most_executions, most_activities, last_moment, longest_act, longest_name, longest_step_text}
 use Rattle.tc_types.specs.Lines.{move_line, refusal_line, identity_word, entered_line, stack_line, history_line, places_line}
 use Rattle.tc_types.specs.Loads.{load_text}
 use Rattle.tc_types.specs.declared.loads.LoadKind.TheVariants as kind
@@ -298,3 +299,7 @@ pub schedule-printed : worked_line (record { apid = 5; count = 1 }) ∷ time_lin
     codes "ok work 5/1" ∷ codes "ok now 1000" ∷ codes "mirror disabled 1" ∷ codes "activity 5/0 1060" ∷ []
 unfolding digits
 schedule-printed = refl
+
+pub limits-written : most_requests ∷ most_moves ∷ most_stacks ∷ most_stack_rows ∷ most_procedures ∷ most_steps ∷ most_executions ∷ most_activities ∷ last_moment ∷ longest_act ∷ longest_name ∷ longest_step_text ∷ [] ≡
+    65535 ∷ 4294901760 ∷ 1000 ∷ 200 ∷ 1000 ∷ 100 ∷ 10000 ∷ 64 ∷ 4102444799 ∷ 200 ∷ 16 ∷ 80 ∷ []
+limits-written = refl

@@ -1,5 +1,5 @@
 -- The spelling of acts, queries and script lines. Each has one spelling: the words of it, parted by one space each.
-use Rattle.std.specs.Prelude.{◌≡◌, ◌⊎◌, ℕ, ◌==◌, IsSomeAnd, ◌<◌, Option, Some, None, List, [], ◌∷◌, codes, length}
+use Rattle.std.specs.Prelude.{◌≡◌, ℕ, ◌==◌, IsSomeAnd, ◌<◌, Option, Some, None, List, [], ◌∷◌, codes, length}
 use Rattle.std.specs.List.{slice_split}
 use Rattle.std.specs.Fmt.{decimal}
 use Rattle.tc_types.specs.declared.acts.BookAct.{BookAct}
@@ -52,14 +52,6 @@ IsBookAct (book_act.Approve request) = IsNumber request
 IsBookAct (book_act.Close request) = IsNumber request
 IsBookAct (book_act.ApproveStack stack) = IsName stack
 IsBookAct (book_act.Begin procedure) = IsName procedure
-
--- an act on the book begins with this word
-abbrev pub IsBookVerb : List ℕ → Type 0
-IsBookVerb word = (word ≡ codes "enter") ⊎ (word ≡ codes "withdraw") ⊎ (word ≡ codes "approve") ⊎ (word ≡ codes "close") ⊎ (word ≡ codes "approvestack") ⊎ (word ≡ codes "begin")
-
--- a question begins with this word
-abbrev pub IsQueryVerb : List ℕ → Type 0
-IsQueryVerb word = (word ≡ codes "places") ⊎ (word ≡ codes "history") ⊎ (word ≡ codes "request") ⊎ (word ≡ codes "link") ⊎ (word ≡ codes "schedule") ⊎ (word ≡ codes "log") ⊎ (word ≡ codes "report")
 
 abbrev pub act_words : Act → List (List ℕ)
 act_words (act.Book given) = book_act_words given

@@ -1,9 +1,11 @@
 pub mod Numbers
+pub mod Limits
 pub mod Names
 pub mod StepTexts
 pub mod Lawful
 pub mod Verdicts
 pub mod History
+pub mod Images
 pub mod Lines
 pub mod Schedule
 pub mod LinkGrammar

@@ -2,13 +2,13 @@
 use Rattle.std.specs.Prelude.{ℕ, Bool, if◌then◌else◌, Option, Some, None, List, [], ◌∷◌, ◌++◌, codes}
 use Rattle.std.specs.List.{join_with_byte, flat_map}
 use Rattle.std.specs.Fmt.{decimal}
-use Rattle.tc_types.specs.declared.places.Place.{Place}
-use Rattle.tc_types.specs.declared.places.Place.TheVariants.{Entered, Approved, Queued, Sent, Confirmed, Riding, Scheduled, Accepted, Started, Completed, Failed, Doubtful, Withdrawn, Deleted, Closed}
-use Rattle.tc_types.specs.declared.causes.Cause.{Cause}
-use Rattle.tc_types.specs.declared.causes.Cause.TheVariants as cause
+use Rattle.tc_types.specs.declared.history.places.Place.{Place}
+use Rattle.tc_types.specs.declared.history.places.Place.TheVariants.{Entered, Approved, Queued, Sent, Confirmed, Riding, Scheduled, Accepted, Started, Completed, Failed, Doubtful, Withdrawn, Deleted, Closed}
+use Rattle.tc_types.specs.declared.history.causes.Cause.{Cause}
+use Rattle.tc_types.specs.declared.history.causes.Cause.TheVariants as cause
 use Rattle.tc_types.specs.declared.refusals.Refusal.{Refusal}
 use Rattle.tc_types.specs.declared.refusals.Refusal.TheVariants as refusal
-use Rattle.tc_types.specs.declared.moves.Move.{Move}
+use Rattle.tc_types.specs.declared.history.moves.Move.{Move}
 use Rattle.tc_types.specs.declared.requests.Identity.{Identity}
 
 -- the name of a place

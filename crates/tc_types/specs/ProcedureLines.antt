@@ -1,7 +1,7 @@
 -- The lines about procedures and their executions.
 use Rattle.std.specs.Prelude.{ℕ, List, [], ◌∷◌, codes}
 use Rattle.std.specs.Fmt.{decimal}
-use Rattle.tc_types.specs.declared.rows.StepRecord.{StepRecord}
+use Rattle.tc_types.specs.declared.tables.rows.StepRecord.{StepRecord}
 use Rattle.tc_types.specs.Lines.{spaced}
 use Rattle.tc_types.specs.StepGrammar.{verdict_word, second_word}
 

@@ -1,13 +1,13 @@
 -- Which place a report asks for (the places are this desk's own).
 use Rattle.std.specs.Prelude.{Option, Some, None}
-use Rattle.tc_types.specs.declared.places.Place.{Place}
-use Rattle.tc_types.specs.declared.places.Place.TheVariants as place
-use Rattle.tc_types.specs.declared.reports.Verification.{Verification}
-use Rattle.tc_types.specs.declared.reports.Verification.TheVariants as verification
-use Rattle.tc_types.specs.declared.reports.Telemetry.{Telemetry}
-use Rattle.tc_types.specs.declared.reports.Telemetry.TheVariants as telemetry
-use Rattle.tc_types.specs.declared.reports.Report.{Report}
-use Rattle.tc_types.specs.declared.reports.Report.TheVariants as report
+use Rattle.tc_types.specs.declared.history.places.Place.{Place}
+use Rattle.tc_types.specs.declared.history.places.Place.TheVariants as place
+use Rattle.tc_types.specs.declared.link.reports.Verification.{Verification}
+use Rattle.tc_types.specs.declared.link.reports.Verification.TheVariants as verification
+use Rattle.tc_types.specs.declared.link.reports.Telemetry.{Telemetry}
+use Rattle.tc_types.specs.declared.link.reports.Telemetry.TheVariants as telemetry
+use Rattle.tc_types.specs.declared.link.reports.Report.{Report}
+use Rattle.tc_types.specs.declared.link.reports.Report.TheVariants as report
 
 -- the place that a report of request verification asks for: any failure asks for Failed
 abbrev pub stage_of_verification : Verification → Place

@@ -1,19 +1,19 @@
 -- The rows of the desk's tables, and what a batch makes of them.
 use Rattle.std.specs.Prelude.{ℕ, ◌==◌, nat_lt, if◌then◌else◌, List, [], ◌∷◌, ◌++◌, map, fold}
-use Rattle.tc_types.specs.declared.places.Place.{Place}
-use Rattle.tc_types.specs.declared.places.Place.TheVariants.{Entered}
-use Rattle.tc_types.specs.declared.moves.Move.{Move}
-use Rattle.tc_types.specs.declared.rows.PlacedRequest.{PlacedRequest}
-use Rattle.tc_types.specs.declared.rows.Tally.{Tally}
-use Rattle.tc_types.specs.declared.rows.Approval.{Approval}
-use Rattle.tc_types.specs.declared.rows.LoadedStack.{LoadedStack}
-use Rattle.tc_types.specs.declared.rows.StackApproval.{StackApproval}
-use Rattle.tc_types.specs.declared.rows.LoadedProcedure.{LoadedProcedure}
-use Rattle.tc_types.specs.declared.rows.ProcedureStep.{ProcedureStep}
-use Rattle.tc_types.specs.declared.rows.BegunExecution.{BegunExecution}
-use Rattle.tc_types.specs.declared.rows.StepRecord.{StepRecord}
-use Rattle.tc_types.specs.declared.rows.Row.{Row}
-use Rattle.tc_types.specs.declared.rows.Row.TheVariants as row
+use Rattle.tc_types.specs.declared.history.places.Place.{Place}
+use Rattle.tc_types.specs.declared.history.places.Place.TheVariants.{Entered}
+use Rattle.tc_types.specs.declared.history.moves.Move.{Move}
+use Rattle.tc_types.specs.declared.tables.rows.PlacedRequest.{PlacedRequest}
+use Rattle.tc_types.specs.declared.tables.rows.Tally.{Tally}
+use Rattle.tc_types.specs.declared.tables.rows.Approval.{Approval}
+use Rattle.tc_types.specs.declared.tables.rows.LoadedStack.{LoadedStack}
+use Rattle.tc_types.specs.declared.tables.rows.StackApproval.{StackApproval}
+use Rattle.tc_types.specs.declared.tables.rows.LoadedProcedure.{LoadedProcedure}
+use Rattle.tc_types.specs.declared.tables.rows.ProcedureStep.{ProcedureStep}
+use Rattle.tc_types.specs.declared.tables.rows.BegunExecution.{BegunExecution}
+use Rattle.tc_types.specs.declared.tables.rows.StepRecord.{StepRecord}
+use Rattle.tc_types.specs.declared.tables.rows.Row.{Row}
+use Rattle.tc_types.specs.declared.tables.rows.Row.TheVariants as row
 use Rattle.tc_types.specs.Lawful.{place_number, all_places}
 
 -- all rows of all tables: each table whose key is one number in order of it, each other in the order in which its rows came

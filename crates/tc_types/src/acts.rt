@@ -1,6 +1,6 @@
 //! What a person can ask of the desk.
-use crate::directives::Directive;
 use crate::entries::Entry;
+use crate::link::directives::Directive;
 use crate::names::Name;
 use crate::numbers::Moment;
 use crate::persons::Person;

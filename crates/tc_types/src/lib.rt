@@ -1,40 +1,64 @@
 //! The words of the desk: requests and their places, the moves between places, acts and queries as text, the lines
 //! that are printed, refusals, the rows of the desk's tables, and readers and writers that are counted.
 //!
-//! Every type here but `Counted` and `Words` is `Copy`, and none takes memory. A newtype keeps the range of its number, and a
-//! contract sees the number alone; a contract sees a `Name`, and a `Person`, as its bytes.
+//! Every type here but `Counted`, `Words` and `Image` is `Copy`, and none but `Image`, all rows of all tables, holds memory. A newtype
+//! keeps the range of its number, and a contract sees the number alone; a contract sees a `Name`, and a `Person`, as its bytes.
 #![tactic(auto)]
 
-pub mod act_reader;
-pub mod activities;
-pub mod acts;
-pub mod causes;
-pub mod counted;
-pub mod directives;
-pub mod entries;
-pub mod entry_reader;
-pub mod frames;
-pub mod lawful;
-pub mod line_reader;
-pub mod link_reader;
-pub mod link_texts;
-pub mod load_reader;
-pub mod loads;
-pub mod moves;
-pub mod names;
-pub mod numbers;
-pub mod persons;
-pub mod places;
-pub mod procedure_texts;
-pub mod readers;
-pub mod refusals;
-pub mod reports;
-pub mod request_texts;
-pub mod requests;
-pub mod rows;
-mod step_reader;
-pub mod step_texts;
-pub mod telecommands;
-pub mod texts;
-pub mod verdicts;
-pub mod words;
+mod acts;
+mod counted;
+mod entries;
+mod history;
+pub mod limits;
+mod link;
+mod loads;
+mod names;
+mod numbers;
+mod persons;
+mod print;
+pub mod read;
+mod refusals;
+mod requests;
+mod step_texts;
+mod tables;
+mod verdicts;
+
+pub use acts::{Act, BookAct, Line, LinkAct, Query, StepAct};
+pub use counted::Counted;
+pub use entries::Entry;
+pub use history::causes::Cause;
+pub use history::lawful::is_lawful;
+pub use history::moves::{Move, from_name};
+pub use history::places::{ALL_PLACES, PLACES, Place, is_among, is_same_place};
+pub use link::activities::{Activity, ListedActivity, MOST_ACTIVITIES, Summary};
+pub use link::directives::Directive;
+pub use link::frames::Frame;
+pub use link::reports::{Report, Telemetry, Verification, stage_of};
+pub use link::telecommands::{Payload, ScheduleCommand, Task, Telecommand};
+pub use loads::{Load, LoadKind};
+pub use names::{DESK, Name, is_same_name};
+pub use numbers::{
+    Apid, FailureCode, LARGEST_MOMENT, MOST_REQUESTS, Moment, Offset, RequestNumber, SequenceCount,
+    Service, Steps, Subtype,
+};
+pub use persons::{Person, is_person};
+pub use print::link_texts::{
+    accepted_text, activity_text, mirror_text, summarized_text, time_text, verified_text,
+    word_text, worked_text,
+};
+pub use print::procedure_texts::{begun_text, execution_text, procedure_text, record_text};
+pub use print::request_texts::{mark, request_text};
+pub use print::texts::{approvals_text, entered_text, history_text, places_text, stack_text};
+pub use read::act_reader::{LONGEST_ACT, read_act};
+pub use read::line_reader::read_line;
+pub use read::load_reader::read_load;
+pub use read::words::cut;
+pub use refusals::Refusal;
+pub use requests::{Ack, Body, Command, Form, Identity, Origin, Outcome, Request};
+pub use step_texts::StepText;
+pub use tables::images::Image;
+pub use tables::rows::{
+    Approval, BegunExecution, LoadedProcedure, LoadedStack, PlacedRequest, ProcedureStep, Row,
+    StackApproval, StepRecord, Tally,
+};
+pub use verdicts::Verdict;

@@ -1,17 +1,20 @@
 -- What a line of the program is of what its words ask for, and why they ask for nothing.
-use Rattle.std.specs.Prelude.{◌%◌, ◌≡◌, ◌⊎◌, ⊤, List, [], Option, None, Some}
+use Rattle.std.specs.Prelude.{◌%◌, ◌≡◌, ◌⊎◌, ◌↔◌, ⊤, List, [], IfSome, Option, None, Some}
 use Rattle.clap.specs.Words.{IsAmong, Kinds, Text, kind_of}
+use Rattle.clap.specs.declared.error.Error.{Error}
+use Rattle.clap.specs.declared.error.kind.ErrorKind.TheVariants.{OutOfMemory}
 use Rattle.tc_types.specs.Loads.{kind_word}
 use Rattle.tc_types.specs.declared.loads.LoadKind.{LoadKind}
+use Rattle.tc_desk.specs.State.{IsConfig}
 use Rattle.tc_desk.specs.declared.configs.Config.{Config}
 use Rattle.tc_words.specs.Asked.{Asked, SpellsMoment, SpellsNoMoment, check, loop, report, run, run_kept, serve}
-use Rattle.tc_words.specs.declared.lines.Line.{Line}
-use Rattle.tc_words.specs.declared.lines.Line.TheVariants.{Check, Loop, Report, Run, RunKept, Serve}
+use Rattle.tc_words.specs.declared.lines.CommandLine.{CommandLine}
+use Rattle.tc_words.specs.declared.lines.CommandLine.TheVariants.{Check, Loop, Report, Run, RunKept, Serve}
 use Rattle.tc_words.specs.declared.lines.UsageFault.{UsageFault}
 use Rattle.tc_words.specs.declared.lines.UsageFault.TheVariants.{Memory, NoKind, NoMoment, OddWindow, Words}
 
 -- A line asks for this. A report's FROM and TO are texts that spell its moments, and the KIND of a check is the word of its kind.
-abbrev pub AsksFor : Line → Asked → Type 0
+abbrev pub AsksFor : CommandLine → Asked → Type 0
 AsksFor (Run script config) asked = asked ≡ run script.now config.window config.channel config.ring
 AsksFor (RunKept script config database moment) asked =
     asked ≡ run_kept script.now config.window config.channel config.ring database.now moment
@@ -24,13 +27,18 @@ AsksFor (Loop database script config moment) asked =
     asked ≡ loop database.now script.now config.window config.channel config.ring moment
 
 -- what the desk of a line is made or opened with
-abbrev pub config_of : Line → Option Config
+abbrev pub config_of : CommandLine → Option Config
 config_of (Run script config) = Some config
 config_of (RunKept script config database moment) = Some config
 config_of (Report database from to) = None
 config_of (Check kind file) = None
 config_of (Serve database port count config moment verbose) = Some config
 config_of (Loop database script config moment) = Some config
+
+-- a line asks for this, and what its desk is made or opened with may be chosen
+pub record IsLineFor (line : CommandLine) (asked : Asked) : Type 0 where
+  pub asks : AsksFor line asked
+  pub fit : IfSome (config_of line) IsConfig
 
 -- the window that is asked for is odd
 abbrev pub AsksOddWindow : Asked → Type 0
@@ -64,3 +72,8 @@ abbrev pub IsTold : Kinds → Asked → UsageFault → Type 0
 IsTold faults asked (Words error) = IsAmong (kind_of error) faults
 IsTold faults asked Memory = ⊤
 IsTold faults asked own = (faults ≡ []) × IsFaultOf asked own
+
+-- what an error of `clap` is told as: refused memory, and nothing else, as such; any other as it is
+pub record IsToldAs (error : Error) (fault : UsageFault) : Type 0 where
+  pub refused : (kind_of error ≡ OutOfMemory) ↔ (fault ≡ Memory)
+  pub either : (fault ≡ Memory) ⊎ (fault ≡ Words error)

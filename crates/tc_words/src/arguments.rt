@@ -1,24 +1,41 @@
 //! The arguments of the commands: which have to be given, which values pass, and what stands where none is given.
-ghost use Rattle.std.specs.Prelude.{◌≡◌, false};
-ghost use Rattle.clap.specs.Words.{rule_of};
+ghost use Rattle.std.specs.Prelude.{◌≡◌};
 ghost use Rattle.tc_words.specs.Commands.{channel_rule, checked_rule, count_rule, database_rule, file_rule, from_rule, kind_rule, moment_rule, port_rule, required_rule, ring_rule};
 ghost use Rattle.tc_words.specs.Commands.{script_rule, to_rule, verbose_rule, window_rule};
 
 use clap::builder::ValueParser;
 use clap::{Arg, ArgAction};
 use std::alloc::Global;
+use std::marker::Model;
 
-/// A positional argument that has to be given.
-fn required_arg<'a>(alloc: Global, id: &'a str, help: &'a str) -> Arg<'a>
-    ensures rule { rule_of result ≡ required_rule id.entry.now }
-    ensures local { result.global ≡ false }
-{
-    Arg::new(alloc, id).required(true).help(help)
+/// An argument of one command, and of none below it. A contract sees it as its rule.
+#[derive(Drop)]
+pub(crate) struct Argument<'a> {
+    pub(crate) arg: Arg<'a>,
 }
 
-pub(crate) fn script_arg<'a>(alloc: Global) -> Arg<'a>
-    ensures rule { rule_of result ≡ script_rule }
-    ensures local { result.global ≡ false }
+impl<'a> Model for Argument<'a> {
+    ghost use Rattle.std.specs.Prelude.{◌≡◌, false};
+    ghost use Rattle.clap.specs.Words.{Rule, rule_of};
+
+    ghost Value = { Rule };
+
+    ghost view = { λ argument. rule_of argument.arg };
+
+    ghost invariant = { λ argument. argument.arg.global ≡ false };
+}
+
+/// A positional argument that has to be given.
+fn required_arg<'a>(alloc: Global, id: &'a str, help: &'a str) -> Argument<'a>
+    ensures { result ≡ required_rule id.entry.now }
+{
+    Argument {
+        arg: Arg::new(alloc, id).required(true).help(help),
+    }
+}
+
+pub(crate) fn script_arg<'a>(alloc: Global) -> Argument<'a>
+    ensures { result ≡ script_rule }
 {
     required_arg(
         alloc,
@@ -27,16 +44,14 @@ pub(crate) fn script_arg<'a>(alloc: Global) -> Arg<'a>
     )
 }
 
-pub(crate) fn kind_arg<'a>(alloc: Global) -> Arg<'a>
-    ensures rule { rule_of result ≡ kind_rule }
-    ensures local { result.global ≡ false }
+pub(crate) fn kind_arg<'a>(alloc: Global) -> Argument<'a>
+    ensures { result ≡ kind_rule }
 {
     required_arg(alloc, "KIND", "What the file holds: stack or procedure")
 }
 
-pub(crate) fn checked_arg<'a>(alloc: Global) -> Arg<'a>
-    ensures rule { rule_of result ≡ checked_rule }
-    ensures local { result.global ≡ false }
+pub(crate) fn checked_arg<'a>(alloc: Global) -> Argument<'a>
+    ensures { result ≡ checked_rule }
 {
     required_arg(
         alloc,
@@ -45,16 +60,14 @@ pub(crate) fn checked_arg<'a>(alloc: Global) -> Arg<'a>
     )
 }
 
-pub(crate) fn file_arg<'a>(alloc: Global) -> Arg<'a>
-    ensures rule { rule_of result ≡ file_rule }
-    ensures local { result.global ≡ false }
+pub(crate) fn file_arg<'a>(alloc: Global) -> Argument<'a>
+    ensures { result ≡ file_rule }
 {
     required_arg(alloc, "DB", "The database file that keeps the desk")
 }
 
-pub(crate) fn from_arg<'a>(alloc: Global) -> Arg<'a>
-    ensures rule { rule_of result ≡ from_rule }
-    ensures local { result.global ≡ false }
+pub(crate) fn from_arg<'a>(alloc: Global) -> Argument<'a>
+    ensures { result ≡ from_rule }
 {
     required_arg(
         alloc,
@@ -63,9 +76,8 @@ pub(crate) fn from_arg<'a>(alloc: Global) -> Arg<'a>
     )
 }
 
-pub(crate) fn to_arg<'a>(alloc: Global) -> Arg<'a>
-    ensures rule { rule_of result ≡ to_rule }
-    ensures local { result.global ≡ false }
+pub(crate) fn to_arg<'a>(alloc: Global) -> Argument<'a>
+    ensures { result ≡ to_rule }
 {
     required_arg(
         alloc,
@@ -74,92 +86,102 @@ pub(crate) fn to_arg<'a>(alloc: Global) -> Arg<'a>
     )
 }
 
-pub(crate) fn port_arg<'a>(alloc: Global) -> Arg<'a>
-    ensures rule { rule_of result ≡ port_rule }
-    ensures local { result.global ≡ false }
+pub(crate) fn port_arg<'a>(alloc: Global) -> Argument<'a>
+    ensures { result ≡ port_rule }
 {
-    required_arg(
+    let port = required_arg(
         alloc,
         "PORT",
         "The port of 127.0.0.1 at which the desk is served: 1 to 65535",
-    )
-    .value_parser(ValueParser::Unsigned(1, 65_535))
+    );
+    Argument {
+        arg: port.arg.value_parser(ValueParser::Unsigned(1, 65_535)),
+    }
 }
 
-pub(crate) fn count_arg<'a>(alloc: Global) -> Arg<'a>
-    ensures rule { rule_of result ≡ count_rule }
-    ensures local { result.global ≡ false }
+pub(crate) fn count_arg<'a>(alloc: Global) -> Argument<'a>
+    ensures { result ≡ count_rule }
 {
-    Arg::new(alloc, "COUNT")
-        .value_parser(ValueParser::Unsigned(1, 1_000_000))
-        .default_value("1000000")
-        .help("How many connections are served, one after the other: 1 to 1000000")
+    Argument {
+        arg: Arg::new(alloc, "COUNT")
+            .value_parser(ValueParser::Unsigned(1, 1_000_000))
+            .default_value("1000000")
+            .help("How many connections are served, one after the other: 1 to 1000000"),
+    }
 }
 
-pub(crate) fn verbose_arg<'a>(alloc: Global) -> Arg<'a>
-    ensures rule { rule_of result ≡ verbose_rule }
-    ensures local { result.global ≡ false }
+pub(crate) fn verbose_arg<'a>(alloc: Global) -> Argument<'a>
+    ensures { result ≡ verbose_rule }
 {
-    Arg::new(alloc, "verbose")
-        .long("verbose")
-        .action(ArgAction::Count)
-        .help("Say on the standard error how each connection ended")
+    Argument {
+        arg: Arg::new(alloc, "verbose")
+            .long("verbose")
+            .action(ArgAction::Count)
+            .help("Say on the standard error how each connection ended"),
+    }
 }
 
-pub(crate) fn window_arg<'a>(alloc: Global) -> Arg<'a>
-    ensures rule { rule_of result ≡ window_rule }
-    ensures local { result.global ≡ false }
+pub(crate) fn window_arg<'a>(alloc: Global) -> Argument<'a>
+    ensures { result ≡ window_rule }
 {
-    Arg::new(alloc, "w")
-        .long("w")
-        .value_name("N")
-        .value_parser(ValueParser::Unsigned(2, 254))
-        .default_value("20")
-        .help("The window of the FARM: even, 2 to 254")
+    Argument {
+        arg: Arg::new(alloc, "w")
+            .long("w")
+            .value_name("N")
+            .value_parser(ValueParser::Unsigned(2, 254))
+            .default_value("20")
+            .help("The window of the FARM: even, 2 to 254"),
+    }
 }
 
-pub(crate) fn channel_arg<'a>(alloc: Global) -> Arg<'a>
-    ensures rule { rule_of result ≡ channel_rule }
-    ensures local { result.global ≡ false }
+pub(crate) fn channel_arg<'a>(alloc: Global) -> Argument<'a>
+    ensures { result ≡ channel_rule }
 {
-    Arg::new(alloc, "vc")
-        .long("vc")
-        .value_name("N")
-        .value_parser(ValueParser::Unsigned(0, 63))
-        .default_value("3")
-        .help("The virtual channel: 0 to 63")
+    Argument {
+        arg: Arg::new(alloc, "vc")
+            .long("vc")
+            .value_name("N")
+            .value_parser(ValueParser::Unsigned(0, 63))
+            .default_value("3")
+            .help("The virtual channel: 0 to 63"),
+    }
 }
 
-pub(crate) fn ring_arg<'a>(alloc: Global) -> Arg<'a>
-    ensures rule { rule_of result ≡ ring_rule }
-    ensures local { result.global ≡ false }
+pub(crate) fn ring_arg<'a>(alloc: Global) -> Argument<'a>
+    ensures { result ≡ ring_rule }
 {
-    Arg::new(alloc, "ring")
-        .long("ring")
-        .value_name("N")
-        .value_parser(ValueParser::Unsigned(1, 4_096))
-        .help(
-            "Links that hold N items and drop the oldest: 1 to 4096 [default: lists, which lose nothing by themselves]",
-        )
+    Argument {
+        arg: Arg::new(alloc, "ring")
+            .long("ring")
+            .value_name("N")
+            .value_parser(ValueParser::Unsigned(1, 4_096))
+            .help(
+                "Links that hold N items and drop the oldest: 1 to 4096 [default: lists, which lose nothing by themselves]",
+            ),
+    }
 }
 
-pub(crate) fn database_arg<'a>(alloc: Global) -> Arg<'a>
-    ensures rule { rule_of result ≡ database_rule }
-    ensures local { result.global ≡ false }
+pub(crate) fn database_arg<'a>(alloc: Global) -> Argument<'a>
+    ensures { result ≡ database_rule }
 {
-    Arg::new(alloc, "db").long("db").value_name("FILE").help(
-        "The database file that keeps the desk, made where there is none [default: the desk is in memory]",
-    )
+    Argument {
+        arg: Arg::new(alloc, "db").long("db").value_name("FILE").help(
+            "The database file that keeps the desk, made where there is none [default: the desk is in memory]",
+        ),
+    }
 }
 
-pub(crate) fn moment_arg<'a>(alloc: Global) -> Arg<'a>
-    ensures rule { rule_of result ≡ moment_rule }
-    ensures local { result.global ≡ false }
+pub(crate) fn moment_arg<'a>(alloc: Global) -> Argument<'a>
+    ensures { result ≡ moment_rule }
 {
-    Arg::new(alloc, "at")
-        .long("at")
-        .value_name("MOMENT")
-        .value_parser(ValueParser::Unsigned(0, 4_102_444_799))
-        .default_value("0")
-        .help("The moment at which the desk in the file is opened: Unix seconds, 0 to 4102444799")
+    Argument {
+        arg: Arg::new(alloc, "at")
+            .long("at")
+            .value_name("MOMENT")
+            .value_parser(ValueParser::Unsigned(0, 4_102_444_799))
+            .default_value("0")
+            .help(
+                "The moment at which the desk in the file is opened: Unix seconds, 0 to 4102444799",
+            ),
+    }
 }

@@ -9,11 +9,10 @@ ghost use Rattle.tc_words.specs.Asked.{SpellsMoment, SpellsNoMoment, given, give
 
 use crate::lines::UsageFault;
 use clap::ArgMatches;
-use tc_desk::configs::Config;
-use tc_stack::instants::instant;
-use tc_types::loads::LoadKind;
-use tc_types::numbers::Moment;
-use tc_types::readers;
+use tc_desk::Config;
+use tc_stack::instant;
+use tc_types::read::readers;
+use tc_types::{LoadKind, Moment};
 
 /// The text of an argument, or `-` where none was given.
 pub(crate) fn text_of<'a>(matches: &ArgMatches<'a>, id: &str) -> &'a str
@@ -49,10 +48,7 @@ fn number_of(matches: &ArgMatches<'_>, id: &str, least: u32, most: u32, other: u
     ensures value { result ≡ number_in least most other (one_of id.now (rows_of (found_of matches.now))) }
     ensures range { (least ≤ result) × (result ≤ most) }
 {
-    match number_within(matches, id, least, most) {
-        Some(number) => number,
-        None => other,
-    }
+    number_within(matches, id, least, most).unwrap_or(other)
 }
 
 /// How many items the rings of the links hold, where they are rings.

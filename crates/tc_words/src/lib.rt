@@ -4,5 +4,8 @@
 mod arguments;
 mod commands;
 mod given;
-pub mod lines;
-pub mod reading;
+mod lines;
+mod reading;
+
+pub use lines::{CommandLine, UsageFault};
+pub use reading::read_words;

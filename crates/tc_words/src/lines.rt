@@ -1,13 +1,13 @@
 //! What a command line asks for, and why one asks for nothing.
 
-use tc_desk::configs::Config;
-use tc_types::loads::LoadKind;
-use tc_types::numbers::Moment;
+use clap::error::ErrorKind;
+use tc_desk::Config;
+use tc_types::{LoadKind, Moment};
 use thiserror::Error;
 
 /// What the words of a command line ask the program to do.
 #[derive(Clone, Copy, Debug, PartialEq, Eq)]
-pub enum Line<'a> {
+pub enum CommandLine<'a> {
     /// Run the script at this path, or the standard input where it is `-`, on a new desk with this window, channel and links.
     Run {
         script: &'a str,
@@ -69,4 +69,19 @@ pub enum UsageFault<'a> {
     /// There was no memory to read the words.
     #[error("cannot use memory")]
     Memory,
+}
+
+impl<'a> From<clap::Error> for UsageFault<'a> {
+    ghost use Rattle.tc_words.specs.Lines.{IsToldAs};
+
+    ghost from_gives = { λ error fault. IsToldAs error fault };
+
+    /// Refused memory, and nothing else, as such; any other error of `clap` as it is.
+    fn from(error: clap::Error) -> UsageFault<'a> {
+        if error.kind() == ErrorKind::OutOfMemory {
+            UsageFault::Memory
+        } else {
+            UsageFault::Words(error)
+        }
+    }
 }

@@ -1,21 +1,19 @@
 //! The reading of a command line's words.
-ghost use Rattle.std.specs.Prelude.{◌≡◌, ◌⊎◌, ◌↔◌, [], IfErr, IfOk, IfSome, None, OnOk, map, true};
-ghost use Rattle.clap.specs.Words.{fault_of, found_of, kind_of, rows_of, subcommand_of, subcommand_rows_of, takes};
-ghost use Rattle.tc_desk.specs.State.{IsConfig};
+ghost use Rattle.std.specs.Prelude.{◌≡◌, ◌⊎◌, [], IfErr, IfOk, OnOk, map, true};
+ghost use Rattle.clap.specs.Words.{fault_of, found_of, rows_of, subcommand_of, subcommand_rows_of, takes};
 ghost use Rattle.tc_words.specs.Asked.{asked, asked_check, asked_loop, asked_of, asked_report, asked_run, asked_serve};
 ghost use Rattle.tc_words.specs.Commands.{desk_app};
-ghost use Rattle.tc_words.specs.Lines.{AsksFor, IsFaultOf, IsTold, config_of};
+ghost use Rattle.tc_words.specs.Lines.{IsFaultOf, IsLineFor, IsTold};
 
 use crate::commands::matches;
 use crate::given::{
     config_of, count_of, is_verbose, moment_of, path_of, port_of, spelled_kind, spelled_moment,
     text_of,
 };
-use crate::lines::{Line, UsageFault};
+use crate::lines::{CommandLine, UsageFault};
 use clap::ArgMatches;
-use clap::error::ErrorKind;
 use std::alloc::Global;
-use tc_desk::configs::Config;
+use tc_desk::Config;
 
 /// The window, the channel and the links where none are given.
 const CONFIG: Config = Config {
@@ -25,10 +23,12 @@ const CONFIG: Config = Config {
 };
 
 /// Reads the words of a command line, of which the first is the program's name.
-pub fn read_words<'a>(alloc: Global, words: &'a [&'a str]) -> Result<Line<'a>, UsageFault<'a>>
+pub fn read_words<'a>(
+    alloc: Global,
+    words: &'a [&'a str],
+) -> Result<CommandLine<'a>, UsageFault<'a>>
     ensures line { IfOk result (λ line.
-        AsksFor line (asked (subcommand_of desk_app (map (λ word. word.now) words.entry.now)))) }
-    ensures config { IfOk result (λ line. IfSome (config_of line) IsConfig) }
+        IsLineFor line (asked (subcommand_of desk_app (map (λ word. word.now) words.entry.now)))) }
     ensures taken { OnOk result (fault_of desk_app (map (λ word. word.now) words.entry.now) ≡ []) }
     ensures fault { IfErr result (λ fault.
         takes desk_app (map (λ word. word.now) words.entry.now) ≡ true
@@ -36,32 +36,17 @@ pub fn read_words<'a>(alloc: Global, words: &'a [&'a str]) -> Result<Line<'a>, U
     ensures told { IfErr result (IsTold
         (fault_of desk_app (map (λ word. word.now) words.entry.now)) (asked (subcommand_of desk_app (map (λ word. word.now) words.entry.now)))) }
 {
-    match matches(alloc, words) {
-        Ok(matches) => line_of(&matches),
-        Err(error) => Err(usage_fault(error)),
-    }
+    let matches = matches(alloc, words)?;
+    line_of(&matches)
 }
 
-/// What an error of `clap` is told as: refused memory, and nothing else, as such; any other as it is.
-fn usage_fault<'a>(error: clap::Error) -> UsageFault<'a>
-    ensures memory { (kind_of error ≡ ErrorKind.OutOfMemory) ↔ (result ≡ UsageFault.Memory) }
-    ensures other { (result ≡ UsageFault.Memory) ⊎ (result ≡ UsageFault.Words error) }
-{
-    if error.kind() == ErrorKind::OutOfMemory {
-        UsageFault::Memory
-    } else {
-        UsageFault::Words(error)
-    }
-}
-
-fn line_of<'a>(matches: &ArgMatches<'a>) -> Result<Line<'a>, UsageFault<'a>>
-    ensures line { IfOk result (λ line. AsksFor line (asked (subcommand_rows_of matches.now))) }
-    ensures config { IfOk result (λ line. IfSome (config_of line) IsConfig) }
+fn line_of<'a>(matches: &ArgMatches<'a>) -> Result<CommandLine<'a>, UsageFault<'a>>
+    ensures line { IfOk result (λ line. IsLineFor line (asked (subcommand_rows_of matches.now))) }
     ensures fault { IfErr result (IsFaultOf (asked (subcommand_rows_of matches.now))) }
 {
     match matches.subcommand() {
         Some((name, inner)) => command_line_of(name, inner),
-        None => Ok(Line::Run {
+        None => Ok(CommandLine::Run {
             script: "-",
             config: CONFIG,
         }),
@@ -69,9 +54,11 @@ fn line_of<'a>(matches: &ArgMatches<'a>) -> Result<Line<'a>, UsageFault<'a>>
 }
 
 /// What the command of this name was given.
-fn command_line_of<'a>(name: &str, matches: &ArgMatches<'a>) -> Result<Line<'a>, UsageFault<'a>>
-    ensures line { IfOk result (λ line. AsksFor line (asked_of name.now (rows_of (found_of matches.now)))) }
-    ensures config { IfOk result (λ line. IfSome (config_of line) IsConfig) }
+fn command_line_of<'a>(
+    name: &str,
+    matches: &ArgMatches<'a>,
+) -> Result<CommandLine<'a>, UsageFault<'a>>
+    ensures line { IfOk result (λ line. IsLineFor line (asked_of name.now (rows_of (found_of matches.now)))) }
     ensures fault { IfErr result (IsFaultOf (asked_of name.now (rows_of (found_of matches.now)))) }
 {
     if name == "report" {
@@ -87,57 +74,53 @@ fn command_line_of<'a>(name: &str, matches: &ArgMatches<'a>) -> Result<Line<'a>,
     }
 }
 
-fn run_line_of<'a>(matches: &ArgMatches<'a>) -> Result<Line<'a>, UsageFault<'a>>
-    ensures line { IfOk result (λ line. AsksFor line (asked_run (rows_of (found_of matches.now)))) }
-    ensures config { IfOk result (λ line. IfSome (config_of line) IsConfig) }
+fn run_line_of<'a>(matches: &ArgMatches<'a>) -> Result<CommandLine<'a>, UsageFault<'a>>
+    ensures line { IfOk result (λ line. IsLineFor line (asked_run (rows_of (found_of matches.now)))) }
     ensures fault { IfErr result (IsFaultOf (asked_run (rows_of (found_of matches.now)))) }
 {
     let script = text_of(matches, "SCRIPT");
     let config = config_of(matches)?;
     match path_of(matches, "db") {
-        Some(database) => Ok(Line::RunKept {
+        Some(database) => Ok(CommandLine::RunKept {
             script,
             config,
             database,
             moment: moment_of(matches),
         }),
-        None => Ok(Line::Run { script, config }),
+        None => Ok(CommandLine::Run { script, config }),
     }
 }
 
-fn report_line_of<'a>(matches: &ArgMatches<'a>) -> Result<Line<'a>, UsageFault<'a>>
-    ensures line { IfOk result (λ line. AsksFor line (asked_report (rows_of (found_of matches.now)))) }
-    ensures config { IfOk result (λ line. config_of line ≡ None) }
+fn report_line_of<'a>(matches: &ArgMatches<'a>) -> Result<CommandLine<'a>, UsageFault<'a>>
+    ensures line { IfOk result (λ line. IsLineFor line (asked_report (rows_of (found_of matches.now)))) }
     ensures fault { IfErr result (IsFaultOf (asked_report (rows_of (found_of matches.now)))) }
 {
     let from = spelled_moment(text_of(matches, "FROM"))?;
     let to = spelled_moment(text_of(matches, "TO"))?;
-    Ok(Line::Report {
+    Ok(CommandLine::Report {
         database: text_of(matches, "DB"),
         from,
         to,
     })
 }
 
-fn check_line_of<'a>(matches: &ArgMatches<'a>) -> Result<Line<'a>, UsageFault<'a>>
-    ensures line { IfOk result (λ line. AsksFor line (asked_check (rows_of (found_of matches.now)))) }
-    ensures config { IfOk result (λ line. config_of line ≡ None) }
+fn check_line_of<'a>(matches: &ArgMatches<'a>) -> Result<CommandLine<'a>, UsageFault<'a>>
+    ensures line { IfOk result (λ line. IsLineFor line (asked_check (rows_of (found_of matches.now)))) }
     ensures fault { IfErr result (IsFaultOf (asked_check (rows_of (found_of matches.now)))) }
 {
     let kind = spelled_kind(text_of(matches, "KIND"))?;
-    Ok(Line::Check {
+    Ok(CommandLine::Check {
         kind,
         file: text_of(matches, "FILE"),
     })
 }
 
-fn serve_line_of<'a>(matches: &ArgMatches<'a>) -> Result<Line<'a>, UsageFault<'a>>
-    ensures line { IfOk result (λ line. AsksFor line (asked_serve (rows_of (found_of matches.now)))) }
-    ensures config { IfOk result (λ line. IfSome (config_of line) IsConfig) }
+fn serve_line_of<'a>(matches: &ArgMatches<'a>) -> Result<CommandLine<'a>, UsageFault<'a>>
+    ensures line { IfOk result (λ line. IsLineFor line (asked_serve (rows_of (found_of matches.now)))) }
     ensures fault { IfErr result (IsFaultOf (asked_serve (rows_of (found_of matches.now)))) }
 {
     let config = config_of(matches)?;
-    Ok(Line::Serve {
+    Ok(CommandLine::Serve {
         database: text_of(matches, "DB"),
         port: port_of(matches),
         count: count_of(matches),
@@ -147,13 +130,12 @@ fn serve_line_of<'a>(matches: &ArgMatches<'a>) -> Result<Line<'a>, UsageFault<'a
     })
 }
 
-fn loop_line_of<'a>(matches: &ArgMatches<'a>) -> Result<Line<'a>, UsageFault<'a>>
-    ensures line { IfOk result (λ line. AsksFor line (asked_loop (rows_of (found_of matches.now)))) }
-    ensures config { IfOk result (λ line. IfSome (config_of line) IsConfig) }
+fn loop_line_of<'a>(matches: &ArgMatches<'a>) -> Result<CommandLine<'a>, UsageFault<'a>>
+    ensures line { IfOk result (λ line. IsLineFor line (asked_loop (rows_of (found_of matches.now)))) }
     ensures fault { IfErr result (IsFaultOf (asked_loop (rows_of (found_of matches.now)))) }
 {
     let config = config_of(matches)?;
-    Ok(Line::Loop {
+    Ok(CommandLine::Loop {
         database: text_of(matches, "DB"),
         script: text_of(matches, "SCRIPT"),
         config,

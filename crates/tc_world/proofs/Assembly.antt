@@ -3,14 +3,14 @@ use Rattle.std.proofs.Common.{◌≡◌, ℕ, ◌<◌, ◌≤◌, arith, Bool, t
 use Rattle.std.specs.Prelude.{MatchBool, if◌then◌else◌, ◌/◌}
 use Rattle.std.specs.List.{flat_map}
 use Rattle.std.proofs.lemmas.List.{append-nil}
-use Rattle.tc_types.specs.declared.frames.Frame.{Frame}
-use Rattle.tc_types.specs.declared.reports.Report.{Report}
-use Rattle.tc_types.specs.declared.reports.Report.TheVariants.{Word, Telemetry}
-use Rattle.tc_types.specs.declared.reports.Telemetry.{Telemetry as Packet}
+use Rattle.tc_types.specs.declared.link.frames.Frame.{Frame}
+use Rattle.tc_types.specs.declared.link.reports.Report.{Report}
+use Rattle.tc_types.specs.declared.link.reports.Report.TheVariants.{Word, Telemetry}
+use Rattle.tc_types.specs.declared.link.reports.Telemetry.{Telemetry as Packet}
 use Rattle.tc_farm.specs.declared.clcws.Clcw.{Clcw}
 use Rattle.tc_farm.specs.ControlWord.{word_of}
 use Rattle.tc_farm.specs.Farm.{IsFarm, released}
-use Rattle.tc_types.specs.declared.directives.Directive.{Directive}
+use Rattle.tc_types.specs.declared.link.directives.Directive.{Directive}
 use Rattle.tc_fop.specs.declared.signals.Indication.TheVariants as signal
 use Rattle.tc_fop.specs.Machine.{Machine, Waiting, Action, Out, after, output, option_list}
 use Rattle.tc_fop.specs.Calls.{Given, offered, directed, reported, ticked, Answers, is_taking}
@@ -19,7 +19,7 @@ use Rattle.tc_fop.specs.Requests.{KeepsOrder, waiting_requests}
 use Rattle.tc_fop.specs.Moves.{MovesIn, is_initiation, transmitted_in, transmitted_by}
 use Rattle.tc_world.specs.declared.events.Event.{Event}
 use Rattle.tc_world.specs.declared.events.Event.TheVariants as event
-use Rattle.tc_world.specs.declared.events.Indication.{Indication}
+use Rattle.tc_world.specs.declared.events.LinkIndication.{LinkIndication}
 use Rattle.tc_world.specs.Sublist.{IsSublist, IsSublist-same, IsSublist-behind}
 use Rattle.tc_world.specs.Links.{lossy}
 use Rattle.tc_world.specs.Logs.{noted, blank}
@@ -86,13 +86,13 @@ pub answers_of : (given : Given) (m n : Machine) (actions : List Action) → giv
     → Answers given m n (Ok (output actions m))
 answers_of given m n actions e after_is = subst (λ g. Answers g m n (Ok (output actions m))) (sym e) (after_is, refl)
 
-up_loses : (w v : Bare) (actions : List Action) (answer : List Indication) → Carries lossy actions w v answer
+up_loses : (w v : Bare) (actions : List Action) (answer : List LinkIndication) → Carries lossy actions w v answer
     → IsSublist v.up (w.up ++ (output actions w.fop).frames)
 up_loses w v actions answer h =
     subst (λ l. IsSublist v.up (l ++ (output actions w.fop).frames)) h.readied
     (puts_lose lossy h.ready (output actions w.fop).frames v.up (λ before next item put. put) h.frames)
 
-pub moving_of : (bound : ℕ) → (heard : Option Clcw) (w v : Bare) (actions : List Action) (answer : List Indication) → IsFop w.fop → w.fop.k ≤ bound
+pub moving_of : (bound : ℕ) → (heard : Option Clcw) (w v : Bare) (actions : List Action) (answer : List LinkIndication) → IsFop w.fop → w.fop.k ≤ bound
     → Carries lossy actions w v answer → MovesIn w.fop.state heard w.fop v.fop (output actions w.fop)
     → Moving bound heard w v (output actions w.fop)
 moving_of bound heard w v actions answer old_fop fits h moves = record {
@@ -104,7 +104,7 @@ moving_of bound heard w v actions answer old_fop fits h moves = record {
 }
 
 -- a call of the FOP without a control word
-carried : (w v : Bare) (actions : List Action) (answer : List Indication) (requests : List ℕ) → IsKept w → IsFop v.fop → IsFarm v.farm
+carried : (w v : Bare) (actions : List Action) (answer : List LinkIndication) (requests : List ℕ) → IsKept w → IsFop v.fop → IsFarm v.farm
     → Carries lossy actions w v answer → MovesIn w.fop.state None w.fop v.fop (output actions w.fop)
     → KeepsOrder requests w.fop v.fop (output actions w.fop) → Distinct (all_sent w ++ waiting_requests w.fop ++ requests)
     → Goes w v
@@ -125,7 +125,7 @@ without_offer w d = subst (λ l. Distinct l) (sym (append-nil (all_sent w ++ wai
 
 -- ---- the events, one by one
 
-offers : Laws → (w v : Bare) (waiting : Waiting) (actions : List Action) (answer : List Indication) → IsKept w → IsFop v.fop → IsFarm v.farm
+offers : Laws → (w v : Bare) (waiting : Waiting) (actions : List Action) (answer : List LinkIndication) → IsKept w → IsFop v.fop → IsFarm v.farm
     → offered w.fop waiting ≡ Ok actions → Distinct (all_sent w ++ waiting_requests w.fop ++ waiting.request ∷ [])
     → Carries lossy actions w v answer → Goes w v
 offers laws w v waiting actions answer kept fop farm gives fresh h =
@@ -134,7 +134,7 @@ offers laws w v waiting actions answer kept fop farm gives fresh h =
     (laws.offers w.fop waiting v.fop (output actions w.fop) kept.fop fop answers)
     (laws.offers_order w.fop waiting v.fop (output actions w.fop) kept.fop fop answers) fresh
 
-ticks : Laws → (w v : Bare) (actions : List Action) (answer : List Indication) → IsKept w → IsFop v.fop → IsFarm v.farm
+ticks : Laws → (w v : Bare) (actions : List Action) (answer : List LinkIndication) → IsKept w → IsFop v.fop → IsFarm v.farm
     → ticked w.fop ≡ Ok actions → Carries lossy actions w v answer → Goes w v
 ticks laws w v actions answer kept fop farm gives h =
     let answers = answers_of (ticked w.fop) w.fop v.fop actions gives (ap (λ x. x.fop) h.whole) in
@@ -142,7 +142,7 @@ ticks laws w v actions answer kept fop farm gives h =
     (laws.ticks w.fop v.fop (output actions w.fop) kept.fop fop answers)
     (laws.ticks_order w.fop v.fop (output actions w.fop) kept.fop fop answers) (without_offer w kept.distinct)
 
-directs : Laws → (w v : Bare) (given : Directive) (actions : List Action) (answer : List Indication) → IsKept w → IsFop v.fop → IsFarm v.farm
+directs : Laws → (w v : Bare) (given : Directive) (actions : List Action) (answer : List LinkIndication) → IsKept w → IsFop v.fop → IsFarm v.farm
     → is_initiation given ≡ false → directed w.fop given ≡ Ok actions → Carries lossy actions w v answer → Goes w v
 directs laws w v given actions answer kept fop farm other gives h =
     let answers = answers_of (directed w.fop given) w.fop v.fop actions gives (ap (λ x. x.fop) h.whole) in
@@ -150,7 +150,7 @@ directs laws w v given actions answer kept fop farm other gives h =
     (laws.directives w.fop given v.fop (output actions w.fop) other kept.fop fop answers)
     (laws.directives_order w.fop given v.fop (output actions w.fop) kept.fop fop answers) (without_offer w kept.distinct)
 
-boards : Laws → (w v : Bare) (room : Bool) (answer : List Indication) → IsKept w → IsFop v.fop → IsFarm v.farm
+boards : Laws → (w v : Bare) (room : Bool) (answer : List LinkIndication) → IsKept w → IsFop v.fop → IsFarm v.farm
     → Boards lossy room w v answer → Goes w v
 boards laws w v room answer kept fop farm h =
     let past : v.past ≡ w.past = ap (λ x. x.past) h.whole in
@@ -175,7 +175,7 @@ flies w v up down kept whole words steps =
     subst (λ x. Goes w x) (sym whole)
     (goes_on w (record w { up = up; down = down }) kept kept.fop kept.farm refl refl words kept.distinct (record { window = refl; open_farm = λ sane l. l }) steps)
 
-tells : (w v : Bare) (clcw : Clcw) (answer : List Indication) → IsKept w → clcw.vc ≡ w.vc → clcw.report ≡ w.farm.vr
+tells : (w v : Bare) (clcw : Clcw) (answer : List LinkIndication) → IsKept w → clcw.vc ≡ w.vc → clcw.report ≡ w.farm.vr
     → Descends lossy (Word (word_of clcw)) w v answer → Goes w v
 tells w v clcw answer kept channel value h =
     let small : clcw.report < 256 = subst (λ n. n < 256) (sym value) kept.farm.vr in
@@ -188,7 +188,7 @@ tells w v clcw answer kept channel value h =
     (λ bound fit wide sane. tells_on bound fit w (word_of clcw) v.down (distinct_newest w (waiting_requests w.fop) kept.distinct)
     (value_of_word clcw small ∙ value) sub sane)
 
-reports : (w v : Bare) (telemetry : Packet) (answer : List Indication) → IsKept w → Descends lossy (Telemetry telemetry) w v answer → Goes w v
+reports : (w v : Bare) (telemetry : Packet) (answer : List LinkIndication) → IsKept w → Descends lossy (Telemetry telemetry) w v answer → Goes w v
 reports w v telemetry answer kept h =
     let sub : IsSublist v.down (w.down ++ Telemetry telemetry ∷ []) =
     subst (λ l. IsSublist v.down (l ++ Telemetry telemetry ∷ [])) h.readied h.put in
@@ -205,7 +205,7 @@ loses w v up down kept whole sub_up sub_down =
     (λ bound fit wide sane. loses_on bound fit w up down (distinct_newest w (waiting_requests w.fop) kept.distinct) sub_up sub_down sane)
 
 -- nothing happened
-idles : (w v : Bare) (answer : List Indication) → IsKept w → IsIdle lossy lossy w v answer → Goes w v
+idles : (w v : Bare) (answer : List LinkIndication) → IsKept w → IsIdle lossy lossy w v answer → Goes w v
 idles w v answer kept h =
     loses w v v.up v.down kept h.same.rest
     (subst (λ l. IsSublist l w.up) (sym h.same.up) (IsSublist-same w.up))
@@ -219,7 +219,7 @@ releases w v kept farm whole =
     (λ bound fit wide sane. releases_on bound fit w (distinct_newest w (waiting_requests w.fop) kept.distinct) sane))
 
 -- a control word of the FARM's came down
-hears : Laws → (w v : Bare) (word : ℕ) (lost left : List Report) (heard : Option Clcw) (actions : List Action) (answer : List Indication)
+hears : Laws → (w v : Bare) (word : ℕ) (lost left : List Report) (heard : Option Clcw) (actions : List Action) (answer : List LinkIndication)
     → IsKept w → IsFop v.fop → IsFarm v.farm → w.down ≡ lost ++ Word word ∷ left → Reads word w.vc heard
     → reported w.fop heard ≡ Ok actions → Carries lossy actions (record w { down = left }) v answer → Goes w v
 hears laws w v word lost left heard actions answer kept fop farm down reads gives h =
@@ -253,7 +253,7 @@ receives w v telemetry lost left kept down whole =
     (sublist_trans left (Telemetry telemetry ∷ left) (lost ++ Telemetry telemetry ∷ left) (inl (IsSublist-same left))
     (IsSublist-behind lost (Telemetry telemetry ∷ left))))
 
-lands : Laws → (w v : Bare) (item : Report) (lost left : List Report) (answer : List Indication) → IsKept w → IsFop v.fop → IsFarm v.farm
+lands : Laws → (w v : Bare) (item : Report) (lost left : List Report) (answer : List LinkIndication) → IsKept w → IsFop v.fop → IsFarm v.farm
     → w.down ≡ lost ++ item ∷ left → Hears lossy item (record w { down = left }) v answer → Goes w v
 lands laws w v (Word word) lost left answer kept fop farm down (heard, actions, rest, reads, gives, h, answered) =
     hears laws w v word lost left heard actions rest kept fop farm down reads gives h
@@ -282,7 +282,7 @@ good_goes bound fit given w v out distinct initiating good = elim (good_start bo
 ]
 
 -- an initiation: the session that was on has ended, and another begins
-begins : Laws → (w v : Bare) (given : Directive) (actions : List Action) (answer : List Indication) → IsKept w → IsFop v.fop → IsFarm v.farm
+begins : Laws → (w v : Bare) (given : Directive) (actions : List Action) (answer : List LinkIndication) → IsKept w → IsFop v.fop → IsFarm v.farm
     → is_initiation given ≡ true → directed w.fop given ≡ Ok actions → Begins lossy lossy given actions w v answer → Goes w v
 begins laws w v given actions answer kept fop farm initiation gives h =
     let out : Out = output actions w.fop in
@@ -326,7 +326,7 @@ begins laws w v given actions answer kept fop farm initiation gives h =
       };
     }
 
-event_goes_directive : Laws → (w v : Bare) (given : Directive) (actions : List Action) (answer : List Indication) (initiation : Bool)
+event_goes_directive : Laws → (w v : Bare) (given : Directive) (actions : List Action) (answer : List LinkIndication) (initiation : Bool)
     → IsKept w → IsFop v.fop → IsFarm v.farm → is_initiation given ≡ initiation → directed w.fop given ≡ Ok actions
     → MatchBool initiation (Begins lossy lossy given actions w v answer) (Carries lossy actions w v answer) → Goes w v
 event_goes_directive laws w v given actions answer true kept fop farm is gives h = begins laws w v given actions answer kept fop farm is gives h
@@ -376,7 +376,7 @@ goes_judged w v h = record {
 }
 
 -- one event
-pub event_goes : Laws → (given : Event) (w v : Bare) (answer : List Indication) → IsKept w → IsFop v.fop → IsFarm v.farm
+pub event_goes : Laws → (given : Event) (w v : Bare) (answer : List LinkIndication) → IsKept w → IsFop v.fop → IsFarm v.farm
     → Happens lossy lossy given w v answer → Goes w v
 event_goes laws (event.Offer request body) w v answer kept fop farm (actions, unknown, gives, h) =
     offers laws w v (record { request = request; body = body }) actions answer kept fop farm gives

@@ -1,15 +1,15 @@
 -- What happens over links of any kind that keep the laws happens, in what is in flight, over links that only lose.
 use Rattle.std.proofs.Common.{◌≡◌, ℕ, Bool, true, false, inl, inr, List, [], ◌∷◌, ◌++◌, sym, ◌∙◌, ap}
 use Rattle.std.specs.Prelude.{MatchBool}
-use Rattle.tc_types.specs.declared.frames.Frame.{Frame}
-use Rattle.tc_types.specs.declared.reports.Report.{Report}
-use Rattle.tc_types.specs.declared.reports.Report.TheVariants as report
-use Rattle.tc_types.specs.declared.directives.Directive.{Directive}
+use Rattle.tc_types.specs.declared.link.frames.Frame.{Frame}
+use Rattle.tc_types.specs.declared.link.reports.Report.{Report}
+use Rattle.tc_types.specs.declared.link.reports.Report.TheVariants as report
+use Rattle.tc_types.specs.declared.link.directives.Directive.{Directive}
 use Rattle.tc_fop.specs.Machine.{Action}
 use Rattle.tc_fop.specs.Moves.{is_initiation}
 use Rattle.tc_world.specs.declared.events.Event.{Event}
 use Rattle.tc_world.specs.declared.events.Event.TheVariants as event
-use Rattle.tc_world.specs.declared.events.Indication.{Indication}
+use Rattle.tc_world.specs.declared.events.LinkIndication.{LinkIndication}
 use Rattle.tc_world.specs.Sublist.{IsSublist}
 use Rattle.tc_world.specs.Links.{Kind, lossy, PutsAll, IsReadied}
 use Rattle.tc_world.specs.Abstraction.{seen}
@@ -33,7 +33,7 @@ puts_seen kind law old (item ∷ items) new (next, put, rest) =
     (kind.content next, law.puts old next item put, puts_seen kind law next items new rest)
 
 carries_seen : {U D : Type 0} (uplink : Kind U Frame) (downlink : Kind D Report) → OnlyLoses uplink
-    → (actions : List Action) (old new : Whole U D) (answer : List Indication)
+    → (actions : List Action) (old new : Whole U D) (answer : List LinkIndication)
     → Carries uplink actions old new answer → Carries lossy actions (seen uplink downlink old) (seen uplink downlink new) answer
 carries_seen uplink downlink law actions old new answer h = record {
   ready = uplink.content h.ready;
@@ -44,7 +44,7 @@ carries_seen uplink downlink law actions old new answer h = record {
 }
 
 begins_seen : {U D : Type 0} (uplink : Kind U Frame) (downlink : Kind D Report) → OnlyLoses uplink
-    → (given : Directive) (actions : List Action) (old new : Whole U D) (answer : List Indication)
+    → (given : Directive) (actions : List Action) (old new : Whole U D) (answer : List LinkIndication)
     → Begins uplink downlink given actions old new answer
     → Begins lossy lossy given actions (seen uplink downlink old) (seen uplink downlink new) answer
 begins_seen uplink downlink law given actions old new answer h = record {
@@ -56,7 +56,7 @@ begins_seen uplink downlink law given actions old new answer h = record {
 }
 
 directs_seen : {U D : Type 0} (uplink : Kind U Frame) (downlink : Kind D Report) → OnlyLoses uplink
-    → (given : Directive) (actions : List Action) (old new : Whole U D) (answer : List Indication) (initiation : Bool)
+    → (given : Directive) (actions : List Action) (old new : Whole U D) (answer : List LinkIndication) (initiation : Bool)
     → MatchBool initiation (Begins uplink downlink given actions old new answer) (Carries uplink actions old new answer)
     → MatchBool initiation (Begins lossy lossy given actions (seen uplink downlink old) (seen uplink downlink new) answer)
     (Carries lossy actions (seen uplink downlink old) (seen uplink downlink new) answer)
@@ -64,7 +64,7 @@ directs_seen uplink downlink law given actions old new answer true h = begins_se
 directs_seen uplink downlink law given actions old new answer false h = carries_seen uplink downlink law actions old new answer h
 
 idle_seen : {U D : Type 0} (uplink : Kind U Frame) (downlink : Kind D Report) → OnlyLoses uplink → OnlyLoses downlink
-    → (old new : Whole U D) (answer : List Indication)
+    → (old new : Whole U D) (answer : List LinkIndication)
     → IsIdle uplink downlink old new answer → IsIdle lossy lossy (seen uplink downlink old) (seen uplink downlink new) answer
 idle_seen uplink downlink ul dl old new answer h = record {
   same = record {
@@ -76,7 +76,7 @@ idle_seen uplink downlink ul dl old new answer h = record {
 }
 
 boards_seen : {U D : Type 0} (uplink : Kind U Frame) (downlink : Kind D Report) → OnlyLoses uplink
-    → (room : Bool) (old new : Whole U D) (answer : List Indication)
+    → (room : Bool) (old new : Whole U D) (answer : List LinkIndication)
     → Boards uplink room old new answer → Boards lossy room (seen uplink downlink old) (seen uplink downlink new) answer
 boards_seen uplink downlink law room old new answer h = record {
   frame = h.frame;
@@ -86,7 +86,7 @@ boards_seen uplink downlink law room old new answer h = record {
 }
 
 hears_seen : {U D : Type 0} (uplink : Kind U Frame) (downlink : Kind D Report) → OnlyLoses uplink
-    → (item : Report) (old new : Whole U D) (answer : List Indication)
+    → (item : Report) (old new : Whole U D) (answer : List LinkIndication)
     → Hears uplink item old new answer → Hears lossy item (seen uplink downlink old) (seen uplink downlink new) answer
 hears_seen uplink downlink law (report.Word word) old new answer (heard, actions, rest, reads, gives, carries, answered) =
     (heard, actions, rest, reads, gives, carries_seen uplink downlink law actions old new rest carries, answered)
@@ -94,7 +94,7 @@ hears_seen uplink downlink law (report.Telemetry telemetry) old new answer (read
     (readied_content uplink law old.up new.up readied, ap (λ w. seen uplink downlink w) whole, answered)
 
 lands_seen : {U D : Type 0} (uplink : Kind U Frame) (downlink : Kind D Report) → OnlyLoses uplink → OnlyLoses downlink
-    → (old new : Whole U D) (answer : List Indication)
+    → (old new : Whole U D) (answer : List LinkIndication)
     → Lands uplink downlink old new answer → Lands lossy lossy (seen uplink downlink old) (seen uplink downlink new) answer
 lands_seen uplink downlink up_law down_law old new answer h = record {
   item = h.item;
@@ -104,7 +104,7 @@ lands_seen uplink downlink up_law down_law old new answer h = record {
 }
 
 descends_seen : {U D : Type 0} (uplink : Kind U Frame) (downlink : Kind D Report) → OnlyLoses downlink
-    → (item : Report) (old new : Whole U D) (answer : List Indication)
+    → (item : Report) (old new : Whole U D) (answer : List LinkIndication)
     → Descends downlink item old new answer → Descends lossy item (seen uplink downlink old) (seen uplink downlink new) answer
 descends_seen uplink downlink law item old new answer h = record {
   ready = downlink.content h.ready;
@@ -116,7 +116,7 @@ descends_seen uplink downlink law item old new answer h = record {
 
 -- one event
 pub happens_seen : {U D : Type 0} (uplink : Kind U Frame) (downlink : Kind D Report) → OnlyLoses uplink → OnlyLoses downlink
-    → (given : Event) (old new : Whole U D) (answer : List Indication)
+    → (given : Event) (old new : Whole U D) (answer : List LinkIndication)
     → Happens uplink downlink given old new answer
     → Happens lossy lossy given (seen uplink downlink old) (seen uplink downlink new) answer
 happens_seen uplink downlink ul dl (event.Offer request body) old new answer (actions, unknown, gives, h) =

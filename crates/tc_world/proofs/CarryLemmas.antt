@@ -1,18 +1,18 @@
 -- A call of the FOP, carried out on the link.
 use Rattle.std.proofs.Common.{◌≡◌, ◌<◌, ◌⊎◌, ◌↔◌, inl, inr, ℕ, Bool, true, false, MatchBool, if◌then◌else◌, append-nil, Option, Some, None, IsSome, IfSome, Ok, Err, List, [], ◌∷◌, ◌++◌, refl, sym, ◌∙◌, ap, subst}
-use Rattle.tc_types.specs.declared.frames.Frame.{Frame}
+use Rattle.tc_types.specs.declared.link.frames.Frame.{Frame}
 use Rattle.tc_types.specs.declared.refusals.Refusal.{Refusal}
 use Rattle.tc_types.specs.declared.refusals.Refusal.TheVariants.{Memory}
-use Rattle.tc_types.specs.declared.reports.Report.{Report}
-use Rattle.tc_types.specs.declared.reports.Report.TheVariants as report
+use Rattle.tc_types.specs.declared.link.reports.Report.{Report}
+use Rattle.tc_types.specs.declared.link.reports.Report.TheVariants as report
 use Rattle.tc_farm.specs.declared.clcws.Clcw.{Clcw}
 use Rattle.tc_farm.specs.ControlWord.{IsValid, word_of, without_ignored}
-use Rattle.tc_types.specs.declared.directives.Directive.{Directive}
+use Rattle.tc_types.specs.declared.link.directives.Directive.{Directive}
 use Rattle.tc_fop.specs.Moves.{is_initiation}
 use Rattle.tc_fop.specs.Machine.{Machine, Action, Out, after, output, nothing}
 use Rattle.tc_fop.specs.Calls.{Given, Answers, directed, reported, ticked}
 use Rattle.tc_world.specs.declared.events.Event.TheVariants as event
-use Rattle.tc_world.specs.declared.events.Indication.{Indication}
+use Rattle.tc_world.specs.declared.events.LinkIndication.{LinkIndication}
 use Rattle.tc_world.specs.declared.fop_side.FopSide.{FopSide}
 use Rattle.tc_world.specs.Links.{Kind, PutsAll, IsReadied}
 use Rattle.tc_world.specs.Logs.{Log, noted, blank}
@@ -25,7 +25,7 @@ answered (Ok actions) old new out h = (actions, refl, h.0, h.1)
 answered (Err refusal) old new out h = absurd h
 
 -- the output was put on the link and written down
-pub carried : {U D : Type 0} (uplink : Kind U Frame) (old : Whole U D) (given : Given) (fop : Machine) (out : Out) (ready up : U) (newest : Log) (answer : List Indication)
+pub carried : {U D : Type 0} (uplink : Kind U Frame) (old : Whole U D) (given : Given) (fop : Machine) (out : Out) (ready up : U) (newest : Log) (answer : List LinkIndication)
     → Answers given old.fop fop (Ok out) → IsReadied uplink old.up ready → PutsAll uplink ready out.frames up → newest ≡ noted out old.newest → answer ≡ told_by_fop out
     → (actions : List Action) × (given ≡ Ok actions) × Carries uplink actions old (record old { fop = fop; up = up; newest = newest }) answer
 carried uplink old given fop out ready up newest answer h readied puts log told =
@@ -55,12 +55,12 @@ as_before uplink downlink old fop ready newest same readied log = record {
 }
 
 -- a directive that is no initiation goes on in the newest session
-pub directs_on : {U D : Type 0} (uplink : Kind U Frame) (downlink : Kind D Report) (given : Directive) (actions : List Action) (old new : Whole U D) (answer : List Indication) → is_initiation given ≡ false → Carries uplink actions old new answer → Directs uplink downlink given actions old new answer
+pub directs_on : {U D : Type 0} (uplink : Kind U Frame) (downlink : Kind D Report) (given : Directive) (actions : List Action) (old new : Whole U D) (answer : List LinkIndication) → is_initiation given ≡ false → Carries uplink actions old new answer → Directs uplink downlink given actions old new answer
 directs_on uplink downlink given actions old new answer other h =
     subst (λ (b : Bool). MatchBool b (Begins uplink downlink given actions old new answer) (Carries uplink actions old new answer)) (sym other) h
 
 -- an initiation was put on the link, and a session begins with it
-pub begun : {U D : Type 0} (uplink : Kind U Frame) (downlink : Kind D Report) (given : Directive) (old : Whole U D) (fop : Machine) (out : Out) (ready up : U) (past : List Log) (newest : Log) (clean : Bool) (answer : List Indication)
+pub begun : {U D : Type 0} (uplink : Kind U Frame) (downlink : Kind D Report) (given : Directive) (old : Whole U D) (fop : Machine) (out : Out) (ready up : U) (past : List Log) (newest : Log) (clean : Bool) (answer : List LinkIndication)
     → Answers (directed old.fop given) old.fop fop (Ok out) → IsReadied uplink old.up ready → PutsAll uplink ready out.frames up → past ≡ old.past ++ old.newest ∷ [] → newest ≡ noted out (blank fop.vs) → clean ≡ clean_after uplink downlink given old → answer ≡ told_by_fop out
     → (actions : List Action) × (directed old.fop given ≡ Ok actions) × Begins uplink downlink given actions old (record old { fop = fop; up = up; past = past; newest = newest; clean = clean }) answer
 begun uplink downlink given old fop out ready up past newest clean answer h readied puts earlier log good told =
@@ -82,7 +82,7 @@ pub reads_from : (word vc : ℕ) (heard : Option Clcw) → (IsSome heard ↔ IsV
 reads_from word vc heard valid back channel again = record { valid = valid; back = back; channel = channel; again = again }
 
 -- the word was passed to the FOP, on the link as it was before room was made: it was heard
-pub hears : {U D A : Type 0} (uplink : Kind U Frame) (vc word : ℕ) (old new : FopSide U A) (before : Whole U D) (answer : List Indication)
+pub hears : {U D A : Type 0} (uplink : Kind U Frame) (vc word : ℕ) (old new : FopSide U A) (before : Whole U D) (answer : List LinkIndication)
     → before.fop ≡ old.fop.machine → IsReadied uplink before.up old.up → before.newest ≡ old.newest.log → before.vc ≡ vc
     → Passes uplink vc word old new answer
     → Hears uplink (report.Word word) before (record before { fop = new.fop.machine; up = new.up; newest = new.newest.log }) answer
@@ -106,7 +106,7 @@ nothing_noted log = λ i. record log {
 }
 
 -- the call put nothing out: the machine alone is another
-pub carried_silently : {U D : Type 0} (uplink : Kind U Frame) (old : Whole U D) (given : Given) (fop : Machine) (answer : List Indication)
+pub carried_silently : {U D : Type 0} (uplink : Kind U Frame) (old : Whole U D) (given : Given) (fop : Machine) (answer : List LinkIndication)
     → Answers given old.fop fop (Ok nothing) → answer ≡ []
     → (actions : List Action) × (given ≡ Ok actions) × Carries uplink actions old (record old { fop = fop }) answer
 carried_silently uplink old given fop answer h silent =
@@ -116,7 +116,7 @@ carried_silently uplink old given fop answer h silent =
 ticked_none : (m : Machine) → m.timer ≡ 0 → ticked m ≡ Ok []
 ticked_none m none = ap (λ (n : ℕ). ticked (record m { timer = n })) none
 
-pub ticks_idly : {U D : Type 0} (uplink : Kind U Frame) (downlink : Kind D Report) (w : Whole U D) (answer : List Indication) → w.fop.timer ≡ 0 → answer ≡ []
+pub ticks_idly : {U D : Type 0} (uplink : Kind U Frame) (downlink : Kind D Report) (w : Whole U D) (answer : List LinkIndication) → w.fop.timer ≡ 0 → answer ≡ []
     → Happens uplink downlink event.Tick w w answer
 ticks_idly uplink downlink w answer none answered = (
   [],
@@ -130,15 +130,23 @@ ticks_idly uplink downlink w answer none answered = (
   },
 )
 
+-- what was carried out says nothing of widths and starts
+unjudged_by : {U D : Type 0} (uplink : Kind U Frame) (downlink : Kind D Report) (given : Directive) (actions : List Action) (old new : Whole U D) (answer : List LinkIndication) (initiation : Bool)
+    → MatchBool initiation (Begins uplink downlink given actions old new answer) (Carries uplink actions old new answer)
+    → (new.fits ≡ old.fits) × (new.level ≡ old.level)
+unjudged_by {U} {D} uplink downlink given actions old new answer true h = (ap (λ (w : Whole U D). w.fits) h.whole, ap (λ (w : Whole U D). w.level) h.whole)
+unjudged_by {U} {D} uplink downlink given actions old new answer false h = (ap (λ (w : Whole U D). w.fits) h.whole, ap (λ (w : Whole U D). w.level) h.whole)
+
 -- what was carried out, with what is now known of widths and starts
-pub judged : {U D : Type 0} (uplink : Kind U Frame) (downlink : Kind D Report) (given : Directive) (old new : Whole U D) (answer : List Indication) (fits level : Bool)
+pub judged : {U D : Type 0} (uplink : Kind U Frame) (downlink : Kind D Report) (given : Directive) (old new : Whole U D) (answer : List LinkIndication) (fits level : Bool)
     → (actions : List Action) × (directed old.fop given ≡ Ok actions) × Directs uplink downlink given actions old new answer
-    → (new.fits ≡ old.fits) × (new.level ≡ old.level) → fits ≡ is_still_fitting new → level ≡ level_after uplink downlink given old
+    → fits ≡ is_still_fitting new → level ≡ level_after uplink downlink given old
     → Happens uplink downlink (event.Directive given) old (record new { fits = fits; level = level }) answer
-judged {U} {D} uplink downlink given old new answer fits level done same fit start = (
-  done.0,
-  done.1,
-  subst (λ (x : Whole U D). Directs uplink downlink given done.0 old x answer) (λ i. record new { fits = same.0 i; level = same.1 i }) done.2,
-  fit ∙ ap (λ (b : Bool). if b then is_fitting new.fop new.farm else false) same.0,
-  start,
-)
+judged {U} {D} uplink downlink given old new answer fits level done fit start =
+    let same = unjudged_by uplink downlink given done.0 old new answer (is_initiation given) done.2 in (
+      done.0,
+      done.1,
+      subst (λ (x : Whole U D). Directs uplink downlink given done.0 old x answer) (λ i. record new { fits = same.0 i; level = same.1 i }) done.2,
+      fit ∙ ap (λ (b : Bool). if b then is_fitting new.fop new.farm else false) same.0,
+      start,
+    )

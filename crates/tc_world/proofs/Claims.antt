@@ -1,14 +1,14 @@
 -- What the world's calls take from what stands between events.
 use Rattle.std.proofs.Common.{◌≡◌, true, List, [], ◌∷◌, ◌++◌, refl, sym, ◌∙◌, ap, subst}
 use Rattle.std.specs.Prelude.{Result, Ok, Err, IfOk, IfErr}
-use Rattle.tc_types.specs.declared.frames.Frame.{Frame}
-use Rattle.tc_types.specs.declared.reports.Report.{Report}
+use Rattle.tc_types.specs.declared.link.frames.Frame.{Frame}
+use Rattle.tc_types.specs.declared.link.reports.Report.{Report}
 use Rattle.tc_types.specs.declared.refusals.Refusal.{Refusal}
 use Rattle.tc_farm.specs.Farm.{IsFarm}
 use Rattle.tc_fop.specs.Standing.{IsFop}
 use Rattle.tc_fop.specs.Requests.{waiting_requests}
 use Rattle.tc_world.specs.declared.events.Event.{Event}
-use Rattle.tc_world.specs.declared.events.Indication.{Indication}
+use Rattle.tc_world.specs.declared.events.LinkIndication.{LinkIndication}
 use Rattle.tc_world.specs.Links.{Kind, lossy}
 use Rattle.tc_world.specs.Abstraction.{Bare, seen}
 use Rattle.tc_world.specs.Window.{Distinct, ArePrefixed, IsClaimed, Follows, FollowsThrough}
@@ -49,8 +49,8 @@ follows_push old mid (next ∷ others) new (first, rest) k = (first, follows_pus
 
 -- what stands between events stands after the call
 pub stays : {U D X : Type 0} (uplink : Kind U Frame) (downlink : Kind D Report) → OnlyLoses uplink → OnlyLoses downlink
-    → ((given : Event) (w v : Bare) (answer : List Indication) → IsKept w → IsFop v.fop → IsFarm v.farm → Happens lossy lossy given w v answer → IsKept v)
-    → (given : Event) (old new : Whole U D) (items : X → List Indication) (result : Result X Refusal)
+    → ((given : Event) (w v : Bare) (answer : List LinkIndication) → IsKept w → IsFop v.fop → IsFarm v.farm → Happens lossy lossy given w v answer → IsKept v)
+    → (given : Event) (old new : Whole U D) (items : X → List LinkIndication) (result : Result X Refusal)
     → IfOk result (λ (answer : X). Happens uplink downlink given old new (items answer))
     → IfErr result (λ (refusal : Refusal). IsRefused given old refusal × IsAsBefore uplink downlink old new)
     → IsFop new.fop → IsFarm new.farm → IsKept (seen uplink downlink old) → IsKept (seen uplink downlink new)
@@ -62,9 +62,9 @@ stays uplink downlink ul dl law given old new items (Err refusal) happens refuse
 
 -- where the windows fitted they fit after the call
 pub stays_fit : {U D : Type 0} (uplink : Kind U Frame) (downlink : Kind D Report) → OnlyLoses uplink → OnlyLoses downlink
-    → ((given : Event) (w v : Bare) (answer : List Indication) → IsKept w → IsFit w → IsFop v.fop → IsFarm v.farm → Happens lossy lossy given w v answer → IsFit v)
-    → (given : Event) (old new : Whole U D) (result : Result (List Indication) Refusal)
-    → IfOk result (λ (answer : List Indication). Happens uplink downlink given old new answer)
+    → ((given : Event) (w v : Bare) (answer : List LinkIndication) → IsKept w → IsFit w → IsFop v.fop → IsFarm v.farm → Happens lossy lossy given w v answer → IsFit v)
+    → (given : Event) (old new : Whole U D) (result : Result (List LinkIndication) Refusal)
+    → IfOk result (λ (answer : List LinkIndication). Happens uplink downlink given old new answer)
     → IfErr result (λ (refusal : Refusal). IsRefused given old refusal × IsAsBefore uplink downlink old new)
     → IsFop new.fop → IsFarm new.farm → IsKept (seen uplink downlink old) → IsFit (seen uplink downlink old) → IsFit (seen uplink downlink new)
 stays_fit uplink downlink ul dl law given old new (Ok answer) happens refused fop farm kept fit =
@@ -75,9 +75,9 @@ stays_fit uplink downlink ul dl law given old new (Err refusal) happens refused 
 
 -- and K fits
 pub stays_narrow : {U D : Type 0} (uplink : Kind U Frame) (downlink : Kind D Report) → OnlyLoses uplink → OnlyLoses downlink
-    → ((given : Event) (w v : Bare) (answer : List Indication) → IsNarrow w → Happens lossy lossy given w v answer → IsNarrow v)
-    → (given : Event) (old new : Whole U D) (result : Result (List Indication) Refusal)
-    → IfOk result (λ (answer : List Indication). Happens uplink downlink given old new answer)
+    → ((given : Event) (w v : Bare) (answer : List LinkIndication) → IsNarrow w → Happens lossy lossy given w v answer → IsNarrow v)
+    → (given : Event) (old new : Whole U D) (result : Result (List LinkIndication) Refusal)
+    → IfOk result (λ (answer : List LinkIndication). Happens uplink downlink given old new answer)
     → IfErr result (λ (refusal : Refusal). IsRefused given old refusal × IsAsBefore uplink downlink old new)
     → IsNarrow (seen uplink downlink old) → IsNarrow (seen uplink downlink new)
 stays_narrow uplink downlink ul dl law given old new (Ok answer) happens refused narrow =
@@ -87,9 +87,9 @@ stays_narrow uplink downlink ul dl law given old new (Err refusal) happens refus
 
 -- and no other alerts come
 pub stays_fair : {U D : Type 0} (uplink : Kind U Frame) (downlink : Kind D Report) → OnlyLoses uplink → OnlyLoses downlink
-    → ((given : Event) (w v : Bare) (answer : List Indication) → IsKept w → IsFit w → IsFairOn w → IsFop v.fop → IsFarm v.farm → Happens lossy lossy given w v answer → IsFairOn v)
-    → (given : Event) (old new : Whole U D) (result : Result (List Indication) Refusal)
-    → IfOk result (λ (answer : List Indication). Happens uplink downlink given old new answer)
+    → ((given : Event) (w v : Bare) (answer : List LinkIndication) → IsKept w → IsFit w → IsFairOn w → IsFop v.fop → IsFarm v.farm → Happens lossy lossy given w v answer → IsFairOn v)
+    → (given : Event) (old new : Whole U D) (result : Result (List LinkIndication) Refusal)
+    → IfOk result (λ (answer : List LinkIndication). Happens uplink downlink given old new answer)
     → IfErr result (λ (refusal : Refusal). IsRefused given old refusal × IsAsBefore uplink downlink old new)
     → IsFop new.fop → IsFarm new.farm → IsKept (seen uplink downlink old) → IsFit (seen uplink downlink old) → IsFairOn (seen uplink downlink old)
     → IsFairOn (seen uplink downlink new)
@@ -100,12 +100,12 @@ stays_fair uplink downlink ul dl law given old new (Err refusal) happens refused
     subst (λ w. IsFairOn w) (sym (as_before_seen uplink downlink ul dl old new refused.1)) fair
 
 pub tells_fairly : {U D : Type 0} (uplink : Kind U Frame) (downlink : Kind D Report) → OnlyLoses uplink → OnlyLoses downlink
-    → ((given : Event) (w v : Bare) (answer : List Indication) → IsKept w → IsFit w → IsFairOn w → IsFop v.fop → IsFarm v.farm → Happens lossy lossy given w v answer
+    → ((given : Event) (w v : Bare) (answer : List LinkIndication) → IsKept w → IsFit w → IsFairOn w → IsFop v.fop → IsFarm v.farm → Happens lossy lossy given w v answer
     → v.clean ≡ true → v.fits ≡ true → list_all (is_fair w.level w.fop.state) answer ≡ true)
-    → (given : Event) (old new : Whole U D) (result : Result (List Indication) Refusal)
-    → IfOk result (λ (answer : List Indication). Happens uplink downlink given old new answer)
+    → (given : Event) (old new : Whole U D) (result : Result (List LinkIndication) Refusal)
+    → IfOk result (λ (answer : List LinkIndication). Happens uplink downlink given old new answer)
     → IsFop new.fop → IsFarm new.farm → IsKept (seen uplink downlink old) → IsFit (seen uplink downlink old) → IsFairOn (seen uplink downlink old)
-    → IfOk result (λ (answer : List Indication). new.clean ≡ true → new.fits ≡ true → list_all (is_fair old.level old.fop.state) answer ≡ true)
+    → IfOk result (λ (answer : List LinkIndication). new.clean ≡ true → new.fits ≡ true → list_all (is_fair old.level old.fop.state) answer ≡ true)
 tells_fairly uplink downlink ul dl law given old new (Ok answer) happens fop farm kept fit fair = λ clean fits.
     law given (seen uplink downlink old) (seen uplink downlink new) answer kept fit fair fop farm
     (happens_seen uplink downlink ul dl given old new answer happens) clean fits
@@ -113,9 +113,9 @@ tells_fairly uplink downlink ul dl law given old new (Err refusal) happens fop f
 
 -- a call that is not refused is a run of the session that is on, or another begins
 pub follows : {U D X : Type 0} (uplink : Kind U Frame) (downlink : Kind D Report) → OnlyLoses uplink → OnlyLoses downlink
-    → ((given : Event) (w v : Bare) (answer : List Indication) → IsKept w → IsFop v.fop → IsFarm v.farm → Happens lossy lossy given w v answer
+    → ((given : Event) (w v : Bare) (answer : List LinkIndication) → IsKept w → IsFop v.fop → IsFarm v.farm → Happens lossy lossy given w v answer
     → v.clean ≡ true → Follows w v)
-    → (given : Event) (old new : Whole U D) (items : X → List Indication) (result : Result X Refusal)
+    → (given : Event) (old new : Whole U D) (items : X → List LinkIndication) (result : Result X Refusal)
     → IfOk result (λ (answer : X). Happens uplink downlink given old new (items answer))
     → IsFop new.fop → IsFarm new.farm → IsKept (seen uplink downlink old)
     → IfOk result (λ (answer : X). new.clean ≡ true → Follows (seen uplink downlink old) (seen uplink downlink new))

@@ -4,12 +4,12 @@ use Rattle.std.specs.Prelude.{nat_lt, MatchBool}
 use Rattle.std.specs.List.{list_all}
 use Rattle.std.proofs.lemmas.Bool.{false≢true, cases_Bool, eqb-true}
 use Rattle.std.proofs.lemmas.Bool.Decides.{nat_tests}
-use Rattle.tc_types.specs.declared.frames.Frame.{Frame}
-use Rattle.tc_types.specs.declared.reports.Report.{Report}
-use Rattle.tc_types.specs.declared.reports.Report.TheVariants.{Word, Telemetry}
-use Rattle.tc_types.specs.declared.reports.Telemetry.{Telemetry as Packet}
-use Rattle.tc_types.specs.declared.directives.Directive.{Directive}
-use Rattle.tc_types.specs.declared.directives.Directive.TheVariants as directive
+use Rattle.tc_types.specs.declared.link.frames.Frame.{Frame}
+use Rattle.tc_types.specs.declared.link.reports.Report.{Report}
+use Rattle.tc_types.specs.declared.link.reports.Report.TheVariants.{Word, Telemetry}
+use Rattle.tc_types.specs.declared.link.reports.Telemetry.{Telemetry as Packet}
+use Rattle.tc_types.specs.declared.link.directives.Directive.{Directive}
+use Rattle.tc_types.specs.declared.link.directives.Directive.TheVariants as directive
 use Rattle.tc_farm.specs.declared.clcws.Clcw.{Clcw}
 use Rattle.tc_farm.specs.declared.farms.FarmView.{FarmView}
 use Rattle.tc_farm.specs.ControlWord.{word_of}
@@ -25,7 +25,7 @@ use Rattle.tc_fop.specs.Moves.{MovesIn, is_initiation, first_vs, control_of, ini
 use Rattle.tc_fop.specs.Fair.{alerts_in, is_retransmitting, is_checking, may_alert, may_come, IsHeardFairly}
 use Rattle.tc_world.specs.declared.events.Event.{Event}
 use Rattle.tc_world.specs.declared.events.Event.TheVariants as event
-use Rattle.tc_world.specs.declared.events.Indication.{Indication}
+use Rattle.tc_world.specs.declared.events.LinkIndication.{LinkIndication}
 use Rattle.tc_world.specs.Sublist.{IsSublist, IsSublist-same, IsSublist-behind}
 use Rattle.tc_world.specs.Links.{lossy}
 use Rattle.tc_world.specs.Abstraction.{Bare, report_value}
@@ -68,16 +68,16 @@ pub record FairLaws : Type 0 where
   pub asks : (m : Machine) (word : Clcw) → 1 ≤ m.limit → IsHeardFairly m word → is_taking m.state ≡ true → is_retransmitting (after (cell (row_of m (Some word)) m.state) m).state ≡ true → word.retransmit ≡ true
 
 -- what an event gives
-abbrev pub Fairs : Bare → Bare → List Indication → Type 0
+abbrev pub Fairs : Bare → Bare → List LinkIndication → Type 0
 Fairs w v answer = IsFair v × (list_all (is_fair w.level w.fop.state) answer ≡ true)
 
-told : (level : Bool) (s : FopState) (answer : List Indication) (out : Out) → answer ≡ told_by_fop out → list_all (may_alert level s) (alerts_in out) ≡ true
+told : (level : Bool) (s : FopState) (answer : List LinkIndication) (out : Out) → answer ≡ told_by_fop out → list_all (may_alert level s) (alerts_in out) ≡ true
     → list_all (is_fair level s) answer ≡ true
-told level s answer out e h = ap (λ (l : List Indication). list_all (is_fair level s) l) e ∙ told_fairly level s out.indications h
+told level s answer out e h = ap (λ (l : List LinkIndication). list_all (is_fair level s) l) e ∙ told_fairly level s out.indications h
 
 -- ---- a call without a control word
 
-carries_fair : (w v : Bare) (actions : List Action) (answer : List Indication) → IsKept w → IsFitting w → IsFitting v → IsFarm v.farm → IsFair w
+carries_fair : (w v : Bare) (actions : List Action) (answer : List LinkIndication) → IsKept w → IsFitting w → IsFitting v → IsFarm v.farm → IsFair w
     → Carries lossy actions w v answer → MovesIn w.fop.state None w.fop v.fop (output actions w.fop)
     → (is_taking w.fop.state ≡ true → is_retransmitting v.fop.state ≡ true → (is_retransmitting w.fop.state ≡ true) × (v.fop.nn ≡ w.fop.nn))
     → list_all (may_alert w.level w.fop.state) (alerts_in (output actions w.fop)) ≡ true
@@ -210,7 +210,7 @@ hears_may fl w word clcw lost left kept fit fair down read =
     other)
     (kinds m.state)
 
-hears_fair : Laws → FairLaws → (w v : Bare) (word : ℕ) (lost left : List Report) (heard : Option Clcw) (actions : List Action) (answer : List Indication)
+hears_fair : Laws → FairLaws → (w v : Bare) (word : ℕ) (lost left : List Report) (heard : Option Clcw) (actions : List Action) (answer : List LinkIndication)
     → IsKept w → IsFitting w → IsFitting v → IsFop v.fop → IsFarm v.farm → IsFair w → w.down ≡ lost ++ Word word ∷ left → Reads word w.vc heard
     → reported w.fop heard ≡ Ok actions → Carries lossy actions (record w { down = left }) v answer → Fairs w v answer
 hears_fair laws fl w v word lost left heard actions answer kept fit fit_v fop farm fair down reads gives h =
@@ -270,13 +270,13 @@ hears_fair laws fl w v word lost left heard actions answer kept fit fit_v fop fa
       told w.level w.fop.state answer out h.answered (fl.words_tell w.level w.fop clcw v.fop out (hears_may fl w word clcw lost left kept fit fair down read) answers),
     )
 
-lands_fair : Laws → FairLaws → (w v : Bare) (item : Report) (lost left : List Report) (answer : List Indication)
+lands_fair : Laws → FairLaws → (w v : Bare) (item : Report) (lost left : List Report) (answer : List LinkIndication)
     → IsKept w → IsFitting w → IsFitting v → IsFop v.fop → IsFarm v.farm → IsFair w → w.down ≡ lost ++ item ∷ left
     → Hears lossy item (record w { down = left }) v answer → Fairs w v answer
 lands_fair laws fl w v (Word word) lost left answer kept fit fit_v fop farm fair down (heard, actions, rest, reads, gives, h, answered) =
     let done = hears_fair laws fl w v word lost left heard actions rest kept fit fit_v fop farm fair down reads gives h in (
       done.0,
-      ap (λ (l : List Indication). list_all (is_fair w.level w.fop.state) l) answered
+      ap (λ (l : List LinkIndication). list_all (is_fair w.level w.fop.state) l) answered
           ∙ and_of true (list_all (is_fair w.level w.fop.state) rest) refl done.1,
     )
 lands_fair laws fl w v (Telemetry telemetry) lost left answer kept fit fit_v fop farm fair down (readied, whole, answered) = (
@@ -284,7 +284,7 @@ lands_fair laws fl w v (Telemetry telemetry) lost left answer kept fit fit_v fop
       (fair_loses w w.up left fair (IsSublist-same w.up)
       (words_of_sub left w.down (subst (λ l. IsSublist left l) (sym down)
       (sublist_trans left (Telemetry telemetry ∷ left) (lost ++ Telemetry telemetry ∷ left) (inl (IsSublist-same left)) (IsSublist-behind lost (Telemetry telemetry ∷ left)))))),
-  ap (λ (l : List Indication). list_all (is_fair w.level w.fop.state) l) answered,
+  ap (λ (l : List LinkIndication). list_all (is_fair w.level w.fop.state) l) answered,
 )
 
 -- ---- an initiation
@@ -337,7 +337,7 @@ by_check (directive.SetK k) t = absurd (false≢true t)
 by_check (directive.SetT1 t1) t = absurd (false≢true t)
 by_check (directive.SetLimit limit) t = absurd (false≢true t)
 
-begins_fair : Laws → FairLaws → (w v : Bare) (given : Directive) (actions : List Action) (answer : List Indication) → IsKept w → IsFop v.fop
+begins_fair : Laws → FairLaws → (w v : Bare) (given : Directive) (actions : List Action) (answer : List LinkIndication) → IsKept w → IsFop v.fop
     → is_initiation given ≡ true → directed w.fop given ≡ Ok actions → Begins lossy lossy given actions w (unjudged w v) answer
     → v.clean ≡ true → v.level ≡ level_after lossy lossy given w → Fairs w v answer
 begins_fair laws fl w v given actions answer kept fop initiation gives h clean lev =
@@ -384,7 +384,7 @@ begins_fair laws fl w v given actions answer kept fop initiation gives h clean l
 fitting_judged : (v : Bare) (fits level : Bool) → IsFitting (record v { fits = fits; level = level }) → IsFitting v
 fitting_judged v fits level h = record { k = h.k; sane = sane_judged (half_window v) v fits level h.sane; open_farm = h.open_farm }
 
-directive_fair : Laws → FairLaws → (w v : Bare) (given : Directive) (actions : List Action) (answer : List Indication) (initiation : Bool)
+directive_fair : Laws → FairLaws → (w v : Bare) (given : Directive) (actions : List Action) (answer : List LinkIndication) (initiation : Bool)
     → IsKept w → IsFitting w → IsFitting v → IsFop v.fop → IsFarm v.farm → IsFair w → is_initiation given ≡ initiation → directed w.fop given ≡ Ok actions
     → MatchBool initiation (Begins lossy lossy given actions w (unjudged w v) answer) (Carries lossy actions w (unjudged w v) answer)
     → v.clean ≡ true → v.level ≡ level_after lossy lossy given w → Fairs w v answer
@@ -413,15 +413,15 @@ loss_fair : (level : Bool) (s : FopState) (found : Bool) → list_all (is_fair l
 loss_fair level s true = refl
 loss_fair level s false = refl
 
-idle_fair : (w v : Bare) (answer : List Indication) → IsFair w → IsIdle lossy lossy w v answer → Fairs w v answer
+idle_fair : (w v : Bare) (answer : List LinkIndication) → IsFair w → IsIdle lossy lossy w v answer → Fairs w v answer
 idle_fair w v answer fair h = (
   subst (λ (x : Bare). IsFair x) (sym h.same.rest)
       (fair_loses w v.up v.down fair (subst (λ l. IsSublist l w.up) (sym h.same.up) (IsSublist-same w.up))
       (words_of_sub v.down w.down (subst (λ l. IsSublist l w.down) (sym h.same.down) (IsSublist-same w.down)))),
-  ap (λ (l : List Indication). list_all (is_fair w.level w.fop.state) l) h.answered,
+  ap (λ (l : List LinkIndication). list_all (is_fair w.level w.fop.state) l) h.answered,
 )
 
-tells_fair : (w v : Bare) (clcw : Clcw) (answer : List Indication) → IsKept w → IsFitting w → IsFair w → IsWordOf w.farm w.vc clcw
+tells_fair : (w v : Bare) (clcw : Clcw) (answer : List LinkIndication) → IsKept w → IsFitting w → IsFair w → IsWordOf w.farm w.vc clcw
     → Descends lossy (Word (word_of clcw)) w v answer → Fairs w v answer
 tells_fair w v clcw answer kept fit fair is h =
     let small : clcw.report < 256 = subst (λ (n : ℕ). n < 256) (sym is.report_value) kept.farm.vr in
@@ -430,10 +430,10 @@ tells_fair w v clcw answer kept fit fair is h =
       subst (λ (x : Bare). IsFair x) (sym h.whole)
           (fair_tells w (word_of clcw) v.down fair kept.farm fit.open_farm (value_of_word clcw small ∙ is.report_value)
           (locks_is clcw small ∙ is.lockout) (waits_is clcw small ∙ is.wait) (asks_is clcw small ∙ is.retransmit) sub),
-      ap (λ (l : List Indication). list_all (is_fair w.level w.fop.state) l) h.answered,
+      ap (λ (l : List LinkIndication). list_all (is_fair w.level w.fop.state) l) h.answered,
     )
 
-reports_fair : (w v : Bare) (telemetry : Packet) (answer : List Indication) → IsFair w → Descends lossy (Telemetry telemetry) w v answer → Fairs w v answer
+reports_fair : (w v : Bare) (telemetry : Packet) (answer : List LinkIndication) → IsFair w → Descends lossy (Telemetry telemetry) w v answer → Fairs w v answer
 reports_fair w v telemetry answer fair h =
     let sub : IsSublist v.down (w.down ++ Telemetry telemetry ∷ []) =
     subst (λ l. IsSublist v.down (l ++ Telemetry telemetry ∷ [])) h.readied h.put in
@@ -441,10 +441,10 @@ reports_fair w v telemetry answer fair h =
     subst (λ (l : List ℕ). IsSublist (words_of v.down) l) (words_of_append w.down (Telemetry telemetry ∷ []) ∙ append-nil (words_of w.down))
     (words_of_sub v.down (w.down ++ Telemetry telemetry ∷ []) sub) in (
       subst (λ (x : Bare). IsFair x) (sym h.whole) (fair_loses w w.up v.down fair (IsSublist-same w.up) some),
-      ap (λ (l : List Indication). list_all (is_fair w.level w.fop.state) l) h.answered,
+      ap (λ (l : List LinkIndication). list_all (is_fair w.level w.fop.state) l) h.answered,
     )
 
-event_fair : Laws → FairLaws → (given : Event) (w v : Bare) (answer : List Indication) → IsKept w → IsFitting w → IsFitting v → IsFop v.fop → IsFarm v.farm
+event_fair : Laws → FairLaws → (given : Event) (w v : Bare) (answer : List LinkIndication) → IsKept w → IsFitting w → IsFitting v → IsFop v.fop → IsFarm v.farm
     → v.clean ≡ true → IsFair w → Happens lossy lossy given w v answer → Fairs w v answer
 event_fair laws fl (event.Offer request body) w v answer kept fit fit_v fop farm clean fair (actions, unknown, gives, h) =
     let waiting : Waiting = record { request = request; body = body } in
@@ -464,15 +464,15 @@ event_fair laws fl event.Tick w v answer kept fit fit_v fop farm clean fair (act
 event_fair laws fl (event.Uplink room) w v answer kept fit fit_v fop farm clean fair (inl (nothing, h)) = idle_fair w v answer fair h
 event_fair laws fl (event.Uplink room) w v answer kept fit fit_v fop farm clean fair (inr h) = (
   subst (λ (x : Bare). IsFair x) (sym h.whole) (fair_boards fl.ahead w h.frame room h.taken.0 v.up h.taken.1 kept.farm fit fair),
-  ap (λ (l : List Indication). list_all (is_fair w.level w.fop.state) l) h.answered,
+  ap (λ (l : List LinkIndication). list_all (is_fair w.level w.fop.state) l) h.answered,
 )
 event_fair laws fl (event.LoseUp place) w v answer kept fit fit_v fop farm clean fair h = (
   subst (λ (x : Bare). IsFair x) (sym h.whole) (fair_loses w v.up w.down fair h.lost (IsSublist-same (words_of w.down))),
-  ap (λ (l : List Indication). list_all (is_fair w.level w.fop.state) l) h.answered ∙ loss_fair w.level w.fop.state h.found,
+  ap (λ (l : List LinkIndication). list_all (is_fair w.level w.fop.state) l) h.answered ∙ loss_fair w.level w.fop.state h.found,
 )
 event_fair laws fl event.Release w v answer kept fit fit_v fop farm clean fair (whole, answered) = (
   subst (λ (x : Bare). IsFair x) (sym whole) (fair_releases w fair),
-  ap (λ (l : List Indication). list_all (is_fair w.level w.fop.state) l) answered,
+  ap (λ (l : List LinkIndication). list_all (is_fair w.level w.fop.state) l) answered,
 )
 event_fair laws fl event.Clcw w v answer kept fit fit_v fop farm clean fair (clcw, is, h) = tells_fair w v clcw answer kept fit fair is h
 event_fair laws fl (event.Put telemetry) w v answer kept fit fit_v fop farm clean fair h = reports_fair w v telemetry answer fair h
@@ -481,11 +481,11 @@ event_fair laws fl event.Downlink w v answer kept fit fit_v fop farm clean fair 
     lands_fair laws fl w v h.item h.taken.0 h.left answer kept fit fit_v fop farm fair h.taken.1 h.heard
 event_fair laws fl (event.LoseDown place) w v answer kept fit fit_v fop farm clean fair h = (
   subst (λ (x : Bare). IsFair x) (sym h.whole) (fair_loses w w.up v.down fair (IsSublist-same w.up) (words_of_sub v.down w.down h.lost)),
-  ap (λ (l : List Indication). list_all (is_fair w.level w.fop.state) l) h.answered ∙ loss_fair w.level w.fop.state h.found,
+  ap (λ (l : List LinkIndication). list_all (is_fair w.level w.fop.state) l) h.answered ∙ loss_fair w.level w.fop.state h.found,
 )
 
 -- one event, where every start was good and K fitted
-pub event_fairly : Laws → FairLaws → (given : Event) (w v : Bare) (answer : List Indication) → IsKept w → IsFit w → IsFairOn w → IsFop v.fop → IsFarm v.farm
+pub event_fairly : Laws → FairLaws → (given : Event) (w v : Bare) (answer : List LinkIndication) → IsKept w → IsFit w → IsFairOn w → IsFop v.fop → IsFarm v.farm
     → Happens lossy lossy given w v answer → v.clean ≡ true → v.fits ≡ true → Fairs w v answer
 event_fairly laws fl given w v answer kept fit fair fop farm h clean fits =
     let was_clean = clean_before lossy lossy given w (sym (clean_is lossy lossy given w v answer h) ∙ clean) in

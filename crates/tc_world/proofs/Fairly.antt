@@ -5,11 +5,11 @@ use Rattle.std.specs.List.{flat_map, list_all}
 use Rattle.std.proofs.lemmas.List.{length-append}
 use Rattle.std.proofs.lemmas.Bool.{false≢true, cases_Bool}
 use Rattle.std.proofs.lemmas.Bool.Decides.{nat_tests}
-use Rattle.tc_types.specs.declared.telecommands.Payload.{Payload}
-use Rattle.tc_types.specs.declared.frames.Frame.{Frame}
-use Rattle.tc_types.specs.declared.frames.Frame.TheVariants.{Ad, Unlock, SetVr}
-use Rattle.tc_types.specs.declared.reports.Report.{Report}
-use Rattle.tc_types.specs.declared.reports.Report.TheVariants.{Word}
+use Rattle.tc_types.specs.declared.link.telecommands.Payload.{Payload}
+use Rattle.tc_types.specs.declared.link.frames.Frame.{Frame}
+use Rattle.tc_types.specs.declared.link.frames.Frame.TheVariants.{Ad, Unlock, SetVr}
+use Rattle.tc_types.specs.declared.link.reports.Report.{Report}
+use Rattle.tc_types.specs.declared.link.reports.Report.TheVariants.{Word}
 use Rattle.tc_farm.specs.declared.clcws.Clcw.{Clcw}
 use Rattle.tc_farm.specs.declared.farms.FarmState.{FarmState}
 use Rattle.tc_farm.specs.declared.farms.FarmState.TheVariants as state
@@ -25,7 +25,7 @@ use Rattle.tc_fop.specs.Standing.{is_starting, has_control}
 use Rattle.tc_fop.specs.Requests.{acknowledged}
 use Rattle.tc_fop.specs.Moves.{MovesIn, Advances, Opens, Rests, first_frame, transmitted_in}
 use Rattle.tc_fop.specs.Fair.{alert_by, is_retransmitting, is_checking, may_alert}
-use Rattle.tc_world.specs.declared.events.Indication.TheVariants.{Fop}
+use Rattle.tc_world.specs.declared.events.LinkIndication.TheVariants.{Fop}
 use Rattle.tc_world.specs.Sublist.{IsSublist, IsSublist-same, IsSublist-behind}
 use Rattle.tc_world.specs.Abstraction.{Bare, session_with, report_value}
 use Rattle.tc_world.specs.Kept.{Each, AreFrames, AreControls, IsLeftover, IsStarted, IsUnstarted, IsStarting, IsSane, Stands, Starts}

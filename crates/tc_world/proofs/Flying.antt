@@ -1,7 +1,7 @@
 -- What flies, from what stands between events.
 use Rattle.std.proofs.Common.{◌≡◌, ℕ, zero, suc, ◌+◌, ◌%◌, ◌<◌, true, false, inl, inr, Some, List, [], ◌∷◌, length, slice_get, refl, sym, ◌∙◌, ap, subst, arith}
-use Rattle.tc_types.specs.declared.frames.Frame.{Frame}
-use Rattle.tc_types.specs.declared.frames.Frame.TheVariants.{Ad, Unlock, SetVr}
+use Rattle.tc_types.specs.declared.link.frames.Frame.{Frame}
+use Rattle.tc_types.specs.declared.link.frames.Frame.TheVariants.{Ad, Unlock, SetVr}
 use Rattle.tc_fop.specs.Requests.{waiting_requests}
 use Rattle.tc_world.specs.Logs.{Log}
 use Rattle.tc_world.specs.Session.{nothing_yet}

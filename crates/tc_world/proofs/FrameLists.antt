@@ -1,7 +1,7 @@
 -- Frames in flight, and the positions for which they fly.
 use Rattle.std.proofs.Common.{◌≡◌, ℕ, zero, suc, inl, inr, Some, List, [], ◌∷◌, ◌++◌, slice_get, refl, sym, ◌∙◌, ap, subst}
-use Rattle.tc_types.specs.declared.frames.Frame.{Frame}
-use Rattle.tc_types.specs.declared.frames.Frame.TheVariants.{Ad, Unlock, SetVr}
+use Rattle.tc_types.specs.declared.link.frames.Frame.{Frame}
+use Rattle.tc_types.specs.declared.link.frames.Frame.TheVariants.{Ad, Unlock, SetVr}
 use Rattle.tc_world.specs.Sublist.{IsSublist, IsSublist-nil}
 use Rattle.tc_world.specs.Kept.{AreFrames, HasNoSetVr, IsLeftover, AreControls}
 

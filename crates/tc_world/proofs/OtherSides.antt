@@ -1,17 +1,17 @@
 -- What the FARM, the spacecraft and the links do to a session, and what is taken from the downlink.
 use Rattle.std.proofs.Common.{◌≡◌, ◌⊎◌, inl, inr, ℕ, ◌+◌, ◌%◌, ◌<◌, ◌≤◌, Bool, true, Some, List, [], ◌∷◌, ◌++◌, length, slice_get, refl, sym, ◌∙◌, ap, subst, arith}
 use Rattle.std.proofs.lemmas.List.{append-nil, length-append}
-use Rattle.tc_types.specs.declared.telecommands.Payload.{Payload}
-use Rattle.tc_types.specs.declared.frames.Frame.{Frame}
-use Rattle.tc_types.specs.declared.frames.Frame.TheVariants.{Ad, Unlock, SetVr}
-use Rattle.tc_types.specs.declared.reports.Report.{Report}
-use Rattle.tc_types.specs.declared.reports.Report.TheVariants.{Word, Telemetry}
-use Rattle.tc_types.specs.declared.reports.Telemetry.{Telemetry as Sent}
+use Rattle.tc_types.specs.declared.link.telecommands.Payload.{Payload}
+use Rattle.tc_types.specs.declared.link.frames.Frame.{Frame}
+use Rattle.tc_types.specs.declared.link.frames.Frame.TheVariants.{Ad, Unlock, SetVr}
+use Rattle.tc_types.specs.declared.link.reports.Report.{Report}
+use Rattle.tc_types.specs.declared.link.reports.Report.TheVariants.{Word, Telemetry}
+use Rattle.tc_types.specs.declared.link.reports.Telemetry.{Telemetry as Sent}
 use Rattle.tc_farm.specs.declared.farms.FarmState.{FarmState}
 use Rattle.tc_farm.specs.declared.farms.FarmState.TheVariants.{Open, Wait, Lockout}
 use Rattle.tc_farm.specs.declared.farms.FarmView.{FarmView}
-use Rattle.tc_farm.specs.declared.farms.Verdict.{Verdict}
-use Rattle.tc_farm.specs.declared.farms.Verdict.TheVariants.{Accepted, Discarded, Control}
+use Rattle.tc_farm.specs.declared.farms.FrameVerdict.{FrameVerdict}
+use Rattle.tc_farm.specs.declared.farms.FrameVerdict.TheVariants.{Accepted, Discarded, Control}
 use Rattle.tc_farm.specs.Farm.{farm_after, verdict_of, released, unlocked, with_vr}
 use Rattle.tc_farm.specs.FarmLaws.{Says}
 use Rattle.tc_fop.specs.declared.signals.FopState.TheVariants.{Initial}
@@ -168,7 +168,7 @@ accepts bound w farm request rest ns n others rs sub frames none number there ne
     )
 
 -- a type-AD frame arrives
-ad_boards : (bound : ℕ) → (w : Bare) (number request : ℕ) (body : Payload) (room : Bool) (verdict : Verdict) (farm : FarmView) (rest : List Frame)
+ad_boards : (bound : ℕ) → (w : Bare) (number request : ℕ) (body : Payload) (room : Bool) (verdict : FrameVerdict) (farm : FarmView) (rest : List Frame)
     (ns : List ℕ) (n : ℕ) (others rs : List ℕ)
     → Says verdict w.farm (Ad number request body) room farm
     → IsSublist (n ∷ others) ns → AreFrames w.newest.base w.newest.sent rest others → HasNoSetVr rest

@@ -2,10 +2,10 @@
 use Rattle.std.proofs.Common.{◌≡◌, ℕ, ◌==◌, Bool, true, false, if◌then◌else◌, Option, Some, None, Ok, Err, List, [], ◌∷◌}
 use Rattle.std.specs.List.{list_all, AllByRecursion}
 use Rattle.std.proofs.lemmas.Bool.{false≢true}
-use Rattle.tc_types.specs.declared.telecommands.Payload.{Payload}
-use Rattle.tc_types.specs.declared.frames.Frame.TheVariants as frame
-use Rattle.tc_types.specs.declared.directives.Directive.{Directive}
-use Rattle.tc_types.specs.declared.directives.Directive.TheVariants as directive
+use Rattle.tc_types.specs.declared.link.telecommands.Payload.{Payload}
+use Rattle.tc_types.specs.declared.link.frames.Frame.TheVariants as frame
+use Rattle.tc_types.specs.declared.link.directives.Directive.{Directive}
+use Rattle.tc_types.specs.declared.link.directives.Directive.TheVariants as directive
 use Rattle.tc_farm.specs.declared.clcws.Clcw.{Clcw}
 use Rattle.tc_fop.specs.declared.signals.FopState.TheVariants.{Active, InitialisingWithoutBc, InitialisingWithBc}
 use Rattle.tc_fop.specs.declared.signals.AlertKind.TheVariants as alert

@@ -3,9 +3,9 @@ use Rattle.std.proofs.Common.{◌≡◌, ℕ, ◌==◌, Bool, true, false, ◌||
 use Rattle.std.specs.List.{list_any, AllByRecursion}
 use Rattle.std.proofs.lemmas.Grind.{flat_map-append}
 use Rattle.std.proofs.lemmas.List.Folds.{list_any-append}
-use Rattle.tc_types.specs.declared.telecommands.Payload.{Payload}
-use Rattle.tc_types.specs.declared.frames.Frame.{Frame}
-use Rattle.tc_types.specs.declared.frames.Frame.TheVariants.{Ad, Unlock, SetVr}
+use Rattle.tc_types.specs.declared.link.telecommands.Payload.{Payload}
+use Rattle.tc_types.specs.declared.link.frames.Frame.{Frame}
+use Rattle.tc_types.specs.declared.link.frames.Frame.TheVariants.{Ad, Unlock, SetVr}
 use Rattle.tc_fop.specs.Machine.{Machine, Held, Waiting, Action, Remove, InitiateRetransmission, Resend, Transmit, Alert, SendControl, DropControl, Wait, Initiate, change, said, after, output, frame_of, flagged, cleared, flagged_of, is_window_open, due_from, transmitted, transmits, option_list}
 use Rattle.tc_fop.specs.Moves.{transmitted_by, transmitted_in}
 use Rattle.tc_world.specs.Payloads.{IsOneOf, CarriesOf}

@@ -2,14 +2,14 @@
 use Rattle.std.proofs.Common.{◌≡◌, ℕ, Bool, true, false, inl, inr, None, Ok, List, [], ◌∷◌, ◌++◌, map, refl, sym, ◌∙◌, ap, subst, append_assoc}
 use Rattle.std.specs.Prelude.{MatchBool, if◌then◌else◌}
 use Rattle.std.specs.List.{flat_map, AllByRecursion}
-use Rattle.tc_types.specs.declared.telecommands.Payload.{Payload}
-use Rattle.tc_types.specs.declared.frames.Frame.{Frame}
-use Rattle.tc_types.specs.declared.frames.Frame.TheVariants.{Ad, Unlock, SetVr}
-use Rattle.tc_types.specs.declared.reports.Report.{Report}
-use Rattle.tc_types.specs.declared.reports.Report.TheVariants.{Word, Telemetry}
-use Rattle.tc_types.specs.declared.directives.Directive.{Directive}
+use Rattle.tc_types.specs.declared.link.telecommands.Payload.{Payload}
+use Rattle.tc_types.specs.declared.link.frames.Frame.{Frame}
+use Rattle.tc_types.specs.declared.link.frames.Frame.TheVariants.{Ad, Unlock, SetVr}
+use Rattle.tc_types.specs.declared.link.reports.Report.{Report}
+use Rattle.tc_types.specs.declared.link.reports.Report.TheVariants.{Word, Telemetry}
+use Rattle.tc_types.specs.declared.link.directives.Directive.{Directive}
 use Rattle.tc_farm.specs.declared.farms.FarmView.{FarmView}
-use Rattle.tc_farm.specs.declared.farms.Verdict.TheVariants.{Accepted, Discarded}
+use Rattle.tc_farm.specs.declared.farms.FrameVerdict.TheVariants.{Accepted, Discarded}
 use Rattle.tc_farm.specs.Farm.{verdict_of, is_accept, cell_of}
 use Rattle.tc_fop.specs.declared.signals.Indication.{Indication as Signal}
 use Rattle.tc_fop.specs.Machine.{Machine, Action, after, output, option_list}
@@ -17,8 +17,8 @@ use Rattle.tc_fop.specs.Calls.{Given, offered, directed, reported, ticked}
 use Rattle.tc_fop.specs.Moves.{is_initiation, transmitted_in}
 use Rattle.tc_world.specs.declared.events.Event.{Event}
 use Rattle.tc_world.specs.declared.events.Event.TheVariants as event
-use Rattle.tc_world.specs.declared.events.Indication.{Indication}
-use Rattle.tc_world.specs.declared.events.Indication.TheVariants.{Fop, Farm, Received}
+use Rattle.tc_world.specs.declared.events.LinkIndication.{LinkIndication}
+use Rattle.tc_world.specs.declared.events.LinkIndication.TheVariants.{Fop, Farm, Received}
 use Rattle.tc_world.specs.Sublist.{IsSublist, IsSublist-same, IsSublist-behind}
 use Rattle.tc_world.specs.Links.{lossy, PutsAll, IsReadied}
 use Rattle.tc_world.specs.Logs.{Log}
@@ -85,13 +85,13 @@ payloads_same P w v fop up past newest carried =
     (subst (λ (l : List Frame). IsSublist l w.up) (sym up) (IsSublist-same w.up)) carried
 
 -- what is kept, with what is told
-abbrev pub Keeps : (P : ℕ → Payload → Type 0) → Bare → List Indication → Type 0
+abbrev pub Keeps : (P : ℕ → Payload → Type 0) → Bare → List LinkIndication → Type 0
 Keeps P v answer = AreCarried P v × AllByRecursion (IsToldOf P (all_sent v)) answer
 
 -- what is told of the answer that is shown is told of the answer
-told_as : (P : ℕ → Payload → Type 0) (v : Bare) (answer shown : List Indication) → answer ≡ shown → AreCarried P v → AllByRecursion (IsToldOf P (all_sent v)) shown → Keeps P v answer
+told_as : (P : ℕ → Payload → Type 0) (v : Bare) (answer shown : List LinkIndication) → answer ≡ shown → AreCarried P v → AllByRecursion (IsToldOf P (all_sent v)) shown → Keeps P v answer
 told_as P v answer shown is carried told =
-    (carried, subst (λ (l : List Indication). AllByRecursion (IsToldOf P (all_sent v)) l) (sym is) told)
+    (carried, subst (λ (l : List LinkIndication). AllByRecursion (IsToldOf P (all_sent v)) l) (sym is) told)
 
 -- a loss is no acceptance
 told_lost : (P : ℕ → Payload → Type 0) (sent : List ℕ) (found : Bool) → AllByRecursion (IsToldOf P sent) (told_of_loss found)
@@ -146,7 +146,7 @@ sent_anew w v more past newest =
     ∙ ap (λ (l : List ℕ). all_sent w ++ l) newest
 
 -- in the session that is on
-carries_kept : (P : ℕ → Payload → Type 0) (w v : Bare) (actions : List Action) (answer : List Indication) → AllByRecursion (Brings P) actions → AreCarried P w → Carries lossy actions w v answer → Keeps P v answer
+carries_kept : (P : ℕ → Payload → Type 0) (w v : Bare) (actions : List Action) (answer : List LinkIndication) → AllByRecursion (Brings P) actions → AreCarried P w → Carries lossy actions w v answer → Keeps P v answer
 carries_kept P w v actions answer brings carried h =
     let out = output actions w.fop in
     let sent = sent_more w v (transmitted_in out) (ap (λ (x : Bare). x.past) h.whole) (ap (λ (x : Bare). x.newest.sent) h.whole) in
@@ -155,7 +155,7 @@ carries_kept P w v actions answer brings carried h =
     (told_by_signals P (all_sent v) out.indications)
 
 -- as another begins
-begins_kept : (P : ℕ → Payload → Type 0) (w v : Bare) (given : Directive) (actions : List Action) (answer : List Indication) → AllByRecursion (Brings P) actions → AreCarried P w → Begins lossy lossy given actions w v answer → Keeps P v answer
+begins_kept : (P : ℕ → Payload → Type 0) (w v : Bare) (given : Directive) (actions : List Action) (answer : List LinkIndication) → AllByRecursion (Brings P) actions → AreCarried P w → Begins lossy lossy given actions w v answer → Keeps P v answer
 begins_kept P w v given actions answer brings carried h =
     let out = output actions w.fop in
     let sent = sent_anew w v (transmitted_in out) (ap (λ (x : Bare). x.past) h.whole) (ap (λ (x : Bare). x.newest.sent) h.whole) in
@@ -164,7 +164,7 @@ begins_kept P w v given actions answer brings carried h =
     (told_by_signals P (all_sent v) out.indications)
 
 -- a directive, in the session that is on or as another begins
-directs_kept : (P : ℕ → Payload → Type 0) (w v : Bare) (given : Directive) (actions : List Action) (answer : List Indication) (initiation : Bool) → AllByRecursion (Brings P) actions → AreCarried P w → MatchBool initiation (Begins lossy lossy given actions w v answer) (Carries lossy actions w v answer) → Keeps P v answer
+directs_kept : (P : ℕ → Payload → Type 0) (w v : Bare) (given : Directive) (actions : List Action) (answer : List LinkIndication) (initiation : Bool) → AllByRecursion (Brings P) actions → AreCarried P w → MatchBool initiation (Begins lossy lossy given actions w v answer) (Carries lossy actions w v answer) → Keeps P v answer
 directs_kept P w v given actions answer true brings carried h = begins_kept P w v given actions answer brings carried h
 directs_kept P w v given actions answer false brings carried h = carries_kept P w v actions answer brings carried h
 
@@ -186,7 +186,7 @@ frame_told P sent farm Unlock room h = tt
 frame_told P sent farm (SetVr v) room h = tt
 
 -- the FARM got a frame
-boards_kept : (P : ℕ → Payload → Type 0) (w v : Bare) (room : Bool) (answer : List Indication) → AreCarried P w → Boards lossy room w v answer → Keeps P v answer
+boards_kept : (P : ℕ → Payload → Type 0) (w v : Bare) (room : Bool) (answer : List LinkIndication) → AreCarried P w → Boards lossy room w v answer → Keeps P v answer
 boards_kept P w v room answer carried h =
     let lost = h.taken.0 in
     let behind = h.frame ∷ v.up in
@@ -201,12 +201,12 @@ boards_kept P w v room answer carried h =
     (flies P w v (ap (λ (x : Bare). x.fop) h.whole) sent sub carried) (told, tt)
 
 -- nothing that counts here became otherwise
-stays_kept : (P : ℕ → Payload → Type 0) (w v : Bare) (answer shown : List Indication) → v.fop ≡ w.fop → v.past ≡ w.past → v.newest ≡ w.newest → v.up ≡ w.up → answer ≡ shown → AllByRecursion (IsToldOf P (all_sent v)) shown → AreCarried P w → Keeps P v answer
+stays_kept : (P : ℕ → Payload → Type 0) (w v : Bare) (answer shown : List LinkIndication) → v.fop ≡ w.fop → v.past ≡ w.past → v.newest ≡ w.newest → v.up ≡ w.up → answer ≡ shown → AllByRecursion (IsToldOf P (all_sent v)) shown → AreCarried P w → Keeps P v answer
 stays_kept P w v answer shown fop past newest up is told carried =
     told_as P v answer shown is (payloads_same P w v fop up past newest carried) told
 
 -- something came down
-lands_kept : (P : ℕ → Payload → Type 0) (w v : Bare) (item : Report) (left : List Report) (answer : List Indication) → AreCarried P w → Hears lossy item (record w { down = left }) v answer → Keeps P v answer
+lands_kept : (P : ℕ → Payload → Type 0) (w v : Bare) (item : Report) (left : List Report) (answer : List LinkIndication) → AreCarried P w → Hears lossy item (record w { down = left }) v answer → Keeps P v answer
 lands_kept P w v (Word word) left answer carried (heard, actions, rest, reads, gives, h, answered) =
     let before : Bare = record w { down = left } in
     let same : AreCarried P before = payloads_same P w before refl refl refl refl carried in
@@ -218,7 +218,7 @@ lands_kept P w v (Telemetry telemetry) left answer carried (readied, whole, answ
 
 -- One event: what is carried still is, by what was sent after it, and what is told to be accepted on board was offered
 -- so, and was sent.
-pub payloads_kept : (P : ℕ → Payload → Type 0) (given : Event) (w v : Bare) (answer : List Indication) → AreCarried P w → IsOfferOf P given → Happens lossy lossy given w v answer → AreCarried P v × AllByRecursion (IsToldOf P (all_sent v)) answer
+pub payloads_kept : (P : ℕ → Payload → Type 0) (given : Event) (w v : Bare) (answer : List LinkIndication) → AreCarried P w → IsOfferOf P given → Happens lossy lossy given w v answer → AreCarried P v × AllByRecursion (IsToldOf P (all_sent v)) answer
 payloads_kept P (event.Offer request body) w v answer carried own (actions, unknown, gives, h) =
     carries_kept P w v actions answer
     (brought P (offered w.fop (record { request = request; body = body })) actions gives (offers_bring P w.fop (record { request = request; body = body }) own))

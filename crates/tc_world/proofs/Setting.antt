@@ -2,10 +2,10 @@
 use Rattle.std.proofs.Common.{◌≡◌, ℕ, ◌/◌, ◌≤◌, Bool, true, false, Ok, List, ◌∙◌, ap, arith}
 use Rattle.std.specs.Prelude.{MatchBool, nat_le, if◌then◌else◌}
 use Rattle.std.proofs.lemmas.Bool.Decides.{nat_tests}
-use Rattle.tc_types.specs.declared.frames.Frame.{Frame}
-use Rattle.tc_types.specs.declared.reports.Report.{Report}
-use Rattle.tc_types.specs.declared.directives.Directive.{Directive}
-use Rattle.tc_types.specs.declared.directives.Directive.TheVariants as directive
+use Rattle.tc_types.specs.declared.link.frames.Frame.{Frame}
+use Rattle.tc_types.specs.declared.link.reports.Report.{Report}
+use Rattle.tc_types.specs.declared.link.directives.Directive.{Directive}
+use Rattle.tc_types.specs.declared.link.directives.Directive.TheVariants as directive
 use Rattle.tc_farm.specs.declared.farms.FarmView.{FarmView}
 use Rattle.tc_fop.specs.Machine.{Machine, Action, Out, after, output}
 use Rattle.tc_fop.specs.Calls.{directed, Answers}
@@ -13,7 +13,7 @@ use Rattle.tc_fop.specs.Width.{k_after}
 use Rattle.tc_fop.specs.Moves.{is_initiation}
 use Rattle.tc_world.specs.declared.events.Event.{Event}
 use Rattle.tc_world.specs.declared.events.Event.TheVariants as event
-use Rattle.tc_world.specs.declared.events.Indication.{Indication}
+use Rattle.tc_world.specs.declared.events.LinkIndication.{LinkIndication}
 use Rattle.tc_world.specs.Links.{Kind}
 use Rattle.tc_world.specs.World.{Whole, Happens, Begins, Carries, unjudged, is_fitting, is_fitting_setting, sets_fitting}
 use Rattle.tc_world.proofs.Assembly.{answers_of}
@@ -37,13 +37,13 @@ setting_fits (directive.SetT1 t1) m farm small fits = grind (arith, nat_tests, s
 setting_fits (directive.SetLimit limit) m farm small fits = grind (arith, nat_tests, small)
 
 -- a directive acts on the FOP, and leaves the FARM
-directs_fop : {U D : Type 0} (uplink : Kind U Frame) (downlink : Kind D Report) (given : Directive) (actions : List Action) (old new : Whole U D) (answer : List Indication) (initiation : Bool)
+directs_fop : {U D : Type 0} (uplink : Kind U Frame) (downlink : Kind D Report) (given : Directive) (actions : List Action) (old new : Whole U D) (answer : List LinkIndication) (initiation : Bool)
     → MatchBool initiation (Begins uplink downlink given actions old new answer) (Carries uplink actions old new answer)
     → new.fop ≡ after actions old.fop
 directs_fop {U} {D} uplink downlink given actions old new answer true h = ap (λ (x : Whole U D). x.fop) h.whole
 directs_fop {U} {D} uplink downlink given actions old new answer false h = ap (λ (x : Whole U D). x.fop) h.whole
 
-directs_farm : {U D : Type 0} (uplink : Kind U Frame) (downlink : Kind D Report) (given : Directive) (actions : List Action) (old new : Whole U D) (answer : List Indication) (initiation : Bool)
+directs_farm : {U D : Type 0} (uplink : Kind U Frame) (downlink : Kind D Report) (given : Directive) (actions : List Action) (old new : Whole U D) (answer : List LinkIndication) (initiation : Bool)
     → MatchBool initiation (Begins uplink downlink given actions old new answer) (Carries uplink actions old new answer)
     → new.farm ≡ old.farm
 directs_farm {U} {D} uplink downlink given actions old new answer true h = ap (λ (x : Whole U D). x.farm) h.whole
@@ -54,7 +54,7 @@ fits_on : (old now : Bool) → old ≡ true → now ≡ true → (if old then no
 fits_on true now fitted fits = fits
 fits_on false now fitted fits = fitted
 
-pub keeps_fitting : {U D : Type 0} (uplink : Kind U Frame) (downlink : Kind D Report) → DirectsK → (given : Event) (old new : Whole U D) (answer : List Indication)
+pub keeps_fitting : {U D : Type 0} (uplink : Kind U Frame) (downlink : Kind D Report) → DirectsK → (given : Event) (old new : Whole U D) (answer : List LinkIndication)
     → (old.fits ≡ true → old.fop.k ≤ old.farm.window / 2) → Happens uplink downlink given old new answer
     → old.fits ≡ true → sets_fitting given old.farm ≡ true → new.fits ≡ true
 keeps_fitting uplink downlink law (event.Offer request body) old new answer narrow h fits sets = fits_is uplink downlink (event.Offer request body) old new answer h ∙ fits

@@ -1,13 +1,13 @@
 -- A session that has not started, and a call of the FOP; and an initiation.
 use Rattle.std.proofs.Common.{◌≡◌, ℕ, ◌+◌, ◌%◌, ◌<◌, ◌≤◌, ◌==◌, ◌⊎◌, inl, inr, ⊎_elim, Bool, true, false, if◌then◌else◌, Option, Some, None, List, [], ◌∷◌, ◌++◌, length, map, not, refl, sym, ◌∙◌, ap, subst, append-nil, append_assoc, arith}
 use Rattle.std.proofs.lemmas.Bool.{false≢true, eqb-true}
-use Rattle.tc_types.specs.declared.frames.Frame.{Frame}
-use Rattle.tc_types.specs.declared.reports.Report.{Report}
+use Rattle.tc_types.specs.declared.link.frames.Frame.{Frame}
+use Rattle.tc_types.specs.declared.link.reports.Report.{Report}
 use Rattle.tc_farm.specs.declared.clcws.Clcw.{Clcw}
 use Rattle.tc_farm.specs.declared.farms.FarmView.{FarmView}
 use Rattle.tc_farm.specs.Farm.{distance}
-use Rattle.tc_types.specs.declared.directives.Directive.{Directive}
-use Rattle.tc_types.specs.declared.directives.Directive.TheVariants as directive
+use Rattle.tc_types.specs.declared.link.directives.Directive.{Directive}
+use Rattle.tc_types.specs.declared.link.directives.Directive.TheVariants as directive
 use Rattle.tc_fop.specs.declared.signals.FopState.{FopState}
 use Rattle.tc_fop.specs.declared.signals.FopState.TheVariants.{Active, RetransmitWithoutWait, RetransmitWithWait, InitialisingWithoutBc, InitialisingWithBc, Initial}
 use Rattle.tc_fop.specs.declared.signals.Indication.{Indication}

@@ -1,12 +1,12 @@
 -- The session that is on makes a run at each step, and stays sane.
 use Rattle.std.proofs.Common.{◌≡◌, ℕ, ◌<◌, ◌≤◌, Bool, true, false, ◌⊎◌, inl, inr, Some, None, List, [], ◌∷◌, ◌++◌, refl, sym, ◌∙◌, subst, arith}
 use Rattle.tc_farm.specs.declared.clcws.Clcw.{Clcw}
-use Rattle.tc_types.specs.declared.frames.Frame.{Frame}
-use Rattle.tc_types.specs.declared.reports.Report.{Report}
-use Rattle.tc_types.specs.declared.reports.Report.TheVariants.{Word, Telemetry}
-use Rattle.tc_types.specs.declared.reports.Telemetry.{Telemetry as Packet}
+use Rattle.tc_types.specs.declared.link.frames.Frame.{Frame}
+use Rattle.tc_types.specs.declared.link.reports.Report.{Report}
+use Rattle.tc_types.specs.declared.link.reports.Report.TheVariants.{Word, Telemetry}
+use Rattle.tc_types.specs.declared.link.reports.Telemetry.{Telemetry as Packet}
 use Rattle.tc_farm.specs.Farm.{farm_after, verdict_of, released}
-use Rattle.tc_types.specs.declared.frames.Frame.TheVariants.{Ad, Unlock, SetVr}
+use Rattle.tc_types.specs.declared.link.frames.Frame.TheVariants.{Ad, Unlock, SetVr}
 use Rattle.tc_farm.specs.FarmLaws.{IsNumbered, Says}
 use Rattle.tc_fop.specs.Machine.{Out}
 use Rattle.tc_world.specs.Sublist.{IsSublist}

@@ -1,11 +1,11 @@
 -- The laws of the two tables, as the window's proof takes them.
 use Rattle.std.proofs.Common.{◌≡◌, ℕ, Bool, true, false, Option, None, Ok, List}
-use Rattle.tc_types.specs.declared.frames.Frame.{Frame}
+use Rattle.tc_types.specs.declared.link.frames.Frame.{Frame}
 use Rattle.tc_farm.specs.declared.clcws.Clcw.{Clcw}
 use Rattle.tc_farm.specs.declared.farms.FarmView.{FarmView}
 use Rattle.tc_farm.specs.Farm.{IsFarm, farm_after, verdict_of}
 use Rattle.tc_farm.specs.FarmLaws.{IsNumbered, Says}
-use Rattle.tc_types.specs.declared.directives.Directive.{Directive}
+use Rattle.tc_types.specs.declared.link.directives.Directive.{Directive}
 use Rattle.tc_fop.specs.Machine.{Machine, Waiting, Out}
 use Rattle.tc_fop.specs.Calls.{offered, directed, reported, ticked, Answers}
 use Rattle.tc_fop.specs.Standing.{IsFop}

@@ -4,11 +4,11 @@ use Rattle.std.specs.Prelude.{MatchBool}
 use Rattle.std.specs.List.{flat_map}
 use Rattle.std.proofs.lemmas.Grind.{flat_map-append}
 use Rattle.std.proofs.lemmas.List.Folds.{flat_map-map}
-use Rattle.tc_types.specs.declared.frames.Frame.{Frame}
-use Rattle.tc_types.specs.declared.reports.Report.{Report}
-use Rattle.tc_types.specs.declared.reports.Report.TheVariants.{Word, Telemetry}
+use Rattle.tc_types.specs.declared.link.frames.Frame.{Frame}
+use Rattle.tc_types.specs.declared.link.reports.Report.{Report}
+use Rattle.tc_types.specs.declared.link.reports.Report.TheVariants.{Word, Telemetry}
 use Rattle.tc_farm.specs.Farm.{verdict_of}
-use Rattle.tc_types.specs.declared.directives.Directive.{Directive}
+use Rattle.tc_types.specs.declared.link.directives.Directive.{Directive}
 use Rattle.tc_fop.specs.declared.signals.Indication.{Indication as Signal}
 use Rattle.tc_fop.specs.Machine.{Action, after, output}
 use Rattle.tc_fop.specs.Calls.{offered, directed, reported, ticked}
@@ -18,8 +18,8 @@ use Rattle.tc_fop.specs.Requests.{KeepsOrder, waiting_requests}
 use Rattle.tc_fop.specs.Moves.{is_initiation}
 use Rattle.tc_world.specs.declared.events.Event.{Event}
 use Rattle.tc_world.specs.declared.events.Event.TheVariants as event
-use Rattle.tc_world.specs.declared.events.Indication.{Indication}
-use Rattle.tc_world.specs.declared.events.Indication.TheVariants.{Fop, Farm, Received}
+use Rattle.tc_world.specs.declared.events.LinkIndication.{LinkIndication}
+use Rattle.tc_world.specs.declared.events.LinkIndication.TheVariants.{Fop, Farm, Received}
 use Rattle.tc_world.specs.Links.{Kind}
 use Rattle.tc_world.specs.Logs.{Log, accepted_by}
 use Rattle.tc_world.specs.World.{unjudged, Whole, Happens, Carries, Begins, Boards, Hears, told_of_loss}
@@ -70,11 +70,11 @@ none_accepted [] = refl
 none_accepted (signal ∷ signals) = none_accepted signals
 
 -- what is said by an answer of the FOP's
-of_fop : (in_link : Indication → List ℕ) (answer : List Indication) (signals : List Signal) → answer ≡ map Fop signals
+of_fop : (in_link : LinkIndication → List ℕ) (answer : List LinkIndication) (signals : List Signal) → answer ≡ map Fop signals
     → flat_map in_link answer ≡ flat_map (λ (signal : Signal). in_link (Fop signal)) signals
-of_fop in_link answer signals is = ap (λ (l : List Indication). flat_map in_link l) is ∙ flat_map-map in_link Fop signals
+of_fop in_link answer signals is = ap (λ (l : List LinkIndication). flat_map in_link l) is ∙ flat_map-map in_link Fop signals
 
-carries_tells : {U D : Type 0} (uplink : Kind U Frame) (given : Event) (actions : List Action) (old new : Whole U D) (answer : List Indication)
+carries_tells : {U D : Type 0} (uplink : Kind U Frame) (given : Event) (actions : List Action) (old new : Whole U D) (answer : List LinkIndication)
     → Carries uplink actions old new answer → KeepsOrder (offered_by given) old.fop new.fop (output actions old.fop)
     → TellsRequests given old new answer
 carries_tells {U} {D} uplink given actions old new answer h order =
@@ -87,13 +87,13 @@ carries_tells {U} {D} uplink given actions old new answer h order =
       accepted = grown (λ (log : Log). log.accepted) old new (flat_map accepted_said answer) past
           (ap (λ (x : Whole U D). x.newest.accepted) h.whole
           ∙ no_more old.newest.accepted (flat_map accepted_said answer)
-          (ap (λ (l : List Indication). flat_map accepted_said l) h.answered ∙ none_accepted signals));
+          (ap (λ (l : List LinkIndication). flat_map accepted_said l) h.answered ∙ none_accepted signals));
       confirmed = grown (λ (log : Log). log.confirmed) old new (flat_map confirmed_said answer) past
           (ap (λ (x : Whole U D). x.newest.confirmed) h.whole
           ∙ ap (λ (l : List ℕ). old.newest.confirmed ++ l) (sym (of_fop confirmed_said answer signals h.answered)));
     }
 
-begins_tells : {U D : Type 0} (uplink : Kind U Frame) (downlink : Kind D Report) (given : Directive) (actions : List Action) (old new : Whole U D) (answer : List Indication)
+begins_tells : {U D : Type 0} (uplink : Kind U Frame) (downlink : Kind D Report) (given : Directive) (actions : List Action) (old new : Whole U D) (answer : List LinkIndication)
     → Begins uplink downlink given actions old new answer → KeepsOrder [] old.fop new.fop (output actions old.fop)
     → TellsRequests (event.Directive given) old new answer
 begins_tells {U} {D} uplink downlink given actions old new answer h order =
@@ -105,12 +105,12 @@ begins_tells {U} {D} uplink downlink given actions old new answer h order =
           (ap (λ (x : Whole U D). x.newest.sent) h.whole ∙ sym (of_fop sent_said answer signals h.answered));
       accepted = begun (λ (log : Log). log.accepted) old new (flat_map accepted_said answer) past
           (ap (λ (x : Whole U D). x.newest.accepted) h.whole
-          ∙ sym (ap (λ (l : List Indication). flat_map accepted_said l) h.answered ∙ none_accepted signals));
+          ∙ sym (ap (λ (l : List LinkIndication). flat_map accepted_said l) h.answered ∙ none_accepted signals));
       confirmed = begun (λ (log : Log). log.confirmed) old new (flat_map confirmed_said answer) past
           (ap (λ (x : Whole U D). x.newest.confirmed) h.whole ∙ sym (of_fop confirmed_said answer signals h.answered));
     }
 
-directs_tells : {U D : Type 0} (uplink : Kind U Frame) (downlink : Kind D Report) (given : Directive) (actions : List Action) (old new : Whole U D) (answer : List Indication) (initiation : Bool)
+directs_tells : {U D : Type 0} (uplink : Kind U Frame) (downlink : Kind D Report) (given : Directive) (actions : List Action) (old new : Whole U D) (answer : List LinkIndication) (initiation : Bool)
     → MatchBool initiation (Begins uplink downlink given actions old new answer) (Carries uplink actions old new answer)
     → (new.fop ≡ after actions old.fop → KeepsOrder [] old.fop new.fop (output actions old.fop))
     → TellsRequests (event.Directive given) old new answer
@@ -122,7 +122,7 @@ directs_tells {U} {D} uplink downlink given actions old new answer false h order
 -- ---- what the FOP has no part in
 
 -- nothing is told of requests
-record IsSilent (answer : List Indication) : Type 0 where
+record IsSilent (answer : List LinkIndication) : Type 0 where
   leaves : flat_map leaves_said answer ≡ []
   sent : flat_map sent_said answer ≡ []
   accepted : flat_map accepted_said answer ≡ []
@@ -139,7 +139,7 @@ silent_report : (item : Report) → IsSilent (Received item ∷ [])
 silent_report item = record { leaves = refl; sent = refl; accepted = refl; confirmed = refl }
 
 -- and nothing becomes of them
-stays_tells : {U D : Type 0} (given : Event) (old new : Whole U D) (shown answer : List Indication) → answer ≡ shown → IsSilent shown → offered_by given ≡ []
+stays_tells : {U D : Type 0} (given : Event) (old new : Whole U D) (shown answer : List LinkIndication) → answer ≡ shown → IsSilent shown → offered_by given ≡ []
     → new.fop ≡ old.fop → new.past ≡ old.past → new.newest ≡ old.newest → TellsRequests given old new answer
 stays_tells {U} {D} given old new shown answer is silent none fop past newest =
     let same : TellsRequests given old new shown = record {
@@ -155,15 +155,15 @@ stays_tells {U} {D} given old new shown answer is silent none fop past newest =
       confirmed = grown (λ (log : Log). log.confirmed) old new (flat_map confirmed_said shown) past
           (ap (λ (log : Log). log.confirmed) newest ∙ no_more old.newest.confirmed (flat_map confirmed_said shown) silent.confirmed);
     } in
-    subst (λ (l : List Indication). TellsRequests given old new l) (sym is) same
+    subst (λ (l : List LinkIndication). TellsRequests given old new l) (sym is) same
 
 -- a frame came up
-boards_tells : {U D : Type 0} (uplink : Kind U Frame) (room : Bool) (old new : Whole U D) (answer : List Indication) → Boards uplink room old new answer
+boards_tells : {U D : Type 0} (uplink : Kind U Frame) (room : Bool) (old new : Whole U D) (answer : List LinkIndication) → Boards uplink room old new answer
     → TellsRequests (event.Uplink room) old new answer
 boards_tells {U} {D} uplink room old new answer h =
     let past : new.past ≡ old.past = ap (λ (x : Whole U D). x.past) h.whole in
-    let part : (in_link : Indication → List ℕ) → List ℕ = λ in_link. flat_map in_link answer in
-    let is : (in_link : Indication → List ℕ) → flat_map in_link answer ≡ flat_map in_link (Farm (verdict_of old.farm h.frame room) ∷ []) = λ in_link. ap (λ (l : List Indication). flat_map in_link l) h.answered in
+    let part : (in_link : LinkIndication → List ℕ) → List ℕ = λ in_link. flat_map in_link answer in
+    let is : (in_link : LinkIndication → List ℕ) → flat_map in_link answer ≡ flat_map in_link (Farm (verdict_of old.farm h.frame room) ∷ []) = λ in_link. ap (λ (l : List LinkIndication). flat_map in_link l) h.answered in
     record {
       waits =
           append-nil (waiting_requests old.fop)
@@ -179,20 +179,20 @@ boards_tells {U} {D} uplink room old new answer h =
     }
 
 -- something came down
-lands_tells : {U D : Type 0} (uplink : Kind U Frame) (orders : Orders) (item : Report) (left : D) (old new : Whole U D) (answer : List Indication) → IsFop old.fop → IsFop new.fop
+lands_tells : {U D : Type 0} (uplink : Kind U Frame) (orders : Orders) (item : Report) (left : D) (old new : Whole U D) (answer : List LinkIndication) → IsFop old.fop → IsFop new.fop
     → Hears uplink item (record old { down = left }) new answer → TellsRequests event.Downlink old new answer
 lands_tells {U} {D} uplink orders (Word word) left old new answer fop new_fop (heard, actions, rest, reads, gives, h, answered) =
     let order = orders.words old.fop heard new.fop (output actions old.fop) fop new_fop
     (answers_of (reported old.fop heard) old.fop new.fop actions gives (ap (λ (x : Whole U D). x.fop) h.whole)) in
     let tells = carries_tells uplink event.Downlink actions (record old { down = left }) new rest h order in
-    subst (λ (l : List Indication). TellsRequests event.Downlink old new l) (sym answered)
+    subst (λ (l : List LinkIndication). TellsRequests event.Downlink old new l) (sym answered)
     (record { waits = tells.waits; sent = tells.sent; accepted = tells.accepted; confirmed = tells.confirmed })
 lands_tells {U} {D} uplink orders (Telemetry telemetry) left old new answer fop new_fop (readied, whole, answered) =
     stays_tells event.Downlink old new (Received (Telemetry telemetry) ∷ []) answer answered (silent_report (Telemetry telemetry)) refl
     (ap (λ (x : Whole U D). x.fop) whole) (ap (λ (x : Whole U D). x.past) whole) (ap (λ (x : Whole U D). x.newest) whole)
 
 -- one event
-pub tells_requests : {U D : Type 0} (uplink : Kind U Frame) (downlink : Kind D Report) → Orders → (given : Event) (old new : Whole U D) (answer : List Indication)
+pub tells_requests : {U D : Type 0} (uplink : Kind U Frame) (downlink : Kind D Report) → Orders → (given : Event) (old new : Whole U D) (answer : List LinkIndication)
     → IsFop old.fop → IsFop new.fop → Happens uplink downlink given old new answer → TellsRequests given old new answer
 tells_requests {U} {D} uplink downlink orders (event.Offer request body) old new answer fop new_fop (actions, unknown, gives, h) =
     carries_tells uplink (event.Offer request body) actions old new answer h

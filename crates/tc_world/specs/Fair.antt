@@ -1,9 +1,9 @@
 -- What lets a session whose windows fit end by its timer, its limit or its end alone.
 use Rattle.std.specs.Prelude.{◌≡◌, ◌≢◌, ℕ, ◌==◌, Bool, true, false, List, [], ◌∷◌}
-use Rattle.tc_types.specs.declared.frames.Frame.{Frame}
-use Rattle.tc_types.specs.declared.frames.Frame.TheVariants.{Ad, Unlock, SetVr}
-use Rattle.tc_types.specs.declared.reports.Report.{Report}
-use Rattle.tc_types.specs.declared.reports.Report.TheVariants.{Word, Telemetry}
+use Rattle.tc_types.specs.declared.link.frames.Frame.{Frame}
+use Rattle.tc_types.specs.declared.link.frames.Frame.TheVariants.{Ad, Unlock, SetVr}
+use Rattle.tc_types.specs.declared.link.reports.Report.{Report}
+use Rattle.tc_types.specs.declared.link.reports.Report.TheVariants.{Word, Telemetry}
 use Rattle.tc_farm.specs.ControlWord.{field}
 use Rattle.tc_farm.specs.declared.farms.FarmView.{FarmView}
 use Rattle.tc_fop.specs.declared.signals.FopState.{FopState}
@@ -12,15 +12,15 @@ use Rattle.tc_fop.specs.Machine.{Machine}
 use Rattle.tc_fop.specs.Calls.{is_taking}
 use Rattle.tc_fop.specs.Standing.{is_starting}
 use Rattle.tc_fop.specs.Fair.{is_checking, is_retransmitting, may_alert}
-use Rattle.tc_world.specs.declared.events.Indication.{Indication}
-use Rattle.tc_world.specs.declared.events.Indication.TheVariants.{Fop, Farm, Received, Lost}
+use Rattle.tc_world.specs.declared.events.LinkIndication.{LinkIndication}
+use Rattle.tc_world.specs.declared.events.LinkIndication.TheVariants.{Fop, Farm, Received, Lost}
 use Rattle.tc_world.specs.Abstraction.{Bare, report_value}
 use Rattle.tc_world.specs.Kept.{Each, Pairs}
 
 -- ---- what is claimed of one event
 
 -- no alert is told but one that may come in this state
-abbrev pub is_fair : Bool → FopState → Indication → Bool
+abbrev pub is_fair : Bool → FopState → LinkIndication → Bool
 is_fair level state (Fop (signal.Sent n)) = true
 is_fair level state (Fop (signal.Confirmed n)) = true
 is_fair level state (Fop (signal.GivenBack n)) = true

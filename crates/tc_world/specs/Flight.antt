@@ -1,7 +1,7 @@
 -- What flies while every start was good, in the words of the session that is on.
 use Rattle.std.specs.Prelude.{◌≡◌, ◌+◌, ◌%◌, ◌<◌, false, List, [], ◌∷◌, length}
-use Rattle.tc_types.specs.declared.frames.Frame.{Frame}
-use Rattle.tc_types.specs.declared.frames.Frame.TheVariants.{Ad, Unlock, SetVr}
+use Rattle.tc_types.specs.declared.link.frames.Frame.{Frame}
+use Rattle.tc_types.specs.declared.link.frames.Frame.TheVariants.{Ad, Unlock, SetVr}
 use Rattle.tc_world.specs.Logs.{Log}
 use Rattle.tc_world.specs.Session.{nothing_yet}
 use Rattle.tc_world.specs.Abstraction.{Bare, position_of, session_of}

@@ -30,3 +30,8 @@ PutsAll {C} kind old (item ∷ items) new = (next : C) × kind.puts old item nex
 -- room was made and nothing else: what is in flight stays, and all else that a contract sees
 abbrev pub IsReadied : {C T : Type 0} → Kind C T → C → C → Type 0
 IsReadied kind old ready = kind.without_room ready ≡ kind.without_room old
+
+-- nothing is in flight on either of two links
+pub record AreEmpty {U D S T : Type 0} (uplink : Kind U S) (downlink : Kind D T) (a : U) (b : D) : Type 0 where
+  pub up : uplink.content a ≡ []
+  pub down : downlink.content b ≡ []

@@ -1,15 +1,15 @@
 -- Which payload flies for a request: whatever waits, is queued, flies or comes on board has what was offered of it.
 use Rattle.std.specs.Prelude.{◌≡◌, ℕ, ◌==◌, true, List}
 use Rattle.std.specs.List.{list_any, AllByRecursion}
-use Rattle.tc_types.specs.declared.telecommands.Payload.{Payload}
-use Rattle.tc_types.specs.declared.frames.Frame.{Frame}
-use Rattle.tc_types.specs.declared.frames.Frame.TheVariants.{Ad, Unlock, SetVr}
-use Rattle.tc_farm.specs.declared.farms.Verdict.TheVariants.{Accepted, Discarded, Control}
+use Rattle.tc_types.specs.declared.link.telecommands.Payload.{Payload}
+use Rattle.tc_types.specs.declared.link.frames.Frame.{Frame}
+use Rattle.tc_types.specs.declared.link.frames.Frame.TheVariants.{Ad, Unlock, SetVr}
+use Rattle.tc_farm.specs.declared.farms.FrameVerdict.TheVariants.{Accepted, Discarded, Control}
 use Rattle.tc_fop.specs.Machine.{Waiting, Held, option_list}
 use Rattle.tc_world.specs.declared.events.Event.{Event}
 use Rattle.tc_world.specs.declared.events.Event.TheVariants as event
-use Rattle.tc_world.specs.declared.events.Indication.{Indication}
-use Rattle.tc_world.specs.declared.events.Indication.TheVariants.{Fop, Farm, Received, Lost}
+use Rattle.tc_world.specs.declared.events.LinkIndication.{LinkIndication}
+use Rattle.tc_world.specs.declared.events.LinkIndication.TheVariants.{Fop, Farm, Received, Lost}
 use Rattle.tc_world.specs.Abstraction.{Bare}
 use Rattle.tc_world.specs.World.{all_sent}
 
@@ -44,7 +44,7 @@ IsOfferOf P event.Downlink = Unit {0}
 IsOfferOf P (event.LoseDown place) = Unit {0}
 
 -- what is told to be accepted on board
-abbrev pub IsToldOf : (P : ℕ → Payload → Type 0) → List ℕ → Indication → Type 0
+abbrev pub IsToldOf : (P : ℕ → Payload → Type 0) → List ℕ → LinkIndication → Type 0
 IsToldOf P sent (Fop i) = Unit {0}
 IsToldOf P sent (Farm (Accepted request body)) = P request body × IsOneOf request sent
 IsToldOf P sent (Farm Discarded) = Unit {0}

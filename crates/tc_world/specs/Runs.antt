@@ -1,10 +1,10 @@
 -- Events in turn, and where a run of them ends.
 use Rattle.std.specs.Prelude.{◌≡◌, ℕ, true, Option, Some, None, List, [], ◌∷◌, map, take, slice_get, length}
-use Rattle.tc_types.specs.declared.frames.Frame.{Frame}
-use Rattle.tc_types.specs.declared.reports.Report.{Report}
+use Rattle.tc_types.specs.declared.link.frames.Frame.{Frame}
+use Rattle.tc_types.specs.declared.link.reports.Report.{Report}
 use Rattle.tc_types.specs.declared.refusals.Refusal.{Refusal}
 use Rattle.tc_world.specs.declared.events.Event.{Event}
-use Rattle.tc_world.specs.declared.events.Indication.{Indication}
+use Rattle.tc_world.specs.declared.events.LinkIndication.{LinkIndication}
 use Rattle.tc_world.specs.Links.{Kind}
 use Rattle.tc_world.specs.Abstraction.{seen}
 use Rattle.std.specs.List.{list_all}
@@ -18,7 +18,7 @@ Runs uplink downlink [] old [] new = new ≡ old
 Runs uplink downlink [] old (next ∷ worlds) new = ⊥
 Runs uplink downlink (given ∷ others) old [] new = ⊥
 Runs uplink downlink (given ∷ others) old (next ∷ worlds) new =
-    (answer : List Indication) × Happens uplink downlink given old next answer × Runs uplink downlink others next worlds new
+    (answer : List LinkIndication) × Happens uplink downlink given old next answer × Runs uplink downlink others next worlds new
 
 -- The same, and no alert is told but those that may come in the state of the FOP: also in S4 as the last start was level
 -- or not.
@@ -27,7 +27,7 @@ RunsFairly uplink downlink [] old [] new = new ≡ old
 RunsFairly uplink downlink [] old (next ∷ worlds) new = ⊥
 RunsFairly uplink downlink (given ∷ others) old [] new = ⊥
 RunsFairly uplink downlink (given ∷ others) old (next ∷ worlds) new =
-    (answer : List Indication) × Happens uplink downlink given old next answer
+    (answer : List LinkIndication) × Happens uplink downlink given old next answer
     × (list_all (is_fair old.level old.fop.state) answer ≡ true) × RunsFairly uplink downlink others next worlds new
 
 -- Events happen in turn; and while every start was good each of them is, to the same worlds, a run of the session that

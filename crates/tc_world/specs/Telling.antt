@@ -5,35 +5,35 @@ use Rattle.tc_fop.specs.Requests.{waiting_requests, leaves, confirms}
 use Rattle.tc_fop.specs.Moves.{transmitted_by}
 use Rattle.tc_world.specs.declared.events.Event.{Event}
 use Rattle.tc_world.specs.declared.events.Event.TheVariants as event
-use Rattle.tc_world.specs.declared.events.Indication.{Indication}
-use Rattle.tc_world.specs.declared.events.Indication.TheVariants.{Fop, Farm, Received, Lost}
+use Rattle.tc_world.specs.declared.events.LinkIndication.{LinkIndication}
+use Rattle.tc_world.specs.declared.events.LinkIndication.TheVariants.{Fop, Farm, Received, Lost}
 use Rattle.tc_world.specs.Logs.{accepted_by}
 use Rattle.tc_world.specs.World.{Whole, all_sent}
 use Rattle.tc_world.specs.Window.{all_accepted, all_confirmed}
 
 -- the request that leaves the wait queue with this: it is sent, or given back
-abbrev pub leaves_said : Indication → List ℕ
+abbrev pub leaves_said : LinkIndication → List ℕ
 leaves_said (Fop i) = leaves i
 leaves_said (Farm verdict) = []
 leaves_said (Received item) = []
 leaves_said Lost = []
 
 -- the request that this tells to be sent for the first time
-abbrev pub sent_said : Indication → List ℕ
+abbrev pub sent_said : LinkIndication → List ℕ
 sent_said (Fop i) = transmitted_by i
 sent_said (Farm verdict) = []
 sent_said (Received item) = []
 sent_said Lost = []
 
 -- the request that this tells to be accepted on board
-abbrev pub accepted_said : Indication → List ℕ
+abbrev pub accepted_said : LinkIndication → List ℕ
 accepted_said (Fop i) = []
 accepted_said (Farm verdict) = accepted_by verdict
 accepted_said (Received item) = []
 accepted_said Lost = []
 
 -- the request that this tells to be confirmed
-abbrev pub confirmed_said : Indication → List ℕ
+abbrev pub confirmed_said : LinkIndication → List ℕ
 confirmed_said (Fop i) = confirms i
 confirmed_said (Farm verdict) = []
 confirmed_said (Received item) = []
@@ -54,7 +54,7 @@ offered_by (event.LoseDown place) = []
 -- No request is lost from the wait queue: the one that waits and the one that is offered are those that are told to be
 -- sent or given back, and then the one that waits after. Those that are told to be sent, accepted or confirmed are what
 -- is written down, in order, and nothing else is.
-pub record TellsRequests {U D : Type 0} (given : Event) (old new : Whole U D) (answer : List Indication) : Type 0 where
+pub record TellsRequests {U D : Type 0} (given : Event) (old new : Whole U D) (answer : List LinkIndication) : Type 0 where
   pub waits : waiting_requests old.fop ++ offered_by given ≡ flat_map leaves_said answer ++ waiting_requests new.fop
   pub sent : all_sent new ≡ all_sent old ++ flat_map sent_said answer
   pub accepted : all_accepted new ≡ all_accepted old ++ flat_map accepted_said answer

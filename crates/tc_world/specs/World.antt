@@ -1,18 +1,19 @@
 -- The link as one machine, and what one event makes of it: the tables of FOP-1 and FARM-1, and the carriers' own
 -- relations.
-use Rattle.std.specs.Prelude.{◌≡◌, ◌⊎◌, ◌↔◌, ◌<◌, ◌≤◌, ◌+◌, IsSome, IfSome, IsOk, IfOk, Result, ℕ, ◌==◌, ◌/◌, nat_le, Bool, true, false, not, if◌then◌else◌, MatchBool, Option, Some, None, Ok, Err, List, [], ◌∷◌, ◌++◌, map, drop, length}
+use Rattle.std.specs.Prelude.{◌≡◌, ◌⊎◌, ◌↔◌, ◌<◌, ◌≤◌, ◌+◌, IsSome, IfSome, IsOk, IfOk, IfErr, Result, ℕ, ◌==◌, ◌/◌, nat_le, Bool, true, false, not, if◌then◌else◌, MatchBool, Option, Some, None, Ok, Err, List, [], ◌∷◌, ◌++◌, map, drop, length}
 use Rattle.std.specs.List.{flat_map, list_any}
-use Rattle.tc_types.specs.declared.frames.Frame.{Frame}
-use Rattle.tc_types.specs.declared.reports.Report.{Report}
-use Rattle.tc_types.specs.declared.reports.Report.TheVariants as report
+use Rattle.tc_types.specs.declared.link.frames.Frame.{Frame}
+use Rattle.tc_types.specs.declared.link.telecommands.Payload.{Payload}
+use Rattle.tc_types.specs.declared.link.reports.Report.{Report}
+use Rattle.tc_types.specs.declared.link.reports.Report.TheVariants as report
 use Rattle.tc_types.specs.declared.refusals.Refusal.{Refusal}
 use Rattle.tc_types.specs.declared.refusals.Refusal.TheVariants.{WrongPlace, Memory}
 use Rattle.tc_farm.specs.declared.clcws.Clcw.{Clcw}
 use Rattle.tc_farm.specs.declared.farms.FarmView.{FarmView}
 use Rattle.tc_farm.specs.ControlWord.{IsValid, word_of, without_ignored}
 use Rattle.tc_farm.specs.Farm.{IsFarm, farm_after, verdict_of, released}
-use Rattle.tc_types.specs.declared.directives.Directive.{Directive}
-use Rattle.tc_types.specs.declared.directives.Directive.TheVariants as directive
+use Rattle.tc_types.specs.declared.link.directives.Directive.{Directive}
+use Rattle.tc_types.specs.declared.link.directives.Directive.TheVariants as directive
 use Rattle.tc_fop.specs.declared.signals.Indication.TheVariants as signal
 use Rattle.tc_fop.specs.Machine.{Machine, Action, Out, after, output, is_window_open}
 use Rattle.tc_fop.specs.Calls.{Given, offered, directed, reported, ticked}
@@ -21,8 +22,8 @@ use Rattle.tc_fop.specs.Requests.{waiting_requests}
 use Rattle.tc_fop.specs.Moves.{is_initiation}
 use Rattle.tc_world.specs.declared.events.Event.{Event}
 use Rattle.tc_world.specs.declared.events.Event.TheVariants as event
-use Rattle.tc_world.specs.declared.events.Indication.{Indication}
-use Rattle.tc_world.specs.declared.events.Indication.TheVariants.{Fop, Farm, Received, Lost}
+use Rattle.tc_world.specs.declared.events.LinkIndication.{LinkIndication}
+use Rattle.tc_world.specs.declared.events.LinkIndication.TheVariants.{Fop, Farm, Received, Lost}
 use Rattle.tc_world.specs.Links.{Kind, PutsAll, IsReadied}
 use Rattle.tc_world.specs.Logs.{Log, blank, noted, boarded}
 
@@ -76,6 +77,11 @@ refusal_of (event.LoseDown place) w = None
 -- an event is refused as said; where it is not, memory may be refused
 abbrev pub IsRefused : {U D : Type 0} → Event → Whole U D → Refusal → Type 0
 IsRefused given w refusal = (refusal_of given w ≡ Some refusal) ⊎ ((refusal_of given w ≡ None) × (refusal ≡ Memory))
+
+-- the request is not known, and the FOP takes it
+pub record IsTaken {U D : Type 0} (request : ℕ) (body : Payload) (w : Whole U D) : Type 0 where
+  pub unknown : is_known request w ≡ false
+  pub taken : IsOk (offered w.fop (record { request = request; body = body }))
 
 -- as before: the links may have got room, and what is in flight stays
 pub record IsAsBefore {U D : Type 0} (uplink : Kind U Frame) (downlink : Kind D Report) (old new : Whole U D) : Type 0 where
@@ -218,12 +224,12 @@ clean_by uplink downlink (event.LoseDown place) w = w.clean
 -- ---- one event
 
 -- what the FOP tells, as the link tells it
-abbrev pub told_by_fop : Out → List Indication
+abbrev pub told_by_fop : Out → List LinkIndication
 told_by_fop out = map Fop out.indications
 
 -- The FOP's actions were carried out: its frames were put on the uplink in order, what it tells was written down and is
 -- what is answered.
-pub record Carries {U D : Type 0} (uplink : Kind U Frame) (actions : List Action) (old new : Whole U D) (answer : List Indication) : Type 0 where
+pub record Carries {U D : Type 0} (uplink : Kind U Frame) (actions : List Action) (old new : Whole U D) (answer : List LinkIndication) : Type 0 where
   pub ready : U
   pub readied : IsReadied uplink old.up ready
   pub frames : PutsAll uplink ready (output actions old.fop).frames new.up
@@ -231,7 +237,7 @@ pub record Carries {U D : Type 0} (uplink : Kind U Frame) (actions : List Action
   pub answered : answer ≡ told_by_fop (output actions old.fop)
 
 -- An initiation was carried out: the newest session has ended and another begins.
-pub record Begins {U D : Type 0} (uplink : Kind U Frame) (downlink : Kind D Report) (given : Directive) (actions : List Action) (old new : Whole U D) (answer : List Indication) : Type 0 where
+pub record Begins {U D : Type 0} (uplink : Kind U Frame) (downlink : Kind D Report) (given : Directive) (actions : List Action) (old new : Whole U D) (answer : List LinkIndication) : Type 0 where
   pub ready : U
   pub readied : IsReadied uplink old.up ready
   pub frames : PutsAll uplink ready (output actions old.fop).frames new.up
@@ -245,12 +251,12 @@ pub record Begins {U D : Type 0} (uplink : Kind U Frame) (downlink : Kind D Repo
   pub answered : answer ≡ told_by_fop (output actions old.fop)
 
 -- a link was empty, and nothing happened
-pub record IsIdle {U D : Type 0} (uplink : Kind U Frame) (downlink : Kind D Report) (old new : Whole U D) (answer : List Indication) : Type 0 where
+pub record IsIdle {U D : Type 0} (uplink : Kind U Frame) (downlink : Kind D Report) (old new : Whole U D) (answer : List LinkIndication) : Type 0 where
   pub same : IsAsBefore uplink downlink old new
   pub answered : answer ≡ []
 
 -- the FARM got a frame
-pub record Boards {U D : Type 0} (uplink : Kind U Frame) (free_buffer : Bool) (old new : Whole U D) (answer : List Indication) : Type 0 where
+pub record Boards {U D : Type 0} (uplink : Kind U Frame) (free_buffer : Bool) (old new : Whole U D) (answer : List LinkIndication) : Type 0 where
   pub frame : Frame
   pub taken : uplink.takes old.up frame new.up
   pub whole : new ≡ record old {
@@ -270,9 +276,9 @@ pub record Reads (word vc : ℕ) (heard : Option Clcw) : Type 0 where
 
 -- The ground got this from the downlink: the FOP hears of control words alone. Room on the uplink is made before it is
 -- known what comes down, so that nothing is lost where that room is refused.
-abbrev pub Hears : {U D : Type 0} → Kind U Frame → Report → Whole U D → Whole U D → List Indication → Type 0
+abbrev pub Hears : {U D : Type 0} → Kind U Frame → Report → Whole U D → Whole U D → List LinkIndication → Type 0
 Hears uplink (report.Word word) old new answer =
-    (heard : Option Clcw) × (actions : List Action) × (rest : List Indication)
+    (heard : Option Clcw) × (actions : List Action) × (rest : List LinkIndication)
     × Reads word old.vc heard × (reported old.fop heard ≡ Ok actions)
     × Carries uplink actions old new rest × (answer ≡ Received (report.Word word) ∷ rest)
 Hears uplink (report.Telemetry telemetry) old new answer =
@@ -280,7 +286,7 @@ Hears uplink (report.Telemetry telemetry) old new answer =
     × (answer ≡ Received (report.Telemetry telemetry) ∷ [])
 
 -- the ground got the first of the downlink
-pub record Lands {U D : Type 0} (uplink : Kind U Frame) (downlink : Kind D Report) (old new : Whole U D) (answer : List Indication) : Type 0 where
+pub record Lands {U D : Type 0} (uplink : Kind U Frame) (downlink : Kind D Report) (old new : Whole U D) (answer : List LinkIndication) : Type 0 where
   pub item : Report
   pub left : D
   pub taken : downlink.takes old.down item left
@@ -296,7 +302,7 @@ pub record IsWordOf (farm : FarmView) (vc : ℕ) (clcw : Clcw) : Type 0 where
   pub report_value : clcw.report ≡ farm.vr
 
 -- something was put on the downlink
-pub record Descends {U D : Type 0} (downlink : Kind D Report) (item : Report) (old new : Whole U D) (answer : List Indication) : Type 0 where
+pub record Descends {U D : Type 0} (downlink : Kind D Report) (item : Report) (old new : Whole U D) (answer : List LinkIndication) : Type 0 where
   pub ready : D
   pub readied : IsReadied downlink old.down ready
   pub put : downlink.puts ready item new.down
@@ -304,26 +310,26 @@ pub record Descends {U D : Type 0} (downlink : Kind D Report) (item : Report) (o
   pub answered : answer ≡ []
 
 -- what is told of a loss: that something was lost
-abbrev pub told_of_loss : Bool → List Indication
+abbrev pub told_of_loss : Bool → List LinkIndication
 told_of_loss true = Lost ∷ []
 told_of_loss false = []
 
 -- an item of the uplink was lost, and it is told where there was one
-pub record LosesUp {U D : Type 0} (uplink : Kind U Frame) (place : ℕ) (old new : Whole U D) (answer : List Indication) : Type 0 where
+pub record LosesUp {U D : Type 0} (uplink : Kind U Frame) (place : ℕ) (old new : Whole U D) (answer : List LinkIndication) : Type 0 where
   pub found : Bool
   pub lost : uplink.loses old.up place found new.up
   pub whole : new ≡ record old { up = new.up }
   pub answered : answer ≡ told_of_loss found
 
 -- an item of the downlink was lost, and it is told where there was one
-pub record LosesDown {U D : Type 0} (downlink : Kind D Report) (place : ℕ) (old new : Whole U D) (answer : List Indication) : Type 0 where
+pub record LosesDown {U D : Type 0} (downlink : Kind D Report) (place : ℕ) (old new : Whole U D) (answer : List LinkIndication) : Type 0 where
   pub found : Bool
   pub lost : downlink.loses old.down place found new.down
   pub whole : new ≡ record old { down = new.down }
   pub answered : answer ≡ told_of_loss found
 
 -- a directive was carried out
-abbrev pub Directs : {U D : Type 0} → Kind U Frame → Kind D Report → Directive → List Action → Whole U D → Whole U D → List Indication → Type 0
+abbrev pub Directs : {U D : Type 0} → Kind U Frame → Kind D Report → Directive → List Action → Whole U D → Whole U D → List LinkIndication → Type 0
 Directs uplink downlink given actions old new answer = MatchBool (is_initiation given)
     (Begins uplink downlink given actions old new answer)
     (Carries uplink actions old new answer)
@@ -333,7 +339,7 @@ abbrev pub unjudged : {U D : Type 0} → Whole U D → Whole U D → Whole U D
 unjudged old new = record new { fits = old.fits; level = old.level }
 
 -- What one event makes of the link, and what it answers.
-abbrev pub Happens : {U D : Type 0} → Kind U Frame → Kind D Report → Event → Whole U D → Whole U D → List Indication → Type 0
+abbrev pub Happens : {U D : Type 0} → Kind U Frame → Kind D Report → Event → Whole U D → Whole U D → List LinkIndication → Type 0
 Happens uplink downlink (event.Offer request body) old new answer =
     (actions : List Action) × (is_known request old ≡ false)
     × (offered old.fop (record { request = request; body = body }) ≡ Ok actions) × Carries uplink actions old new answer
@@ -385,11 +391,13 @@ puts_down (event.Put telemetry) = true
 puts_down event.Downlink = false
 puts_down (event.LoseDown place) = false
 
--- How a call ends, whatever the event: where memory is spared it is not refused; at most so much is told and put on the
--- uplink; only a put takes of the downlink's room, and no more than its own; and both machines are sound.
-pub record EndsWithin {U D : Type 0} (uplink : Kind U Frame) (downlink : Kind D Report) (covered : D → ℕ) (given : Event) (old new : Whole U D) (result : Result (List Indication) Refusal) : Type 0 where
+-- How a call ends, whatever the event: what is refused leaves all as before; where memory is spared it is not refused; at
+-- most so much is told and put on the uplink; only a put takes of the downlink's room, and no more than its own; and both
+-- machines are sound.
+pub record EndsWithin {U D : Type 0} (uplink : Kind U Frame) (downlink : Kind D Report) (covered : D → ℕ) (given : Event) (old new : Whole U D) (result : Result (List LinkIndication) Refusal) : Type 0 where
+  pub refused : IfErr result (λ (refusal : Refusal). IsRefused given old refusal × IsAsBefore uplink downlink old new)
   pub spared : IsSpared uplink downlink covered given old → IsOk result
-  pub indications : IfOk result (λ (answer : List Indication). length answer ≤ 258)
+  pub indications : IfOk result (λ (answer : List LinkIndication). length answer ≤ 258)
   pub frames : length (uplink.content new.up) ≤ length (uplink.content old.up) + 256
   pub kept_room : puts_down given ≡ false → covered old.down ≤ covered new.down
   pub room : covered old.down ≤ covered new.down + 1
@@ -397,14 +405,14 @@ pub record EndsWithin {U D : Type 0} (uplink : Kind U Frame) (downlink : Kind D 
 
 -- ---- what is not told
 
-abbrev pub is_of_fop : Indication → Bool
+abbrev pub is_of_fop : LinkIndication → Bool
 is_of_fop (Fop i) = true
 is_of_fop (Farm verdict) = false
 is_of_fop (Received item) = false
 is_of_fop Lost = false
 
 -- a frame that comes up tells nothing of the FOP's: no Sent, Confirmed, InDoubt or GivenBack
-abbrev pub IsQuietAboard : Event → List Indication → Type 0
+abbrev pub IsQuietAboard : Event → List LinkIndication → Type 0
 IsQuietAboard (event.Offer request body) answer = Unit {0}
 IsQuietAboard (event.Directive given) answer = Unit {0}
 IsQuietAboard event.Tick answer = Unit {0}
@@ -417,7 +425,7 @@ IsQuietAboard event.Downlink answer = Unit {0}
 IsQuietAboard (event.LoseDown place) answer = Unit {0}
 
 -- what tells that a request moves
-abbrev pub tells_move : Indication → Bool
+abbrev pub tells_move : LinkIndication → Bool
 tells_move (Fop (signal.Sent n)) = true
 tells_move (Fop (signal.Confirmed n)) = true
 tells_move (Fop (signal.GivenBack n)) = true

@@ -1,16 +1,15 @@
 //! What carries frames up and reports down: a link that only loses.
-ghost use Rattle.std.specs.Prelude.{◌≡◌, ◌↔◌, ◌+◌, ◌<◌, ◌≤◌, ℕ, Bool, List, [], ◌∷◌, ◌++◌, length, OnOk, IsOk, IsErr, IsNone, IfNone, IfSome, IfErr, IsTrue};
-ghost use Rattle.tc_types.specs.declared.refusals.Refusal.TheVariants.{Memory};
+ghost use Rattle.std.specs.Prelude.{◌≡◌, ◌↔◌, ◌+◌, ◌<◌, ◌≤◌, ℕ, Bool, List, [], ◌∷◌, ◌++◌, length, OnOk, IsOk, IsNone, IfNone, IfSome, IsTrue};
 ghost use Rattle.tc_world.specs.Links.{Kind};
 ghost use Rattle.tc_world.specs.Sublist.{IsSublist};
 
-use tc_types::refusals::Refusal;
+use std::alloc::AllocError;
 
 /// A link. Its content is the list of the items in flight, the oldest first.
 ///
 /// Each kind of link says by relations of its own what a put, a take and a lose leave; the laws bound these relations:
 /// whatever a call does, the content after is the content before, followed by what was put, with items left out.
-pub trait Carrier<T> {
+pub trait Carrier<T>: Drop {
     /// Its content, itself but for its room, and what a put, a take that gives an item, and a lose leave.
     ghost kind: { Kind Self T };
 
@@ -18,13 +17,12 @@ pub trait Carrier<T> {
     ghost covered: { Self → ℕ };
 
     /// Makes room for so many puts. The content stays, and all else but the room, whatever is answered.
-    fn reserve(&mut self, count: usize) -> Result<(), Refusal>
+    fn reserve(&mut self, count: usize) -> Result<(), AllocError>
         ensures content { kind.content self.new ≡ kind.content self.old }
         ensures readied { kind.without_room self.new ≡ kind.without_room self.old }
         ensures room { OnOk result (count ≤ covered self.new) }
         ensures kept { covered self.old ≤ covered self.new }
-        ensures within { count ≤ covered self.old → IsOk result }
-        ensures fault { IfErr result (λ refusal. refusal ≡ Memory) };
+        ensures within { count ≤ covered self.old → IsOk result };
 
     /// Puts an item behind the others.
     fn put(&mut self, item: T)

@@ -1,10 +1,7 @@
 //! What happens to the link, and what it tells.
-use tc_farm::farms::Verdict;
+use tc_farm::FrameVerdict;
 use tc_fop::signals;
-use tc_types::directives::Directive;
-use tc_types::numbers::RequestNumber;
-use tc_types::reports::{Report, Telemetry};
-use tc_types::telecommands::Payload;
+use tc_types::{Directive, Payload, Report, RequestNumber, Telemetry};
 
 /// What happens to the link. Control words come from its own FARM alone: no event puts one of another's.
 #[derive(Clone, Copy, Debug, PartialEq, Eq)]
@@ -38,11 +35,11 @@ pub enum Event {
 
 /// What the link tells of an event.
 #[derive(Clone, Copy, Debug, PartialEq, Eq)]
-pub enum Indication {
+pub enum LinkIndication {
     /// What the FOP tells.
     Fop(signals::Indication),
     /// What the FARM says of a frame.
-    Farm(Verdict),
+    Farm(FrameVerdict),
     /// This came down.
     Received(Report),
     /// Something in flight was lost: a loss where nothing stood tells nothing.

@@ -1,27 +1,20 @@
 //! What happens to the link on the FARM's side: frames come up, control words and reports go down, and items are lost.
-ghost use Rattle.std.specs.Prelude.{IfErr, IfOk};
+ghost use Rattle.std.specs.Prelude.{IfOk};
 ghost use Rattle.tc_world.specs.declared.events.Event.TheVariants as event;
-ghost use Rattle.tc_world.specs.World.{Happens, IsRefused, IsAsBefore, IsWordOf, EndsWithin};
+ghost use Rattle.tc_world.specs.World.{Happens, IsWordOf, EndsWithin};
 
 use crate::carriers::Carrier;
-use crate::events::Indication;
+use crate::events::LinkIndication;
 use crate::indications::Indications;
-use crate::parts::Parts;
+use crate::parts::LinkParts;
 use std::alloc::Allocator;
-use tc_farm::clcws::Clcw;
-use tc_types::frames::Frame;
-use tc_types::refusals::Refusal;
-use tc_types::reports::{Report, Telemetry};
+use tc_farm::Clcw;
+use tc_types::{Frame, Refusal, Report, Telemetry};
 
-impl<U: Carrier<Frame> + Drop, D: Carrier<Report> + Drop, A: Allocator + Copy + Drop> Parts<
-    U,
-    D,
-    A,
-> {
+impl<U: Carrier<Frame>, D: Carrier<Report>, A: Allocator + Copy + Drop> LinkParts<U, D, A> {
     /// The FARM gets the first frame of the uplink; `free_buffer` says whether a buffer is free for it.
     pub(crate) fn uplink(&mut self, free_buffer: bool) -> Result<Indications<A>, Refusal>
         ensures happens { IfOk result (λ answer. Happens U.kind D.kind (event.Uplink free_buffer) self.old self.new answer) }
-        ensures refused { IfErr result (λ refusal. IsRefused (event.Uplink free_buffer) self.old refusal × IsAsBefore U.kind D.kind self.old self.new) }
         ensures limits { EndsWithin U.kind D.kind D.covered (event.Uplink free_buffer) self.old self.new result }
     {
         if self.side.up.is_empty() {
@@ -33,13 +26,12 @@ impl<U: Carrier<Frame> + Drop, D: Carrier<Report> + Drop, A: Allocator + Copy + 
         };
         let verdict = self.farm.frame(frame, free_buffer);
         self.side.newest.board(&verdict);
-        Ok(Indications::lone(Indication::Farm(verdict)))
+        Ok(Indications::lone(LinkIndication::Farm(verdict)))
     }
 
     /// The frame at this place of the uplink is lost, and told to be lost, where there is one.
     pub(crate) fn lose_up(&mut self, place: usize) -> Result<Indications<A>, Refusal>
         ensures happens { IfOk result (λ answer. Happens U.kind D.kind (event.LoseUp place) self.old self.new answer) }
-        ensures refused { IfErr result (λ refusal. IsRefused (event.LoseUp place) self.old refusal × IsAsBefore U.kind D.kind self.old self.new) }
         ensures limits { EndsWithin U.kind D.kind D.covered (event.LoseUp place) self.old self.new result }
     {
         let found = self.side.up.lose(place);
@@ -49,7 +41,6 @@ impl<U: Carrier<Frame> + Drop, D: Carrier<Report> + Drop, A: Allocator + Copy + 
     /// A buffer became free on board.
     pub(crate) fn release(&mut self) -> Result<Indications<A>, Refusal>
         ensures happens { IfOk result (λ answer. Happens U.kind D.kind event.Release self.old self.new answer) }
-        ensures refused { IfErr result (λ refusal. IsRefused event.Release self.old refusal × IsAsBefore U.kind D.kind self.old self.new) }
         ensures limits { EndsWithin U.kind D.kind D.covered event.Release self.old self.new result }
     {
         self.farm.release();
@@ -59,7 +50,6 @@ impl<U: Carrier<Frame> + Drop, D: Carrier<Report> + Drop, A: Allocator + Copy + 
     /// The FARM puts its control word, on this channel, on the downlink.
     pub(crate) fn clcw(&mut self) -> Result<Indications<A>, Refusal>
         ensures happens { IfOk result (λ answer. Happens U.kind D.kind event.Clcw self.old self.new answer) }
-        ensures refused { IfErr result (λ refusal. IsRefused event.Clcw self.old refusal × IsAsBefore U.kind D.kind self.old self.new) }
         ensures limits { EndsWithin U.kind D.kind D.covered event.Clcw self.old self.new result }
     {
         self.down.reserve(1)?;
@@ -71,7 +61,6 @@ impl<U: Carrier<Frame> + Drop, D: Carrier<Report> + Drop, A: Allocator + Copy + 
     /// The spacecraft puts a report on the downlink.
     pub(crate) fn put(&mut self, telemetry: Telemetry) -> Result<Indications<A>, Refusal>
         ensures happens { IfOk result (λ answer. Happens U.kind D.kind (event.Put telemetry) self.old self.new answer) }
-        ensures refused { IfErr result (λ refusal. IsRefused (event.Put telemetry) self.old refusal × IsAsBefore U.kind D.kind self.old self.new) }
         ensures limits { EndsWithin U.kind D.kind D.covered (event.Put telemetry) self.old self.new result }
     {
         self.down.reserve(1)?;
@@ -82,7 +71,6 @@ impl<U: Carrier<Frame> + Drop, D: Carrier<Report> + Drop, A: Allocator + Copy + 
     /// The ground gets the first item of the downlink.
     pub(crate) fn downlink(&mut self) -> Result<Indications<A>, Refusal>
         ensures happens { IfOk result (λ answer. Happens U.kind D.kind event.Downlink self.old self.new answer) }
-        ensures refused { IfErr result (λ refusal. IsRefused event.Downlink self.old refusal × IsAsBefore U.kind D.kind self.old self.new) }
         ensures limits { EndsWithin U.kind D.kind D.covered event.Downlink self.old self.new result }
     {
         if self.down.is_empty() {
@@ -97,7 +85,7 @@ impl<U: Carrier<Frame> + Drop, D: Carrier<Report> + Drop, A: Allocator + Copy + 
                 let answer = self.side.pass_word(self.vc, word, answer);
                 Ok(Indications::many(answer))
             }
-            Report::Telemetry(telemetry) => Ok(Indications::lone(Indication::Received(
+            Report::Telemetry(telemetry) => Ok(Indications::lone(LinkIndication::Received(
                 Report::Telemetry(telemetry),
             ))),
         }
@@ -106,7 +94,6 @@ impl<U: Carrier<Frame> + Drop, D: Carrier<Report> + Drop, A: Allocator + Copy + 
     /// The item at this place of the downlink is lost, and told to be lost, where there is one.
     pub(crate) fn lose_down(&mut self, place: usize) -> Result<Indications<A>, Refusal>
         ensures happens { IfOk result (λ answer. Happens U.kind D.kind (event.LoseDown place) self.old self.new answer) }
-        ensures refused { IfErr result (λ refusal. IsRefused (event.LoseDown place) self.old refusal × IsAsBefore U.kind D.kind self.old self.new) }
         ensures limits { EndsWithin U.kind D.kind D.covered (event.LoseDown place) self.old self.new result }
     {
         let found = self.down.lose(place);

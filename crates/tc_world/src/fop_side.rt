@@ -5,41 +5,33 @@
 //! is then visible.
 //!
 //! What gets items from the downlink calls `reserve`, then takes an item, and passes a control word by `pass_word`.
-ghost use Rattle.std.specs.Prelude.{◌≡◌, ◌+◌, ◌≤◌, length, map, true, false, vec_len, vec_capacity, IfErr, IfOk, IsOk, OnOk, Ok, [], ◌++◌, ℕ, List};
-ghost use Rattle.tc_types.specs.declared.refusals.Refusal.TheVariants.{Memory};
-ghost use Rattle.tc_fop.specs.Calls.{directed, offered};
+ghost use Rattle.std.specs.Prelude.{◌≡◌, ◌+◌, ◌≤◌, length, map, true, false, vec_len, vec_capacity, IfOk, IsOk, OnOk, Ok, [], ◌++◌, ℕ, List};
+ghost use Rattle.tc_fop.specs.Calls.{directed};
 ghost use Rattle.tc_fop.specs.Machine.{Action, is_window_open};
 ghost use Rattle.tc_fop.specs.Moves.{is_initiation};
 ghost use Rattle.tc_world.specs.Links.{PutsAll, IsReadied};
 ghost use Rattle.tc_fop.specs.Standing.{IsFop};
 ghost use Rattle.tc_world.specs.Logs.{noted};
 ghost use Rattle.tc_world.specs.Marks.{AreMarked};
-ghost use Rattle.tc_world.specs.Sides.{Passes};
-ghost use Rattle.tc_world.specs.World.{Happens, Begins, Directs, IsRefused, IsAsBefore, EndsWithin, is_known, clean_after, is_level, level_after, is_still_fitting, told_by_fop};
+ghost use Rattle.tc_world.specs.Sides.{HasRoom, Passes, WritesWithin};
+ghost use Rattle.tc_world.specs.World.{Happens, Begins, Directs, EndsWithin, IsTaken, is_known, clean_after, is_level, level_after, is_still_fitting, told_by_fop};
 
 use crate::carriers::Carrier;
-use crate::events::{Event, Indication};
+use crate::events::{Event, LinkIndication};
 use crate::indications::Indications;
 use crate::marks::{is_marked, mark_sent, reserve_marks};
-use crate::parts::{MOST_INDICATIONS_AN_EVENT, Parts};
+use crate::parts::{LinkParts, MOST_INDICATIONS_AN_EVENT};
 use crate::session_logs::SessionLog;
-use std::alloc::Allocator;
+use std::alloc::{AllocError, Allocator};
 use std::mem;
-use tc_farm::clcws::Clcw;
-use tc_fop::fops::Fop;
-use tc_fop::outputs::{MOST_FRAMES, Output};
-use tc_fop::signals;
-use tc_types::directives::Directive;
-use tc_types::frames::Frame;
-use tc_types::numbers::RequestNumber;
-use tc_types::refusals::Refusal;
-use tc_types::reports::Report;
-use tc_types::telecommands::Payload;
+use tc_farm::Clcw;
+use tc_fop::{Fop, MOST_FRAMES, Output, signals};
+use tc_types::{Directive, Frame, Payload, Refusal, Report, RequestNumber};
 
 /// What a call of the FOP writes to: the FOP, the uplink, the newest session, and the marks of the requests that were
 /// sent in some session.
 #[derive(Drop)]
-pub(crate) struct FopSide<U: Carrier<Frame> + Drop, A: Allocator + Copy + Drop> {
+pub(crate) struct FopSide<U: Carrier<Frame>, A: Allocator + Copy + Drop> {
     pub(crate) fop: Fop<A>,
     pub(crate) up: U,
     pub(crate) newest: SessionLog<A>,
@@ -60,13 +52,13 @@ fn put_all<U: Carrier<Frame>>(up: &mut U, frames: &[Frame])
 /// Answers these indications, in order.
 fn answer_all<A: Allocator + Copy + Drop>(
     indications: &[signals::Indication],
-    answer: &mut Vec<Indication, A>,
+    answer: &mut Vec<LinkIndication, A>,
 )
     requires { vec_len answer.old + length indications.now ≤ vec_capacity answer.old }
-    ensures { answer.new.items ≡ answer.old.items ++ map Indication.Fop indications.now }
+    ensures { answer.new.items ≡ answer.old.items ++ map LinkIndication.Fop indications.now }
 {
     for indication in indications {
-        answer.push_reserved(Indication::Fop(*indication));
+        answer.push_reserved(LinkIndication::Fop(*indication));
     }
 }
 
@@ -87,44 +79,33 @@ fn begins_session(directive: &Directive) -> bool
     }
 }
 
-impl<U: Carrier<Frame> + Drop, A: Allocator + Copy + Drop> FopSide<U, A> {
+impl<U: Carrier<Frame>, A: Allocator + Copy + Drop> FopSide<U, A> {
     /// Takes the memory of one call of the FOP: what it needs itself, and room on the uplink, in the newest session, for
     /// the marks and for the answer, whose empty list it gives. What is in flight, written down and marked stays.
-    pub(crate) fn reserve(&mut self, alloc: A) -> Result<Vec<Indication, A>, Refusal>
+    pub(crate) fn reserve(&mut self, alloc: A) -> Result<Vec<LinkIndication, A>, AllocError>
         ensures machine { self.new.fop.machine ≡ self.old.fop.machine }
         ensures readied { IsReadied U.kind self.old.up self.new.up }
         ensures content { U.kind.content self.new.up ≡ U.kind.content self.old.up }
         ensures log { self.new.newest.log ≡ self.old.newest.log }
         ensures marks { (requests : List ℕ) → AreMarked requests self.old.marks.items → AreMarked requests self.new.marks.items }
-        ensures all { OnOk result (65536 ≤ length self.new.marks.items) }
         ensures ready { OnOk result (self.new.fop.ready ≡ true) }
-        ensures frames { OnOk result (256 ≤ U.covered self.new.up) }
-        ensures sent { OnOk result (257 ≤ self.new.newest.sent_room) }
-        ensures confirmed { OnOk result (257 ≤ self.new.newest.confirmed_room) }
+        ensures room { OnOk result (HasRoom U.covered self.new) }
         ensures answer { IfOk result (λ answer. (answer.items ≡ []) × (258 ≤ vec_capacity answer)) }
-        ensures memory { IfErr result (λ refusal. refusal ≡ Memory) }
     {
         self.fop.reserve()?;
         self.up.reserve(MOST_FRAMES)?;
         self.newest.reserve_notes()?;
         reserve_marks(&mut self.marks)?;
-        match Vec::with_capacity(alloc, MOST_INDICATIONS_AN_EVENT) {
-            Ok(answer) => Ok(answer),
-            Err(_) => Err(Refusal::Memory),
-        }
+        Vec::with_capacity(alloc, MOST_INDICATIONS_AN_EVENT)
     }
 
     /// Puts the frames of an output on the uplink, writes its indications down, and appends them to the answer.
-    fn carry(&mut self, out: &Output<A>, answer: Vec<Indication, A>) -> Vec<Indication, A>
-        requires frames { 256 ≤ U.covered self.old.up }
-        requires sent { 257 ≤ self.old.newest.sent_room }
-        requires confirmed { 257 ≤ self.old.newest.confirmed_room }
-        requires all { 65536 ≤ length self.old.marks.items }
+    fn carry(&mut self, out: &Output<A>, answer: Vec<LinkIndication, A>) -> Vec<LinkIndication, A>
+        requires room { HasRoom U.covered self.old }
         requires answer { vec_len answer + 257 ≤ vec_capacity answer }
         ensures machine { self.new.fop.machine ≡ self.old.fop.machine }
-        ensures marks { (earlier : List ℕ) → AreMarked (earlier ++ self.old.newest.log.sent) self.old.marks.items → AreMarked (earlier ++ self.new.newest.log.sent) self.new.marks.items }
+        ensures within { WritesWithin U.kind self.old self.new }
         ensures frames { PutsAll U.kind self.old.up out.now.frames self.new.up }
-        ensures most { length (U.kind.content self.new.up) ≤ length (U.kind.content self.old.up) + 256 }
         ensures log { self.new.newest.log ≡ noted out.now self.old.newest.log }
         ensures answer { result.items ≡ answer.items ++ told_by_fop out.now }
         ensures indications { length result.items ≤ length answer.items + 257 }
@@ -142,32 +123,24 @@ impl<U: Carrier<Frame> + Drop, A: Allocator + Copy + Drop> FopSide<U, A> {
         &mut self,
         vc: u8,
         word: u32,
-        answer: Vec<Indication, A>,
-    ) -> Vec<Indication, A>
+        answer: Vec<LinkIndication, A>,
+    ) -> Vec<LinkIndication, A>
         requires ready { self.old.fop.ready ≡ true }
-        requires frames { 256 ≤ U.covered self.old.up }
-        requires sent { 257 ≤ self.old.newest.sent_room }
-        requires confirmed { 257 ≤ self.old.newest.confirmed_room }
-        requires all { 65536 ≤ length self.old.marks.items }
+        requires room { HasRoom U.covered self.old }
         requires answer { (answer.items ≡ []) × (258 ≤ vec_capacity answer) }
-        ensures marks { (earlier : List ℕ) → AreMarked (earlier ++ self.old.newest.log.sent) self.old.marks.items → AreMarked (earlier ++ self.new.newest.log.sent) self.new.marks.items }
+        ensures within { WritesWithin U.kind self.old self.new }
         ensures heard { Passes U.kind vc word self.old self.new result.items }
-        ensures most { length (U.kind.content self.new.up) ≤ length (U.kind.content self.old.up) + 256 }
         ensures indications { length result.items ≤ 258 }
         ensures sound { IsFop self.new.fop.machine }
     {
         let mut answer = answer;
-        answer.push_reserved(Indication::Received(Report::Word(word)));
+        answer.push_reserved(LinkIndication::Received(Report::Word(word)));
         let out = self.fop.clcw_reserved(Clcw::read(word, vc));
         self.carry(&out, answer)
     }
 }
 
-impl<U: Carrier<Frame> + Drop, D: Carrier<Report> + Drop, A: Allocator + Copy + Drop> Parts<
-    U,
-    D,
-    A,
-> {
+impl<U: Carrier<Frame>, D: Carrier<Report>, A: Allocator + Copy + Drop> LinkParts<U, D, A> {
     /// Whether a request waits, or was sent in some session.
     fn knows(&self, request: RequestNumber) -> bool
         ensures { result ≡ is_known request self.now }
@@ -186,7 +159,6 @@ impl<U: Carrier<Frame> + Drop, D: Carrier<Report> + Drop, A: Allocator + Copy + 
         body: Payload,
     ) -> Result<Indications<A>, Refusal>
         ensures happens { IfOk result (λ answer. Happens U.kind D.kind (Event.Offer request body) self.old self.new answer) }
-        ensures refused { IfErr result (λ refusal. IsRefused (Event.Offer request body) self.old refusal × IsAsBefore U.kind D.kind self.old self.new) }
         ensures limits { EndsWithin U.kind D.kind D.covered (Event.Offer request body) self.old self.new result }
     {
         if self.knows(request) {
@@ -203,8 +175,7 @@ impl<U: Carrier<Frame> + Drop, D: Carrier<Report> + Drop, A: Allocator + Copy + 
 
     /// An offer that is not refused, where the window is closed: the request waits, and nothing is told.
     fn hold(&mut self, request: RequestNumber, body: Payload) -> Indications<A>
-        requires unknown { is_known request self.old ≡ false }
-        requires taken { IsOk (offered self.old.fop (record { request = request; body = body })) }
+        requires taken { IsTaken request body self.old }
         requires closed { is_window_open self.old.fop ≡ false }
         ensures happens { Happens U.kind D.kind (Event.Offer request body) self.old self.new result }
         ensures limits { EndsWithin U.kind D.kind D.covered (Event.Offer request body) self.old self.new (Ok result) }
@@ -219,11 +190,9 @@ impl<U: Carrier<Frame> + Drop, D: Carrier<Report> + Drop, A: Allocator + Copy + 
         request: RequestNumber,
         body: Payload,
     ) -> Result<Indications<A>, Refusal>
-        requires unknown { is_known request self.old ≡ false }
-        requires taken { IsOk (offered self.old.fop (record { request = request; body = body })) }
+        requires taken { IsTaken request body self.old }
         requires opened { is_window_open self.old.fop ≡ true }
         ensures happens { IfOk result (λ answer. Happens U.kind D.kind (Event.Offer request body) self.old self.new answer) }
-        ensures refused { IfErr result (λ refusal. IsRefused (Event.Offer request body) self.old refusal × IsAsBefore U.kind D.kind self.old self.new) }
         ensures limits { EndsWithin U.kind D.kind D.covered (Event.Offer request body) self.old self.new result }
     {
         let answer = self.side.reserve(self.alloc)?;
@@ -234,7 +203,6 @@ impl<U: Carrier<Frame> + Drop, D: Carrier<Report> + Drop, A: Allocator + Copy + 
     /// One tick of the FOP's timer.
     pub(crate) fn tick(&mut self) -> Result<Indications<A>, Refusal>
         ensures happens { IfOk result (λ answer. Happens U.kind D.kind Event.Tick self.old self.new answer) }
-        ensures refused { IfErr result (λ refusal. IsRefused Event.Tick self.old refusal × IsAsBefore U.kind D.kind self.old self.new) }
         ensures limits { EndsWithin U.kind D.kind D.covered Event.Tick self.old self.new result }
     {
         if self.side.fop.view().timer == 0 {
@@ -248,7 +216,6 @@ impl<U: Carrier<Frame> + Drop, D: Carrier<Report> + Drop, A: Allocator + Copy + 
     /// A directive, and whether K fitted and the last start was level.
     pub(crate) fn directive(&mut self, directive: Directive) -> Result<Indications<A>, Refusal>
         ensures happens { IfOk result (λ answer. Happens U.kind D.kind (Event.Directive directive) self.old self.new answer) }
-        ensures refused { IfErr result (λ refusal. IsRefused (Event.Directive directive) self.old refusal × IsAsBefore U.kind D.kind self.old self.new) }
         ensures limits { EndsWithin U.kind D.kind D.covered (Event.Directive directive) self.old self.new result }
     {
         let level = self.stays_level(&directive);
@@ -261,9 +228,7 @@ impl<U: Carrier<Frame> + Drop, D: Carrier<Report> + Drop, A: Allocator + Copy + 
     /// Carries out a directive, as the FOP allows. An accepted initiation ends the newest session and begins another.
     fn carry_out(&mut self, directive: &Directive) -> Result<Indications<A>, Refusal>
         ensures directs { IfOk result (λ answer. (actions : List Action) × (directed self.old.fop directive.now ≡ Ok actions) × Directs U.kind D.kind directive.now actions self.old self.new answer) }
-        ensures refused { IfErr result (λ refusal. IsRefused (Event.Directive directive.now) self.old refusal × IsAsBefore U.kind D.kind self.old self.new) }
         ensures limits { EndsWithin U.kind D.kind D.covered (Event.Directive directive.now) self.old self.new result }
-        ensures unjudged { (self.new.fits ≡ self.old.fits) × (self.new.level ≡ self.old.level) }
     {
         if let Some(refusal) = self.side.fop.directive_refusal(directive) {
             return Err(refusal);
@@ -330,14 +295,10 @@ impl<U: Carrier<Frame> + Drop, D: Carrier<Report> + Drop, A: Allocator + Copy + 
         requires initiation { is_initiation directive.now ≡ true }
         requires taken { IsOk (directed self.old.fop directive.now) }
         ensures begins { IfOk result (λ answer. (actions : List Action) × (directed self.old.fop directive.now ≡ Ok actions) × Begins U.kind D.kind directive.now actions self.old self.new answer) }
-        ensures refused { IfErr result (λ refusal. IsRefused (Event.Directive directive.now) self.old refusal × IsAsBefore U.kind D.kind self.old self.new) }
         ensures limits { EndsWithin U.kind D.kind D.covered (Event.Directive directive.now) self.old self.new result }
-        ensures unjudged { (self.new.fits ≡ self.old.fits) × (self.new.level ≡ self.old.level) }
     {
         let clean = self.stays_clean(directive);
-        if self.past.reserve(1).is_err() {
-            return Err(Refusal::Memory);
-        }
+        self.past.reserve(1)?;
         let mut session = SessionLog::new(self.alloc, 0);
         session.reserve_notes()?;
         let answer = self.side.reserve(self.alloc)?;

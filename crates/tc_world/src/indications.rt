@@ -2,7 +2,7 @@
 ghost use Rattle.std.specs.Prelude.{◌≡◌, ◌≤◌, [], ◌∷◌, length};
 ghost use Rattle.tc_world.specs.World.{told_of_loss};
 
-use crate::events::Indication;
+use crate::events::LinkIndication;
 use std::alloc::Allocator;
 use std::marker::Model;
 
@@ -16,16 +16,16 @@ pub struct Indications<A: Allocator + Copy + Drop> {
 /// One indication, or a list of them.
 #[derive(Drop)]
 enum Listed<A: Allocator + Copy + Drop> {
-    Lone([Indication; 1]),
-    Many(Vec<Indication, A>),
+    Lone([LinkIndication; 1]),
+    Many(Vec<LinkIndication, A>),
 }
 
 impl<A: Allocator + Copy + Drop> Model for Indications<A> {
     ghost use Rattle.std.specs.Prelude.{List};
-    ghost use Rattle.tc_world.specs.declared.events.Indication.{Indication};
+    ghost use Rattle.tc_world.specs.declared.events.LinkIndication.{LinkIndication};
     ghost use Rattle.tc_world.specs.Told.{listed_in};
 
-    ghost Value = { List Indication };
+    ghost Value = { List LinkIndication };
 
     ghost view = { λ i. listed_in i.listed };
 }
@@ -41,7 +41,7 @@ impl<A: Allocator + Copy + Drop> Indications<A> {
     }
 
     /// This alone is told. It takes no memory.
-    pub(crate) fn lone(indication: Indication) -> Indications<A>
+    pub(crate) fn lone(indication: LinkIndication) -> Indications<A>
         ensures { result ≡ indication ∷ [] }
     {
         Indications {
@@ -55,13 +55,13 @@ impl<A: Allocator + Copy + Drop> Indications<A> {
         ensures most { length result ≤ 1 }
     {
         if found {
-            return Indications::lone(Indication::Lost);
+            return Indications::lone(LinkIndication::Lost);
         }
         Indications::none(alloc)
     }
 
     /// These are told, in order.
-    pub(crate) fn many(all: Vec<Indication, A>) -> Indications<A>
+    pub(crate) fn many(all: Vec<LinkIndication, A>) -> Indications<A>
         ensures { result ≡ all.items }
     {
         Indications {
@@ -70,7 +70,7 @@ impl<A: Allocator + Copy + Drop> Indications<A> {
     }
 
     /// What is told, in order.
-    pub fn as_slice(&self) -> &[Indication]
+    pub fn as_slice(&self) -> &[LinkIndication]
         ensures { result.now ≡ self.now }
     {
         match &self.listed {

@@ -1,18 +1,27 @@
 //! The link as one machine: FOP-1, an uplink, FARM-1 and a downlink, and the sessions that were held over it.
 #![tactic(auto)]
 
-pub mod carriers;
-pub mod events;
+mod carriers;
+mod events;
 mod farm_side;
 mod fop_side;
-pub mod indications;
+mod indications;
 pub mod laws;
-pub mod link_carriers;
-pub mod list_carriers;
+mod link_carriers;
+mod list_carriers;
 mod marks;
 mod parts;
-pub mod ring_carriers;
-pub mod runs;
-pub mod session_logs;
+mod ring_carriers;
+mod runs;
+mod session_logs;
 mod steps;
-pub mod worlds;
+mod worlds;
+
+pub use carriers::Carrier;
+pub use events::{Event, LinkIndication};
+pub use indications::Indications;
+pub use link_carriers::LinkCarrier;
+pub use list_carriers::ListCarrier;
+pub use ring_carriers::RingCarrier;
+pub use runs::RunEnd;
+pub use worlds::World;

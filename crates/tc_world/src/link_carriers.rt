@@ -6,8 +6,8 @@ ghost use Rattle.tc_world.specs.Sublist.{IsSublist};
 use crate::carriers::Carrier;
 use crate::list_carriers::ListCarrier;
 use crate::ring_carriers::RingCarrier;
-use std::alloc::Allocator;
-use tc_types::refusals::Refusal;
+use std::alloc::{AllocError, Allocator};
+use tc_types::Refusal;
 
 /// One of the two links, so that all above holds one type, and which it is is chosen where it is made.
 #[derive(Drop)]
@@ -43,7 +43,7 @@ impl<T: Drop, A: Allocator> Carrier<T> for LinkCarrier<T, A> {
 
     ghost covered = { covered_of };
 
-    fn reserve(&mut self, count: usize) -> Result<(), Refusal> {
+    fn reserve(&mut self, count: usize) -> Result<(), AllocError> {
         match self {
             LinkCarrier::List(list) => list.reserve(count),
             LinkCarrier::Ring(ring) => ring.reserve(count),

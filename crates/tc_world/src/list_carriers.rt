@@ -1,13 +1,11 @@
 //! A link that loses only what it is told to lose.
-ghost use Rattle.std.specs.Prelude.{◌≡◌, ◌↔◌, ◌+◌, ◌-◌, ◌<◌, ◌≤◌, ℕ, Bool, List, [], ◌∷◌, ◌++◌, length, remove, nat_lt, OnOk, IsOk, IsNone, IfNone, IfSome, IfErr, IsTrue};
-ghost use Rattle.tc_types.specs.declared.refusals.Refusal.TheVariants.{Memory};
+ghost use Rattle.std.specs.Prelude.{◌≡◌, ◌↔◌, ◌+◌, ◌-◌, ◌<◌, ◌≤◌, ℕ, Bool, List, [], ◌∷◌, ◌++◌, length, remove, nat_lt, OnOk, IsOk, IsNone, IfNone, IfSome, IsTrue};
 ghost use Rattle.tc_world.specs.Sublist.{IsSublist};
 
 use crate::carriers::Carrier;
-use std::alloc::Allocator;
+use std::alloc::{AllocError, Allocator};
 use std::collections::VecDeque;
 use std::marker::Model;
-use tc_types::refusals::Refusal;
 
 /// A link that loses only by `lose`, and only that one item. A contract sees what is in flight, and the room there is.
 #[derive(Drop)]
@@ -45,11 +43,8 @@ impl<T: Drop, A: Allocator> Carrier<T> for ListCarrier<T, A> {
 
     ghost covered = { λ c. c.covered };
 
-    fn reserve(&mut self, count: usize) -> Result<(), Refusal> {
-        match self.items.reserve(count) {
-            Ok(()) => Ok(()),
-            Err(_) => Err(Refusal::Memory),
-        }
+    fn reserve(&mut self, count: usize) -> Result<(), AllocError> {
+        self.items.reserve(count)
     }
 
     fn put(&mut self, item: T) {

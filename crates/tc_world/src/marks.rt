@@ -1,14 +1,12 @@
 //! A mark for each request number: which requests were sent in some session.
-ghost use Rattle.std.specs.Prelude.{◌≡◌, ◌==◌, ◌≤◌, ◌++◌, ℕ, List, length, IfErr, OnOk};
+ghost use Rattle.std.specs.Prelude.{◌≡◌, ◌==◌, ◌≤◌, ◌++◌, ℕ, List, length, OnOk};
 ghost use Rattle.std.specs.List.{list_any, flat_map};
-ghost use Rattle.tc_types.specs.declared.refusals.Refusal.TheVariants.{Memory};
 ghost use Rattle.tc_fop.specs.Moves.{transmitted_by};
 ghost use Rattle.tc_world.specs.Marks.{AreMarked};
 
-use std::alloc::Allocator;
+use std::alloc::{AllocError, Allocator};
 use tc_fop::signals::Indication;
-use tc_types::numbers::RequestNumber;
-use tc_types::refusals::Refusal;
+use tc_types::RequestNumber;
 
 /// One mark for each request number, 1 to 65,535, and one that is never set.
 pub(crate) const MARKS: usize = 65_536;
@@ -17,18 +15,15 @@ pub(crate) const MARKS: usize = 65_536;
 #[tactic(auto, using(crate::proofs::MarkLemmas::marks_longer))]
 pub(crate) fn reserve_marks<A: Allocator + Copy + Drop>(
     marks: &mut Vec<bool, A>,
-) -> Result<(), Refusal>
+) -> Result<(), AllocError>
     ensures marks { (requests : List ℕ) → AreMarked requests marks.old.items → AreMarked requests marks.new.items }
     ensures all { OnOk result (65536 ≤ length marks.new.items) }
-    ensures memory { IfErr result (λ refusal. refusal ≡ Memory) }
 {
     let count = marks.len();
     if count >= MARKS {
         return Ok(());
     }
-    if marks.reserve(MARKS - count).is_err() {
-        return Err(Refusal::Memory);
-    }
+    marks.reserve(MARKS - count)?;
     for _ in count..MARKS {
         marks.push_reserved(false);
     }

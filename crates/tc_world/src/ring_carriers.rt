@@ -5,9 +5,9 @@ ghost use Rattle.tc_world.specs.Sublist.{IsSublist};
 
 use crate::carriers::Carrier;
 use circular_buffer::HeapCircularBuffer;
-use std::alloc::Allocator;
+use std::alloc::{AllocError, Allocator};
 use std::marker::Model;
-use tc_types::refusals::Refusal;
+use tc_types::Refusal;
 
 /// The most items that a ring may hold.
 const GREATEST_SIZE: u32 = 4_096;
@@ -40,9 +40,7 @@ impl<T: Drop, A: Allocator> RingCarrier<T, A> {
         if size == 0 || size > GREATEST_SIZE {
             return Err(Refusal::BadDirective);
         }
-        let Ok(items) = HeapCircularBuffer::with_capacity(alloc, size as usize) else {
-            return Err(Refusal::Memory);
-        };
+        let items = HeapCircularBuffer::with_capacity(alloc, size as usize)?;
         Ok(RingCarrier { items })
     }
 }
@@ -87,7 +85,7 @@ impl<T: Drop, A: Allocator> Carrier<T> for RingCarrier<T, A> {
     // a put always has its room
     ghost covered = { λ c. 2 ^ 64 - 1 };
 
-    fn reserve(&mut self, _count: usize) -> Result<(), Refusal> {
+    fn reserve(&mut self, _count: usize) -> Result<(), AllocError> {
         Ok(())
     }
 

@@ -1,5 +1,5 @@
 //! How far a run went.
-use tc_types::refusals::Refusal;
+use tc_types::Refusal;
 
 /// How far a run went: so many events, and why the next one was refused, where one was.
 #[derive(Clone, Copy, Debug, PartialEq, Eq)]

@@ -1,25 +1,18 @@
 //! One event.
-ghost use Rattle.std.specs.Prelude.{IfErr, IfOk};
-ghost use Rattle.tc_world.specs.World.{Happens, IsRefused, IsAsBefore, EndsWithin};
+ghost use Rattle.std.specs.Prelude.{IfOk};
+ghost use Rattle.tc_world.specs.World.{Happens, EndsWithin};
 
 use crate::carriers::Carrier;
 use crate::events::Event;
 use crate::indications::Indications;
-use crate::parts::Parts;
+use crate::parts::LinkParts;
 use std::alloc::Allocator;
-use tc_types::frames::Frame;
-use tc_types::refusals::Refusal;
-use tc_types::reports::Report;
+use tc_types::{Frame, Refusal, Report};
 
-impl<U: Carrier<Frame> + Drop, D: Carrier<Report> + Drop, A: Allocator + Copy + Drop> Parts<
-    U,
-    D,
-    A,
-> {
+impl<U: Carrier<Frame>, D: Carrier<Report>, A: Allocator + Copy + Drop> LinkParts<U, D, A> {
     /// One event.
     pub(crate) fn step(&mut self, event: Event) -> Result<Indications<A>, Refusal>
         ensures happens { IfOk result (λ answer. Happens U.kind D.kind event self.old self.new answer) }
-        ensures refused { IfErr result (λ refusal. IsRefused event self.old refusal × IsAsBefore U.kind D.kind self.old self.new) }
         ensures limits { EndsWithin U.kind D.kind D.covered event self.old self.new result }
     {
         match event {

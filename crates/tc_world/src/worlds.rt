@@ -1,10 +1,11 @@
 //! The world: the link, and the sessions that were held over it.
 ghost use Rattle.std.specs.Prelude.{◌≡◌, ◌+◌, ◌/◌, ◌≤◌, ◌<◌, ◌↔◌, ℕ, Bool, Some, None, Err, length, true, false, slice_get, IfErr, IfOk, IfSome, IfNone, IsOk, OnOk, [], ◌∷◌};
 ghost use Rattle.std.specs.List.{list_any, list_all};
-ghost use Rattle.tc_types.specs.declared.refusals.Refusal.TheVariants.{BadDirective, Memory};
+ghost use Rattle.tc_types.specs.declared.refusals.Refusal.TheVariants.{BadDirective};
 ghost use Rattle.tc_farm.specs.Farm.{new_farm, is_locked_out};
 ghost use Rattle.tc_fop.specs.declared.signals.FopState.TheVariants.{Initial};
 ghost use Rattle.tc_fop.specs.Views.{view_of};
+ghost use Rattle.tc_world.specs.Links.{AreEmpty};
 ghost use Rattle.tc_world.specs.Logs.{blank};
 ghost use Rattle.tc_world.specs.Abstraction.{seen};
 ghost use Rattle.tc_world.specs.Window.{Follows, IsClaimed};
@@ -20,26 +21,22 @@ use crate::carriers::Carrier;
 use crate::events::Event;
 use crate::indications::Indications;
 use crate::laws::window_is_kept;
-use crate::parts::Parts;
+use crate::parts::LinkParts;
 use crate::runs::RunEnd;
 use crate::session_logs::SessionLog;
-use std::alloc::Allocator;
+use std::alloc::{AllocError, Allocator};
 use std::marker::Model;
-use tc_farm::farms::{Farm, FarmView};
-use tc_fop::fops::Fop;
-use tc_fop::views::FopView;
-use tc_types::frames::Frame;
-use tc_types::refusals::Refusal;
-use tc_types::reports::Report;
+use tc_farm::{Farm, FarmView};
+use tc_fop::{Fop, FopView};
+use tc_types::{Frame, Refusal, Report};
 
 /// FOP-1, FARM-1 and two carriers as one machine, and what was written down of its sessions.
 #[derive(Drop)]
-pub struct World<U: Carrier<Frame> + Drop, D: Carrier<Report> + Drop, A: Allocator + Copy + Drop> {
-    parts: Parts<U, D, A>,
+pub struct World<U: Carrier<Frame>, D: Carrier<Report>, A: Allocator + Copy + Drop> {
+    parts: LinkParts<U, D, A>,
 }
 
-impl<U: Carrier<Frame> + Drop, D: Carrier<Report> + Drop, A: Allocator + Copy + Drop> Model
-    for World<U, D, A> {
+impl<U: Carrier<Frame>, D: Carrier<Report>, A: Allocator + Copy + Drop> Model for World<U, D, A> {
     ghost Value = { Whole U D };
 
     ghost view = { λ w. w.parts };
@@ -48,11 +45,7 @@ impl<U: Carrier<Frame> + Drop, D: Carrier<Report> + Drop, A: Allocator + Copy + 
     ghost invariant = { λ w. IsKept (seen U.kind D.kind w.parts) × IsFit (seen U.kind D.kind w.parts) × IsFairOn (seen U.kind D.kind w.parts) × IsNarrow (seen U.kind D.kind w.parts) };
 }
 
-impl<U: Carrier<Frame> + Drop, D: Carrier<Report> + Drop, A: Allocator + Copy + Drop> World<
-    U,
-    D,
-    A,
-> {
+impl<U: Carrier<Frame>, D: Carrier<Report>, A: Allocator + Copy + Drop> World<U, D, A> {
     /// A world in which nothing happened yet, on virtual channel `vc`, 0 to 63, else `BadDirective`. The carriers are
     /// empty, the FOP is in S6, and the FARM is as it was made. It takes no memory.
     pub fn new(
@@ -63,8 +56,7 @@ impl<U: Carrier<Frame> + Drop, D: Carrier<Report> + Drop, A: Allocator + Copy + 
         down: D,
         vc: u8,
     ) -> Result<World<U, D, A>, Refusal>
-        requires up { U.kind.content up ≡ [] }
-        requires down { D.kind.content down ≡ [] }
+        requires links { AreEmpty U.kind D.kind up down }
         requires fop { fop.machine.state ≡ Initial }
         requires farm { farm ≡ new_farm farm.window }
         ensures world { IfOk result (λ w. w ≡ record { fop = fop.machine; farm = farm; up = up; down = down; past = []; newest = blank 0; clean = true; fits = is_fitting fop.machine farm; level = false; vc = vc }) }
@@ -75,7 +67,7 @@ impl<U: Carrier<Frame> + Drop, D: Carrier<Report> + Drop, A: Allocator + Copy + 
             return Err(Refusal::BadDirective);
         }
         Ok(World {
-            parts: Parts::new(alloc, fop, farm, up, down, vc),
+            parts: LinkParts::new(alloc, fop, farm, up, down, vc),
         })
     }
 
@@ -114,8 +106,10 @@ impl<U: Carrier<Frame> + Drop, D: Carrier<Report> + Drop, A: Allocator + Copy + 
         ensures claims { self.new.clean ≡ true → IsClaimed self.new }
         ensures was_clean { self.new.clean ≡ true → self.old.clean ≡ true }
     {
+        // what the FOP's table says of requests, and of K
         tc_fop::laws::keeps_order();
         tc_fop::laws::directives_k();
+        // what stands between events stands after this one too
         window_is_kept();
         self.parts.step(event)
     }
@@ -146,11 +140,10 @@ impl<U: Carrier<Frame> + Drop, D: Carrier<Report> + Drop, A: Allocator + Copy + 
 
     /// Takes the memory of so many reports and control words that are put on the downlink: so many `Put`s, and each
     /// `Release`, are then not refused, if only `Uplink`, `Release` and `Put` come between. Nothing else changes.
-    pub fn reserve(&mut self, puts: usize) -> Result<(), Refusal>
+    pub fn reserve(&mut self, puts: usize) -> Result<(), AllocError>
         ensures same { IsAsBefore U.kind D.kind self.old self.new }
         ensures room { OnOk result (puts ≤ D.covered self.new.down) }
         ensures kept { D.covered self.old.down ≤ D.covered self.new.down }
-        ensures memory { IfErr result (λ refusal. refusal ≡ Memory) }
     {
         self.parts.down.reserve(puts)
     }
@@ -163,6 +156,7 @@ impl<U: Carrier<Frame> + Drop, D: Carrier<Report> + Drop, A: Allocator + Copy + 
         ensures flight { self.now.clean ≡ true → FliesInOrder (seen U.kind D.kind self.now) }
         ensures claims { self.now.clean ≡ true → IsClaimed self.now }
     {
+        // what stands between events carries the claims
         window_is_kept();
         self.parts.clean
     }

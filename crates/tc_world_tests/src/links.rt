@@ -1,17 +1,10 @@
 //! A link as a test sees it.
 use std::alloc::Allocator;
-use tc_farm::farms::FarmView;
-use tc_fop::signals;
+use tc_farm::FarmView;
 use tc_fop::signals::AlertKind;
-use tc_fop::views::FopView;
-use tc_types::frames::Frame;
-use tc_types::numbers::RequestNumber;
-use tc_types::refusals::Refusal;
-use tc_types::reports::Report;
-use tc_world::carriers::Carrier;
-use tc_world::events::{Event, Indication};
-use tc_world::runs::RunEnd;
-use tc_world::worlds::World;
+use tc_fop::{FopView, signals};
+use tc_types::{Frame, Refusal, Report, RequestNumber};
+use tc_world::{Carrier, Event, LinkIndication, RunEnd, World};
 
 /// What is written down of a session.
 #[derive(Clone, Copy, PartialEq, Eq)]
@@ -37,10 +30,10 @@ fn alert_of(told: &signals::Indication) -> Option<AlertKind> {
 }
 
 /// The last alert among what is told, where there is one.
-fn alert_in(told: &[Indication]) -> Option<AlertKind> {
+fn alert_in(told: &[LinkIndication]) -> Option<AlertKind> {
     let mut last = None;
     for one in told {
-        if let Indication::Fop(told) = one {
+        if let LinkIndication::Fop(told) = one {
             last = alert_of(told).or(last);
         }
     }
@@ -54,7 +47,7 @@ pub trait Link {
     fn does(&mut self, event: Event) -> Result<(), Refusal>;
 
     /// Makes an event happen, and says whether the link tells exactly this of it.
-    fn tells(&mut self, event: Event, told: &[Indication]) -> Result<bool, Refusal>;
+    fn tells(&mut self, event: Event, told: &[LinkIndication]) -> Result<bool, Refusal>;
 
     /// Makes an event happen, and says which alert the link tells of it, where it tells one.
     fn alerts(&mut self, event: Event) -> Result<Option<AlertKind>, Refusal>;
@@ -90,27 +83,18 @@ pub trait Link {
     fn in_flight(&self) -> (usize, usize);
 }
 
-impl<U: Carrier<Frame> + Drop, D: Carrier<Report> + Drop, A: Allocator + Copy + Drop> Link
-    for World<U, D, A> {
+impl<U: Carrier<Frame>, D: Carrier<Report>, A: Allocator + Copy + Drop> Link for World<U, D, A> {
     fn does(&mut self, event: Event) -> Result<(), Refusal> {
-        match self.step(event) {
-            Ok(_) => Ok(()),
-            Err(refusal) => Err(refusal),
-        }
+        self.step(event)?;
+        Ok(())
     }
 
-    fn tells(&mut self, event: Event, told: &[Indication]) -> Result<bool, Refusal> {
-        match self.step(event) {
-            Ok(answer) => Ok(answer.as_slice() == told),
-            Err(refusal) => Err(refusal),
-        }
+    fn tells(&mut self, event: Event, told: &[LinkIndication]) -> Result<bool, Refusal> {
+        Ok(self.step(event)?.as_slice() == told)
     }
 
     fn alerts(&mut self, event: Event) -> Result<Option<AlertKind>, Refusal> {
-        match self.step(event) {
-            Ok(answer) => Ok(alert_in(answer.as_slice())),
-            Err(refusal) => Err(refusal),
-        }
+        Ok(alert_in(self.step(event)?.as_slice()))
     }
 
     fn does_all(&mut self, events: &[Event]) -> RunEnd {
@@ -118,7 +102,7 @@ impl<U: Carrier<Frame> + Drop, D: Carrier<Report> + Drop, A: Allocator + Copy + 
     }
 
     fn reserves(&mut self, puts: usize) -> Result<(), Refusal> {
-        self.reserve(puts)
+        Ok(self.reserve(puts)?)
     }
 
     fn is_clean(&self) -> bool {
@@ -138,14 +122,12 @@ impl<U: Carrier<Frame> + Drop, D: Carrier<Report> + Drop, A: Allocator + Copy + 
     }
 
     fn written(&self, place: usize) -> Option<Written<'_>> {
-        match self.session(place) {
-            Some(session) => Some(Written {
-                sent: session.sent(),
-                accepted: session.accepted(),
-                confirmed: session.confirmed(),
-            }),
-            None => None,
-        }
+        let session = self.session(place)?;
+        Some(Written {
+            sent: session.sent(),
+            accepted: session.accepted(),
+            confirmed: session.confirmed(),
+        })
     }
 
     fn fop(&self) -> FopView {

@@ -1,11 +1,10 @@
 //! A link that loses one item where two or more stand at a take.
-ghost use Rattle.std.specs.Prelude.{◌≡◌, ◌+◌, ◌-◌, ◌≤◌, [], IfErr};
+ghost use Rattle.std.specs.Prelude.{◌≡◌, ◌+◌, ◌-◌, ◌≤◌, []};
 
-use std::alloc::Allocator;
+use std::alloc::{AllocError, Allocator};
 use std::collections::VecDeque;
 use std::marker::Model;
-use tc_types::refusals::Refusal;
-use tc_world::carriers::Carrier;
+use tc_world::Carrier;
 
 /// A link that skips: where two or more items are in flight, a take drops the oldest and gives the one behind it. A
 /// contract sees what is in flight, and the room there is.
@@ -54,11 +53,8 @@ impl<T: Drop, A: Allocator> Carrier<T> for SkippingCarrier<T, A> {
 
     ghost covered = { λ c. c.covered };
 
-    fn reserve(&mut self, count: usize) -> Result<(), Refusal> {
-        match self.items.reserve(count) {
-            Ok(()) => Ok(()),
-            Err(_) => Err(Refusal::Memory),
-        }
+    fn reserve(&mut self, count: usize) -> Result<(), AllocError> {
+        self.items.reserve(count)
     }
 
     fn put(&mut self, item: T) {

@@ -2,7 +2,7 @@
 //!
 //! A function that holds a world makes it and hands it to one scenario, and does nothing else; a scenario is a function
 //! over any `Link`, and its events stand as data.
-ghost use Rattle.std.specs.Prelude.{◌≡◌, []};
+ghost use Rattle.tc_world.specs.Links.{AreEmpty};
 
 use crate::links::Link;
 use crate::skipping::SkippingCarrier;
@@ -10,19 +10,13 @@ use linked_list_allocator::LocalHeap;
 use std::alloc::{Allocator, Global};
 use std::process::Abort;
 use std::test::Fail;
-use tc_farm::farms::Farm;
-use tc_fop::fops::Fop;
-use tc_types::directives::Directive;
-use tc_types::frames::Frame;
-use tc_types::numbers::{Apid, RequestNumber, SequenceCount};
-use tc_types::refusals::Refusal;
-use tc_types::reports::Report;
-use tc_types::requests::{Ack, Identity, Outcome};
-use tc_types::telecommands::{Payload, Task};
-use tc_world::carriers::Carrier;
-use tc_world::events::Event;
-use tc_world::list_carriers::ListCarrier;
-use tc_world::worlds::World;
+use tc_farm::Farm;
+use tc_fop::Fop;
+use tc_types::{
+    Ack, Apid, Directive, Frame, Identity, Outcome, Payload, Refusal, Report, RequestNumber,
+    SequenceCount, Task,
+};
+use tc_world::{Carrier, Event, ListCarrier, World};
 
 mod courses;
 mod fitting;
@@ -180,7 +174,7 @@ fn add(
 }
 
 /// A world whose FOP stops after so many transmissions: its memory is this allocator's.
-fn world<U: Carrier<Frame> + Drop, D: Carrier<Report> + Drop, A: Allocator + Copy + Drop>(
+fn world<U: Carrier<Frame>, D: Carrier<Report>, A: Allocator + Copy + Drop>(
     alloc: A,
     up: U,
     down: D,
@@ -189,12 +183,9 @@ fn world<U: Carrier<Frame> + Drop, D: Carrier<Report> + Drop, A: Allocator + Cop
     window: u16,
     vc: u8,
 ) -> Result<World<U, D, A>, Refusal>
-    requires up { U.kind.content up ≡ [] }
-    requires down { D.kind.content down ≡ [] }
+    requires { AreEmpty U.kind D.kind up down }
 {
-    let Some(farm) = Farm::new(window) else {
-        return Err(Refusal::BadDirective);
-    };
+    let farm = Farm::new(window).ok_or(Refusal::BadDirective)?;
     let fop = Fop::new(alloc, k, 10, limit)?;
     World::new(alloc, fop, farm, up, down, vc)
 }

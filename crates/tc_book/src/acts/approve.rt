@@ -1,16 +1,13 @@
 //! The act `approve`: a request is approved by a person who did not enter it.
-ghost use Rattle.std.specs.Prelude.{◌≡◌, IfOk};
+ghost use Rattle.std.specs.Prelude.{◌≡◌};
 ghost use Rattle.tc_types.specs.declared.acts.BookAct.TheVariants as book_act;
-ghost use Rattle.tc_book.specs.Batch.{HoldsRoom};
-ghost use Rattle.tc_book.specs.Answers.{Answers};
+ghost use Rattle.tc_book.specs.Answers.{IsActed};
 
-use crate::drafts::{Draft, make_room};
+use crate::drafts::{Draft, Needs, make_room};
 use crate::records::Records;
 use crate::stamps::Stamp;
 use std::alloc::Allocator;
-use tc_types::causes::Cause;
-use tc_types::places::Place;
-use tc_types::refusals::Refusal;
+use tc_types::{Cause, Place, Refusal};
 
 /// Approves a request. Once as many approved as are wanted, it goes to Approved.
 pub fn approve<A: Allocator + Copy + Drop>(
@@ -19,8 +16,7 @@ pub fn approve<A: Allocator + Copy + Drop>(
     stamp: Stamp,
     n: u32,
 ) -> Result<Draft<A>, Refusal>
-    ensures answers { Answers (λ draft. draft.first) records.old.book stamp (book_act.Approve n) records.new.book result }
-    ensures room { IfOk result (λ draft. HoldsRoom records.old.book records.new.book draft.moves draft.batch) }
+    ensures { IsActed records.old.book stamp (book_act.Approve n) records.new.book result }
 {
     let Some(request) = records.number_of(n) else {
         return Err(Refusal::UnknownRequest);
@@ -38,7 +34,11 @@ pub fn approve<A: Allocator + Copy + Drop>(
         return Err(Refusal::DeskFull);
     }
     let first = records.next_approval(n);
-    let draft = make_room(records, alloc, first, 0, 1, 0)?;
+    let needs = Needs {
+        rows: 1,
+        ..Needs::NONE
+    };
+    let draft = make_room(records, alloc, first, needs)?;
     if records.approve(request, stamp.by) {
         records.record(stamp, request, Place::Approved, Cause::Approve);
     }

@@ -1,15 +1,13 @@
 //! The act `approvestack`: a stack is approved by a person who did not load it.
-ghost use Rattle.std.specs.Prelude.{◌≡◌, IfOk};
+ghost use Rattle.std.specs.Prelude.{◌≡◌};
 ghost use Rattle.tc_types.specs.declared.acts.BookAct.TheVariants as book_act;
-ghost use Rattle.tc_book.specs.Batch.{HoldsRoom};
-ghost use Rattle.tc_book.specs.Answers.{Answers};
+ghost use Rattle.tc_book.specs.Answers.{IsActed};
 
-use crate::drafts::{Draft, make_room};
+use crate::drafts::{Draft, Needs, make_room};
 use crate::records::Records;
 use crate::stamps::Stamp;
 use std::alloc::Allocator;
-use tc_types::names::Name;
-use tc_types::refusals::Refusal;
+use tc_types::{Name, Refusal};
 
 /// Approves a stack. Once as many approved as are wanted, each of its rows that is still at Entered goes to Approved.
 pub fn approve_stack<A: Allocator + Copy + Drop>(
@@ -18,8 +16,7 @@ pub fn approve_stack<A: Allocator + Copy + Drop>(
     stamp: Stamp,
     name: Name,
 ) -> Result<Draft<A>, Refusal>
-    ensures answers { Answers (λ draft. draft.first) records.old.book stamp (book_act.ApproveStack name) records.new.book result }
-    ensures room { IfOk result (λ draft. HoldsRoom records.old.book records.new.book draft.moves draft.batch) }
+    ensures { IsActed records.old.book stamp (book_act.ApproveStack name) records.new.book result }
 {
     if !records.is_loaded(&name) {
         return Err(Refusal::UnknownStack);
@@ -32,7 +29,11 @@ pub fn approve_stack<A: Allocator + Copy + Drop>(
     }
     let first = records.next_stack_approval(&name);
     let rows = records.count_rows(&name);
-    let draft = make_room(records, alloc, first, 0, rows, 0)?;
+    let needs = Needs {
+        rows,
+        ..Needs::NONE
+    };
+    let draft = make_room(records, alloc, first, needs)?;
     if records.approve_stack(name, stamp.by) {
         records.approve_rows(&stamp, &name);
     }

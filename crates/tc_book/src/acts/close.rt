@@ -1,17 +1,14 @@
 //! The act `close`: a request that has left the desk is closed by a person.
-ghost use Rattle.std.specs.Prelude.{◌≡◌, IfOk};
+ghost use Rattle.std.specs.Prelude.{◌≡◌};
 ghost use Rattle.tc_types.specs.declared.acts.BookAct.TheVariants as book_act;
-ghost use Rattle.tc_book.specs.Batch.{HoldsRoom};
-ghost use Rattle.tc_book.specs.Answers.{Answers};
+ghost use Rattle.tc_book.specs.Answers.{IsActed};
 
-use crate::drafts::{Draft, make_room};
+use crate::drafts::{Draft, Needs, make_room};
 use crate::firsts::First;
 use crate::records::Records;
 use crate::stamps::Stamp;
 use std::alloc::Allocator;
-use tc_types::causes::Cause;
-use tc_types::places::Place;
-use tc_types::refusals::Refusal;
+use tc_types::{Cause, Place, Refusal};
 
 /// The places from which a person may close a request.
 const CLOSABLE: [Place; 6] = [
@@ -30,8 +27,7 @@ pub fn close<A: Allocator + Copy + Drop>(
     stamp: Stamp,
     n: u32,
 ) -> Result<Draft<A>, Refusal>
-    ensures answers { Answers (λ draft. draft.first) records.old.book stamp (book_act.Close n) records.new.book result }
-    ensures room { IfOk result (λ draft. HoldsRoom records.old.book records.new.book draft.moves draft.batch) }
+    ensures { IsActed records.old.book stamp (book_act.Close n) records.new.book result }
 {
     let Some(request) = records.number_of(n) else {
         return Err(Refusal::UnknownRequest);
@@ -42,7 +38,11 @@ pub fn close<A: Allocator + Copy + Drop>(
     if records.has_all_rows() {
         return Err(Refusal::DeskFull);
     }
-    let draft = make_room(records, alloc, First::Plain, 0, 1, 0)?;
+    let needs = Needs {
+        rows: 1,
+        ..Needs::NONE
+    };
+    let draft = make_room(records, alloc, First::Plain, needs)?;
     records.record(stamp, request, Place::Closed, Cause::Close);
     Ok(draft)
 }

@@ -1,29 +1,25 @@
 //! The load of a stack: all its rows are entered, or none.
-ghost use Rattle.std.specs.Prelude.{◌≡◌, ◌+◌, ◌<◌, ◌≤◌, ◌==◌, ◌||◌, ℕ, List, [], length, count_by, false, IfOk, IfSome, OnOk};
+ghost use Rattle.std.specs.Prelude.{◌≡◌, ◌+◌, ◌<◌, ◌≤◌, ◌==◌, ◌||◌, ℕ, List, [], length, count_by, false, IfSome};
 ghost use Rattle.tc_stack.specs.declared.stacks.StackRow.{StackRow as SomeRow};
 ghost use Rattle.tc_stack.specs.Stacks.{IsStack, named_line};
 ghost use Rattle.tc_book.specs.declared.stamps.Stamp.{Stamp as SomeStamp};
-ghost use Rattle.tc_book.specs.Answers.{LoadAnswers};
-ghost use Rattle.tc_book.specs.Batch.{GoesOn, HoldsRoom};
+ghost use Rattle.tc_book.specs.Answers.{LoadAnswers, IsLoaded};
 ghost use Rattle.tc_book.specs.Book.{is_identity_in_use, has_all_rows};
 ghost use Rattle.tc_book.specs.Good.{IsGoodBook, IsGoodOrigin};
 ghost use Rattle.tc_book.specs.Loads.{IsWithin, command_from, entry_from, origin_of, with_row, loaded, identity_behind, takes_identity_in_use, has_all_stacks, passes_requests};
 ghost use Rattle.tc_book.specs.Places.{stack_names};
+ghost use Rattle.tc_book.specs.Records.{Becomes};
 ghost use Rattle.tc_book.specs.Stacks.{has_stack, stack_approvers_of};
 ghost use Rattle.tc_book.specs.Steps.{HasSteps};
 ghost use Rattle.tc_book.specs.Targets.{HasGoodTarget};
 
-use crate::drafts::{Draft, make_room};
+use crate::drafts::{Draft, Needs, make_room};
 use crate::firsts::First;
 use crate::records::{MOST_REQUESTS, Records};
 use crate::stamps::Stamp;
 use std::alloc::Allocator;
-use tc_stack::stacks::{Stack, StackRow};
-use tc_types::entries::Entry;
-use tc_types::names::Name;
-use tc_types::numbers::Apid;
-use tc_types::refusals::Refusal;
-use tc_types::requests::{Command, Form, Origin};
+use tc_stack::{Stack, StackRow};
+use tc_types::{Apid, Command, Entry, Form, Name, Origin, Refusal};
 
 /// The command of a row, where line 1 becomes request `start`: what it names is a request then.
 fn command_from(start: u32, command: Command) -> Command
@@ -127,10 +123,7 @@ fn enter_row<A: Allocator + Copy + Drop>(
     requires origin { IsGoodOrigin records.old.book.requests stamp.by (origin_of name line row.now) }
     requires unapproved { stack_approvers_of records.old.book.stack_approvals name ≡ [] }
     ensures good { IsGoodBook records.old.book }
-    ensures book { records.new.book ≡ with_row stamp name start line records.old.book row.now }
-    ensures requests_kept { records.old.most_requests ≤ records.new.most_requests }
-    ensures stacks_kept { records.old.most_stacks ≤ records.new.most_stacks }
-    ensures rows_kept { records.old.most_rows ≤ records.new.most_rows }
+    ensures becomes { Becomes records.old records.new (with_row stamp name start line records.old.book row.now) }
 {
     let origin = Origin {
         stack: name,
@@ -172,11 +165,8 @@ pub fn load<A: Allocator + Copy + Drop>(
     name: Name,
     stack: &Stack,
 ) -> Result<Draft<A>, Refusal>
-    ensures answers { LoadAnswers (λ draft. draft.first) records.old.book stamp name stack.now records.new.book result }
-    ensures room { IfOk result (λ draft. HoldsRoom records.old.book records.new.book draft.moves draft.batch) }
-    ensures goes_on { OnOk result (GoesOn records.old.book records.new.book) }
     // one row after the other, each in a good book
-    ensures steps { OnOk result (HasSteps stamp records.old.book records.new.book) }
+    ensures { IsLoaded (LoadAnswers (λ draft. draft.first) records.old.book stamp name stack.now records.new.book result) stamp records.old.book records.new.book result }
 {
     let rows = stack.rows();
     if records.is_loaded(&name) {
@@ -193,7 +183,12 @@ pub fn load<A: Allocator + Copy + Drop>(
         rows: rows.len() as u32,
         first: records.next_number(),
     };
-    let draft = make_room(records, alloc, first, rows.len(), rows.len(), 0)?;
+    let needs = Needs {
+        requests: rows.len(),
+        rows: rows.len(),
+        ..Needs::NONE
+    };
+    let draft = make_room(records, alloc, first, needs)?;
     enter_rows(records, &stamp, &name, rows);
     Ok(draft)
 }

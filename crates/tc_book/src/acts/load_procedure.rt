@@ -1,17 +1,14 @@
 //! The load of a procedure: it is kept with all its steps, or not at all.
-ghost use Rattle.std.specs.Prelude.{◌≡◌, IfOk, OnOk};
-ghost use Rattle.tc_book.specs.Answers.{ProcedureAnswers};
-ghost use Rattle.tc_book.specs.Batch.{GoesOn, HoldsRoom};
-ghost use Rattle.tc_book.specs.Steps.{HasSteps};
+ghost use Rattle.std.specs.Prelude.{◌≡◌};
+ghost use Rattle.tc_book.specs.Answers.{ProcedureAnswers, IsLoaded};
 
-use crate::drafts::{Draft, make_room};
+use crate::drafts::{Draft, Needs, make_room};
 use crate::firsts::First;
 use crate::records::Records;
 use crate::stamps::Stamp;
 use std::alloc::Allocator;
-use tc_proc::procedures::Procedure;
-use tc_types::names::Name;
-use tc_types::refusals::Refusal;
+use tc_proc::Procedure;
+use tc_types::{Name, Refusal};
 
 /// Loads a procedure under this name.
 pub fn load_procedure<A: Allocator + Copy + Drop>(
@@ -21,11 +18,8 @@ pub fn load_procedure<A: Allocator + Copy + Drop>(
     name: Name,
     procedure: &Procedure,
 ) -> Result<Draft<A>, Refusal>
-    ensures answers { ProcedureAnswers (λ draft. draft.first) records.old.book stamp name procedure.now records.new.book result }
-    ensures room { IfOk result (λ draft. HoldsRoom records.old.book records.new.book draft.moves draft.batch) }
-    ensures goes_on { OnOk result (GoesOn records.old.book records.new.book) }
     // one step, which enters and moves no request
-    ensures steps { OnOk result (HasSteps stamp records.old.book records.new.book) }
+    ensures { IsLoaded (ProcedureAnswers (λ draft. draft.first) records.old.book stamp name procedure.now records.new.book result) stamp records.old.book records.new.book result }
 {
     let steps = procedure.steps();
     if let Some(refusal) = records.procedure_refusal(&name, steps) {
@@ -35,7 +29,11 @@ pub fn load_procedure<A: Allocator + Copy + Drop>(
         name,
         steps: steps.len() as u32,
     };
-    let draft = make_room(records, alloc, first, 0, 0, steps.len() + 1)?;
+    let needs = Needs {
+        log: steps.len() + 1,
+        ..Needs::NONE
+    };
+    let draft = make_room(records, alloc, first, needs)?;
     // last, since it asks for memory too
     records.load_procedure(&stamp, name, procedure)?;
     Ok(draft)

@@ -1,23 +1,20 @@
 //! The records that the tables tell of that were left.
-ghost use Rattle.std.specs.Prelude.{◌≡◌, ◌⊎◌, IfOk, IfErr, OnOk};
-ghost use Rattle.tc_types.specs.declared.refusals.Refusal.TheVariants.{Memory, Store};
-ghost use Rattle.tc_images.specs.Images.{rows_in};
-ghost use Rattle.tc_book.specs.Sound.{IsSound, book_of};
+ghost use Rattle.std.specs.Prelude.{◌≡◌, IfOk};
+ghost use Rattle.tc_types.specs.Images.{rows_in};
+ghost use Rattle.tc_book.specs.Sound.{IsSound, Judges, book_of};
 
 use crate::records::Records;
 use crate::reopening::known::KnownRequests;
 use crate::reopening::parts::{Lists, Start, open_approved, open_lists, open_start};
 use std::alloc::Allocator;
-use tc_images::images::Image;
-use tc_types::refusals::Refusal;
+use tc_proc::ReopenFault;
+use tc_types::Image;
 
 impl<A: Allocator + Copy + Drop> Records<A> {
-    /// The records that these tables tell of. Answers `Store` where no desk could have written them, and `Memory` where that is refused.
-    pub(crate) fn reopen(alloc: A, image: &Image) -> Result<Self, Refusal>
+    /// The records that these tables tell of. Answers `Unsound` where no desk could have written them, and `Memory` where that is refused.
+    pub(crate) fn reopen(alloc: A, image: &Image) -> Result<Self, ReopenFault>
         ensures book { IfOk result (λ records. records.book ≡ book_of (rows_in image.now)) }
-        ensures sound { OnOk result (IsSound (rows_in image.now)) }
-        ensures unsound { IfErr result (λ why. why ≡ Store → ¬ IsSound (rows_in image.now)) }
-        ensures refused { IfErr result (λ why. (why ≡ Store) ⊎ (why ≡ Memory)) }
+        ensures judged { Judges (rows_in image.now) (IsSound (rows_in image.now)) result }
     {
         let Start { history, known } = open_start(alloc, image)?;
         let approved = open_approved(alloc, image, &known.requests)?;

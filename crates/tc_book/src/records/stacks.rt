@@ -5,6 +5,7 @@ ghost use Rattle.tc_book.specs.Acts.{first_refusal, approval_tests, completes, a
 ghost use Rattle.tc_book.specs.Book.{request_at};
 ghost use Rattle.tc_book.specs.Good.{IsGoodBook};
 ghost use Rattle.tc_book.specs.Loads.{has_all_stacks};
+ghost use Rattle.tc_book.specs.Records.{Becomes};
 ghost use Rattle.tc_book.specs.Stacks.{is_loaded, is_in_stack, came_with_stack, stack_approval_at, stack_approvers_of, with_stack_approval, is_stack_approved, is_held_back, is_interlocked};
 
 use crate::firsts::First;
@@ -16,14 +17,8 @@ use crate::stacks::{
 };
 use crate::stamps::Stamp;
 use std::alloc::Allocator;
-use tc_stack::approvals::Approvals;
-use tc_types::causes::Cause;
-use tc_types::names::Name;
-use tc_types::persons::Person;
-use tc_types::places::Place;
-use tc_types::refusals::Refusal;
-use tc_types::requests::{Origin, Request};
-use tc_types::rows::StackApproval;
+use tc_stack::Approvals;
+use tc_types::{Cause, Name, Origin, Person, Place, Refusal, Request, StackApproval};
 
 /// Whether the line that has to be completed before request `n`, which came from here, is not at Completed.
 fn is_held_back<A: Allocator + Copy + Drop>(
@@ -79,7 +74,7 @@ impl<A: Allocator + Copy + Drop> Records<A> {
     pub fn has_all_stacks(&self) -> bool
         ensures { result ≡ has_all_stacks self.now.book }
     {
-        self.stacks.len() > MOST_STACKS - 1
+        self.stacks.len() >= MOST_STACKS
     }
 
     /// How many rows the stack with this name has.
@@ -135,11 +130,9 @@ impl<A: Allocator + Copy + Drop> Records<A> {
         requires known { is_loaded self.old.book name ≡ true }
         requires may { first_refusal (approval_tests person (stack_approval_at self.old.book name)) ≡ None }
         requires room { length self.old.book.stack_approvals < self.old.most_stack_approvals }
-        ensures book { self.new.book ≡ with_stack_approval self.old.book name person }
+        ensures becomes { Becomes self.old self.new (with_stack_approval self.old.book name person) }
         ensures complete { result ≡ completes person (stack_approval_at self.old.book name) }
         ensures full { result ≡ true → is_stack_approved self.new.book name ≡ true }
-        ensures requests_kept { self.old.most_requests ≤ self.new.most_requests }
-        ensures rows_kept { self.old.most_rows ≤ self.new.most_rows }
     {
         let person = person.name();
         let complete = self.completes_stack(&name, person);
@@ -158,9 +151,7 @@ impl<A: Allocator + Copy + Drop> Records<A> {
         requires there { request_at self.old.book row.number ≡ Some row }
         requires room { is_in_stack name.now row ≡ true → length self.old.book.history < self.old.most_rows }
         requires approved { is_stack_approved self.old.book name.now ≡ true }
-        ensures book { self.new.book ≡ (if is_in_stack name.now row then row_approved stamp.now self.old.book row.number else self.old.book) }
-        ensures requests_kept { self.old.most_requests ≤ self.new.most_requests }
-        ensures rows_kept { self.old.most_rows ≤ self.new.most_rows }
+        ensures becomes { Becomes self.old self.new (if is_in_stack name.now row then row_approved stamp.now self.old.book row.number else self.old.book) }
         ensures rows { length self.new.book.history ≤ length self.old.book.history + (if is_in_stack name.now row then 1 else 0) }
     {
         if is_in_stack(&row, name) && self.stands(row.number.get(), &[Place::Entered]) {
@@ -172,9 +163,7 @@ impl<A: Allocator + Copy + Drop> Records<A> {
     pub fn approve_rows(&mut self, stamp: &Stamp, name: &Name)
         requires room { length self.old.book.history + count_by (is_in_stack name.now) self.old.book.requests ≤ self.old.most_rows }
         requires approved { is_stack_approved self.old.book name.now ≡ true }
-        ensures book { self.new.book ≡ rows_approved stamp.now name.now self.old.book }
-        ensures requests_kept { self.old.most_requests ≤ self.new.most_requests }
-        ensures rows_kept { self.old.most_rows ≤ self.new.most_rows }
+        ensures becomes { Becomes self.old self.new (rows_approved stamp.now name.now self.old.book) }
         ensures rows { length self.new.book.history ≤ length self.old.book.history + count_by (is_in_stack name.now) self.old.book.requests }
     {
         for at in 0..self.requests.len() {

@@ -1,6 +1,6 @@
 //! The approvals of requests in the tables that were left.
-ghost use Rattle.std.specs.Prelude.{◌≡◌, ◌⊎◌, ◌↔◌, [], true, length, map, IsTrue, IfOk, IfErr, OnOk};
-ghost use Rattle.tc_types.specs.declared.refusals.Refusal.TheVariants.{Memory, Store};
+ghost use Rattle.std.specs.Prelude.{◌≡◌, ◌↔◌, [], true, length, map, IsTrue, IfOk, IfErr, OnOk};
+ghost use Rattle.tc_proc.specs.declared.faults.ReopenFault.TheVariants.{Unsound};
 ghost use Rattle.tc_types.specs.History.{AllAfter};
 ghost use Rattle.tc_book.specs.Book.{approval_of};
 ghost use Rattle.tc_book.specs.Good.{IsGoodRequest};
@@ -10,11 +10,10 @@ ghost use Rattle.tc_book.specs.Stacks.{came_alone};
 use crate::approvals::{add_approval, approval_refusal};
 use crate::pushes::push_within;
 use crate::reading::request_in;
-use std::alloc::Allocator;
-use tc_stack::approvals::Approvals;
-use tc_types::refusals::Refusal;
-use tc_types::requests::Request;
-use tc_types::rows::Approval;
+use std::alloc::{AllocError, Allocator};
+use tc_proc::ReopenFault;
+use tc_stack::Approvals;
+use tc_types::{Approval, Request};
 
 /// Whether one of these requests has the number `n`, and came by itself.
 fn came_alone(requests: &[Request], n: u32) -> bool
@@ -30,13 +29,10 @@ fn came_alone(requests: &[Request], n: u32) -> bool
 fn unapproved_all<A: Allocator + Copy + Drop>(
     alloc: A,
     requests: &[Request],
-) -> Result<Vec<Approvals, A>, Refusal>
-    ensures kept { IfOk result (λ kept. kept.items ≡ map (approval_of []) requests.now) }
-    ensures refused { IfErr result (λ why. why ≡ Memory) }
+) -> Result<Vec<Approvals, A>, AllocError>
+    ensures { IfOk result (λ kept. kept.items ≡ map (approval_of []) requests.now) }
 {
-    let Ok(mut kept) = Vec::with_capacity(alloc, requests.len()) else {
-        return Err(Refusal::Memory);
-    };
+    let mut kept = Vec::with_capacity(alloc, requests.len())?;
     for request in requests {
         push_within(&mut kept, Approvals::new(request.author, request.critical));
     }
@@ -71,23 +67,22 @@ fn give_all<A: Allocator + Copy + Drop>(
     true
 }
 
-/// The approval of each of these requests, by the approvals of all. Answers `Store` where no desk could have written these, and
+/// The approval of each of these requests, by the approvals of all. Answers `Unsound` where no desk could have written these, and
 /// `Memory` where that is refused.
 pub(crate) fn approvals_of<A: Allocator + Copy + Drop>(
     alloc: A,
     requests: &[Request],
     approvals: &[Approval],
-) -> Result<Vec<Approvals, A>, Refusal>
+) -> Result<Vec<Approvals, A>, ReopenFault>
     requires { AllAfter IsGoodRequest [] requests.now }
     ensures kept { IfOk result (λ kept. kept.items ≡ map (approval_of approvals.now) requests.now) }
     ensures good { OnOk result (AreGoodApprovals requests.now approvals.now) }
-    ensures bad { IfErr result (λ why. why ≡ Store → ¬ AreGoodApprovals requests.now approvals.now) }
-    ensures refused { IfErr result (λ why. (why ≡ Store) ⊎ (why ≡ Memory)) }
+    ensures bad { IfErr result (λ why. why ≡ Unsound → ¬ AreGoodApprovals requests.now approvals.now) }
 {
     let mut kept = unapproved_all(alloc, requests)?;
     if give_all(requests, approvals, &mut kept) {
         Ok(kept)
     } else {
-        Err(Refusal::Store)
+        Err(ReopenFault::Unsound)
     }
 }

@@ -2,10 +2,10 @@
 ghost use Rattle.std.specs.Prelude.{◌≡◌, ◌↔◌, List, [], true, false, map, IfSome, IsTrue};
 ghost use Rattle.std.specs.List.{AllByRecursion};
 ghost use Rattle.std.specs.Option.{option_map_or};
-ghost use Rattle.tc_types.specs.declared.causes.Cause.TheVariants as cause_of;
-ghost use Rattle.tc_types.specs.declared.moves.Move.{Move as SomeMove};
-ghost use Rattle.tc_types.specs.declared.rows.Approval.{Approval as SomeApproval};
-ghost use Rattle.tc_types.specs.declared.rows.StackApproval.{StackApproval as SomeStackApproval};
+ghost use Rattle.tc_types.specs.declared.history.causes.Cause.TheVariants as cause_of;
+ghost use Rattle.tc_types.specs.declared.history.moves.Move.{Move as SomeMove};
+ghost use Rattle.tc_types.specs.declared.tables.rows.Approval.{Approval as SomeApproval};
+ghost use Rattle.tc_types.specs.declared.tables.rows.StackApproval.{StackApproval as SomeStackApproval};
 ghost use Rattle.tc_stack.specs.Approvals.{IsApproval, is_complete};
 ghost use Rattle.tc_book.specs.Approvals.{kept_approval};
 ghost use Rattle.tc_book.specs.Book.{approval_of, request_in};
@@ -16,12 +16,8 @@ ghost use Rattle.tc_book.specs.Stacks.{is_stack_approved, is_fully_approved, sta
 use crate::approvals::approvals_of;
 use crate::reading::request_in;
 use crate::stacks::{approval_of_stack, first_row, has_critical_row};
-use tc_stack::approvals::Approvals;
-use tc_types::causes::Cause;
-use tc_types::moves::Move;
-use tc_types::names::{Name, is_same_name};
-use tc_types::requests::Request;
-use tc_types::rows::StackApproval;
+use tc_stack::Approvals;
+use tc_types::{Cause, Move, Name, Request, StackApproval, is_same_name};
 
 /// A stack, and whether as many approved it as are wanted.
 #[derive(Clone, Copy, Debug, PartialEq, Eq)]
@@ -88,11 +84,8 @@ fn ask_stack(
 fn stack_with(requests: &[Request], n: u32) -> Option<Name>
     ensures { result ≡ stack_with (request_in requests.now n) }
 {
-    let request = request_in(requests, n)?;
-    match request.origin {
-        Some(origin) => Some(origin.stack),
-        None => None,
-    }
+    let origin = request_in(requests, n)?.origin?;
+    Some(origin.stack)
 }
 
 /// Whether a row has all approvers that are wanted, and the last stack that was asked for.

@@ -1,16 +1,16 @@
 //! The requests of the tables that were left.
-ghost use Rattle.std.specs.Prelude.{◌≡◌, ◌⊎◌, ◌↔◌, ℕ, List, ◌≤◌, ◌<◌, ◌++◌, ◌∷◌, [], length, map, vec_capacity, IfSome, IsSomeAnd, IsTrue, IfOk, IfErr, OnOk, false};
+ghost use Rattle.std.specs.Prelude.{◌≡◌, ◌↔◌, ℕ, List, ◌≤◌, ◌<◌, ◌++◌, ◌∷◌, [], length, map, vec_capacity, IfSome, IsSomeAnd, IsTrue, IfOk, IfErr, false};
 ghost use Rattle.std.specs.List.{list_any};
-ghost use Rattle.tc_types.specs.declared.refusals.Refusal.TheVariants.{Memory, Store};
+ghost use Rattle.tc_proc.specs.declared.faults.ReopenFault.TheVariants.{Unsound};
 ghost use Rattle.tc_types.specs.declared.requests.Request.{Request as SomeRequest};
-ghost use Rattle.tc_types.specs.declared.rows.PlacedRequest.{PlacedRequest as SomePlaced};
+ghost use Rattle.tc_types.specs.declared.tables.rows.PlacedRequest.{PlacedRequest as SomePlaced};
 ghost use Rattle.tc_types.specs.History.{AllAfter};
 ghost use Rattle.tc_types.specs.Names.{is_same_name};
 ghost use Rattle.tc_types.specs.Grammar.{IsEntry};
 ghost use Rattle.tc_stack.specs.Stacks.{IsEarlier};
 ghost use Rattle.tc_book.specs.Book.{form_of, next_identity, request_in};
 ghost use Rattle.tc_book.specs.Good.{IsNextRow, IsGoodOrigin, IsGoodRequest};
-ghost use Rattle.tc_book.specs.Known.{AreTakenRequests, AreKnown};
+ghost use Rattle.tc_book.specs.Known.{AreTakenRequests, AreKnown, KnowsRequests};
 ghost use Rattle.tc_book.specs.Places.{AreCounted};
 ghost use Rattle.tc_book.specs.Stacks.{has_stack};
 ghost use Rattle.tc_book.specs.Targets.{HasGoodTarget};
@@ -21,12 +21,11 @@ use crate::pushes::push_within;
 use crate::reading::{is_same_identity, request_in};
 use crate::records::MOST_REQUESTS;
 use crate::stacks::{has_name, push_name};
-use std::alloc::Allocator;
-use tc_types::entries::Entry;
-use tc_types::names::{Name, is_same_name};
-use tc_types::refusals::Refusal;
-use tc_types::requests::{Command, Form, Identity, Origin, Request};
-use tc_types::rows::PlacedRequest;
+use std::alloc::{AllocError, Allocator};
+use tc_proc::ReopenFault;
+use tc_types::{
+    Command, Entry, Form, Identity, Name, Origin, PlacedRequest, Request, is_same_name,
+};
 
 /// The most lines that a stack has.
 const MOST_LINES: u32 = 200;
@@ -201,44 +200,34 @@ fn push_all<A: Allocator + Copy + Drop>(
 fn known_none<A: Allocator + Copy + Drop>(
     alloc: A,
     count: usize,
-) -> Result<KnownRequests<A>, Refusal>
-    ensures empty { IfOk result (λ known. known.requests.items ≡ []) }
-    ensures known { IfOk result (λ known. AreKnown known.requests.items known.counts.items known.stacks.items) }
+) -> Result<KnownRequests<A>, AllocError>
+    ensures known { IfOk result (KnowsRequests []) }
     ensures room { IfOk result (λ known. count ≤ vec_capacity known.requests) }
     ensures stack_room { IfOk result (λ known. count ≤ vec_capacity known.stacks) }
     ensures counts { IfOk result (λ known. 2048 ≤ length known.counts.items) }
-    ensures refused { IfErr result (λ why. why ≡ Memory) }
 {
-    let Ok(requests) = Vec::with_capacity(alloc, count) else {
-        return Err(Refusal::Memory);
-    };
-    let Ok(stacks) = Vec::with_capacity(alloc, count) else {
-        return Err(Refusal::Memory);
-    };
+    let requests = Vec::with_capacity(alloc, count)?;
+    let stacks = Vec::with_capacity(alloc, count)?;
     let mut counts = Vec::new(alloc);
-    match reserve_counts(&mut counts) {
-        Ok(()) => Ok(KnownRequests {
-            requests,
-            counts,
-            stacks,
-        }),
-        Err(_) => Err(Refusal::Memory),
-    }
+    reserve_counts(&mut counts)?;
+    Ok(KnownRequests {
+        requests,
+        counts,
+        stacks,
+    })
 }
 
-/// The requests of these rows. Answers `Store` where no desk could have written them, and `Memory` where that is refused.
+/// The requests of these rows. Answers `Unsound` where no desk could have written them, and `Memory` where that is refused.
 pub(crate) fn requests_of<A: Allocator + Copy + Drop>(
     alloc: A,
     rows: &[PlacedRequest],
-) -> Result<KnownRequests<A>, Refusal>
-    ensures requests { IfOk result (λ known. known.requests.items ≡ map (λ (p : SomePlaced). p.request) rows.now) }
-    ensures known { IfOk result (λ known. AreKnown known.requests.items known.counts.items known.stacks.items) }
+) -> Result<KnownRequests<A>, ReopenFault>
+    ensures known { IfOk result (KnowsRequests (map (λ (p : SomePlaced). p.request) rows.now)) }
     ensures few { IfOk result (λ known. length known.requests.items ≤ 65535) }
-    ensures bad { IfErr result (λ why. why ≡ Store → ¬ AreTakenRequests (map (λ (p : SomePlaced). p.request) rows.now)) }
-    ensures refused { IfErr result (λ why. (why ≡ Store) ⊎ (why ≡ Memory)) }
+    ensures bad { IfErr result (λ why. why ≡ Unsound → ¬ AreTakenRequests (map (λ (p : SomePlaced). p.request) rows.now)) }
 {
     if rows.len() > MOST_REQUESTS {
-        return Err(Refusal::Store);
+        return Err(ReopenFault::Unsound);
     }
     let KnownRequests {
         mut requests,
@@ -252,6 +241,6 @@ pub(crate) fn requests_of<A: Allocator + Copy + Drop>(
             stacks,
         })
     } else {
-        Err(Refusal::Store)
+        Err(ReopenFault::Unsound)
     }
 }

@@ -2,15 +2,14 @@
 ghost use Rattle.std.specs.Prelude.{◌≡◌, ◌↔◌, IfSome, IsTrue};
 ghost use Rattle.std.specs.List.{AllByRecursion};
 ghost use Rattle.tc_types.specs.Names.{IsPerson};
-ghost use Rattle.tc_images.specs.Images.{rows_in};
+ghost use Rattle.tc_types.specs.Images.{rows_in};
 ghost use Rattle.tc_book.specs.Persons.{NamesPersons};
 ghost use Rattle.tc_book.specs.Sound.{book_of};
 
-use tc_images::images::Image;
-use tc_types::names::Name;
-use tc_types::persons::is_person;
-use tc_types::requests::Request;
-use tc_types::rows::{Approval, BegunExecution, LoadedProcedure, StackApproval, StepRecord};
+use tc_types::{
+    Approval, BegunExecution, Image, LoadedProcedure, Name, Request, StackApproval, StepRecord,
+    is_person,
+};
 
 /// A row that names somebody.
 pub(crate) trait Naming {

@@ -1,8 +1,7 @@
 //! What no part of a book needs, and yet has to be so in tables that a desk could have written.
-ghost use Rattle.std.specs.Prelude.{◌≡◌, ◌⊎◌, ◌↔◌, [], map, IsTrue, IfErr, OnOk};
-ghost use Rattle.tc_types.specs.declared.refusals.Refusal.TheVariants.{Memory, Store};
+ghost use Rattle.std.specs.Prelude.{◌≡◌, ◌↔◌, [], map, IsTrue};
 ghost use Rattle.tc_types.specs.History.{AllAfter};
-ghost use Rattle.tc_images.specs.Images.{rows_in};
+ghost use Rattle.tc_types.specs.Images.{rows_in};
 ghost use Rattle.tc_book.specs.Book.{approval_of};
 ghost use Rattle.tc_book.specs.Good.{IsGoodRequest};
 ghost use Rattle.tc_book.specs.Sound.{book_of};
@@ -12,14 +11,12 @@ use crate::reopening::complete::are_complete;
 use crate::reopening::persons::names_persons;
 use crate::reopening::stack_approvals::are_stacks_approved;
 use crate::reopening::steps::names_entered;
-use tc_images::images::Image;
-use tc_stack::approvals::Approvals;
-use tc_types::refusals::Refusal;
-use tc_types::requests::Request;
+use tc_stack::Approvals;
+use tc_types::{Image, Request};
 
 /// Whether the approvals of stacks, the moves of those who were approved, the steps that name requests, and the persons are as a desk could
 /// have written them.
-fn is_rest_sound(image: &Image, requests: &[Request], approved: &[Approvals]) -> bool
+pub(crate) fn is_rest_sound(image: &Image, requests: &[Request], approved: &[Approvals]) -> bool
     requires requests { requests.now ≡ (book_of (rows_in image.now)).requests }
     requires good { AllAfter IsGoodRequest [] requests.now }
     requires approved { approved.now ≡ map (approval_of image.now.approvals.items) requests.now }
@@ -31,25 +28,4 @@ fn is_rest_sound(image: &Image, requests: &[Request], approved: &[Approvals]) ->
     are_complete(requests, approved, &image.stack_approvals, &image.moves)
         && names_entered(requests.len(), &image.steps)
         && names_persons(image, requests)
-}
-
-/// Tests the approvals of stacks, the moves of those who were approved, the steps that name requests, and the persons. Answers `Store`
-/// where no desk could have written them, and nothing else.
-pub(crate) fn test_rest(
-    image: &Image,
-    requests: &[Request],
-    approved: &[Approvals],
-) -> Result<(), Refusal>
-    requires requests { requests.now ≡ (book_of (rows_in image.now)).requests }
-    requires good { AllAfter IsGoodRequest [] requests.now }
-    requires approved { approved.now ≡ map (approval_of image.now.approvals.items) requests.now }
-    ensures good { OnOk result (IsSoundRest (rows_in image.now)) }
-    ensures bad { IfErr result (λ why. why ≡ Store → ¬ IsSoundRest (rows_in image.now)) }
-    ensures refused { IfErr result (λ why. (why ≡ Store) ⊎ (why ≡ Memory)) }
-{
-    if is_rest_sound(image, requests, approved) {
-        Ok(())
-    } else {
-        Err(Refusal::Store)
-    }
 }

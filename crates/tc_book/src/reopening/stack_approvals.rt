@@ -7,10 +7,8 @@ ghost use Rattle.tc_book.specs.Known.{approved_book};
 ghost use Rattle.tc_book.specs.Stacks.{stack_approval_at};
 
 use crate::stacks::{approval_of_stack, first_row, has_critical_row};
-use tc_stack::approvals::Approvals;
-use tc_types::names::Name;
-use tc_types::requests::Request;
-use tc_types::rows::StackApproval;
+use tc_stack::Approvals;
+use tc_types::{Name, Request, StackApproval};
 
 /// The approval of the stack with this name.
 fn stack_approval(

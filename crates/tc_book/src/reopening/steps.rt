@@ -1,9 +1,9 @@
 //! Whether the steps of procedures name requests that were entered.
 ghost use Rattle.std.specs.Prelude.{◌≡◌, ◌↔◌, ◌<◌, ◌≤◌, IfSome, IsTrue};
 ghost use Rattle.std.specs.List.{AllByRecursion};
-ghost use Rattle.tc_types.specs.declared.rows.ProcedureStep.{ProcedureStep as SomeStep};
+ghost use Rattle.tc_types.specs.declared.tables.rows.ProcedureStep.{ProcedureStep as SomeStep};
 
-use tc_types::rows::ProcedureStep;
+use tc_types::ProcedureStep;
 
 /// Whether a step, where it names a request, names one of so many.
 fn names_one(entered: usize, step: &ProcedureStep) -> bool

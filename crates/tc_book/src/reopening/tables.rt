@@ -1,8 +1,8 @@
 //! The tables that say again what others tell: where each request stands, how many stand at each place, and which stacks were loaded.
 ghost use Rattle.std.specs.Prelude.{◌≡◌, ◌↔◌, ◌+◌, ◌<◌, ◌≤◌, ◌^◌, List, length, map, count_by, MatchOption, IsTrue};
 ghost use Rattle.std.specs.List.{list_all, cons_option};
-ghost use Rattle.tc_types.specs.declared.rows.PlacedRequest.{PlacedRequest as SomePlaced};
-ghost use Rattle.tc_types.specs.declared.rows.LoadedStack.{LoadedStack as SomeStack};
+ghost use Rattle.tc_types.specs.declared.tables.rows.PlacedRequest.{PlacedRequest as SomePlaced};
+ghost use Rattle.tc_types.specs.declared.tables.rows.LoadedStack.{LoadedStack as SomeStack};
 ghost use Rattle.tc_book.specs.Batch.{tally_of, tallies_of};
 ghost use Rattle.tc_book.specs.Known.{is_placed};
 ghost use Rattle.tc_book.specs.Opening.{is_opened};
@@ -13,10 +13,9 @@ use crate::histories::History;
 use crate::records::openings::OPENED;
 use crate::stacks::begun_by;
 use std::alloc::Allocator;
-use tc_types::names::is_same_name;
-use tc_types::places::{ALL_PLACES, PLACES, Place};
-use tc_types::requests::Request;
-use tc_types::rows::{LoadedStack, PlacedRequest, Tally};
+use tc_types::{
+    ALL_PLACES, LoadedStack, PLACES, Place, PlacedRequest, Request, Tally, is_same_name,
+};
 
 /// How many rows have a number.
 const NUMBERS: usize = 4_294_967_295;

@@ -2,12 +2,10 @@
 use super::ends::{OnGround, PutsOut};
 use super::{body, number};
 use std::process::Abort;
-use tc_farm::clcws::Clcw;
+use tc_farm::Clcw;
+use tc_fop::FopView;
 use tc_fop::signals::Indication;
-use tc_fop::views::FopView;
-use tc_types::directives::Directive;
-use tc_types::frames::Frame;
-use tc_types::refusals::Refusal;
+use tc_types::{Directive, Frame, Refusal};
 
 /// One call of a FOP.
 #[derive(Clone, Copy, Debug)]

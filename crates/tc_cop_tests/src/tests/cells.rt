@@ -9,11 +9,9 @@ use super::{ad, number};
 use std::alloc::Global;
 use std::process::Abort;
 use std::test::Fail;
+use tc_fop::FopView;
 use tc_fop::signals::Indication;
-use tc_fop::views::FopView;
-use tc_types::directives::Directive;
-use tc_types::frames::Frame;
-use tc_types::refusals::Refusal;
+use tc_types::{Directive, Frame, Refusal};
 
 /// The indication.
 fn indication(rt: &impl Abort, indicated: Indicated) -> Indication {

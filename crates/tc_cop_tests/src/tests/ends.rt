@@ -1,17 +1,10 @@
 //! The two ends of the link as a test sees them. Their methods promise nothing: what a test does with them needs no
 //! proof but that of its own loops and indexes.
 use std::alloc::Allocator;
-use tc_farm::clcws::Clcw;
-use tc_farm::farms::{Farm, FarmView, Verdict};
-use tc_fop::fops::Fop;
-use tc_fop::outputs::Output;
+use tc_farm::{Clcw, Farm, FarmView, FrameVerdict};
 use tc_fop::signals::Indication;
-use tc_fop::views::FopView;
-use tc_types::directives::Directive;
-use tc_types::frames::Frame;
-use tc_types::numbers::RequestNumber;
-use tc_types::refusals::Refusal;
-use tc_types::telecommands::Payload;
+use tc_fop::{Fop, FopView, Output};
+use tc_types::{Directive, Frame, Payload, Refusal, RequestNumber};
 
 /// The end on board.
 pub trait OnBoard {
@@ -34,8 +27,8 @@ pub trait OnBoard {
 impl OnBoard for Farm {
     fn accepts(&mut self, frame: Frame, free_buffer: bool) -> bool {
         match self.frame(frame, free_buffer) {
-            Verdict::Accepted { .. } => true,
-            Verdict::Discarded | Verdict::Control => false,
+            FrameVerdict::Accepted { .. } => true,
+            FrameVerdict::Discarded | FrameVerdict::Control => false,
         }
     }
 
@@ -125,7 +118,7 @@ impl<A: Allocator + Copy + Drop> OnGround for Fop<A> {
     }
 
     fn reserves(&mut self) -> Result<(), Refusal> {
-        self.reserve()
+        Ok(self.reserve()?)
     }
 
     fn would_refuse(&self) -> Option<Refusal> {

@@ -2,7 +2,7 @@
 use super::ends::OnBoard;
 use super::windows::{comes_to, takes};
 use std::process::Abort;
-use tc_farm::farms::{Farm, FarmState, FarmView};
+use tc_farm::{Farm, FarmState, FarmView};
 
 /// The table as a plain program: what a type-AD frame with this number does, and whether it is accepted.
 fn by_table(farm: FarmView, ns: u8, free_buffer: bool) -> (FarmView, bool) {

@@ -8,10 +8,7 @@ use std::collections::VecDeque;
 use std::process::Abort;
 use std::test::Fail;
 use tc_fop::signals::{FopState, Indication};
-use tc_types::directives::Directive;
-use tc_types::frames::Frame;
-use tc_types::numbers::RequestNumber;
-use tc_types::refusals::Refusal;
+use tc_types::{Directive, Frame, Refusal, RequestNumber};
 
 /// A linear congruential generator.
 #[derive(Drop)]

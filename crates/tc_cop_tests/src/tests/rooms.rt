@@ -6,10 +6,9 @@ use linked_list_allocator::LocalHeap;
 use std::alloc::Global;
 use std::process::Abort;
 use std::test::Fail;
+use tc_fop::FopView;
 use tc_fop::signals::Indication;
-use tc_fop::views::FopView;
-use tc_types::directives::Directive;
-use tc_types::refusals::Refusal;
+use tc_types::{Directive, Refusal};
 
 /// More than a FOP and an output take.
 const HEAP: usize = 131_072;

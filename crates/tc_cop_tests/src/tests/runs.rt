@@ -4,10 +4,9 @@ use super::ends::{OnGround, fop, refusal_to_make};
 use super::{ad, number};
 use std::process::Abort;
 use std::test::Fail;
+use tc_fop::FopView;
 use tc_fop::signals::{AlertKind, FopState, Indication};
-use tc_fop::views::FopView;
-use tc_types::directives::Directive;
-use tc_types::refusals::Refusal;
+use tc_types::{Directive, Refusal};
 
 /// The service starts without check.
 const START: Call = Call::Direct(Directive::InitiateNone);

@@ -3,11 +3,9 @@ use super::calls::{Call, check_call, check_view, done};
 use super::ends::{OnGround, fop};
 use std::process::Abort;
 use std::test::Fail;
+use tc_fop::FopView;
 use tc_fop::signals::{AlertKind, FopState, Indication};
-use tc_fop::views::FopView;
-use tc_types::directives::Directive;
-use tc_types::frames::Frame;
-use tc_types::refusals::Refusal;
+use tc_types::{Directive, Frame, Refusal};
 
 /// A service that stops before it begins: what it is, its initiation, its limit, the call that stops it, the alert, and
 /// the Transmission_Count after it.

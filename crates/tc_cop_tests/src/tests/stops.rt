@@ -1,9 +1,9 @@
 //! What stops the service, and what S5 ignores, as data.
 use super::calls::Call;
 use super::tables::{Case, Indicated, NONE_OUT, STOPPED, Start, TAKING};
+use tc_fop::FopView;
 use tc_fop::signals::{AlertKind, FopState};
-use tc_fop::views::FopView;
-use tc_types::directives::Directive;
+use tc_types::Directive;
 
 /// In S5 before the call.
 pub const IN_S5: FopView = FopView {

@@ -1,8 +1,8 @@
 //! The cases of the table's cells as data.
 use super::calls::Call;
+use tc_fop::FopView;
 use tc_fop::signals::{AlertKind, FopState};
-use tc_fop::views::FopView;
-use tc_types::directives::Directive;
+use tc_types::Directive;
 
 /// The state before a call. In S1 to S3 requests 1 and 2 are out under the numbers 0 and 1, and 3 waits.
 #[derive(Clone, Copy, Debug)]

@@ -2,8 +2,8 @@
 use super::ad;
 use super::ends::OnBoard;
 use std::process::Abort;
-use tc_farm::farms::{Farm, FarmState};
-use tc_types::frames::Frame;
+use tc_farm::{Farm, FarmState};
+use tc_types::Frame;
 
 /// A FARM of this width.
 fn farm(rt: &impl Abort, w: u16) -> Farm {

@@ -1,6 +1,6 @@
 //! Control words with their bits written out.
 use std::process::Abort;
-use tc_farm::clcws::Clcw;
+use tc_farm::Clcw;
 
 /// A control word on channel 3 that reports 5.
 fn reported(lockout: bool, wait: bool, retransmit: bool) -> Clcw {

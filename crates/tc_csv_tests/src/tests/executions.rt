@@ -6,11 +6,8 @@ use rand_xoshiro::SplitMix64;
 use std::alloc::{Allocator, Global};
 use std::process::Abort;
 use std::test::Fail;
-use tc_proc::executions::Execution;
-use tc_proc::procedures::Procedure;
-use tc_types::names::Name;
-use tc_types::refusals::Refusal;
-use tc_types::verdicts::Verdict;
+use tc_proc::{Execution, Procedure};
+use tc_types::{Name, Refusal, Verdict};
 
 /// A procedure of four steps, of which the second and the fourth want a second person.
 const STEPS: &[u8] =

@@ -1,8 +1,8 @@
 //! A plain reader: what is wrong with records of fields, and whether steps are those that the fields say.
 use super::Told;
 use super::written::{Fields, at, number_of};
-use tc_csv::faults::Rule;
-use tc_proc::procedures::Step;
+use tc_csv::Rule;
+use tc_proc::Step;
 
 /// Whether a field may be the text of a step.
 fn is_text(field: &[u8]) -> bool {

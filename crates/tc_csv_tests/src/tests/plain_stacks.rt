@@ -2,9 +2,9 @@
 //! instants it knows from a list.
 use super::Told;
 use super::written::{Fields, at, number_of};
-use tc_csv::faults::Rule;
-use tc_stack::stacks::StackRow;
-use tc_types::requests::Command;
+use tc_csv::Rule;
+use tc_stack::StackRow;
+use tc_types::Command;
 
 /// Texts that stand in the column of times, and the second that each says, if it says a whole one that the desk knows.
 pub const INSTANTS: [(&[u8], Option<u32>); 9] = [

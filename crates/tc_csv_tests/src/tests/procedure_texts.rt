@@ -2,9 +2,8 @@
 use super::{Told, is_agreed};
 use std::alloc::Global;
 use std::test::Fail;
-use tc_csv::faults::Rule;
-use tc_proc::procedures::{Procedure, Step};
-use tc_proc::readers::{read_procedure, why_no_procedure};
+use tc_csv::Rule;
+use tc_proc::{Procedure, Step, read_procedure, why_no_procedure};
 
 /// The procedure that a text spells, if it spells one.
 pub fn procedure(alloc: Global, text: &[u8]) -> Option<Procedure> {

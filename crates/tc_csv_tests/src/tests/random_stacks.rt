@@ -7,8 +7,8 @@ use super::stack_texts::{is_judged, stack};
 use super::written::{Fields, Headers, field, number, write_text};
 use std::alloc::Global;
 use std::test::Fail;
-use tc_csv::faults::Rule;
-use tc_types::readers::is;
+use tc_csv::Rule;
+use tc_types::read::readers::is;
 
 /// How many texts there are.
 const TEXTS: u32 = 5_000;

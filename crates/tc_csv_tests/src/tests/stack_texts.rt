@@ -2,10 +2,9 @@
 use super::{Told, is_agreed};
 use std::alloc::Global;
 use std::test::Fail;
-use tc_csv::faults::Rule;
-use tc_stack::readers::{read_stack, why_no_stack};
-use tc_stack::stacks::Stack;
-use tc_types::requests::Command;
+use tc_csv::Rule;
+use tc_stack::{Stack, read_stack, why_no_stack};
+use tc_types::Command;
 
 /// The stack that a text spells, if it spells one.
 pub fn stack(alloc: Global, text: &[u8]) -> Option<Stack> {

@@ -1,25 +1,20 @@
 //! The acts `initiate`, `terminate` and `set`: the FOP gets a directive.
-ghost use Rattle.std.specs.Prelude.{◌≡◌, false, IfOk};
+ghost use Rattle.std.specs.Prelude.{◌≡◌, false};
 ghost use Rattle.tc_types.specs.declared.acts.Act.TheVariants as act;
 ghost use Rattle.tc_types.specs.declared.acts.LinkAct.TheVariants as link_act;
-ghost use Rattle.tc_book.specs.Batch.{HoldsRoom};
 ghost use Rattle.tc_fop.specs.Calls.{is_initial};
 ghost use Rattle.tc_world.specs.World.{is_terminate};
 ghost use Rattle.tc_desk.specs.Acts.{is_bad_directive};
-ghost use Rattle.tc_desk.specs.Parts.{IsPutCount, Responds};
+ghost use Rattle.tc_desk.specs.Parts.{Performs};
 
 use crate::flights::{Flight, MOST_ROWS, ask, pass};
 use crate::hearing::hear_all;
 use crate::parts::Parts;
 use std::alloc::Allocator;
-use tc_book::stamps::Stamp;
+use tc_book::Stamp;
 use tc_fop::signals::FopState;
-use tc_types::directives::Directive;
-use tc_types::frames::Frame;
-use tc_types::refusals::Refusal;
-use tc_types::reports::Report;
-use tc_world::carriers::Carrier;
-use tc_world::events::Event;
+use tc_types::{Directive, Frame, Refusal, Report};
+use tc_world::{Carrier, Event};
 
 /// S6.
 fn is_initial(state: FopState) -> bool
@@ -52,9 +47,7 @@ impl<U: Carrier<Frame> + Drop, D: Carrier<Report> + Drop, A: Allocator + Copy + 
 > {
     /// The FOP gets a directive.
     pub(crate) fn direct(&mut self, stamp: Stamp, given: Directive) -> Result<Flight<A>, Refusal>
-        ensures answers { Responds U.kind D.kind (λ flight. flight.said) (λ flight. flight.first) self.old stamp (act.Link (link_act.Direct given)) self.new result }
-        ensures put { IfOk result (λ flight. IsPutCount self.old (link_act.Direct given) flight.said flight.put) }
-        ensures room { IfOk result (λ flight. HoldsRoom self.old.book self.new.book flight.draft.moves flight.draft.batch) }
+        ensures { Performs U.kind D.kind self.old stamp (act.Link (link_act.Direct given)) self.new result }
     {
         match given {
             Directive::Terminate => self.terminate(stamp),
@@ -64,9 +57,7 @@ impl<U: Carrier<Frame> + Drop, D: Carrier<Report> + Drop, A: Allocator + Copy + 
 
     /// The FOP ends its service.
     fn terminate(&mut self, stamp: Stamp) -> Result<Flight<A>, Refusal>
-        ensures answers { Responds U.kind D.kind (λ flight. flight.said) (λ flight. flight.first) self.old stamp (act.Link (link_act.Direct Directive.Terminate)) self.new result }
-        ensures put { IfOk result (λ flight. IsPutCount self.old (link_act.Direct Directive.Terminate) flight.said flight.put) }
-        ensures room { IfOk result (λ flight. HoldsRoom self.old.book self.new.book flight.draft.moves flight.draft.batch) }
+        ensures { Performs U.kind D.kind self.old stamp (act.Link (link_act.Direct Directive.Terminate)) self.new result }
     {
         if self.records.has_all_rows() {
             return Err(Refusal::DeskFull);
@@ -86,9 +77,7 @@ impl<U: Carrier<Frame> + Drop, D: Carrier<Report> + Drop, A: Allocator + Copy + 
     /// The FOP gets a directive at which no request moves: any but the end of the service.
     fn set(&mut self, stamp: Stamp, given: Directive) -> Result<Flight<A>, Refusal>
         requires { is_terminate given ≡ false }
-        ensures answers { Responds U.kind D.kind (λ flight. flight.said) (λ flight. flight.first) self.old stamp (act.Link (link_act.Direct given)) self.new result }
-        ensures put { IfOk result (λ flight. IsPutCount self.old (link_act.Direct given) flight.said flight.put) }
-        ensures room { IfOk result (λ flight. HoldsRoom self.old.book self.new.book flight.draft.moves flight.draft.batch) }
+        ensures { Performs U.kind D.kind self.old stamp (act.Link (link_act.Direct given)) self.new result }
     {
         let widest = self.world.farm_view().window / 2;
         if is_bad_directive(self.world.fop_view().state, widest, &given) {

@@ -1,29 +1,22 @@
 //! The act `down`: the first item of the downlink comes to the desk.
-ghost use Rattle.std.specs.Prelude.{◌≡◌, IfOk, count_by};
+ghost use Rattle.std.specs.Prelude.{◌≡◌, count_by};
 ghost use Rattle.tc_types.specs.declared.acts.Act.TheVariants as act;
 ghost use Rattle.tc_types.specs.declared.acts.LinkAct.TheVariants as link_act;
-ghost use Rattle.tc_book.specs.Batch.{HoldsRoom};
 ghost use Rattle.tc_desk.specs.Acts.{is_there, first_of_down, first_of_report};
 ghost use Rattle.tc_board.specs.Mirror.{HasRoom};
 ghost use Rattle.tc_desk.specs.Asks.{command_told, command_down, mirror_read};
-ghost use Rattle.tc_desk.specs.Parts.{IsPutCount, Responds};
+ghost use Rattle.tc_desk.specs.Parts.{Performs};
 
 use crate::commands::command_at;
-use crate::firsts::First;
+use crate::firsts::FirstLine;
 use crate::flights::{Flight, MOST_ROWS, ask};
 use crate::hearing::hear_down;
 use crate::parts::Parts;
 use std::alloc::Allocator;
-use tc_board::mirrors::Mirror;
-use tc_book::records::{MOST_REQUESTS, Records};
-use tc_book::stamps::Stamp;
-use tc_types::activities::Summary;
-use tc_types::frames::Frame;
-use tc_types::refusals::Refusal;
-use tc_types::reports::{Report, Telemetry};
-use tc_types::telecommands::ScheduleCommand;
-use tc_world::carriers::Carrier;
-use tc_world::events::{Event, Indication};
+use tc_board::Mirror;
+use tc_book::{MOST_REQUESTS, Records, Stamp};
+use tc_types::{Frame, Refusal, Report, ScheduleCommand, Summary, Telemetry};
+use tc_world::{Carrier, Event, LinkIndication};
 
 /// How many activities a summary tells.
 fn count_of(summary: &Summary) -> u32
@@ -37,7 +30,7 @@ fn count_of(summary: &Summary) -> u32
 }
 
 /// How the reply to a report begins.
-fn first_of_report(item: &Telemetry) -> First
+fn first_of_report(item: &Telemetry) -> FirstLine
     ensures { result ≡ first_of_report item.now }
 {
     match item {
@@ -45,11 +38,11 @@ fn first_of_report(item: &Telemetry) -> First
             verification,
             identity,
             ..
-        } => First::Verified {
+        } => FirstLine::Verified {
             verification: *verification,
             identity: *identity,
         },
-        Telemetry::Summary(summary) => First::Summarized {
+        Telemetry::Summary(summary) => FirstLine::Summarized {
             enabled: summary.enabled,
             count: count_of(summary),
         },
@@ -57,13 +50,14 @@ fn first_of_report(item: &Telemetry) -> First
 }
 
 /// How the reply to `down` begins.
-fn first_of_down(said: &[Indication]) -> First
+fn first_of_down(said: &[LinkIndication]) -> FirstLine
     ensures { result ≡ first_of_down said.now }
 {
     match said.first() {
-        Some(Indication::Received(Report::Word(word))) => First::Word(*word),
-        Some(Indication::Received(Report::Telemetry(item))) => first_of_report(item),
-        None | Some(Indication::Fop(_) | Indication::Farm(_) | Indication::Lost) => First::Nothing,
+        Some(LinkIndication::Received(Report::Word(word))) => FirstLine::Word(*word),
+        Some(LinkIndication::Received(Report::Telemetry(item))) => first_of_report(item),
+        None | Some(LinkIndication::Fop(_) | LinkIndication::Farm(_) | LinkIndication::Lost) =>
+            FirstLine::Nothing,
     }
 }
 
@@ -85,13 +79,14 @@ fn command_told<A: Allocator + Copy + Drop>(
 /// The same of what came down.
 fn command_down<A: Allocator + Copy + Drop>(
     records: &Records<A>,
-    said: &[Indication],
+    said: &[LinkIndication],
 ) -> Option<ScheduleCommand>
     ensures { result ≡ command_down records.now.book said.now }
 {
     match said.first() {
-        Some(Indication::Received(item)) => command_told(records, item),
-        None | Some(Indication::Fop(_) | Indication::Farm(_) | Indication::Lost) => None,
+        Some(LinkIndication::Received(item)) => command_told(records, item),
+        None | Some(LinkIndication::Fop(_) | LinkIndication::Farm(_) | LinkIndication::Lost) =>
+            None,
     }
 }
 
@@ -99,12 +94,12 @@ fn command_down<A: Allocator + Copy + Drop>(
 fn read<A: Allocator + Copy + Drop>(
     mirror: &mut Mirror<A>,
     command: Option<ScheduleCommand>,
-    said: &[Indication],
+    said: &[LinkIndication],
 )
     requires { HasRoom mirror.old }
     ensures { mirror.new.told ≡ mirror_read command said.now mirror.old.told }
 {
-    if let Some(Indication::Received(item)) = said.first() {
+    if let Some(LinkIndication::Received(item)) = said.first() {
         let is_read = mirror.take(item, command).is_ok();
         prove!(is_read);
     }
@@ -117,9 +112,7 @@ impl<U: Carrier<Frame> + Drop, D: Carrier<Report> + Drop, A: Allocator + Copy + 
 > {
     /// The first item of the downlink comes to the desk.
     pub(crate) fn down(&mut self, stamp: Stamp) -> Result<Flight<A>, Refusal>
-        ensures answers { Responds U.kind D.kind (λ flight. flight.said) (λ flight. flight.first) self.old stamp (act.Link link_act.Down) self.new result }
-        ensures put { IfOk result (λ flight. IsPutCount self.old link_act.Down flight.said flight.put) }
-        ensures room { IfOk result (λ flight. HoldsRoom self.old.book self.new.book flight.draft.moves flight.draft.batch) }
+        ensures { Performs U.kind D.kind self.old stamp (act.Link link_act.Down) self.new result }
     {
         if self.records.has_all_rows() {
             return Err(Refusal::DeskFull);

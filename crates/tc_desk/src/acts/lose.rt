@@ -1,30 +1,27 @@
 //! The acts `loseup` and `losedown`: an item in flight is lost.
-ghost use Rattle.std.specs.Prelude.{◌≡◌, IfOk};
+ghost use Rattle.std.specs.Prelude.{◌≡◌};
 ghost use Rattle.tc_types.specs.declared.acts.Act.TheVariants as act;
 ghost use Rattle.tc_types.specs.declared.acts.LinkAct.TheVariants as link_act;
-ghost use Rattle.tc_book.specs.Batch.{HoldsRoom};
 ghost use Rattle.tc_desk.specs.Acts.{first_of_loss};
-ghost use Rattle.tc_desk.specs.Parts.{IsPutCount, Responds};
+ghost use Rattle.tc_desk.specs.Parts.{Performs};
 
-use crate::firsts::First;
+use crate::firsts::FirstLine;
 use crate::flights::{Flight, pass};
 use crate::parts::Parts;
 use std::alloc::Allocator;
-use tc_book::stamps::Stamp;
-use tc_types::frames::Frame;
-use tc_types::refusals::Refusal;
-use tc_types::reports::Report;
-use tc_world::carriers::Carrier;
-use tc_world::events::{Event, Indication};
+use tc_book::Stamp;
+use tc_types::{Frame, Refusal, Report};
+use tc_world::{Carrier, Event, LinkIndication};
 
 /// How the reply to a loss begins.
-fn first_of_loss(said: &[Indication]) -> First
+fn first_of_loss(said: &[LinkIndication]) -> FirstLine
     ensures { result ≡ first_of_loss said.now }
 {
     match said.first() {
-        Some(Indication::Lost) => First::Lost,
-        None | Some(Indication::Fop(_) | Indication::Farm(_) | Indication::Received(_)) => {
-            First::Nothing
+        Some(LinkIndication::Lost) => FirstLine::Lost,
+        None
+        | Some(LinkIndication::Fop(_) | LinkIndication::Farm(_) | LinkIndication::Received(_)) => {
+            FirstLine::Nothing
         }
     }
 }
@@ -36,9 +33,7 @@ impl<U: Carrier<Frame> + Drop, D: Carrier<Report> + Drop, A: Allocator + Copy + 
 > {
     /// The item at this place of the uplink is lost.
     pub(crate) fn lose_up(&mut self, stamp: Stamp, place: u32) -> Result<Flight<A>, Refusal>
-        ensures answers { Responds U.kind D.kind (λ flight. flight.said) (λ flight. flight.first) self.old stamp (act.Link (link_act.LoseUp place)) self.new result }
-        ensures put { IfOk result (λ flight. IsPutCount self.old (link_act.LoseUp place) flight.said flight.put) }
-        ensures room { IfOk result (λ flight. HoldsRoom self.old.book self.new.book flight.draft.moves flight.draft.batch) }
+        ensures { Performs U.kind D.kind self.old stamp (act.Link (link_act.LoseUp place)) self.new result }
     {
         let event = Event::LoseUp(place as usize);
         let flight = pass(&mut self.records, &mut self.world, self.alloc, event)?;
@@ -48,9 +43,7 @@ impl<U: Carrier<Frame> + Drop, D: Carrier<Report> + Drop, A: Allocator + Copy + 
 
     /// The item at this place of the downlink is lost.
     pub(crate) fn lose_down(&mut self, stamp: Stamp, place: u32) -> Result<Flight<A>, Refusal>
-        ensures answers { Responds U.kind D.kind (λ flight. flight.said) (λ flight. flight.first) self.old stamp (act.Link (link_act.LoseDown place)) self.new result }
-        ensures put { IfOk result (λ flight. IsPutCount self.old (link_act.LoseDown place) flight.said flight.put) }
-        ensures room { IfOk result (λ flight. HoldsRoom self.old.book self.new.book flight.draft.moves flight.draft.batch) }
+        ensures { Performs U.kind D.kind self.old stamp (act.Link (link_act.LoseDown place)) self.new result }
     {
         let event = Event::LoseDown(place as usize);
         let flight = pass(&mut self.records, &mut self.world, self.alloc, event)?;

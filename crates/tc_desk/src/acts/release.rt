@@ -4,18 +4,17 @@ ghost use Rattle.std.specs.List.{list_any};
 ghost use Rattle.std.specs.Option.{option_map_or};
 ghost use Rattle.tc_types.specs.declared.acts.Act.TheVariants as act;
 ghost use Rattle.tc_types.specs.declared.acts.LinkAct.TheVariants as link_act;
-ghost use Rattle.tc_types.specs.declared.places.Place.TheVariants.{Approved};
+ghost use Rattle.tc_types.specs.declared.history.places.Place.TheVariants.{Approved};
 ghost use Rattle.tc_board.specs.Mirror.{MirrorState};
 ghost use Rattle.tc_book.specs.Acts.{first_refusal};
-ghost use Rattle.tc_book.specs.Batch.{HoldsRoom};
 ghost use Rattle.tc_book.specs.Book.{stands, request_at, has_all_rows};
 ghost use Rattle.tc_book.specs.Stacks.{is_interlocked};
 ghost use Rattle.tc_fop.specs.Calls.{is_taking};
 ghost use Rattle.tc_desk.specs.Acts.{link_tests, released};
 ghost use Rattle.tc_desk.specs.Asks.{brings_down, offer_at};
 ghost use Rattle.tc_desk.specs.Commands.{activity_at, may_not_ride};
-ghost use Rattle.tc_desk.specs.Effects.{heard_all, tells_report};
-ghost use Rattle.tc_desk.specs.Parts.{IsPutCount, Responds};
+ghost use Rattle.tc_desk.specs.Effects.{OnlyMoves, heard_all, tells_report};
+ghost use Rattle.tc_desk.specs.Parts.{Performs};
 
 use crate::commands::{activity_at, payload_of};
 use crate::flights::{Flight, ask};
@@ -23,18 +22,11 @@ use crate::hearing::hear_all;
 use crate::moving::follow;
 use crate::parts::Parts;
 use std::alloc::Allocator;
-use tc_book::records::Records;
-use tc_book::stamps::Stamp;
+use tc_book::{Records, Stamp};
+use tc_fop::FopView;
 use tc_fop::signals::FopState;
-use tc_fop::views::FopView;
-use tc_types::causes::Cause;
-use tc_types::frames::Frame;
-use tc_types::numbers::RequestNumber;
-use tc_types::places::Place;
-use tc_types::refusals::Refusal;
-use tc_types::reports::Report;
-use tc_world::carriers::Carrier;
-use tc_world::events::{Event, Indication};
+use tc_types::{Cause, Frame, Place, Refusal, Report, RequestNumber};
+use tc_world::{Carrier, Event, LinkIndication};
 
 /// The most rows that a release makes: the request's own, that of its activity, and the 516 of what the link tells.
 pub(crate) const MOST_RELEASE_ROWS: usize = 518;
@@ -100,12 +92,8 @@ pub(crate) fn prepare<A: Allocator + Copy + Drop>(
     ensures here { IfOk result (λ departure. stands records.now.book n (Approved ∷ []) ≡ true) }
     ensures rows { IfOk result (λ departure. has_all_rows records.now.book ≡ false) }
 {
-    let Some(number) = records.number_of(n) else {
-        return Err(Refusal::UnknownRequest);
-    };
-    let Some(request) = records.request(n) else {
-        return Err(Refusal::UnknownRequest);
-    };
+    let number = records.number_of(n).ok_or(Refusal::UnknownRequest)?;
+    let request = records.request(n).ok_or(Refusal::UnknownRequest)?;
     if records.stands(n, &[Place::Entered]) {
         return Err(Refusal::NotApproved);
     }
@@ -145,7 +133,7 @@ pub(crate) fn depart<A: Allocator + Copy + Drop>(
     stamp: &Stamp,
     number: RequestNumber,
     activity: Option<u32>,
-    said: &[Indication],
+    said: &[LinkIndication],
 )
     requires few { length said.now ≤ 258 }
     requires room { length records.old.book.history + 518 ≤ records.old.most_rows }
@@ -153,15 +141,17 @@ pub(crate) fn depart<A: Allocator + Copy + Drop>(
     requires here { stands records.old.book number (Approved ∷ []) ≡ true }
     requires rides { activity ≡ activity_at records.old.book number }
     ensures book { (mirror : MirrorState) → records.new.book ≡ heard_all stamp.now mirror said.now (released stamp.now (link_act.Release number) records.old.book) }
-    ensures rows { length records.new.book.history ≤ length records.old.book.history + 518 }
-    ensures requests { records.new.book.requests ≡ records.old.book.requests }
-    ensures approvals { records.new.book.approvals ≡ records.old.book.approvals }
-    ensures stack_approvals { records.new.book.stack_approvals ≡ records.old.book.stack_approvals }
-    ensures log { records.new.book.log ≡ records.old.book.log }
+    ensures only { OnlyMoves 518 records.old records.new }
 {
-    let (from, to, cause) = ([Place::Approved], Place::Riding, Cause::Release);
     records.record(*stamp, number, Place::Queued, Cause::Release);
-    follow(records, stamp, activity, &from, to, cause);
+    follow(
+        records,
+        stamp,
+        activity,
+        &[Place::Approved],
+        Place::Riding,
+        Cause::Release,
+    );
     hear_all(records, stamp, said);
 }
 
@@ -172,9 +162,7 @@ impl<U: Carrier<Frame> + Drop, D: Carrier<Report> + Drop, A: Allocator + Copy + 
 > {
     /// Releases a request: it is offered to the FOP.
     pub(crate) fn release(&mut self, stamp: Stamp, n: u32) -> Result<Flight<A>, Refusal>
-        ensures answers { Responds U.kind D.kind (λ flight. flight.said) (λ flight. flight.first) self.old stamp (act.Link (link_act.Release n)) self.new result }
-        ensures put { IfOk result (λ flight. IsPutCount self.old (link_act.Release n) flight.said flight.put) }
-        ensures room { IfOk result (λ flight. HoldsRoom self.old.book self.new.book flight.draft.moves flight.draft.batch) }
+        ensures { Performs U.kind D.kind self.old stamp (act.Link (link_act.Release n)) self.new result }
     {
         let Departure {
             number,

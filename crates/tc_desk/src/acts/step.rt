@@ -1,24 +1,17 @@
 //! The act `step`: a step of an execution is recorded, and where it is done, the request that it names is released.
-ghost use Rattle.std.specs.Prelude.{◌≡◌, IfOk, None, Some};
+ghost use Rattle.std.specs.Prelude.{◌≡◌, None, Some};
 ghost use Rattle.tc_types.specs.declared.acts.Act.TheVariants as act;
 ghost use Rattle.tc_book.specs.Acts.{first_refusal};
-ghost use Rattle.tc_book.specs.Batch.{HoldsRoom};
 ghost use Rattle.tc_book.specs.Logs.{step_tests, released_with};
-ghost use Rattle.tc_desk.specs.Parts.{IsCounted, Responds};
+ghost use Rattle.tc_desk.specs.Parts.{Performs};
 
 use crate::acts::release::{Departure, MOST_RELEASE_ROWS, depart, prepare};
 use crate::flights::{Flight, PLAIN, ask};
 use crate::parts::Parts;
 use std::alloc::Allocator;
-use tc_book::drafts::make_room;
-use tc_book::firsts;
-use tc_book::stamps::Stamp;
-use tc_types::acts::StepAct;
-use tc_types::frames::Frame;
-use tc_types::refusals::Refusal;
-use tc_types::reports::Report;
-use tc_world::carriers::Carrier;
-use tc_world::indications::Indications;
+use tc_book::{First, Needs, Stamp, make_room};
+use tc_types::{Frame, Refusal, Report, StepAct};
+use tc_world::{Carrier, Indications};
 
 impl<U: Carrier<Frame> + Drop, D: Carrier<Report> + Drop, A: Allocator + Copy + Drop> Parts<
     U,
@@ -29,14 +22,16 @@ impl<U: Carrier<Frame> + Drop, D: Carrier<Report> + Drop, A: Allocator + Copy + 
     fn note(&mut self, stamp: &Stamp, given: &StepAct) -> Result<Flight<A>, Refusal>
         requires may { first_refusal (step_tests stamp.now self.old.book given.now) ≡ None }
         requires alone { released_with self.old.book given.now ≡ None }
-        ensures answers { Responds U.kind D.kind (λ flight. flight.said) (λ flight. flight.first) self.old stamp.now (act.Step given.now) self.new result }
-        ensures put { IfOk result (λ flight. IsCounted self.old (act.Step given.now) flight.said flight.put) }
-        ensures room { IfOk result (λ flight. HoldsRoom self.old.book self.new.book flight.draft.moves flight.draft.batch) }
+        ensures { Performs U.kind D.kind self.old stamp.now (act.Step given.now) self.new result }
     {
         if self.records.has_all_rows() {
             return Err(Refusal::DeskFull);
         }
-        let draft = make_room(&mut self.records, self.alloc, firsts::First::Plain, 0, 0, 1)?;
+        let needs = Needs {
+            log: 1,
+            ..Needs::NONE
+        };
+        let draft = make_room(&mut self.records, self.alloc, First::Plain, needs)?;
         self.records.reserve_record(given.execution)?;
         self.records.record_step(stamp, given);
         Ok(Flight {
@@ -56,9 +51,7 @@ impl<U: Carrier<Frame> + Drop, D: Carrier<Report> + Drop, A: Allocator + Copy + 
     ) -> Result<Flight<A>, Refusal>
         requires may { first_refusal (step_tests stamp.now self.old.book given.now) ≡ None }
         requires beside { released_with self.old.book given.now ≡ Some n }
-        ensures answers { Responds U.kind D.kind (λ flight. flight.said) (λ flight. flight.first) self.old stamp.now (act.Step given.now) self.new result }
-        ensures put { IfOk result (λ flight. IsCounted self.old (act.Step given.now) flight.said flight.put) }
-        ensures room { IfOk result (λ flight. HoldsRoom self.old.book self.new.book flight.draft.moves flight.draft.batch) }
+        ensures { Performs U.kind D.kind self.old stamp.now (act.Step given.now) self.new result }
     {
         let Departure {
             number,
@@ -86,9 +79,7 @@ impl<U: Carrier<Frame> + Drop, D: Carrier<Report> + Drop, A: Allocator + Copy + 
 
     /// Records a step of an execution; where it is done and names a request, that is released.
     pub(crate) fn step(&mut self, stamp: Stamp, given: StepAct) -> Result<Flight<A>, Refusal>
-        ensures answers { Responds U.kind D.kind (λ flight. flight.said) (λ flight. flight.first) self.old stamp (act.Step given) self.new result }
-        ensures put { IfOk result (λ flight. IsCounted self.old (act.Step given) flight.said flight.put) }
-        ensures room { IfOk result (λ flight. HoldsRoom self.old.book self.new.book flight.draft.moves flight.draft.batch) }
+        ensures { Performs U.kind D.kind self.old stamp (act.Step given) self.new result }
     {
         if let Some(refusal) = self.records.record_refusal(&stamp, &given) {
             return Err(refusal);

@@ -1,39 +1,34 @@
 //! The act `up`: the first frame of the uplink comes on board.
-ghost use Rattle.std.specs.Prelude.{◌≡◌, ◌<◌, true, is_some, length, IfOk};
+ghost use Rattle.std.specs.Prelude.{◌≡◌, ◌<◌, true, is_some, length};
 ghost use Rattle.tc_types.specs.declared.acts.Act.TheVariants as act;
 ghost use Rattle.tc_types.specs.declared.acts.LinkAct.TheVariants as link_act;
-ghost use Rattle.tc_book.specs.Batch.{HoldsRoom};
 ghost use Rattle.tc_desk.specs.Acts.{first_of_up};
 ghost use Rattle.tc_desk.specs.Asks.{telecommand_of, taken_in, board_after, reports_after};
 ghost use Rattle.tc_desk.specs.Machine.{PutsDown};
-ghost use Rattle.tc_desk.specs.Parts.{IsPutCount, Responds};
+ghost use Rattle.tc_desk.specs.Parts.{Performs};
 
 use crate::downlinks::put_down;
-use crate::firsts::First;
+use crate::firsts::FirstLine;
 use crate::flights::{Flight, pass};
 use crate::parts::Parts;
 use std::alloc::Allocator;
-use tc_book::stamps::Stamp;
-use tc_farm::farms::Verdict;
-use tc_types::frames::Frame;
-use tc_types::numbers::RequestNumber;
-use tc_types::refusals::Refusal;
-use tc_types::reports::Report;
-use tc_types::telecommands::{Payload, Telecommand};
-use tc_world::carriers::Carrier;
-use tc_world::events::{Event, Indication};
+use tc_book::Stamp;
+use tc_farm::FrameVerdict;
+use tc_types::{Frame, Payload, Refusal, Report, RequestNumber, Telecommand};
+use tc_world::{Carrier, Event, LinkIndication};
 
 /// How the reply to `up` begins.
-fn first_of_up(said: &[Indication]) -> First
+fn first_of_up(said: &[LinkIndication]) -> FirstLine
     ensures { result ≡ first_of_up said.now }
 {
     match said.first() {
-        Some(Indication::Farm(Verdict::Accepted { request, .. })) => First::Accepted(*request),
-        Some(Indication::Farm(Verdict::Discarded)) => First::Discarded,
-        Some(Indication::Farm(Verdict::Control)) => First::Control,
-        None | Some(Indication::Fop(_) | Indication::Received(_) | Indication::Lost) => {
-            First::Nothing
-        }
+        Some(LinkIndication::Farm(FrameVerdict::Accepted { request, .. })) => FirstLine::Accepted(
+            *request,
+        ),
+        Some(LinkIndication::Farm(FrameVerdict::Discarded)) => FirstLine::Discarded,
+        Some(LinkIndication::Farm(FrameVerdict::Control)) => FirstLine::Control,
+        None | Some(LinkIndication::Fop(_) | LinkIndication::Received(_) | LinkIndication::Lost) =>
+            { FirstLine::Nothing }
     }
 }
 
@@ -50,11 +45,11 @@ fn telecommand_of(request: RequestNumber, body: &Payload) -> Telecommand
 }
 
 /// The request that the FARM accepted, if it did.
-fn taken_in(said: &[Indication]) -> Option<Telecommand>
+fn taken_in(said: &[LinkIndication]) -> Option<Telecommand>
     ensures { result ≡ taken_in said.now }
 {
     match said.first() {
-        Some(Indication::Farm(Verdict::Accepted { request, body })) => {
+        Some(LinkIndication::Farm(FrameVerdict::Accepted { request, body })) => {
             Some(telecommand_of(*request, body))
         }
         _ => None,
@@ -69,9 +64,7 @@ impl<U: Carrier<Frame> + Drop, D: Carrier<Report> + Drop, A: Allocator + Copy + 
     /// The first frame of the uplink comes on board. What the FARM accepts goes to the spacecraft, which has a buffer free,
     /// since the FARM accepts nothing without.
     pub(crate) fn up(&mut self, stamp: Stamp) -> Result<Flight<A>, Refusal>
-        ensures answers { Responds U.kind D.kind (λ flight. flight.said) (λ flight. flight.first) self.old stamp (act.Link link_act.Up) self.new result }
-        ensures put { IfOk result (λ flight. IsPutCount self.old link_act.Up flight.said flight.put) }
-        ensures room { IfOk result (λ flight. HoldsRoom self.old.book self.new.book flight.draft.moves flight.draft.batch) }
+        ensures { Performs U.kind D.kind self.old stamp (act.Link link_act.Up) self.new result }
     {
         self.world.reserve(1)?;
         let free_buffer = self.board.room();

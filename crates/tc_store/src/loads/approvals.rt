@@ -1,5 +1,5 @@
 //! The table `request_approval`, in the order in which the approvals were given.
-ghost use Rattle.std.specs.Prelude.{◌≡◌, true, map, IfOk, IfErr, OnOk, ⊤};
+ghost use Rattle.std.specs.Prelude.{◌≡◌, map, IfOk, ⊤};
 ghost use Rattle.sqlite.specs.State.{HasCleanDisk};
 ghost use Rattle.sqlite.specs.Held.{state};
 ghost use Rattle.tc_types.specs.Tables.{Image};
@@ -7,22 +7,24 @@ ghost use Rattle.tc_store.specs.Approvals.{approval_tree, approval_values};
 ghost use Rattle.tc_store.specs.Schema.{schema_1, Holds};
 ghost use Rattle.tc_store.specs.Loads.{all_approval_columns};
 ghost use Rattle.tc_store.specs.Shows.{ShowsRows};
-ghost use Rattle.tc_store.specs.Reads.{Stays, Spares};
-ghost use Rattle.tc_store.specs.Faults.{is_of_read};
+ghost use Rattle.tc_store.specs.Reads.{Reads};
 
 use crate::cells::{name_at, request_at};
-use crate::faults::StoreFault;
-use crate::loads::rows::{Loads, read_all, rows_of};
+use crate::faults::ReadFault;
+use crate::loads::table_rows::{Loads, read_all, rows_of};
 use sqlite::{Alter, Connection, Row};
 use std::alloc::Global;
-use tc_types::rows::Approval;
+use tc_types::Approval;
+
+/// The text that reads them all.
+const ALL: &str = "SELECT request, person FROM request_approval ORDER BY rowid";
 
 impl Loads for Approval {
     ghost shown = { approval_values };
 
     ghost is_told = { λ _. ⊤ };
 
-    fn read(row: &Row) -> Result<Approval, StoreFault> {
+    fn read(row: &Row) -> Result<Approval, ReadFault> {
         Ok(Approval {
             request: request_at(row, 0)?,
             person: name_at(row, 1)?,
@@ -34,17 +36,10 @@ impl Loads for Approval {
 pub(crate) fn load_approvals<S: Alter>(
     conn: &mut Connection<S>,
     alloc: Global,
-) -> Result<Vec<Approval>, StoreFault>
+) -> Result<Vec<Approval>, ReadFault>
     ensures rows { HasCleanDisk (state S.Store conn.new) → IfOk result (λ found. (image : Image) → Holds (state S.Store conn.old).now image → found.items ≡ image.approvals) }
-    ensures shown { HasCleanDisk (state S.Store conn.new) → IfOk result (λ found. (state S.Store conn.old).now.schema ≡ schema_1 → ShowsRows ((state S.Store conn.old).now.trees approval_tree) all_approval_columns (map approval_values found.items)) }
-    ensures same { HasCleanDisk (state S.Store conn.new) → OnOk result (Stays S.Store conn.old conn.new) }
-    ensures left { Spares S.Store conn.old conn.new }
-    ensures kind { IfErr result (λ e. is_of_read e ≡ true) }
+    ensures reads { Reads S.Store (λ db found. db.schema ≡ schema_1 → ShowsRows (db.trees approval_tree) all_approval_columns (map approval_values found.items)) conn.old conn.new result }
 {
-    let rows = rows_of(
-        conn,
-        "SELECT request, person FROM request_approval ORDER BY rowid",
-        &[],
-    )?;
+    let rows = rows_of(conn, ALL, &[])?;
     read_all(alloc, rows.as_slice())
 }

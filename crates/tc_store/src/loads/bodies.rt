@@ -1,60 +1,51 @@
 //! What a row of the table `request` shows.
-ghost use Rattle.std.specs.Prelude.{◌≡◌, ◌==◌, ℕ, pos, true, length, if◌then◌else◌, Some, None, IfOk, IfErr, IfSome};
+ghost use Rattle.std.specs.Prelude.{◌≡◌, ◌==◌, pos, length, if◌then◌else◌, Some, None, IfOk, IfSome};
 ghost use Rattle.sqlite_value.specs.declared.value.Value.TheVariants.{Int, Text};
 ghost use Rattle.sqlite_value.specs.Order.{column};
 ghost use Rattle.tc_types.specs.declared.requests.Ack.{Ack as SomeAck};
 ghost use Rattle.tc_types.specs.declared.requests.Outcome.{Outcome as SomeOutcome};
-ghost use Rattle.tc_types.specs.declared.rows.PlacedRequest.{PlacedRequest as Was};
+ghost use Rattle.tc_types.specs.declared.tables.rows.PlacedRequest.{PlacedRequest as Was};
 ghost use Rattle.tc_types.specs.Grammar.{IsCommand, IsOutcome, outcome_word};
 ghost use Rattle.tc_store.specs.Requests.{ack_number, stack_of, line_of, prior_of, request_given};
 ghost use Rattle.tc_store.specs.Told.{IsToldOrigin, IsToldRequest};
 ghost use Rattle.tc_store.specs.Shows.{ShowsBody};
-ghost use Rattle.tc_store.specs.Faults.{is_of_read};
 
 use crate::cells::{flag_at, name_at, number_at, place_at, request_at, second_at, text_at};
-use crate::faults::StoreFault;
+use crate::faults::ReadFault;
 use crate::loads::commands::command_in;
 use sqlite::Row;
-use tc_types::entry_reader::outcome;
-use tc_types::numbers::{Apid, SequenceCount};
-use tc_types::requests::{Ack, Body, Identity, Origin, Outcome, Request};
-use tc_types::rows::PlacedRequest;
+use tc_types::read::entry_reader::outcome;
+use tc_types::{Ack, Apid, Body, Identity, Origin, Outcome, PlacedRequest, Request, SequenceCount};
 
 /// A number of two bytes.
-fn short_at(row: &Row, at: usize) -> Result<u16, StoreFault>
+fn short_at(row: &Row, at: usize) -> Result<u16, ReadFault>
     ensures reads { IfOk result (λ n. column row.now at ≡ Int (pos n)) }
-    ensures kind { IfErr result (λ e. is_of_read e ≡ true) }
 {
     let number = number_at(row, at)?;
-    match u16::try_from(number) {
-        Ok(short) => Ok(short),
-        Err(_) => Err(StoreFault::Damaged),
-    }
+    u16::try_from(number).map_err(|_| ReadFault::Damaged)
 }
 
 /// The name on board, in the columns 1 and 2.
-fn identity_in(row: &Row) -> Result<Identity, StoreFault>
+fn identity_in(row: &Row) -> Result<Identity, ReadFault>
     ensures same { IfOk result (λ identity. (was : Was) → row.now ≡ request_given was → identity ≡ was.request.body.identity) }
     ensures reads { IfOk result (λ identity. (column row.now 1 ≡ Int (pos identity.apid)) × (column row.now 2 ≡ Int (pos identity.count))) }
-    ensures kind { IfErr result (λ e. is_of_read e ≡ true) }
 {
     let apid = short_at(row, 1)?;
     let count = short_at(row, 2)?;
     match (Apid::new(apid), SequenceCount::new(count)) {
         (Some(apid), Some(count)) => Ok(Identity { apid, count }),
-        _ => Err(StoreFault::Damaged),
+        _ => Err(ReadFault::Damaged),
     }
 }
 
 /// The reports that are asked for: 8 for acceptance, 4 for start, 2 for progress, 1 for completion.
-fn ack_at(row: &Row, at: usize) -> Result<Ack, StoreFault>
+fn ack_at(row: &Row, at: usize) -> Result<Ack, ReadFault>
     ensures same { IfOk result (λ ack. (was : SomeAck) → column row.now at ≡ Int (pos (ack_number was)) → ack ≡ was) }
     ensures reads { IfOk result (λ ack. column row.now at ≡ Int (pos (ack_number ack))) }
-    ensures kind { IfErr result (λ e. is_of_read e ≡ true) }
 {
     let number = number_at(row, at)?;
     if number > 15 {
-        return Err(StoreFault::Damaged);
+        return Err(ReadFault::Damaged);
     }
     Ok(Ack {
         acceptance: number >= 8,
@@ -65,17 +56,13 @@ fn ack_at(row: &Row, at: usize) -> Result<Ack, StoreFault>
 }
 
 /// How the rehearsal spacecraft will behave, by its word.
-fn outcome_at(row: &Row, at: usize) -> Result<Outcome, StoreFault>
+fn outcome_at(row: &Row, at: usize) -> Result<Outcome, ReadFault>
     ensures same { IfOk result (λ outcome. (was : SomeOutcome) → IsOutcome was → column row.now at ≡ Text (outcome_word was) → outcome ≡ was) }
     ensures reads { IfOk result (λ outcome. column row.now at ≡ Text (outcome_word outcome)) }
     ensures told { IfOk result (λ outcome. IsOutcome outcome) }
-    ensures kind { IfErr result (λ e. is_of_read e ≡ true) }
 {
     let text = text_at(row, at)?;
-    match outcome(text.as_bytes()) {
-        Some(outcome) => Ok(outcome),
-        None => Err(StoreFault::Damaged),
-    }
+    outcome(text.as_bytes()).ok_or(ReadFault::Damaged)
 }
 
 /// The line that has to be completed before, none by 0.
@@ -86,11 +73,10 @@ fn line_before(prior: u32) -> Option<u32>
 }
 
 /// The row of a stack that a request was loaded with, in the columns 11 to 13.
-fn origin_in(row: &Row) -> Result<Option<Origin>, StoreFault>
+fn origin_in(row: &Row) -> Result<Option<Origin>, ReadFault>
     ensures same { IfOk result (λ origin. (was : Was) → IsToldRequest was → row.now ≡ request_given was → origin ≡ was.request.origin) }
     ensures reads { IfOk result (λ origin. (column row.now 11 ≡ Text (stack_of origin)) × (column row.now 12 ≡ Int (pos (line_of origin))) × (column row.now 13 ≡ Int (pos (prior_of origin)))) }
     ensures told { IfOk result (λ origin. IfSome origin IsToldOrigin) }
-    ensures kind { IfErr result (λ e. is_of_read e ≡ true) }
 {
     let stack = second_at(row, 11)?;
     let line = number_at(row, 12)?;
@@ -105,18 +91,17 @@ fn origin_in(row: &Row) -> Result<Option<Origin>, StoreFault>
             if line == 0 && prior == 0 {
                 Ok(None)
             } else {
-                Err(StoreFault::Damaged)
+                Err(ReadFault::Damaged)
             }
         }
     }
 }
 
 /// What was asked for, in the columns 1 to 3 and 5 to 9.
-fn body_in(row: &Row) -> Result<Body, StoreFault>
+fn body_in(row: &Row) -> Result<Body, ReadFault>
     ensures same { IfOk result (λ body. (was : Was) → IsToldRequest was → row.now ≡ request_given was → body ≡ was.request.body) }
     ensures reads { IfOk result (λ body. ShowsBody row.now body) }
     ensures told { IfOk result (λ body. IsCommand body.command × IsOutcome body.outcome) }
-    ensures kind { IfErr result (λ e. is_of_read e ≡ true) }
 {
     Ok(Body {
         identity: identity_in(row)?,
@@ -127,11 +112,10 @@ fn body_in(row: &Row) -> Result<Body, StoreFault>
 }
 
 /// The request that a row shows, and where it stands.
-pub(crate) fn read_request(row: &Row) -> Result<PlacedRequest, StoreFault>
+pub(crate) fn read_request(row: &Row) -> Result<PlacedRequest, ReadFault>
     ensures same { IfOk result (λ placed. (was : Was) → IsToldRequest was → row.now ≡ request_given was → placed ≡ was) }
     ensures reads { IfOk result (λ placed. length row.now ≡ 15 → row.now ≡ request_given placed) }
     ensures told { IfOk result (λ placed. IsToldRequest placed) }
-    ensures kind { IfErr result (λ e. is_of_read e ≡ true) }
 {
     let number = request_at(row, 0)?;
     let body = body_in(row)?;

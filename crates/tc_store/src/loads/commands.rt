@@ -1,18 +1,16 @@
 //! The command that a row of the table `request` shows.
-ghost use Rattle.std.specs.Prelude.{◌≡◌, pos, true, IfOk, IfErr, IfSome};
-ghost use Rattle.tc_types.specs.declared.rows.PlacedRequest.{PlacedRequest as Was};
+ghost use Rattle.std.specs.Prelude.{◌≡◌, pos, IfOk, IfSome};
+ghost use Rattle.tc_types.specs.declared.tables.rows.PlacedRequest.{PlacedRequest as Was};
 ghost use Rattle.sqlite_value.specs.declared.value.Value.TheVariants.{Int};
 ghost use Rattle.sqlite_value.specs.Order.{column};
 ghost use Rattle.tc_types.specs.Grammar.{IsCommand};
 ghost use Rattle.tc_store.specs.Requests.{request_given, service_of, subtype_of, target_of, time_of};
 ghost use Rattle.tc_store.specs.Told.{IsToldRequest, ShowsCommand};
-ghost use Rattle.tc_store.specs.Faults.{is_of_read};
 
 use crate::cells::{number_at, signed_at};
-use crate::faults::StoreFault;
+use crate::faults::ReadFault;
 use sqlite::Row;
-use tc_types::numbers::{Moment, Offset, Service, Subtype};
-use tc_types::requests::Command;
+use tc_types::{Command, Moment, Offset, Service, Subtype};
 
 /// A moment, by a number of either sign.
 fn moment_of(seconds: i64) -> Option<Moment>
@@ -97,18 +95,14 @@ fn command_of(service: u32, subtype: u32, target: u32, time: i64) -> Option<Comm
 }
 
 /// The command, in the columns 5 to 8.
-pub(crate) fn command_in(row: &Row) -> Result<Command, StoreFault>
+pub(crate) fn command_in(row: &Row) -> Result<Command, ReadFault>
     ensures same { IfOk result (λ command. (was : Was) → IsToldRequest was → row.now ≡ request_given was → command ≡ was.request.body.command) }
     ensures reads { IfOk result (λ command. (column row.now 5 ≡ Int (pos (service_of command))) × (column row.now 6 ≡ Int (pos (subtype_of command))) × (column row.now 7 ≡ Int (pos (target_of command))) × (column row.now 8 ≡ Int (time_of command))) }
     ensures told { IfOk result (λ command. IsCommand command) }
-    ensures kind { IfErr result (λ e. is_of_read e ≡ true) }
 {
     let service = number_at(row, 5)?;
     let subtype = number_at(row, 6)?;
     let target = number_at(row, 7)?;
     let time = signed_at(row, 8)?;
-    match command_of(service, subtype, target, time) {
-        Some(command) => Ok(command),
-        None => Err(StoreFault::Damaged),
-    }
+    command_of(service, subtype, target, time).ok_or(ReadFault::Damaged)
 }

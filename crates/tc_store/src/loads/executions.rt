@@ -1,5 +1,5 @@
 //! The table `execution`, in order of number.
-ghost use Rattle.std.specs.Prelude.{◌≡◌, true, map, IfOk, IfErr, OnOk, ⊤};
+ghost use Rattle.std.specs.Prelude.{◌≡◌, map, IfOk, ⊤};
 ghost use Rattle.sqlite.specs.State.{HasCleanDisk};
 ghost use Rattle.sqlite.specs.Held.{state};
 ghost use Rattle.tc_types.specs.Tables.{Image};
@@ -7,22 +7,24 @@ ghost use Rattle.tc_store.specs.Executions.{execution_tree, execution_given};
 ghost use Rattle.tc_store.specs.Schema.{schema_1, Holds};
 ghost use Rattle.tc_store.specs.Loads.{all_execution_columns};
 ghost use Rattle.tc_store.specs.Shows.{ShowsRows};
-ghost use Rattle.tc_store.specs.Reads.{Stays, Spares};
-ghost use Rattle.tc_store.specs.Faults.{is_of_read};
+ghost use Rattle.tc_store.specs.Reads.{Reads};
 
 use crate::cells::{moment_at, name_at, number_at};
-use crate::faults::StoreFault;
-use crate::loads::rows::{Loads, read_all, rows_of};
+use crate::faults::ReadFault;
+use crate::loads::table_rows::{Loads, read_all, rows_of};
 use sqlite::{Alter, Connection, Row};
 use std::alloc::Global;
-use tc_types::rows::BegunExecution;
+use tc_types::BegunExecution;
+
+/// The text that reads them all.
+const ALL: &str = "SELECT num, procedure, person, moment FROM execution ORDER BY num";
 
 impl Loads for BegunExecution {
     ghost shown = { execution_given };
 
     ghost is_told = { λ _. ⊤ };
 
-    fn read(row: &Row) -> Result<BegunExecution, StoreFault> {
+    fn read(row: &Row) -> Result<BegunExecution, ReadFault> {
         Ok(BegunExecution {
             execution: number_at(row, 0)?,
             procedure: name_at(row, 1)?,
@@ -36,17 +38,10 @@ impl Loads for BegunExecution {
 pub(crate) fn load_executions<S: Alter>(
     conn: &mut Connection<S>,
     alloc: Global,
-) -> Result<Vec<BegunExecution>, StoreFault>
+) -> Result<Vec<BegunExecution>, ReadFault>
     ensures rows { HasCleanDisk (state S.Store conn.new) → IfOk result (λ found. (image : Image) → Holds (state S.Store conn.old).now image → found.items ≡ image.executions) }
-    ensures shown { HasCleanDisk (state S.Store conn.new) → IfOk result (λ found. (state S.Store conn.old).now.schema ≡ schema_1 → ShowsRows ((state S.Store conn.old).now.trees execution_tree) all_execution_columns (map execution_given found.items)) }
-    ensures same { HasCleanDisk (state S.Store conn.new) → OnOk result (Stays S.Store conn.old conn.new) }
-    ensures left { Spares S.Store conn.old conn.new }
-    ensures kind { IfErr result (λ e. is_of_read e ≡ true) }
+    ensures reads { Reads S.Store (λ db found. db.schema ≡ schema_1 → ShowsRows (db.trees execution_tree) all_execution_columns (map execution_given found.items)) conn.old conn.new result }
 {
-    let rows = rows_of(
-        conn,
-        "SELECT num, procedure, person, moment FROM execution ORDER BY num",
-        &[],
-    )?;
+    let rows = rows_of(conn, ALL, &[])?;
     read_all(alloc, rows.as_slice())
 }

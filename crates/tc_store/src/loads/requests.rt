@@ -1,5 +1,5 @@
 //! The table `request`, in order of number.
-ghost use Rattle.std.specs.Prelude.{◌≡◌, true, map, IfOk, IfErr, OnOk};
+ghost use Rattle.std.specs.Prelude.{◌≡◌, map, IfOk};
 ghost use Rattle.std.specs.List.{AllByRecursion};
 ghost use Rattle.sqlite.specs.State.{HasCleanDisk};
 ghost use Rattle.sqlite.specs.Held.{state};
@@ -9,22 +9,25 @@ ghost use Rattle.tc_store.specs.Schema.{schema_1, Holds};
 ghost use Rattle.tc_store.specs.Told.{IsTold, IsToldRequest};
 ghost use Rattle.tc_store.specs.Loads.{all_request_columns};
 ghost use Rattle.tc_store.specs.Shows.{ShowsRows};
-ghost use Rattle.tc_store.specs.Reads.{Stays, Spares};
-ghost use Rattle.tc_store.specs.Faults.{is_of_read};
+ghost use Rattle.tc_store.specs.Reads.{Reads};
 
-use crate::faults::StoreFault;
+use crate::faults::ReadFault;
 use crate::loads::bodies::read_request;
-use crate::loads::rows::{Loads, read_all, rows_of};
+use crate::loads::table_rows::{Loads, read_all, rows_of};
 use sqlite::{Alter, Connection, Row};
 use std::alloc::Global;
-use tc_types::rows::PlacedRequest;
+use tc_types::PlacedRequest;
+
+/// The text that reads them all.
+const ALL: &str =
+    "SELECT num, apid, cnt, ack, critical, service, subtype, target, at_time, outcome, author, stack, line, prior, place FROM request ORDER BY num";
 
 impl Loads for PlacedRequest {
     ghost shown = { request_given };
 
     ghost is_told = { IsToldRequest };
 
-    fn read(row: &Row) -> Result<PlacedRequest, StoreFault> {
+    fn read(row: &Row) -> Result<PlacedRequest, ReadFault> {
         read_request(row)
     }
 }
@@ -33,18 +36,11 @@ impl Loads for PlacedRequest {
 pub(crate) fn load_requests<S: Alter>(
     conn: &mut Connection<S>,
     alloc: Global,
-) -> Result<Vec<PlacedRequest>, StoreFault>
+) -> Result<Vec<PlacedRequest>, ReadFault>
     ensures rows { HasCleanDisk (state S.Store conn.new) → IfOk result (λ found. (image : Image) → IsTold image → Holds (state S.Store conn.old).now image → found.items ≡ image.requests) }
-    ensures shown { HasCleanDisk (state S.Store conn.new) → IfOk result (λ found. (state S.Store conn.old).now.schema ≡ schema_1 → ShowsRows ((state S.Store conn.old).now.trees request_tree) all_request_columns (map request_given found.items)) }
+    ensures reads { Reads S.Store (λ db found. db.schema ≡ schema_1 → ShowsRows (db.trees request_tree) all_request_columns (map request_given found.items)) conn.old conn.new result }
     ensures told { IfOk result (λ found. AllByRecursion IsToldRequest found.items) }
-    ensures same { HasCleanDisk (state S.Store conn.new) → OnOk result (Stays S.Store conn.old conn.new) }
-    ensures left { Spares S.Store conn.old conn.new }
-    ensures kind { IfErr result (λ e. is_of_read e ≡ true) }
 {
-    let rows = rows_of(
-        conn,
-        "SELECT num, apid, cnt, ack, critical, service, subtype, target, at_time, outcome, author, stack, line, prior, place FROM request ORDER BY num",
-        &[],
-    )?;
+    let rows = rows_of(conn, ALL, &[])?;
     read_all(alloc, rows.as_slice())
 }

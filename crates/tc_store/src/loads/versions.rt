@@ -1,26 +1,25 @@
 //! The table `meta`: the version of the schema.
-ghost use Rattle.std.specs.Prelude.{◌≡◌, pos, true, codes, length, [], ◌∷◌, IfOk, IfErr, OnOk};
+ghost use Rattle.std.specs.Prelude.{◌≡◌, pos, true, codes, length, [], ◌∷◌, IfOk};
 ghost use Rattle.std.specs.List.{AllByRecursion};
 ghost use Rattle.sqlite_value.specs.declared.value.Value.TheVariants.{Int, Text};
 ghost use Rattle.sqlite_value.specs.Order.{Row as Values, column};
-ghost use Rattle.sqlite.specs.State.{HasCleanDisk};
-ghost use Rattle.sqlite.specs.Held.{state};
 ghost use Rattle.tc_store.specs.Meta.{meta_tree, version_shown};
 ghost use Rattle.tc_store.specs.Loads.{all_version_columns};
 ghost use Rattle.tc_store.specs.Schema.{schema_1};
 ghost use Rattle.tc_store.specs.Shows.{ShowsRows};
-ghost use Rattle.tc_store.specs.Reads.{Stays, Spares};
-ghost use Rattle.tc_store.specs.Faults.{is_of_read};
+ghost use Rattle.tc_store.specs.Reads.{Reads};
 
 use crate::cells::{number_at, text_at};
-use crate::faults::StoreFault;
-use crate::loads::rows::rows_of;
+use crate::faults::ReadFault;
+use crate::loads::table_rows::rows_of;
 use sqlite::{Alter, Connection, Row};
 
+/// The text that reads them all.
+const ALL: &str = "SELECT name, value FROM meta ORDER BY rowid";
+
 /// Whether a row names version 1 of the schema.
-fn is_version(row: &Row) -> Result<bool, StoreFault>
+fn is_version(row: &Row) -> Result<bool, ReadFault>
     ensures told { IfOk result (λ told. told ≡ true → (column row.now 0 ≡ Text (codes "schema")) × (column row.now 1 ≡ Int (pos 1))) }
-    ensures kind { IfErr result (λ e. is_of_read e ≡ true) }
 {
     let name = text_at(row, 0)?;
     let number = number_at(row, 1)?;
@@ -28,9 +27,8 @@ fn is_version(row: &Row) -> Result<bool, StoreFault>
 }
 
 /// Whether these rows are the one that names version 1 of the schema.
-fn are_version(rows: &[Row]) -> Result<bool, StoreFault>
+fn are_version(rows: &[Row]) -> Result<bool, ReadFault>
     ensures told { IfOk result (λ told. told ≡ true → AllByRecursion (λ (row : Values). length row ≡ 2) rows.now → rows.now ≡ version_shown ∷ []) }
-    ensures kind { IfErr result (λ e. is_of_read e ≡ true) }
 {
     let is_one = rows.len() == 1;
     if is_one {
@@ -40,16 +38,13 @@ fn are_version(rows: &[Row]) -> Result<bool, StoreFault>
 }
 
 /// Finds that the one row of `meta` names version 1 of the schema, and fails where it does not. The tables stay.
-pub(crate) fn check_version<S: Alter>(conn: &mut Connection<S>) -> Result<(), StoreFault>
-    ensures shown { HasCleanDisk (state S.Store conn.new) → OnOk result ((state S.Store conn.old).now.schema ≡ schema_1 → ShowsRows ((state S.Store conn.old).now.trees meta_tree) all_version_columns (version_shown ∷ [])) }
-    ensures same { HasCleanDisk (state S.Store conn.new) → OnOk result (Stays S.Store conn.old conn.new) }
-    ensures left { Spares S.Store conn.old conn.new }
-    ensures kind { IfErr result (λ e. is_of_read e ≡ true) }
+pub(crate) fn check_version<S: Alter>(conn: &mut Connection<S>) -> Result<(), ReadFault>
+    ensures reads { Reads S.Store (λ db _. db.schema ≡ schema_1 → ShowsRows (db.trees meta_tree) all_version_columns (version_shown ∷ [])) conn.old conn.new result }
 {
-    let rows = rows_of(conn, "SELECT name, value FROM meta ORDER BY rowid", &[])?;
+    let rows = rows_of(conn, ALL, &[])?;
     if are_version(rows.as_slice())? {
         Ok(())
     } else {
-        Err(StoreFault::Damaged)
+        Err(ReadFault::Damaged)
     }
 }

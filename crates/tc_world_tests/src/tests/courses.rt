@@ -7,13 +7,10 @@ use super::{UP, answers, flies, identity, lists, number, offer, skips};
 use crate::links::{Link, Written};
 use std::process::Abort;
 use std::test::Fail;
-use tc_farm::farms::FarmView;
+use tc_farm::FarmView;
 use tc_fop::signals::FopState;
-use tc_types::directives::Directive;
-use tc_types::numbers::RequestNumber;
-use tc_types::refusals::Refusal;
-use tc_types::reports::{Telemetry, Verification};
-use tc_world::events::Event;
+use tc_types::{Directive, Refusal, RequestNumber, Telemetry, Verification};
+use tc_world::Event;
 
 /// A linear congruential generator.
 #[derive(Drop)]

@@ -6,9 +6,9 @@ use crate::links::Link;
 use std::alloc::Global;
 use std::process::Abort;
 use std::test::Fail;
-use tc_farm::farms::FarmState;
+use tc_farm::FarmState;
 use tc_fop::signals::{AlertKind, FopState};
-use tc_types::directives::Directive;
+use tc_types::Directive;
 
 /// An act, and the alert that it tells, where it tells one.
 type Step = (Act, Option<AlertKind>);

@@ -4,13 +4,11 @@ use crate::links::Link;
 use std::alloc::Global;
 use std::process::Abort;
 use std::test::Fail;
-use tc_farm::clcws::Clcw;
-use tc_farm::farms::{FarmState, Verdict};
+use tc_farm::{Clcw, FarmState, FrameVerdict};
 use tc_fop::signals;
 use tc_fop::signals::{AlertKind, FopState};
-use tc_types::directives::Directive;
-use tc_types::reports::Report;
-use tc_world::events::Indication;
+use tc_types::{Directive, Report};
+use tc_world::LinkIndication;
 
 /// What the link tells, a request by its number.
 #[derive(Clone, Copy)]
@@ -154,20 +152,20 @@ const GOES_ON: &[Step] = &[
 ];
 
 /// The FOP tells this.
-fn fop(told: signals::Indication) -> Indication {
-    Indication::Fop(told)
+fn fop(told: signals::Indication) -> LinkIndication {
+    LinkIndication::Fop(told)
 }
 
 /// The FARM accepted request `n`.
-fn accepted(rt: &impl Abort, n: u32) -> Indication {
-    Indication::Farm(Verdict::Accepted {
+fn accepted(rt: &impl Abort, n: u32) -> LinkIndication {
+    LinkIndication::Farm(FrameVerdict::Accepted {
         request: number(rt, n),
         body: body(rt, n),
     })
 }
 
 /// A control word on channel 3 with report value 0 comes down; its bits have to be these.
-fn word(rt: &impl Abort, lockout: bool, farm_b: u8, bits: u32) -> Indication {
+fn word(rt: &impl Abort, lockout: bool, farm_b: u8, bits: u32) -> LinkIndication {
     let clcw = Clcw {
         vc: 3,
         lockout,
@@ -177,26 +175,30 @@ fn word(rt: &impl Abort, lockout: bool, farm_b: u8, bits: u32) -> Indication {
         report: 0,
     };
     assert!(rt; clcw.word() == bits, "not {bits:x}");
-    Indication::Received(Report::Word(bits))
+    LinkIndication::Received(Report::Word(bits))
 }
 
 /// What the link tells.
-fn indication(rt: &impl Abort, told: &Told) -> Indication {
+fn indication(rt: &impl Abort, told: &Told) -> LinkIndication {
     match *told {
         Told::Sent(n) => fop(signals::Indication::Sent(number(rt, n))),
         Told::InDoubt(n) => fop(signals::Indication::InDoubt(number(rt, n))),
         Told::Alert(kind) => fop(signals::Indication::Alert(kind)),
         Told::Started => fop(signals::Indication::Started),
-        Told::Lost => Indication::Lost,
-        Told::Discarded => Indication::Farm(Verdict::Discarded),
-        Told::Control => Indication::Farm(Verdict::Control),
+        Told::Lost => LinkIndication::Lost,
+        Told::Discarded => LinkIndication::Farm(FrameVerdict::Discarded),
+        Told::Control => LinkIndication::Farm(FrameVerdict::Control),
         Told::Accepted(n) => accepted(rt, n),
         Told::Word(lockout, farm_b, bits) => word(rt, lockout, farm_b, bits),
     }
 }
 
 /// Puts what the link tells into one list.
-fn add_told(rt: &impl Abort, all: &mut Vec<Indication, Global>, told: &[Told]) -> Result<(), Fail> {
+fn add_told(
+    rt: &impl Abort,
+    all: &mut Vec<LinkIndication, Global>,
+    told: &[Told],
+) -> Result<(), Fail> {
     for one in told {
         all.push(indication(rt, one))?;
     }

@@ -4,7 +4,7 @@ use crate::links::Link;
 use linked_list_allocator::LocalHeap;
 use std::process::Abort;
 use std::test::Fail;
-use tc_types::refusals::Refusal;
+use tc_types::Refusal;
 
 /// Why this act is refused, where it is.
 type Tried = (Act, Option<Refusal>);

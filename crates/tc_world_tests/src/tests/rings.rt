@@ -5,14 +5,8 @@ use linked_list_allocator::LocalHeap;
 use std::alloc::{Allocator, Global};
 use std::process::Abort;
 use std::test::Fail;
-use tc_types::frames::Frame;
-use tc_types::refusals::Refusal;
-use tc_types::reports::Report;
-use tc_world::carriers::Carrier;
-use tc_world::link_carriers::LinkCarrier;
-use tc_world::list_carriers::ListCarrier;
-use tc_world::ring_carriers::RingCarrier;
-use tc_world::worlds::World;
+use tc_types::{Frame, Refusal, Report};
+use tc_world::{Carrier, LinkCarrier, ListCarrier, RingCarrier, World};
 
 /// The sizes that are tried.
 pub const SIZES: [u32; 5] = [1, 2, 3, 8, 300];

@@ -5,9 +5,9 @@ use linked_list_allocator::LocalHeap;
 use std::alloc::Global;
 use std::process::Abort;
 use std::test::Fail;
-use tc_fop::views::FopView;
-use tc_types::refusals::Refusal;
-use tc_world::events::Event;
+use tc_fop::FopView;
+use tc_types::Refusal;
+use tc_world::Event;
 
 /// The first 300 events of 300 requests: a start, 256 offers, and 43 frames that come up.
 fn first_events(rt: &impl Abort, events: &mut Vec<Event, Global>) -> Result<(), Fail> {

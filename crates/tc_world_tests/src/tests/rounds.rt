@@ -8,9 +8,9 @@ use crate::links::Link;
 use std::alloc::Global;
 use std::process::Abort;
 use std::test::Fail;
-use tc_farm::farms::FarmState;
-use tc_types::refusals::Refusal;
-use tc_world::events::Event;
+use tc_farm::FarmState;
+use tc_types::Refusal;
+use tc_world::Event;
 
 /// A control word comes down.
 const WORD: &[Act] = &[Act::Clcw, Act::Downlink];

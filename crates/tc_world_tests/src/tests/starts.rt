@@ -3,7 +3,7 @@ use super::{Act, CHECK, START, STOP, Scenario, UNLOCK, acts, flies, over_lists};
 use crate::links::Link;
 use std::process::Abort;
 use std::test::Fail;
-use tc_types::directives::Directive;
+use tc_types::Directive;
 
 /// A session that leaves a frame in flight.
 const LEAVES_A_FRAME: &[Act] = &[START, Act::Offer(1), STOP];

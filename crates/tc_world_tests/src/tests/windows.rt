@@ -6,12 +6,11 @@ use super::{UP, flies, lists, offer, skips};
 use crate::links::Link;
 use std::process::Abort;
 use std::test::Fail;
-use tc_farm::farms::{FarmState, FarmView};
+use tc_farm::{FarmState, FarmView};
+use tc_fop::FopView;
 use tc_fop::signals::{AlertKind, FopState};
-use tc_fop::views::FopView;
-use tc_types::directives::Directive;
-use tc_types::refusals::Refusal;
-use tc_world::events::Event;
+use tc_types::{Directive, Refusal};
+use tc_world::Event;
 
 /// Half of the widest window.
 const WIDEST: u8 = 127;

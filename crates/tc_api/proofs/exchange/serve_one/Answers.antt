@@ -3,14 +3,12 @@ use Rattle.tc_api.proofs.KeptLemmas.{read_keeps}
 use Rattle.tc_api.proofs.exchange.serve_one.Goals as goal
 
 pub returns-clause-only : goal.returns-clause-only
-returns-clause-only g c = ends_told g.S.Store c.serve_first-served.result _ _ _ _ _ _ _ _ c.serve_first-served.ensures.failed
+returns-clause-only g c = ends_told g.S.Store c.exchange-done.result _ _ _ _ _ _ c.exchange-done.ensures
 
 pub returns-clause-kept : goal.returns-clause-kept
-returns-clause-kept g c =
-    let read = exchange_read g.S.Store c.serve_first-served.result _ _ _ _ _ _ _ _ c.serve_first-served.ensures.answered c.serve_first-served.ensures.failed in
-    read_keeps g.S.Store _ _ read.0 read.1
+returns-clause-kept g c = let read = exchange_read g.S.Store c.exchange-done.result _ _ _ _ _ _ c.exchange-done.ensures in read_keeps g.S.Store _ _ read.0 read.1
 
 pub returns-clause-step : goal.returns-clause-step
 returns-clause-step g c =
-    let read = exchange_read g.S.Store c.serve_first-served.result _ _ _ _ _ _ _ _ c.serve_first-served.ensures.answered c.serve_first-served.ensures.failed in
-    (read.0, record { served = read.1; opened = c.serve_first-served.ensures.opened; told = c.opened-opened.ensures.told })
+    let read = exchange_read g.S.Store c.exchange-done.result _ _ _ _ _ _ c.exchange-done.ensures in
+    (read.0, record { served = read.1; opened = c.exchange-done.ensures.opened; told = c.opened-opened.ensures.told })

@@ -1,7 +1,7 @@
 use Rattle.tc_api.proofs.serving.serve_query.Goals as goal
 
-pub returns-clause-served : goal.returns-clause-served
-returns-clause-served g c =
-    let told = c.answer_query.ensures.answered in
-    let made = c.answer_served.ensures told.0 told.2 in
-    (told.0, (told.1, made.0), made.1)
+pub returns : goal.returns
+returns g c =
+    let told = c.answer_query.ensures.replied in
+    let made = c.answer_served.ensures told.reply told.says in
+    record { reply = told.reply; makes = (told.made, made.0); text = made.1; opened = told.opened }

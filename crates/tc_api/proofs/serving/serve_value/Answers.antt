@@ -1,14 +1,15 @@
-use Rattle.std.proofs.Common.{ap}
+use Rattle.std.proofs.Common.{ap, refl}
 use Rattle.tc_desk.specs.Replies.{refusal_reply}
 use Rattle.tc_api.specs.Loads.{load_outcome, load_seen}
 use Rattle.tc_api.proofs.ServingLemmas.{load_refused, load_served}
 use Rattle.tc_api.proofs.serving.serve_value.Goals as goal
 
-pub returns-in-Ok-clause-served : goal.returns-in-Ok-clause-served
-returns-in-Ok-clause-served g c =
-    let told = c.answer_loading.ensures.answered in
-    let made = c.answer_served.ensures told.0 told.2 in
-    (told.0, load_served g.S.Store _ _ _ _ (load_seen c.in-Ok.post) _ _ _ (ap load_outcome c.in-Ok.is) c.judge_load_value.ensures c.as_bytes-text.ensures.value told.1 made.0, made.1)
+pub returns-in-Ok : goal.returns-in-Ok
+returns-in-Ok g c =
+    let told = c.answer_loading.ensures.replied in
+    let made = c.answer_served.ensures told.reply told.says in
+    record { reply = told.reply; makes = load_served g.S.Store _ _ _ _ (load_seen c.in-Ok.post) _ _ _ (ap load_outcome c.in-Ok.is) c.judge_load_value.ensures c.as_bytes-text.ensures.value told.made made.0; text = made.1; opened = told.opened }
 
-pub returns-in-Err-clause-served : goal.returns-in-Err-clause-served
-returns-in-Err-clause-served g c = (refusal_reply c.in-Err.refusal, load_refused g.S.Store _ _ _ _ _ _ (ap load_outcome c.in-Err.is) c.judge_load_value.ensures c.refused.ensures.0, c.refused.ensures.1)
+pub returns-in-Err : goal.returns-in-Err
+returns-in-Err g c =
+    record { reply = refusal_reply c.in-Err.refusal; makes = load_refused g.S.Store _ _ _ _ _ _ (ap load_outcome c.in-Err.is) c.judge_load_value.ensures c.refused.ensures.0; text = c.refused.ensures.1; opened = refl }

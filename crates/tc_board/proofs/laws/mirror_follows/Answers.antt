@@ -1,6 +1,6 @@
 -- Step by step, and in all runs.
 use Rattle.std.proofs.Common.{◌≡◌, List, refl, sym, ◌∙◌, ap, subst}
-use Rattle.tc_types.specs.declared.reports.Telemetry.{Telemetry}
+use Rattle.tc_types.specs.declared.link.reports.Telemetry.{Telemetry}
 use Rattle.tc_board.specs.Board.{BoardState, new_board}
 use Rattle.tc_board.specs.Mirror.{mirror_of}
 use Rattle.tc_board.specs.Follows.{Roll, IsBoardOf, Event, Accept, Work, Clock, IsEventOf, Makes, read_all, Runs, Starts, Goes}

@@ -3,5 +3,5 @@ use Rattle.std.proofs.Common.{rules}
 use Rattle.std.proofs.lemmas.Fn.{filter_same}
 use Rattle.tc_board.proofs.schedules.take_out.Goals as goal
 
-pub returns-clause-items : goal.returns-clause-items
-returns-clause-items g c = filter_same _ _ _ (λ x b f' k. search rules) _ _ c.retain.ensures.filtered
+pub returns : goal.returns
+returns g c = record { items = filter_same _ _ _ (λ x b f' k. search rules) _ _ c.retain.ensures.filtered; room = search rules }

@@ -7,7 +7,7 @@ use Rattle.std.specs.String.{string_bytes}
 use Rattle.std.proofs.KnownBytes.{Appends-nil, Appends-trans}
 use Rattle.tc_types.specs.Counts.{inner_of}
 use Rattle.tc_front.specs.Write.{IsCutShort}
-use Rattle.tc_room.proofs.ReportLemmas.{leaves_then}
+use Rattle.tc_room.proofs.ReportLemmas.{leaves_then, reads_then}
 use Rattle.tc_cli.proofs.ClosedLemmas.{end_cut, head_cut, on_err, on_err_then, on_ok, rows_cut, whole}
 use Rattle.tc_cli.proofs.closed.closed_report.Goals as goal
 
@@ -15,14 +15,14 @@ pub returns-clause-told : goal.returns-clause-told
 returns-clause-told g c clean =
     IfOk-weaker c.put-2.result _ _ (λ done wrote image held.
     let mid = c.in_ok-write_pages.ensures.reads.clean clean in
-    let head = c.in_ok-head.ensures.head mid image held in
-    let rows = c.in_ok-write_pages.ensures.told clean image (c.in_ok-head.ensures.reads.holds mid image held) in
-    let first = subst (λ bytes. Appends (g.W.Write.contents (inner_of c.args.writer.now)) (g.W.Write.contents (inner_of c.put.new.writer)) bytes) c.as_bytes.ensures.value c.in_ok-put.ensures.written in
+    let head = c.in_ok-head.ensures.head.told mid image held in
+    let rows = c.in_ok-write_pages.ensures.told clean image (c.in_ok-head.ensures.head.reads.holds mid image held) in
+    let first = subst (λ bytes. Appends (g.W.Write.contents (inner_of c.args.writer.now)) (g.W.Write.contents (inner_of c.put.new.writer)) bytes) c.as_bytes.ensures.value c.in_ok-put.ensures.writes.written in
     let last = subst (λ bytes. Appends (g.W.Write.contents (inner_of c.write_pages.new.writer)) (g.W.Write.contents (inner_of c.put-2.new.writer)) bytes) c.as_bytes-2.ensures.value wrote in (
       (string_bytes c.in_ok-head.head ++ rows.0) ++ codes "END\n",
       whole image c.args.from c.args.to (string_bytes c.in_ok-head.head) rows.0 head rows.1,
       Appends-trans _ _ _ (string_bytes c.in_ok-head.head ++ rows.0) (codes "END\n") (Appends-trans _ _ _ (string_bytes c.in_ok-head.head) rows.0 first rows.2) last,
-    )) c.put-2.ensures.written
+    )) c.put-2.ensures.writes.written
 
 -- ---- where it fails
 
@@ -31,35 +31,38 @@ returns-in_err-head-clause-cut g c clean = on_err c.from_residual.result _ (λ i
 
 pub returns-in_err-put-clause-cut : goal.returns-in_err-put-clause-cut
 returns-in_err-put-clause-cut g c clean = on_err c.from_residual-in_err-put.result _ (λ image held.
-    let cut = c.in_err-put.ensures.cut in
-    (cut.0, head_cut image c.args.from c.args.to (string_bytes c.in_ok-head.head) cut.0 (c.in_ok-head.ensures.head clean image held) (subst (λ bytes. IsCutShort bytes cut.0) c.as_bytes.ensures.value cut.1), cut.2))
+    let cut = c.in_err-put.ensures.writes.cut in
+    (cut.0, head_cut image c.args.from c.args.to (string_bytes c.in_ok-head.head) cut.0 (c.in_ok-head.ensures.head.told clean image held) (subst (λ bytes. IsCutShort bytes cut.0) c.as_bytes.ensures.value cut.1), cut.2))
 
 pub returns-in_err-write_pages-clause-cut : goal.returns-in_err-write_pages-clause-cut
 returns-in_err-write_pages-clause-cut g c clean = on_err c.from_residual-in_err-write_pages.result _ (λ image held.
     let mid = c.in_err-write_pages.ensures.left.clean clean in
     let head = string_bytes c.in_ok-head.head in
-    let rows = c.in_err-write_pages.ensures.cut clean image (c.in_ok-head.ensures.reads.holds mid image held) in
-    let first = subst (λ bytes. Appends (g.W.Write.contents (inner_of c.args.writer.now)) (g.W.Write.contents (inner_of c.put.new.writer)) bytes) c.as_bytes.ensures.value c.in_ok-put.ensures.written in
-    (head ++ rows.0, rows_cut image c.args.from c.args.to head rows.0 (c.in_ok-head.ensures.head mid image held) rows.1, Appends-trans _ _ _ head rows.0 first rows.2))
+    let rows = c.in_err-write_pages.ensures.cut clean image (c.in_ok-head.ensures.head.reads.holds mid image held) in
+    let first = subst (λ bytes. Appends (g.W.Write.contents (inner_of c.args.writer.now)) (g.W.Write.contents (inner_of c.put.new.writer)) bytes) c.as_bytes.ensures.value c.in_ok-put.ensures.writes.written in
+    (head ++ rows.0, rows_cut image c.args.from c.args.to head rows.0 (c.in_ok-head.ensures.head.told mid image held) rows.1, Appends-trans _ _ _ head rows.0 first rows.2))
 
 pub returns-clause-cut : goal.returns-clause-cut
-returns-clause-cut g c clean = on_err_then c.put-2.result _ _ c.put-2.ensures.cut (λ last image held.
+returns-clause-cut g c clean = on_err_then c.put-2.result _ _ c.put-2.ensures.writes.cut (λ last image held.
     let mid = c.in_ok-write_pages.ensures.reads.clean clean in
     let head = string_bytes c.in_ok-head.head in
-    let rows = c.in_ok-write_pages.ensures.told clean image (c.in_ok-head.ensures.reads.holds mid image held) in
-    let first = subst (λ bytes. Appends (g.W.Write.contents (inner_of c.args.writer.now)) (g.W.Write.contents (inner_of c.put.new.writer)) bytes) c.as_bytes.ensures.value c.in_ok-put.ensures.written in (
+    let rows = c.in_ok-write_pages.ensures.told clean image (c.in_ok-head.ensures.head.reads.holds mid image held) in
+    let first = subst (λ bytes. Appends (g.W.Write.contents (inner_of c.args.writer.now)) (g.W.Write.contents (inner_of c.put.new.writer)) bytes) c.as_bytes.ensures.value c.in_ok-put.ensures.writes.written in (
       (head ++ rows.0) ++ last.0,
-      end_cut image c.args.from c.args.to head rows.0 last.0 (c.in_ok-head.ensures.head mid image held) rows.1 (subst (λ bytes. IsCutShort bytes last.0) c.as_bytes-2.ensures.value last.1),
+      end_cut image c.args.from c.args.to head rows.0 last.0 (c.in_ok-head.ensures.head.told mid image held) rows.1 (subst (λ bytes. IsCutShort bytes last.0) c.as_bytes-2.ensures.value last.1),
       Appends-trans _ _ _ (head ++ rows.0) last.0 (Appends-trans _ _ _ head rows.0 first rows.2) last.2,
     ))
 
 -- ---- what it leaves, and what it tells of
 
+pub returns-clause-reads : goal.returns-clause-reads
+returns-clause-reads g c = on_ok c.put-2.result _ (reads_then g.S.Store c.args.tables.now c.closed_head.new.tables c.write_pages.new.tables c.in_ok-head.ensures.head.reads c.in_ok-write_pages.ensures.reads)
+
 pub returns-in_err-write_pages-clause-left : goal.returns-in_err-write_pages-clause-left
-returns-in_err-write_pages-clause-left g c = leaves_then g.S.Store c.args.tables.now c.closed_head.new.tables c.write_pages.new.tables c.in_ok-head.ensures.reads c.in_ok-head.ensures.left c.in_err-write_pages.ensures.left
+returns-in_err-write_pages-clause-left g c = leaves_then g.S.Store c.args.tables.now c.closed_head.new.tables c.write_pages.new.tables c.in_ok-head.ensures.head.reads c.in_ok-head.ensures.head.left c.in_err-write_pages.ensures.left
 
 pub returns-clause-left : goal.returns-clause-left
-returns-clause-left g c = leaves_then g.S.Store c.args.tables.now c.closed_head.new.tables c.write_pages.new.tables c.in_ok-head.ensures.reads c.in_ok-head.ensures.left c.in_ok-write_pages.ensures.left
+returns-clause-left g c = leaves_then g.S.Store c.args.tables.now c.closed_head.new.tables c.write_pages.new.tables c.in_ok-head.ensures.head.reads c.in_ok-head.ensures.head.left c.in_ok-write_pages.ensures.left
 
 pub returns-clause-judged : goal.returns-clause-judged
 returns-clause-judged g c clean = on_ok c.put-2.result _ (c.in_ok-head.ensures.judged (c.in_ok-write_pages.ensures.reads.clean clean))

@@ -4,7 +4,7 @@ use Rattle.std.specs.Io.KnownBytes.{Appends}
 use Rattle.std.specs.String.{string_bytes}
 use Rattle.std.proofs.KnownBytes.{Appends-nil, Appends-trans}
 use Rattle.tc_types.specs.Counts.{inner_of}
-use Rattle.tc_types.specs.declared.moves.Move.{Move}
+use Rattle.tc_types.specs.declared.history.moves.Move.{Move}
 use Rattle.tc_types.specs.History.{shift_rows}
 use Rattle.tc_report.specs.ShiftReport.{AreAdded}
 use Rattle.tc_report.proofs.RowLemmas.{none_added}
@@ -14,36 +14,36 @@ use Rattle.tc_cli.proofs.ClosedLemmas.{ends_unread, on_err, page_added, page_cut
 use Rattle.tc_cli.proofs.closed.write_pages.Goals as goal
 
 pub pages-init : goal.pages-init
-pages-init g c = (reads_same g.S.Store c.args.tables.now, leaves_same g.S.Store c.args.tables.now, (λ clean image held. ([], [], refl, none_added [], Appends-nil (g.W.Write.contents (inner_of c.args.writer.now)))), c.requires)
+pages-init g c = (reads_same g.S.Store c.args.tables.now, leaves_same g.S.Store c.args.tables.now, (λ clean image held. ([], [], refl, none_added [], Appends-nil (g.W.Write.contents (inner_of c.args.writer.now)))), (λ none. none))
 
 pub pages-preserved : goal.pages-preserved
 pages-preserved g c =
-    let reads = c.in_ok-page.ensures.reads in (
+    let reads = c.in_ok-page.ensures.page.reads in (
       reads_then g.S.Store c.args.tables.now c.pages.tables c.closed_page.new.tables c.pages.invariant.0 reads,
-      leaves_then g.S.Store c.args.tables.now c.pages.tables c.closed_page.new.tables c.pages.invariant.0 c.pages.invariant.1 c.in_ok-page.ensures.left,
+      leaves_then g.S.Store c.args.tables.now c.pages.tables c.closed_page.new.tables c.pages.invariant.0 c.pages.invariant.1 c.in_ok-page.ensures.page.left,
       (λ clean image held.
           let all : List Move = shift_rows c.args.from c.args.to image.moves in
           let was = c.pages.invariant.2 (reads.clean clean) image held in
-          let page = c.in_ok-page.ensures.page clean image (c.pages.invariant.0.holds (reads.clean clean) image held) in
+          let page = c.in_ok-page.ensures.page.told clean image (c.pages.invariant.0.holds (reads.clean clean) image held) in
           let text : List ℕ = string_bytes c.in_ok-page.page.text in
-          let put = subst (λ bytes. Appends (g.W.Write.contents (inner_of c.pages.writer)) (g.W.Write.contents (inner_of c.put.new.writer)) bytes) c.as_bytes.ensures.value c.in_ok-put.ensures.written in (
+          let put = subst (λ bytes. Appends (g.W.Write.contents (inner_of c.pages.writer)) (g.W.Write.contents (inner_of c.put.new.writer)) bytes) c.as_bytes.ensures.value c.in_ok-put.ensures.writes.written in (
             was.0 ++ page.rows,
             was.1 ++ text,
             ap (λ l. (was.0 ++ page.rows) ++ l) (sym (left_behind c.in_ok-page.page.next all c.is_none.result c.is_none.ensures c.if-is_none.false)) ∙ page.goes_on was.0 was.2,
             page_added was.0 page.rows was.1 text was.3 page.added,
             Appends-trans _ _ _ was.1 text was.4 put,
           )),
-      c.in_ok-put.ensures.counted,
+      (λ none. c.in_ok-put.ensures.counted (c.pages.invariant.3 none)),
     )
 
 pub returns-then-is_none-clause-told : goal.returns-then-is_none-clause-told
 returns-then-is_none-clause-told g c clean image held =
     let all : List Move = shift_rows c.args.from c.args.to image.moves in
-    let reads = c.in_ok-page.ensures.reads in
+    let reads = c.in_ok-page.ensures.page.reads in
     let was = c.pages.invariant.2 (reads.clean clean) image held in
-    let page = c.in_ok-page.ensures.page clean image (c.pages.invariant.0.holds (reads.clean clean) image held) in
+    let page = c.in_ok-page.ensures.page.told clean image (c.pages.invariant.0.holds (reads.clean clean) image held) in
     let text : List ℕ = string_bytes c.in_ok-page.page.text in
-    let put = subst (λ bytes. Appends (g.W.Write.contents (inner_of c.pages.writer)) (g.W.Write.contents (inner_of c.put.new.writer)) bytes) c.as_bytes.ensures.value c.in_ok-put.ensures.written in
+    let put = subst (λ bytes. Appends (g.W.Write.contents (inner_of c.pages.writer)) (g.W.Write.contents (inner_of c.put.new.writer)) bytes) c.as_bytes.ensures.value c.in_ok-put.ensures.writes.written in
     let whole : was.0 ++ page.rows ≡ all =
     sym (append-nil (was.0 ++ page.rows)) ∙ ap (λ l. (was.0 ++ page.rows) ++ l) (sym (left_none c.in_ok-page.page.next all c.is_none.result c.is_none.ensures c.if-is_none.true)) ∙ page.goes_on was.0 was.2 in (
       was.1 ++ text,
@@ -58,25 +58,28 @@ returns-in_err-page-clause-fault g c = ends_unread _ _ c.in_err-page.ensures.kin
 
 pub returns-in_err-page-clause-cut : goal.returns-in_err-page-clause-cut
 returns-in_err-page-clause-cut g c clean = on_err c.from_residual.result _ (λ image held.
-    let was = c.pages.invariant.2 (c.in_err-page.ensures.left.clean clean) image held in
+    let was = c.pages.invariant.2 (c.in_err-page.ensures.page.left.clean clean) image held in
     (was.1, rows_written image c.args.from c.args.to was.0 _ was.1 was.2 was.3, was.4))
 
 pub returns-in_err-page-clause-left : goal.returns-in_err-page-clause-left
-returns-in_err-page-clause-left g c = leaves_then g.S.Store c.args.tables.now c.pages.tables c.closed_page.new.tables c.pages.invariant.0 c.pages.invariant.1 c.in_err-page.ensures.left
+returns-in_err-page-clause-left g c = leaves_then g.S.Store c.args.tables.now c.pages.tables c.closed_page.new.tables c.pages.invariant.0 c.pages.invariant.1 c.in_err-page.ensures.page.left
 
 pub returns-in_err-put-clause-left : goal.returns-in_err-put-clause-left
-returns-in_err-put-clause-left g c = leaves_then g.S.Store c.args.tables.now c.pages.tables c.closed_page.new.tables c.pages.invariant.0 c.pages.invariant.1 c.in_ok-page.ensures.left
+returns-in_err-put-clause-left g c = leaves_then g.S.Store c.args.tables.now c.pages.tables c.closed_page.new.tables c.pages.invariant.0 c.pages.invariant.1 c.in_ok-page.ensures.page.left
+
+pub returns-then-is_none-clause-reads : goal.returns-then-is_none-clause-reads
+returns-then-is_none-clause-reads g c = reads_then g.S.Store c.args.tables.now c.pages.tables c.closed_page.new.tables c.pages.invariant.0 c.in_ok-page.ensures.page.reads
 
 pub returns-then-is_none-clause-left : goal.returns-then-is_none-clause-left
-returns-then-is_none-clause-left g c = leaves_then g.S.Store c.args.tables.now c.pages.tables c.closed_page.new.tables c.pages.invariant.0 c.pages.invariant.1 c.in_ok-page.ensures.left
+returns-then-is_none-clause-left g c = leaves_then g.S.Store c.args.tables.now c.pages.tables c.closed_page.new.tables c.pages.invariant.0 c.pages.invariant.1 c.in_ok-page.ensures.page.left
 
 pub returns-in_err-put-clause-cut : goal.returns-in_err-put-clause-cut
 returns-in_err-put-clause-cut g c clean = on_err c.from_residual-in_err-put.result _ (λ image held.
-    let reads = c.in_ok-page.ensures.reads in
+    let reads = c.in_ok-page.ensures.page.reads in
     let was = c.pages.invariant.2 (reads.clean clean) image held in
-    let page = c.in_ok-page.ensures.page clean image (c.pages.invariant.0.holds (reads.clean clean) image held) in
+    let page = c.in_ok-page.ensures.page.told clean image (c.pages.invariant.0.holds (reads.clean clean) image held) in
     let text : List ℕ = string_bytes c.in_ok-page.page.text in
-    let cut = c.in_err-put.ensures.cut in (
+    let cut = c.in_err-put.ensures.writes.cut in (
       was.1 ++ cut.0,
       page_cut image c.args.from c.args.to was.0 page.rows _ was.1 text cut.0 (page.goes_on was.0 was.2) was.3 page.added (subst (λ bytes. IsCutShort bytes cut.0) c.as_bytes.ensures.value cut.1),
       Appends-trans _ _ _ was.1 cut.0 was.4 cut.2,

@@ -4,7 +4,7 @@ use Rattle.std.specs.Io.KnownBytes.{Appends}
 use Rattle.sqlite.specs.Held.{state}
 use Rattle.sqlite.specs.State.{HasCleanDisk}
 use Rattle.tc_types.specs.Counts.{counts_of, inner_of, no_counts}
-use Rattle.tc_types.specs.declared.moves.Move.{Move}
+use Rattle.tc_types.specs.declared.history.moves.Move.{Move}
 use Rattle.tc_types.specs.History.{shift_rows}
 use Rattle.tc_types.specs.Tables.{Image}
 use Rattle.tc_report.specs.ShiftReport.{AreAdded}
@@ -21,4 +21,4 @@ invariant-pages g l =
     × (before ++ moves_behind l.after (shift_rows l.from l.to image.moves) ≡ shift_rows l.from l.to image.moves)
     × AreAdded before [] text
     × Appends (g.W.Write.contents (inner_of l.fn.writer)) (g.W.Write.contents (inner_of l.writer)) text)
-    × (counts_of l.writer ≡ no_counts)
+    × (counts_of l.fn.writer ≡ no_counts → counts_of l.writer ≡ no_counts)

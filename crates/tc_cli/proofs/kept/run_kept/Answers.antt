@@ -1,20 +1,16 @@
-use Rattle.std.proofs.Common.{inl, inr}
-use Rattle.std.proofs.lemmas.Result.{IfErr-weaker, IfOk-weaker}
+use Rattle.std.proofs.Common.{◌∙◌, ℕ, inl, inr}
+use Rattle.tc_cli.proofs.EndsLemmas.{ends_by, ends_so}
 use Rattle.tc_cli.proofs.KeptLemmas.{stays}
-use Rattle.tc_cli.proofs.StopLemmas.{unopened, untouched}
+use Rattle.tc_cli.proofs.StopLemmas.{unopened, unopened_other, unopened_unwritten, untouched}
 use Rattle.tc_cli.proofs.kept.run_kept.Goals as goal
 
-pub returns-in-Ok-clause-answered : goal.returns-in-Ok-clause-answered
-returns-in-Ok-clause-answered g c = IfOk-weaker c.run_opened-ended.result _ _
+pub returns-in-Ok : goal.returns-in-Ok
+returns-in-Ok g c = ends_so _ _ _ _ _ _ _ c.run_opened-ended.result c.run_opened-ended.ensures (λ none. none)
     (λ status run. (c.in-Ok.opened.room, c.in-Ok.opened.moves.items, c.run_opened-ended.new.room, c.in-Ok.ensures.opened, rw c.deref.ensures.value at run, c.into_connection.ensures))
-    c.run_opened-ended.ensures.answered
-
-pub returns-in-Ok-clause-stopped : goal.returns-in-Ok-clause-stopped
-returns-in-Ok-clause-stopped g c = IfErr-weaker c.run_opened-ended.result _ _
     (λ fault stops. inr (c.in-Ok.opened.room, c.in-Ok.opened.moves.items, c.run_opened-ended.new.room, c.in-Ok.ensures.opened, rw c.deref.ensures.value at stops, c.into_connection.ensures))
-    c.run_opened-ended.ensures.stopped
 
-pub returns-in-Err-clause-stopped : goal.returns-in-Err-clause-stopped
-returns-in-Err-clause-stopped g c =
+pub returns-in-Err : goal.returns-in-Err
+returns-in-Err g c =
     let e = c.in-Err.ensures in
-    rw c.from.ensures (inl (unopened _ _ e.refused e.kind, untouched _ _, stays g.S.Store _ _ _ _ e.kept e.crash e.foreign))
+    let un = unopened _ _ e.refused e.kind in
+    rw c.from.ensures (ends_by _ _ _ _ _ (inl (un, untouched _ _, stays g.S.Store _ _ _ _ e.kept e.crash e.foreign)) (unopened_other _ _ un) (λ none. none ∙ unopened_unwritten ℕ _ _ un))

@@ -12,7 +12,8 @@ use Rattle.tc_cli.proofs.run.answer.Goals as goal
 pub returns-in-Ok-clause-answered : goal.returns-in-Ok-clause-answered
 returns-in-Ok-clause-answered g c =
     let short : HasLongAct c.args.line.now → ⊥ = loads_short c.args.line.now c.read_load.result c.in-Ok.load c.in-Ok.is c.read_load.ensures.too_long in
-    IfOk-weaker c.answer_file.result _ _ (λ answer h. (h.0, file_at c.in-Ok.load.path.now h.1 ∷ [], inl (line_of c.in-Ok.load, h.1, (c.in-Ok.ensures.found, short), refl, h.2), h.3, h.4, h.5)) c.answer_file.ensures.answered
+    IfOk-weaker c.answer_file.result _ _ (λ answer h. record { reply = h.0; files = file_at c.in-Ok.load.path.now h.1 ∷ []; answers = inl (line_of c.in-Ok.load, h.1, (c.in-Ok.ensures.found, short), refl, h.2); given = h.3; text_is = h.4; refuses = h.5; opened = h.6 })
+    c.answer_file.ensures.answered
 
 pub returns-in-Ok-clause-unanswered : goal.returns-in-Ok-clause-unanswered
 returns-in-Ok-clause-unanswered g c =
@@ -20,13 +21,21 @@ returns-in-Ok-clause-unanswered g c =
     file_unanswered g.S.Store _ _ c.args.line.now (line_of c.in-Ok.load) _ _ c.answer_file.result (c.in-Ok.ensures.found, short)
     c.answer_file.ensures.fault c.answer_file.ensures.unread c.answer_file.ensures.memory
 
-pub returns-in_err-answer-in-Err-clause-unanswered : goal.returns-in_err-answer-in-Err-clause-unanswered
-returns-in_err-answer-in-Err-clause-unanswered g c =
+pub returns-in_err-answer_line-in-Err-clause-unanswered : goal.returns-in_err-answer_line-in-Err-clause-unanswered
+returns-in_err-answer_line-in-Err-clause-unanswered g c =
     let gone : c.from_residual.result ≡ Err Memory = is_fault _ _ c.from_residual.ensures.1 in
-    let h = c.in_err-answer-in-Err.ensures.answered in
-    rw gone ([], inl (h.0, inr (refl, loads_nothing c.args.line.now c.read_load.result _ c.in-Err.is c.read_load.ensures.only, h.1)), gives_none _)
+    let h = c.in_err-answer_line-in-Err.ensures.replied in
+    rw gone ([], inl (h.reply, inr (refl, loads_nothing c.args.line.now c.read_load.result _ c.in-Err.is c.read_load.ensures.only, h.made)), gives_none _)
 
-pub returns-in_ok-answer-in-Err-clause-answered : goal.returns-in_ok-answer-in-Err-clause-answered
-returns-in_ok-answer-in-Err-clause-answered g c =
-    let h = c.in_ok-answer-in-Err.ensures.answered in
-    (h.0, [], inr (refl, loads_nothing c.args.line.now c.read_load.result _ c.in-Err.is c.read_load.ensures.only, h.1), gives_none _, h.2.0, h.2.2)
+pub returns-in_ok-answer_line-in-Err-clause-answered : goal.returns-in_ok-answer_line-in-Err-clause-answered
+returns-in_ok-answer_line-in-Err-clause-answered g c =
+    let h = c.in_ok-answer_line-in-Err.ensures.replied in
+    record {
+      reply = h.reply;
+      files = [];
+      answers = inr (refl, loads_nothing c.args.line.now c.read_load.result _ c.in-Err.is c.read_load.ensures.only, h.made);
+      given = gives_none _;
+      text_is = h.says.0;
+      refuses = h.says.2;
+      opened = h.opened;
+    }

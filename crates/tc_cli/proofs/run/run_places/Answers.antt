@@ -1,42 +1,31 @@
-use Rattle.std.proofs.Common.{◌≡◌, ◌∙◌, Err, List, ℕ, arith, subst}
+use Rattle.std.proofs.Common.{◌≡◌, ◌∙◌, Err, List, ℕ, subst}
 use Rattle.std.specs.Io.KnownBytes.{Appends}
 use Rattle.tc_types.specs.Counts.{inner_of}
 use Rattle.tc_cli.specs.declared.script.ScriptFault.TheVariants.{Memory}
+use Rattle.tc_cli.proofs.EndsLemmas.{ends_by, ends_well}
 use Rattle.tc_cli.proofs.StopLemmas.{is_fault, memory_is_other, output_is_other, question_unanswered, stopped_in_question}
 use Rattle.tc_cli.proofs.run.run_places.Goals as goal
 
-pub returns-in_err-last-clause-stopped : goal.returns-in_err-last-clause-stopped
-returns-in_err-last-clause-stopped g c =
+pub returns-in_err-last : goal.returns-in_err-last
+returns-in_err-last g c =
     let gone : c.from_residual.result ≡ Err Memory = is_fault _ _ c.from_residual.ensures.1 in
-    let h = c.in_err-last.ensures.answered in
-    rw gone (question_unanswered g.S.Store _ _ h.0 _ h.1)
+    let h = c.in_err-last.ensures.answered.replied in
+    rw gone (ends_by _ _ _ _ _ (question_unanswered g.S.Store _ _ h.reply _ h.made) memory_is_other (λ none. none))
 
-pub returns-in_err-last-clause-fault : goal.returns-in_err-last-clause-fault
-returns-in_err-last-clause-fault g c =
-    let gone : c.from_residual.result ≡ Err Memory = is_fault _ _ c.from_residual.ensures.1 in
-    rw gone memory_is_other
+pub returns-in_err-put : goal.returns-in_err-put
+returns-in_err-put g c =
+    let gone : c.from_residual-in_err-put.result ≡ Err c.in_err-put.field-0.0 = is_fault _ _ c.from_residual-in_err-put.ensures.1 in
+    let h = c.in_ok-last.ensures.answered.replied in
+    rw gone (ends_by _ _ _ _ _ (stopped_in_question g.S.Store _ _ _ _ c.in_ok-last.last.refusal _ _ _ (h.reply, h.made, h.says) c.as_bytes.ensures.value c.in_err-put.ensures.fault c.in_err-put.ensures.writes.cut)
+    (output_is_other _ c.in_err-put.ensures.fault) c.in_err-put.ensures.counted)
 
-pub returns-in_err-last-clause-counted : goal.returns-in_err-last-clause-counted
-returns-in_err-last-clause-counted g c =
-    let gone : c.from_residual.result ≡ Err Memory = is_fault _ _ c.from_residual.ensures.1 in
-    rw gone c.requires
-
-pub returns-in_err-put-clause-stopped : goal.returns-in_err-put-clause-stopped
-returns-in_err-put-clause-stopped g c =
-    let gone : c.from_residual-in_err-put.result ≡ Err c.in_err-put.field-0.0 = grind arith in
-    rw gone (stopped_in_question g.S.Store _ _ _ _ c.in_ok-last.last.refusal _ _ _ c.in_ok-last.ensures.answered c.as_bytes.ensures.value c.in_err-put.ensures.fault c.in_err-put.ensures.cut)
-
-pub returns-in_err-put-clause-fault : goal.returns-in_err-put-clause-fault
-returns-in_err-put-clause-fault g c =
-    let gone : c.from_residual-in_err-put.result ≡ Err c.in_err-put.field-0.0 = grind arith in
-    rw gone (output_is_other _ c.in_err-put.ensures.fault)
-
-pub returns-in_err-put-clause-counted : goal.returns-in_err-put-clause-counted
-returns-in_err-put-clause-counted g c =
-    let gone : c.from_residual-in_err-put.result ≡ Err c.in_err-put.field-0.0 = grind arith in
-    rw gone c.in_err-put.ensures.counted
-
-pub returns-clause-taken : goal.returns-clause-taken
-returns-clause-taken g c =
-    let h = c.in_ok-last.ensures.answered in
-    (h.0, h.1, subst (λ (bytes : List ℕ). Appends (g.W.Write.contents (inner_of c.args.writer.now)) (g.W.Write.contents (inner_of c.put.new.writer)) bytes) (c.as_bytes.ensures.value ∙ h.2.0) c.in_ok-put.ensures.written, c.refused.ensures h.0 h.2.2)
+pub returns : goal.returns
+returns g c =
+    let h = c.in_ok-last.ensures.answered.replied in
+    ends_well _ _ _ _ _ (record {
+      reply = h.reply;
+      asked = h.made;
+      written = subst (λ (bytes : List ℕ). Appends (g.W.Write.contents (inner_of c.args.writer.now)) (g.W.Write.contents (inner_of c.put.new.writer)) bytes) (c.as_bytes.ensures.value ∙ h.says.0) c.in_ok-put.ensures.writes.written;
+      refusal = c.refused.ensures h.reply h.says.2;
+      kept = c.in_ok-last.ensures.kept;
+    }) c.in_ok-put.ensures.counted

@@ -15,7 +15,7 @@ pub returns-clause-answered : goal.returns-clause-answered
 returns-clause-answered g c =
     let taken = subst (λ (bytes : List ℕ). Consumes (g.R.Read.remaining (inner_of c.args.reader.now)) (g.R.Read.remaining (inner_of c.read_script.new.reader)) bytes)
     (sym c.deref.ensures.value) c.in_ok-text.ensures.taken in
-    IfOk-weaker c.run_text.result _ _ (λ status answered. Consumes-whole _ _ _ _ taken c.in_ok-text.ensures.whole answered) c.run_text.ensures.answered
+    IfOk-weaker c.run_text.result _ _ (λ status answered. Consumes-whole _ _ _ _ taken c.in_ok-text.ensures.whole answered) c.run_text.ensures.done
 
 pub returns-clause-stopped : goal.returns-clause-stopped
 returns-clause-stopped g c =

@@ -1,23 +1,14 @@
 -- One more is heard.
 use Rattle.std.proofs.Common.{◌∙◌, ap, sym, take, arith}
 use Rattle.tc_desk.specs.Effects.{heard, heard_all}
-use Rattle.tc_desk.proofs.EmptyLemmas.{heard_more}
+use Rattle.tc_desk.proofs.EmptyLemmas.{heard_more, moves_more}
 use Rattle.tc_desk.proofs.hearing.hear_all.Goals as goal
 
 pub loop-told-preserved : goal.loop-told-preserved
 loop-told-preserved g c =
-    let kept = c.loop-told.invariant in
-    let rows_kept = c.hear.ensures.rows_kept in
-    let rows = c.hear.ensures.rows in
-    let so_kept = kept.1 in
-    let so_many = kept.2 in (
+    let kept = c.loop-told.invariant in (
       λ mirror. c.hear.ensures.book mirror ∙ ap (λ b. heard c.args.stamp.now mirror b c.told-item.result) (kept.0 mirror)
           ∙ ap (λ i. heard c.args.stamp.now mirror (heard_all c.args.stamp.now mirror (take c.loop-told.told-index c.args.said.now) c.args.records.now.book) i) c.told-item.is
           ∙ sym (heard_more c.args.stamp.now mirror c.args.said.now c.loop-told.told-index c.told-item.result c.args.records.now.book c.loop-told-test.true),
-      omega (arith, rows_kept, so_kept),
-      omega (arith, rows, so_many),
-      c.hear.ensures.requests ∙ kept.3,
-      c.hear.ensures.approvals ∙ kept.4,
-      c.hear.ensures.stack_approvals ∙ kept.5,
-      c.hear.ensures.log ∙ kept.6,
+      moves_more _ 2 _ _ _ _ kept.1 c.hear.ensures.only (omega arith),
     )

@@ -1,18 +1,18 @@
 -- One more request is looked at; as many moves are made as activities stand in the mirror, at most.
 use Rattle.std.proofs.Common.{◌≡◌, ℕ, ◌+◌, ◌-◌, ◌<◌, ◌∙◌, ap, sym, subst, refl, length, if◌then◌else◌, true, arith}
 use Rattle.tc_desk.specs.Effects.{removed}
-use Rattle.tc_desk.proofs.EmptyLemmas.{removed_to, shown_to, is_shown, removed_more, shown_none, shown_more, shown_bound, removed_all}
+use Rattle.tc_desk.proofs.EmptyLemmas.{moves_more, moves_none, moves_within, removed_to, shown_to, is_shown, removed_more, shown_more, shown_bound, removed_all}
 use Rattle.tc_desk.proofs.reporting.empty.Goals as goal
 
 pub loop-n-init : goal.loop-n-init
-loop-n-init g c = (refl, omega arith, let none = shown_none c.args.mirror.now.told c.args.records.now.book.requests in omega (arith, none), refl, refl, refl, refl)
+loop-n-init g c = (refl, moves_none _ _)
 
 pub remove-requires : goal.remove-requires
 remove-requires g c = record {
   room = λ there.
       let kept = c.loop-n.invariant in
-      let most_kept = kept.1 in
-      let rows = kept.2 in
+      let most_kept = kept.1.rows_kept in
+      let rows = kept.1.rows in
       let first = c.loop-n.auto.n in
       let count = c.count-n-end.ensures.count in
       let few = c.count-n-end.ensures.few in
@@ -31,8 +31,6 @@ remove-requires g c = record {
 pub loop-n-preserved : goal.loop-n-preserved
 loop-n-preserved g c =
     let kept = c.loop-n.invariant in
-    let most_kept = kept.1 in
-    let rows = kept.2 in
     let first = c.loop-n.auto.n in
     let count = c.count-n-end.ensures.count in
     let on = c.loop-n-test.true in
@@ -40,8 +38,6 @@ loop-n-preserved g c =
     let here : c.loop-n.n - 1 + 1 ≡ c.loop-n.n = omega (arith, first) in
     let next : c.loop-n.n + 1 - 1 ≡ c.loop-n.n - 1 + 1 = omega (arith, first) in
     let more = shown_more c.args.mirror.now.told c.args.records.now.book.requests (c.loop-n.n - 1) within in
-    let rows_more = c.remove.ensures.rows in
-    let rows_kept = c.remove.ensures.rows_kept in
     let test : ◌≡◌ {A = ℕ} (if is_shown c.args.mirror.now.told.activities (c.loop-n.n - 1 + 1) then 1 else 0) (if is_shown c.args.mirror.now.told.activities c.loop-n.n then 1 else 0) =
     ap (λ n. if is_shown c.args.mirror.now.told.activities n then 1 else 0) here in
     let to_next = ap (λ n. shown_to c.args.mirror.now.told c.args.records.now.book.requests n) next in (
@@ -49,12 +45,7 @@ loop-n-preserved g c =
           ∙ ap (λ n. removed c.args.stamp.now c.args.mirror.now.told (removed_to c.args.stamp.now c.args.mirror.now.told c.args.records.now.book.requests (c.loop-n.n - 1) c.args.records.now.book) n) (sym here)
           ∙ sym (removed_more c.args.stamp.now c.args.mirror.now.told c.args.records.now.book.requests (c.loop-n.n - 1) c.args.records.now.book within)
           ∙ ap (λ n. removed_to c.args.stamp.now c.args.mirror.now.told c.args.records.now.book.requests n c.args.records.now.book) (sym next),
-      omega (arith, most_kept, rows_kept),
-      omega (arith, rows, rows_more, more, test, to_next),
-      c.remove.ensures.requests ∙ kept.3,
-      c.remove.ensures.approvals ∙ kept.4,
-      c.remove.ensures.stack_approvals ∙ kept.5,
-      c.remove.ensures.log ∙ kept.6,
+      moves_more _ _ _ _ _ _ kept.1 c.remove.ensures.only (omega (arith, more, test, to_next)),
     )
 
 pub returns-clause-book : goal.returns-clause-book
@@ -65,9 +56,8 @@ returns-clause-book g c =
     let count = c.count-n-end.ensures.count in
     c.loop-n.invariant.0 ∙ removed_all c.args.stamp.now c.args.mirror.now.told c.args.records.now.book.requests (c.loop-n.n - 1) c.args.records.now.book (omega (arith, first, last, off, count))
 
-pub returns-clause-rows : goal.returns-clause-rows
-returns-clause-rows g c =
-    let rows = c.loop-n.invariant.2 in
+pub returns-clause-only : goal.returns-clause-only
+returns-clause-only g c =
     let first = c.loop-n.auto.n in
     let last = c.loop-n.auto.n-end in
     let off = c.loop-n-test.false in
@@ -76,16 +66,4 @@ returns-clause-rows g c =
     let bound = shown_bound c.args.mirror.now.told c.args.records.now.book.requests (c.loop-n.n - 1) (omega (arith, first, last, off, count)) (omega (arith, count, few)) in
     let by_mirror = bound.0 in
     let by_requests = bound.1 in
-    omega (arith, rows, by_mirror, by_requests)
-
-pub returns-clause-requests : goal.returns-clause-requests
-returns-clause-requests g c = c.loop-n.invariant.3
-
-pub returns-clause-approvals : goal.returns-clause-approvals
-returns-clause-approvals g c = c.loop-n.invariant.4
-
-pub returns-clause-stack_approvals : goal.returns-clause-stack_approvals
-returns-clause-stack_approvals g c = c.loop-n.invariant.5
-
-pub returns-clause-log : goal.returns-clause-log
-returns-clause-log g c = c.loop-n.invariant.6
+    moves_within _ _ _ _ c.loop-n.invariant.1 (omega (arith, by_mirror, by_requests))

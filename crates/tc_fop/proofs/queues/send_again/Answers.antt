@@ -1,6 +1,6 @@
 -- One more was sent.
 use Rattle.std.proofs.Common.{[], ◌∷◌, sym, ◌∙◌, ap}
-use Rattle.tc_types.specs.declared.frames.Frame.TheVariants.{Ad}
+use Rattle.tc_types.specs.declared.link.frames.Frame.TheVariants.{Ad}
 use Rattle.tc_fop.specs.declared.queues.Outstanding.{Outstanding}
 use Rattle.tc_fop.specs.Machine.{Out, joined}
 use Rattle.tc_fop.proofs.SlotLemmas.{sent_more}

@@ -1,5 +1,5 @@
 use Rattle.std.proofs.Common.{◌≡◌, [], map, take}
-use Rattle.tc_types.specs.declared.frames.Frame.TheVariants.{Ad}
+use Rattle.tc_types.specs.declared.link.frames.Frame.TheVariants.{Ad}
 use Rattle.tc_fop.specs.declared.queues.Outstanding.{Outstanding}
 use Rattle.tc_fop.specs.Machine.{joined}
 use Rattle.tc_fop.proofs.queues.send_again.Given as goal

@@ -1,5 +1,4 @@
-use Rattle.std.proofs.Common.{arith, ◌≡◌, rules, true, Err}
-use Rattle.std.specs.Result.{is_ok}
+use Rattle.std.proofs.Common.{arith, ◌≡◌, rules, Err}
 use Rattle.tc_proc.proofs.RowLemmas.{row_more, row_judged}
 use Rattle.tc_proc.proofs.readers.steps_of.Goals as goal
 
@@ -10,5 +9,4 @@ returns-in_err-step c =
 
 pub loop-index-preserved : goal.loop-index-preserved
 loop-index-preserved c =
-    let good : is_ok c.push.result ≡ true = search rules in
-    rw (rw good at c.push.ensures.items) (row_more c.args.rows.now c.loop-index.index c.index-rows-index.result c.loop-index.steps.items c.in_ok-step.step (search rules) c.index-rows-index.is c.loop-index.invariant c.in_ok-step.ensures)
+    rw c.in_ok-push.ensures.items (row_more c.args.rows.now c.loop-index.index c.index-rows-index.result c.loop-index.steps.items c.in_ok-step.step (search rules) c.index-rows-index.is c.loop-index.invariant c.in_ok-step.ensures)

@@ -1,8 +1,8 @@
 use Rattle.std.proofs.Common.{◌<◌, length, filter, take}
 use Rattle.std.specs.List.{AllByRecursion}
 use Rattle.tc_types.specs.Names.{is_same_name}
-use Rattle.tc_types.specs.declared.rows.LoadedProcedure.{LoadedProcedure}
-use Rattle.tc_types.specs.declared.rows.ProcedureStep.{ProcedureStep}
+use Rattle.tc_types.specs.declared.tables.rows.LoadedProcedure.{LoadedProcedure}
+use Rattle.tc_types.specs.declared.tables.rows.ProcedureStep.{ProcedureStep}
 use Rattle.tc_proc.proofs.reopening.have_steps.Given as goal
 
 abbrev pub invariant-loop-at : goal.invariant-loop-at

@@ -15,7 +15,7 @@ texts-preserved g c =
     let earlier : HasCleanDisk (state g.S.Store last) → HasCleanDisk (state g.S.Store mid) = λ clean. omega (arith, made.survives.clean) in
     let within : HasCleanDisk (state g.S.Store last) → IsTrue first.in_transaction → IsTrue mid.in_transaction = λ clean inside. (was.1 (earlier clean) inside).goes.mode ∙ inside in (
       made.same_reference ∙ was.0,
-      λ clean inside. leads_lent g.S.Store c.args.texts.now c.texts.text-index c.in_ok-run.field-0 _ first mid last c.texts-test.true (was.1 (earlier clean) inside) (made.ran clean (within clean inside)),
+      λ clean inside. leads_lent g.S.Store c.args.texts.now c.texts.text-index c.in_ok-run.field-0 _ first mid last c.texts-test.true (was.1 (earlier clean) inside) (made.done clean (within clean inside)),
       λ clean inside. keeps_then (state g.S.Store first) (state g.S.Store mid) (state g.S.Store last) (was.2 (earlier clean) inside) (made.kept clean (within clean inside)),
       survives_both (state g.S.Store first) (state g.S.Store mid) (state g.S.Store last) was.3 made.survives,
     )

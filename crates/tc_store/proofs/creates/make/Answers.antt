@@ -9,4 +9,4 @@ returns-in-Err-commit-clause-at_commit g c clean =
     let last = c.fill.new.tx.conn.now in
     let begun = c.transaction-tx.ensures.begun in
     let earlier : HasCleanDisk (state g.S.Store last) = search rules in
-    record { last = last; done = subst (λ h. Filled g.S.Store h last) begun (c.in_default.ensures.filled earlier (ap (λ h. h.in_transaction) begun)); fails = search rules }
+    record { last = last; done = subst (λ h. Filled g.S.Store h last) begun (c.in_default.ensures.done earlier (ap (λ h. h.in_transaction) begun)); fails = search rules }

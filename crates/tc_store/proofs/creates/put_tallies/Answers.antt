@@ -15,7 +15,7 @@ places-preserved g c =
     let earlier : HasCleanDisk (state g.S.Store last) → HasCleanDisk (state g.S.Store mid) = λ clean. omega (arith, made.survives.clean) in
     let within : HasCleanDisk (state g.S.Store last) → IsTrue first.in_transaction → IsTrue mid.in_transaction = λ clean inside. (was.1 (earlier clean) inside).goes.mode ∙ inside in (
       made.same_reference ∙ was.0,
-      λ clean inside. first_more g.S.Store c.args.places.now c.places.place-index _ first mid last c.places-test.true (was.1 (earlier clean) inside) (made.put clean (within clean inside)),
+      λ clean inside. first_more g.S.Store c.args.places.now c.places.place-index _ first mid last c.places-test.true (was.1 (earlier clean) inside) (made.done clean (within clean inside)),
       λ clean inside. keeps_then (state g.S.Store first) (state g.S.Store mid) (state g.S.Store last) (was.2 (earlier clean) inside) (made.kept clean (within clean inside)),
       survives_both (state g.S.Store first) (state g.S.Store mid) (state g.S.Store last) was.3 made.survives,
     )

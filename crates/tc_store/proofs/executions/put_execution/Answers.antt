@@ -1,8 +1,10 @@
+use Rattle.tc_store.proofs.StepLemmas.{does_then}
 use Rattle.tc_store.proofs.ExecutionLemmas.{begun}
 use Rattle.tc_store.proofs.executions.put_execution.Goals as goal
 
-pub returns-clause-put : goal.returns-clause-put
-returns-clause-put g c clean inside =
+pub returns : goal.returns
+returns g c =
+    does_then g.S.Store c.args.tx.now.conn c.run.new.tx.conn c.run.result c.run.ensures (λ ran.
     begun g.S.Store c.args.row c.args.tx.now.conn.now c.run.new.tx.conn.now c.run.result (
     rw (
       c.params-to_sql.ensures,
@@ -12,5 +14,5 @@ returns-clause-put g c clean inside =
       c.as_str.ensures.text,
       c.as_str-2.ensures.text,
       c.get-moment.ensures.value,
-    ) at (c.run.ensures.ran clean inside)
-    )
+    ) at ran
+    ))

@@ -1,3 +1,4 @@
+use Rattle.tc_store.proofs.StepLemmas.{does_then}
 use Rattle.std.proofs.Common.{◌≡◌, refl, pos, cond}
 use Rattle.sqlite_value.specs.Value.{owned}
 use Rattle.sqlite_value.specs.declared.value.Value.TheVariants.{Int, Text}
@@ -6,8 +7,8 @@ use Rattle.tc_types.specs.Lawful.{place_number}
 use Rattle.tc_store.specs.Requests.{ack_number, service_of, subtype_of, target_of, time_of, stack_of, line_of, prior_of}
 use Rattle.tc_store.proofs.requests.put_columns.Goals as goal
 
-pub returns-clause-ran : goal.returns-clause-ran
-returns-clause-ran g c clean inside =
+pub returns : goal.returns
+returns g c =
     let r = c.args.row.request in
     let e1 : owned c.params-to_sql.result ≡ Int (pos r.number) = rw (c.params-to_sql.ensures, c.get-number.ensures.value) refl in
     let e2 : owned c.params-to_sql-2.result ≡ Int (pos r.body.identity.apid) = rw (c.params-to_sql-2.ensures, c.from-apid.ensures, c.get.ensures.value) refl in
@@ -24,4 +25,4 @@ returns-clause-ran g c clean inside =
     let e13 : owned c.params-to_sql-13.result ≡ Int (pos (line_of r.origin)) = rw (c.params-to_sql-13.ensures, c.line_of-line.ensures) refl in
     let e14 : owned c.params-to_sql-14.result ≡ Int (pos (prior_of r.origin)) = rw (c.params-to_sql-14.ensures, c.prior_of-prior.ensures) refl in
     let e15 : owned c.params-to_sql-15.result ≡ Int (pos (place_number c.args.row.place)) = rw (c.params-to_sql-15.ensures, c.from-place.ensures, c.number.ensures.value) refl in
-    rw (e1, e2, e3, e4, e5) at (rw (e6, e7, e8, e9, e10) at (rw (e11, e12, e13, e14, e15) at (c.run.ensures.ran clean inside)))
+    does_then g.S.Store c.args.tx.now.conn c.run.new.tx.conn c.run.result c.run.ensures (λ ran. rw (e1, e2, e3, e4, e5) at (rw (e6, e7, e8, e9, e10) at (rw (e11, e12, e13, e14, e15) at ran)))

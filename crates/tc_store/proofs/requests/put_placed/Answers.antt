@@ -1,5 +1,8 @@
+use Rattle.tc_store.proofs.StepLemmas.{does_then}
 use Rattle.tc_store.proofs.RequestLemmas.{placed}
 use Rattle.tc_store.proofs.requests.put_placed.Goals as goal
 
-pub returns-clause-put : goal.returns-clause-put
-returns-clause-put g c clean inside = placed g.S.Store c.args.row c.args.tx.now.conn.now c.put_columns.new.tx.conn.now c.put_columns.result (c.put_columns.ensures.ran clean inside)
+pub returns : goal.returns
+returns g c =
+    does_then g.S.Store c.args.tx.now.conn c.put_columns.new.tx.conn c.put_columns.result c.put_columns.ensures (λ ran.
+    placed g.S.Store c.args.row c.args.tx.now.conn.now c.put_columns.new.tx.conn.now c.put_columns.result ran)

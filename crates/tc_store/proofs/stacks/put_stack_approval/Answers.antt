@@ -1,13 +1,15 @@
+use Rattle.tc_store.proofs.StepLemmas.{does_then}
 use Rattle.tc_store.proofs.StackApprovalLemmas.{approved}
 use Rattle.tc_store.proofs.stacks.put_stack_approval.Goals as goal
 
-pub returns-clause-put : goal.returns-clause-put
-returns-clause-put g c clean inside =
+pub returns : goal.returns
+returns g c =
+    does_then g.S.Store c.args.tx.now.conn c.run.new.tx.conn c.run.result c.run.ensures (λ ran.
     approved g.S.Store c.args.row c.args.tx.now.conn.now c.run.new.tx.conn.now c.run.result (
     rw (
       c.params-to_sql.ensures,
       c.params-to_sql-2.ensures,
       c.as_str.ensures.text,
       c.as_str-2.ensures.text,
-    ) at (c.run.ensures.ran clean inside)
-    )
+    ) at ran
+    ))

@@ -1,5 +1,5 @@
 use Rattle.std.proofs.Common.{◌≡◌, List, map, take, length}
-use Rattle.tc_types.specs.declared.rows.Tally.{Tally}
+use Rattle.tc_types.specs.declared.tables.rows.Tally.{Tally}
 use Rattle.tc_store.specs.Tallies.{tally_shown}
 use Rattle.tc_store.proofs.tallies.read_amounts.Given as goal
 

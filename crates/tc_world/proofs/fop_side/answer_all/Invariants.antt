@@ -1,5 +1,5 @@
 use Rattle.std.proofs.Common.{◌≡◌, ◌+◌, ◌++◌, map, take, vec_len, vec_capacity}
-use Rattle.tc_world.specs.declared.events.Indication.TheVariants.{Fop}
+use Rattle.tc_world.specs.declared.events.LinkIndication.TheVariants.{Fop}
 use Rattle.tc_world.proofs.fop_side.answer_all.Given as goal
 
 abbrev pub invariant-loop-indication : goal.invariant-loop-indication

@@ -6,4 +6,4 @@ use Rattle.tc_board.proofs.schedules.Schedule.shift_all.Goals as goal
 
 pub invariant_of-self : goal.invariant_of-self
 invariant_of-self g c =
-    (subst IsSchedule (sym c.shift_each.ensures.items) (schedule_mapped (shifted c.args.offset) (λ a. refl) c.self.inside.activities.items c.self.invariant.0), rw c.shift_each.ensures.capacity c.self.invariant.1)
+    (subst IsSchedule (sym c.shift_each.ensures.items) (schedule_mapped (shifted c.args.offset) (λ a. refl) c.self.inside.activities.items c.self.invariant.0), rw c.shift_each.ensures.room c.self.invariant.1)

@@ -1,5 +1,6 @@
 use Rattle.std.proofs.Common.{◌≡◌, ◌+◌, ◌≤◌, length, take}
 use Rattle.tc_book.specs.Loads.{with_rows}
+use Rattle.tc_book.specs.Records.{KeepsRoom}
 use Rattle.tc_book.specs.Steps.{HasSteps}
 use Rattle.tc_book.proofs.acts.load.enter_rows.Given as goal
 
@@ -7,7 +8,5 @@ use Rattle.tc_book.proofs.acts.load.enter_rows.Given as goal
 abbrev pub invariant-loop-at : goal.invariant-loop-at
 invariant-loop-at g l =
     (l.records.book ≡ with_rows l.stamp l.name (length l.fn.records.book.requests + 1) 1 l.fn.records.book (take l.at l.rows))
-    × (l.fn.records.most_requests ≤ l.records.most_requests)
-    × (l.fn.records.most_rows ≤ l.records.most_rows)
-    × (l.fn.records.most_stacks ≤ l.records.most_stacks)
+    × KeepsRoom l.fn.records l.records
     × HasSteps l.stamp l.fn.records.book l.records.book

@@ -1,19 +1,19 @@
 -- There is room for all rows, and no stack that stood has more.
-use Rattle.std.proofs.Common.{sym, ◌∙◌}
+use Rattle.std.proofs.Common.{rules, sym, ◌∙◌}
 use Rattle.tc_book.proofs.GoesOnLemmas.{loaded-goes_on, loaded-room}
 use Rattle.tc_book.proofs.NameLemmas.{room_for_stack}
 use Rattle.tc_book.proofs.acts.load.load.Goals as goal
 
-pub returns-clause-goes_on : goal.returns-clause-goes_on
-returns-clause-goes_on g c =
-    rw (c.enter_rows.ensures.book, c.make_room.ensures.book) (loaded-goes_on c.args.stamp c.args.name c.rows-rows.result.now c.args.records.now.book (sym c.is_loaded.ensures.loaded ∙ c.if-is_loaded.false))
-
-pub returns-clause-room : goal.returns-clause-room
-returns-clause-room g c =
-    rw (c.enter_rows.ensures.book, c.make_room.ensures.book)
-    (loaded-room c.args.stamp c.args.name c.rows-rows.result.now c.args.records.now.book c.in_ok-draft.draft.moves c.in_ok-draft.draft.batch c.in_ok-draft.ensures.moves c.in_ok-draft.ensures.batch)
+pub returns : goal.returns
+returns g c = record {
+  answers = search rules;
+  room = rw (c.enter_rows.ensures.book, c.make_room.ensures.same.book)
+      (loaded-room c.args.stamp c.args.name c.rows-rows.result.now c.args.records.now.book c.in_ok-draft.draft.moves c.in_ok-draft.draft.batch c.in_ok-draft.ensures.moves c.in_ok-draft.ensures.batch);
+  goes_on = rw (c.enter_rows.ensures.book, c.make_room.ensures.same.book) (loaded-goes_on c.args.stamp c.args.name c.rows-rows.result.now c.args.records.now.book (sym c.is_loaded.ensures.loaded ∙ c.if-is_loaded.false));
+  steps = search rules;
+}
 
 pub enter_rows-requires-clause-stack_room : goal.enter_rows-requires-clause-stack_room
 enter_rows-requires-clause-stack_room g c =
     let few = room_for_stack c.args.records.now.book _ _ (sym c.has_no_room.ensures ∙ c.if-has_no_room.false) in
-    c.in_ok-draft.ensures.stacks (rw c.make_room.ensures.book few)
+    c.in_ok-draft.ensures.room.stacks (rw c.make_room.ensures.same.book few)

@@ -6,6 +6,7 @@ use Rattle.tc_book.specs.Book.{Book}
 use Rattle.tc_book.specs.Records.{Kept}
 use Rattle.tc_book.specs.Stacks.{is_in_stack, is_stack_approved}
 use Rattle.tc_book.proofs.ApproveLemmas.{rows_more, row_requests, row_stays_approved, count_more, count_front, found_there}
+use Rattle.tc_book.proofs.CountLemmas.{kept_on}
 use Rattle.tc_book.proofs.records.Records.approve_rows.Goals as goal
 
 pub approve_row-requires-clause-there : goal.approve_row-requires-clause-there
@@ -33,8 +34,8 @@ approve_row-requires-clause-room g c = λ is.
     let one : ◌≡◌ {A = ℕ} (if is_in_stack c.args.name.now c.index-row.result.now then 1 else 0) 1 = ap (λ t. if t then 1 else 0) is in
     let most = count_front c.args.name.now c.args.self.now.book.requests (c.loop-at.at + 1) in
     let room = c.requires.room in
-    let kept = c.loop-at.invariant.4 in
-    let so_far = c.loop-at.invariant.5 in
+    let kept = c.loop-at.invariant.3.rows in
+    let so_far = c.loop-at.invariant.4 in
     omega (arith, more, one, most, room, kept, so_far)
 
 pub loop-at-preserved : goal.loop-at-preserved
@@ -47,21 +48,16 @@ loop-at-preserved g c =
     let here : c.index-row.result.now ≡ get_or c.args.self.now.book.requests c.loop-at.at c.index-row.result.now =
     c.index-row.ensures ∙ ap (λ (l : List Request). get_or l c.loop-at.at c.index-row.result.now) same in
     let more = count_more c.args.name.now c.args.self.now.book.requests c.loop-at.at c.index-row.result.now low here in
-    let requests = c.approve_row.ensures.requests_kept in
-    let rows = c.approve_row.ensures.rows_kept in
     let history = c.approve_row.ensures.rows in
-    let requests_before = c.loop-at.invariant.3 in
-    let rows_before = c.loop-at.invariant.4 in
-    let history_before = c.loop-at.invariant.5 in (
-      c.approve_row.ensures.book
+    let history_before = c.loop-at.invariant.4 in (
+      c.approve_row.ensures.becomes.book
           ∙ ap (λ (b : Book). if is_in_stack c.args.name.now c.index-row.result.now then row_approved c.args.stamp.now b c.index-row.result.now.number else b) c.loop-at.invariant.0
           ∙ rows_more c.args.stamp.now c.args.name.now c.args.self.now.book.requests c.args.self.now.book c.loop-at.at c.index-row.result.now low here,
-      ap (λ (b : Book). b.requests) c.approve_row.ensures.book
+      ap (λ (b : Book). b.requests) c.approve_row.ensures.becomes.book
           ∙ row_requests c.args.stamp.now c.loop-at.self.book c.index-row.result.now.number (is_in_stack c.args.name.now c.index-row.result.now)
           ∙ c.loop-at.invariant.1,
-      ap (λ (b : Book). is_stack_approved b c.args.name.now) c.approve_row.ensures.book
+      ap (λ (b : Book). is_stack_approved b c.args.name.now) c.approve_row.ensures.becomes.book
           ∙ row_stays_approved c.args.stamp.now c.loop-at.self.book c.index-row.result.now.number (is_in_stack c.args.name.now c.index-row.result.now) c.args.name.now c.loop-at.invariant.2,
-      omega (arith, requests, requests_before),
-      omega (arith, rows, rows_before),
+      kept_on _ _ _ c.loop-at.invariant.3 c.approve_row.ensures.becomes.kept,
       omega (arith, history, history_before, more),
     )

@@ -1,6 +1,7 @@
 use Rattle.std.proofs.Common.{◌≡◌, ◌+◌, ◌≤◌, length, take, fold, true}
 use Rattle.std.specs.Prelude.{count_by}
 use Rattle.tc_book.specs.Acts.{row_approved}
+use Rattle.tc_book.specs.Records.{KeepsRoom}
 use Rattle.tc_book.specs.Stacks.{is_in_stack, is_stack_approved, numbers_in_stack}
 use Rattle.tc_book.proofs.records.Records.approve_rows.Given as goal
 
@@ -10,6 +11,5 @@ invariant-loop-at g l =
     (l.self.book ≡ fold (row_approved l.stamp) l.fn.self.book (numbers_in_stack l.name (take l.at l.fn.self.book.requests)))
     × (l.self.book.requests ≡ l.fn.self.book.requests)
     × (is_stack_approved l.self.book l.name ≡ true)
-    × (l.fn.self.most_requests ≤ l.self.most_requests)
-    × (l.fn.self.most_rows ≤ l.self.most_rows)
+    × KeepsRoom l.fn.self l.self
     × (length l.self.book.history ≤ length l.fn.self.book.history + count_by (is_in_stack l.name) (take l.at l.fn.self.book.requests))

@@ -1,5 +1,5 @@
 use Rattle.std.proofs.Common.{◌≡◌, ◌≤◌, length, map, take, vec_capacity}
-use Rattle.tc_types.specs.declared.rows.PlacedRequest.{PlacedRequest}
+use Rattle.tc_types.specs.declared.tables.rows.PlacedRequest.{PlacedRequest}
 use Rattle.tc_book.specs.Known.{AreKnown}
 use Rattle.tc_book.proofs.reopening.known.push_all.Given as goal
 

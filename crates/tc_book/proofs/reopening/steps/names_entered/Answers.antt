@@ -1,7 +1,7 @@
 -- One step more, or one that does not.
 use Rattle.std.proofs.Common.{◌<◌, ◌≤◌, ◌∙◌, sym}
 use Rattle.std.specs.Prelude.{IfSome}
-use Rattle.tc_types.specs.declared.rows.ProcedureStep.{ProcedureStep}
+use Rattle.tc_types.specs.declared.tables.rows.ProcedureStep.{ProcedureStep}
 use Rattle.tc_book.proofs.ReopenLemmas.{all_more, all_at}
 use Rattle.tc_book.proofs.reopening.steps.names_entered.Goals as goal
 

@@ -1,7 +1,7 @@
 use Rattle.std.proofs.Common.{◌<◌, ◌≤◌, take}
 use Rattle.std.specs.Prelude.{IfSome}
 use Rattle.std.specs.List.{AllByRecursion}
-use Rattle.tc_types.specs.declared.rows.ProcedureStep.{ProcedureStep}
+use Rattle.tc_types.specs.declared.tables.rows.ProcedureStep.{ProcedureStep}
 use Rattle.tc_book.proofs.reopening.steps.names_entered.Given as goal
 
 -- the steps so far do

@@ -10,10 +10,10 @@ use Rattle.tc_fop.proofs.variables.Variables.remove.Goals as goal
 
 pub invariant_of-self : goal.invariant_of-self
 invariant_of-self g c =
-    let taking : is_taking c.self.inside.state ≡ true = subst (λ (m : Machine). is_taking m.state ≡ true) (sym c.self.view_is) c.requires.taking in
-    let held : c.args.acknowledged ≤ length (map held_of c.self.inside.sent) = subst (λ (m : Machine). c.args.acknowledged ≤ length m.sent) (sym c.self.view_is) c.requires.there in
+    let taking : is_taking c.self.inside.state ≡ true = subst (λ (m : Machine). is_taking m.state ≡ true) (sym c.self.view_is) c.requires.there.taking in
+    let held : c.args.acknowledged ≤ length (map held_of c.self.inside.sent) = subst (λ (m : Machine). c.args.acknowledged ≤ length m.sent) (sym c.self.view_is) c.requires.there.there in
     let there : c.args.acknowledged ≤ length c.self.inside.sent = omega (arith, held, length-map c.self.inside.sent held_of) in
     removed_stands _ c.self.inside.sent c.confirm_front.new.sent c.args.acknowledged _ refl c.confirm_front.ensures.sent there taking (omega (arith, c.self.invariant.count_least)) (omega (arith, c.self.invariant.count_most)) c.self.invariant
 
-pub returns-clause-machine : goal.returns-clause-machine
-returns-clause-machine g c = record { machine = search (rules, queues); fop = invariant_of-self g c }
+pub returns : goal.returns
+returns g c = record { machine = search (rules, queues); fop = invariant_of-self g c; out = search (rules, queues) }

@@ -1,8 +1,9 @@
 use Rattle.std.proofs.Common.{arith, ◌≡◌, inl, inr, false, Err, refl, subst, sym, ap, ◌∙◌}
 use Rattle.tc_book.specs.Tables.{image_of}
 use Rattle.tc_room.specs.Joined.{HasImage, LinkState, Standing}
+use Rattle.tc_room.specs.Loads.{loading_of}
 use Rattle.tc_room.proofs.LoadLemmas.{load_carried, load_refused}
-use Rattle.tc_room.proofs.StopLemmas.{stops_ok}
+use Rattle.tc_room.proofs.StopLemmas.{load_told, stops_ok, stops_refused}
 use Rattle.tc_room.proofs.TableLemmas.{leaves_acts, not_written, written}
 use Rattle.tc_room.proofs.rooms.Room.load_spelled.Goals as goal
 
@@ -10,18 +11,18 @@ pub returns-in_err-loaded-clause-answered : goal.returns-in_err-loaded-clause-an
 returns-in_err-loaded-clause-answered g c =
     let gone : c.from_residual.result ≡ Err c.in_err-loaded.field-0.0 = grind arith in
     let going : c.self.inside.stopped ≡ false = ap (λ (s : Standing _). s.stopped) c.self.view_is ∙ c.requires.going in
-    let why = c.in_err-loaded.ensures.answers in
+    let why = c.in_err-loaded.ensures.loads.answers in
     rw (gone, ← c.self.view_is)
-    (λ held clean. inl (record { desk = load_refused _ _ _ _ _ why; tables = subst (λ (at : LinkState). HasImage g.S.Store c.self.inside.tables (image_of at.book)) (sym why.same) (held going clean); opened = c.in_err-loaded.ensures.opened; whole = c.in_err-loaded.ensures.whole; going = going }))
+    (λ held clean. inl (record { desk = load_refused _ _ _ _ _ why; tables = subst (λ (at : LinkState). HasImage g.S.Store c.self.inside.tables (image_of at.book)) (sym why.same) (held going clean); opened = c.in_err-loaded.ensures.stays.opened; whole = c.in_err-loaded.ensures.whole; going = going }))
 
 pub returns-in-Ok-clause-answered : goal.returns-in-Ok-clause-answered
 returns-in-Ok-clause-answered g c =
     let going : c.self.inside.stopped ≡ false = ap (λ (s : Standing _). s.stopped) c.self.view_is ∙ c.requires.going in
     rw (← c.self.view_is)
     (λ held clean. inl (record {
-      desk = load_carried _ _ _ _ _ _ _ c.in_ok-loaded.ensures.answers c.in_ok-loaded.ensures.moves;
-      tables = written g.S.Store c.self.inside.tables c.write.new.self (image_of c.self.inside.desk.parts.book) c.in_ok-loaded.loaded.batch.items _ c.in_ok-loaded.ensures.batch c.write.ensures.crash clean (λ was. (held going was).holds) (rw c.deref.ensures.value at (c.in-Ok.ensures.written clean)) (c.in-Ok.ensures.durable clean);
-      opened = c.in_ok-loaded.ensures.opened;
+      desk = load_carried _ _ _ _ _ _ _ c.in_ok-loaded.ensures.loads.answers c.in_ok-loaded.ensures.loads.made.moves;
+      tables = written g.S.Store c.self.inside.tables c.write.new.self (image_of c.self.inside.desk.parts.book) c.in_ok-loaded.loaded.batch.items _ c.in_ok-loaded.ensures.loads.made.batch c.write.ensures.crash clean (λ was. (held going was).holds) (rw c.deref.ensures.value at (c.in-Ok.ensures.written clean)) (c.in-Ok.ensures.durable clean);
+      opened = c.in_ok-loaded.ensures.stays.opened;
       whole = c.in_ok-loaded.ensures.whole;
       going = going;
     }))
@@ -31,13 +32,13 @@ returns-in-Err-clause-answered g c =
     let going : c.self.inside.stopped ≡ false = ap (λ (s : Standing _). s.stopped) c.self.view_is ∙ c.requires.going in
     rw (← c.self.view_is)
     (λ held clean. inr (record {
-      free = c.in_ok-loaded.ensures.answers.free;
+      free = c.in_ok-loaded.ensures.loads.answers.free;
       reply = refl;
       stopped = refl;
       tables = not_written g.S.Store c.self.inside.tables c.write.new.self (image_of c.self.inside.desk.parts.book) c.write.ensures.crash clean (λ was. (held going was).holds) (c.in-Err.ensures.kept clean);
-      crash = leaves_acts g.S.Store c.self.inside.tables c.write.new.self c.self.inside.desk.parts.book _ c.in_ok-loaded.loaded.batch.items _ (rw c.deref.ensures.value at c.write.ensures.crash) clean (held going) c.in_ok-loaded.ensures.batch
-          (_, _, load_carried _ _ _ _ _ _ _ c.in_ok-loaded.ensures.answers c.in_ok-loaded.ensures.moves, refl);
-      opened = c.in_ok-loaded.ensures.opened;
+      crash = leaves_acts g.S.Store c.self.inside.tables c.write.new.self c.self.inside.desk.parts.book _ c.in_ok-loaded.loaded.batch.items _ (rw c.deref.ensures.value at c.write.ensures.crash) clean (held going) c.in_ok-loaded.ensures.loads.made.batch
+          (_, _, load_carried _ _ _ _ _ _ _ c.in_ok-loaded.ensures.loads.answers c.in_ok-loaded.ensures.loads.made.moves, refl);
+      opened = c.in_ok-loaded.ensures.stays.opened;
       whole = c.in_ok-loaded.ensures.whole;
     }))
 
@@ -45,3 +46,10 @@ pub returns-in-Ok-clause-stops : goal.returns-in-Ok-clause-stops
 returns-in-Ok-clause-stops g c =
     let going : c.self.inside.stopped ≡ false = ap (λ (s : Standing _). s.stopped) c.self.view_is ∙ c.requires.going in
     rw (← c.self.view_is) (stops_ok _ _ _ going going)
+
+pub returns-in_err-loaded-clause-stops : goal.returns-in_err-loaded-clause-stops
+returns-in_err-loaded-clause-stops g c =
+    let gone : c.from_residual.result ≡ Err c.in_err-loaded.field-0.0 = grind arith in
+    let going : c.self.inside.stopped ≡ false = ap (λ (s : Standing _). s.stopped) c.self.view_is ∙ c.requires.going in
+    rw (← c.self.view_is)
+    (stops_refused _ _ _ _ gone going going (load_told c.args.stamp c.self.inside.desk.parts.book (loading_of c.args.name c.args.spelled.now) _ c.in_err-loaded.ensures.loads.answers.why))

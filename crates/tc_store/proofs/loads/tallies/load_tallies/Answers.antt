@@ -1,4 +1,4 @@
-use Rattle.std.proofs.Common.{◌∙◌, refl}
+use Rattle.std.proofs.Common.{rules, ◌∙◌, refl}
 use Rattle.tc_store.proofs.ReadLemmas.{if_ok}
 use Rattle.sqlite.specs.Held.{state}
 use Rattle.tc_store.proofs.LoadLemmas.{all_told}
@@ -15,7 +15,11 @@ pub returns-clause-rows : goal.returns-clause-rows
 returns-clause-rows g c clean =
     if_ok c.read_all.result _ _ c.read_all.ensures.same (λ found shown image held. shown image.tallies (all_told image.tallies) (c.as_slice.ensures.value ∙ all_tally_shown image (state g.S.Store c.args.conn.now) (state g.S.Store c.rows_of.new.conn) c.in_ok-rows.rows.items held (c.in_ok-rows.ensures.rows clean)))
 
-pub returns-clause-shown : goal.returns-clause-shown
-returns-clause-shown g c clean =
-    if_ok c.read_all.result _ _ c.read_all.ensures.reads
-    (λ found reads. table_shown tally_tree all_tally_columns tally_given (λ x. refl) all_tally_text all_tally_is (state g.S.Store c.args.conn.now) (state g.S.Store c.rows_of.new.conn) c.in_ok-rows.rows.items _ found.items c.as_slice.ensures.value reads (c.in_ok-rows.ensures.rows clean))
+pub returns-clause-reads : goal.returns-clause-reads
+returns-clause-reads g c = record {
+  finds = λ clean.
+      if_ok c.read_all.result _ _ c.read_all.ensures.reads
+      (λ found reads. table_shown tally_tree all_tally_columns tally_given (λ x. refl) all_tally_text all_tally_is (state g.S.Store c.args.conn.now) (state g.S.Store c.rows_of.new.conn) c.in_ok-rows.rows.items _ found.items c.as_slice.ensures.value reads (c.in_ok-rows.ensures.rows clean));
+  same = search rules;
+  left = search rules;
+}

@@ -1,3 +1,4 @@
+use Rattle.std.proofs.Common.{rules}
 use Rattle.sqlite.specs.Held.{state}
 use Rattle.tc_store.proofs.ShowLemmas.{version_is}
 use Rattle.tc_store.proofs.TextLemmas.{all_version_is}
@@ -6,6 +7,11 @@ use Rattle.tc_store.proofs.loads.versions.check_version.Goals as goal
 pub rows_of-requires : goal.rows_of-requires
 rows_of-requires g c = record { plain = all_version_is.plain }
 
-pub returns-then-branch-clause-shown : goal.returns-then-branch-clause-shown
-returns-then-branch-clause-shown g c clean has =
-    version_is (state g.S.Store c.args.conn.now) (state g.S.Store c.rows_of.new.conn) c.in_ok-rows.rows.items _ c.as_slice.ensures.value (c.in_ok-are_version.ensures.told c.if-branch.true) (c.in_ok-rows.ensures.rows clean) has
+pub returns-then-branch : goal.returns-then-branch
+returns-then-branch g c = record {
+  reads = (record {
+    finds = λ clean has. version_is (state g.S.Store c.args.conn.now) (state g.S.Store c.rows_of.new.conn) c.in_ok-rows.rows.items _ c.as_slice.ensures.value (c.in_ok-are_version.ensures.told c.if-branch.true) (c.in_ok-rows.ensures.rows clean) has;
+    same = search rules;
+    left = search rules;
+  });
+}

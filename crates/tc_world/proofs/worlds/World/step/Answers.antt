@@ -27,16 +27,16 @@ downlink_loses g = record {
 pub invariant_of-self : goal.invariant_of-self
 invariant_of-self g c = (
   stays g.U.Carrier.kind g.D.Carrier.kind (uplink_loses g) (downlink_loses g) c.window_is_kept.ensures.kept c.args.event
-      c.self.inside.parts c.step.new.self (λ answer. answer) c.step.result c.step.ensures.happens c.step.ensures.refused
+      c.self.inside.parts c.step.new.self (λ answer. answer) c.step.result c.step.ensures.happens c.step.ensures.limits.refused
       c.step.ensures.limits.sound.0 c.step.ensures.limits.sound.1 c.self.invariant.0,
   stays_fit g.U.Carrier.kind g.D.Carrier.kind (uplink_loses g) (downlink_loses g) c.window_is_kept.ensures.fits c.args.event
-      c.self.inside.parts c.step.new.self c.step.result c.step.ensures.happens c.step.ensures.refused
+      c.self.inside.parts c.step.new.self c.step.result c.step.ensures.happens c.step.ensures.limits.refused
       c.step.ensures.limits.sound.0 c.step.ensures.limits.sound.1 c.self.invariant.0 c.self.invariant.1,
   stays_fair g.U.Carrier.kind g.D.Carrier.kind (uplink_loses g) (downlink_loses g) c.window_is_kept.ensures.fair c.args.event
-      c.self.inside.parts c.step.new.self c.step.result c.step.ensures.happens c.step.ensures.refused
+      c.self.inside.parts c.step.new.self c.step.result c.step.ensures.happens c.step.ensures.limits.refused
       c.step.ensures.limits.sound.0 c.step.ensures.limits.sound.1 c.self.invariant.0 c.self.invariant.1 c.self.invariant.2,
   stays_narrow g.U.Carrier.kind g.D.Carrier.kind (uplink_loses g) (downlink_loses g) c.window_is_kept.ensures.narrow c.args.event
-      c.self.inside.parts c.step.new.self c.step.result c.step.ensures.happens c.step.ensures.refused c.self.invariant.3,
+      c.self.inside.parts c.step.new.self c.step.result c.step.ensures.happens c.step.ensures.limits.refused c.self.invariant.3,
 )
 
 pub returns-clause-fitting : goal.returns-clause-fitting
@@ -53,7 +53,7 @@ pub returns-clause-was_fitting : goal.returns-clause-was_fitting
 returns-clause-was_fitting g c =
     rw (← c.self.view_is)
     (was_fitting g.U.Carrier.kind g.D.Carrier.kind c.args.event c.self.inside.parts c.step.new.self c.step.result
-    c.step.ensures.happens c.step.ensures.refused)
+    c.step.ensures.happens c.step.ensures.limits.refused)
 
 pub returns-clause-keeps_fitting : goal.returns-clause-keeps_fitting
 returns-clause-keeps_fitting g c =
@@ -133,4 +133,4 @@ pub returns-clause-was_clean : goal.returns-clause-was_clean
 returns-clause-was_clean g c =
     rw (← c.self.view_is)
     (was_clean g.U.Carrier.kind g.D.Carrier.kind c.args.event c.self.inside.parts c.step.new.self c.step.result
-    c.step.ensures.happens c.step.ensures.refused)
+    c.step.ensures.happens c.step.ensures.limits.refused)

@@ -1,0 +1,22 @@
+//! The limits of the desk that several crates keep, all this desk's own. (Limits of a single type stand beside it.)
+
+/// The most stacks that are loaded.
+pub const MOST_STACKS: usize = 1_000;
+
+/// The most rows that a stack has.
+pub const MOST_STACK_ROWS: u16 = 200;
+
+/// The most procedures that are loaded.
+pub const MOST_PROCEDURES: usize = 1_000;
+
+/// The most steps that a procedure has.
+pub const MOST_STEPS: u16 = 100;
+
+/// The most executions of procedures that are begun.
+pub const MOST_EXECUTIONS: usize = 10_000;
+
+/// The most moves that the history has room for: a number of 32 bits for each, and 65,536 left over.
+pub const MOST_MOVES: u32 = 4_294_901_760;
+
+/// How many rows of a table are read at a time.
+pub const PAGE: usize = 1_000;

@@ -1,0 +1,6 @@
+//! What goes over the link: frames, telecommands, reports, and directives to the FOP.
+pub mod activities;
+pub mod directives;
+pub mod frames;
+pub mod reports;
+pub mod telecommands;

@@ -1,0 +1,5 @@
+//! Lines that are printed.
+pub mod link_texts;
+pub mod procedure_texts;
+pub mod request_texts;
+pub mod texts;

@@ -1,0 +1,9 @@
+//! Bytes that are read: words, acts, lines of scripts and loads.
+pub(crate) mod act_reader;
+pub mod entry_reader;
+pub(crate) mod line_reader;
+pub(crate) mod link_reader;
+pub(crate) mod load_reader;
+pub mod readers;
+mod step_reader;
+pub(crate) mod words;

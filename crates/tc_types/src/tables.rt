@@ -1,0 +1,3 @@
+//! The rows of the desk's tables.
+pub mod images;
+pub mod rows;
