@@ -1,5 +1,5 @@
 -- Decimal numbers as they are read.
-use Rattle.std.proofs.Common.{◌≡◌, ◌≢◌, ◌↔◌, ℕ, ℤ, pos, negsuc, ◌<◌, ◌≤◌, ◌^◌, Bool, true, false, IsTrue, Option, Some, None, Result, Ok, Err, List, ◌∷◌, length, get_or, refl, ap, zero, suc, IsSome, IfSome, ◌∙◌, sym, ⊎_elim, arith}
+use Rattle.std.proofs.Common.{◌≡◌, ◌≢◌, ◌↔◌, ℕ, ℤ, pos, negsuc, ◌<◌, ◌≤◌, ◌^◌, Bool, true, false, IsTrue, Option, Some, None, Result, Ok, Err, List, ◌∷◌, length, get_or, refl, ap, zero, suc, SomeIff, ◌∙◌, sym, ⊎_elim, arith}
 use Rattle.std.specs.Result.{result_ok}
 use Rattle.std.specs.Fmt.{decimal, signed_decimal}
 use Rattle.std.specs.Str.{IsUtf8}
@@ -7,7 +7,7 @@ use Rattle.std.specs.Str.Parse.{AllDigits, digits_value, ParsesUnsigned}
 use Rattle.std.proofs.lemmas.Str.{IsUtf8-from_ascii}
 use Rattle.std.proofs.lemmas.Str.Parse.{IsNumeralModel, numerals_by_value, tells_digits, digit_at, parse_plain}
 use Rattle.std.proofs.lemmas.Fmt.{decimal_nonempty, first_decimal, decimal_digit, digits_decimal, decimal-digits_value, parse-decimal, IsAscii-decimal, decimal_injective}
-use Rattle.std.proofs.lemmas.Bool.{cases_lt, false≢true}
+use Rattle.std.proofs.lemmas.Bool.{cases_lt}
 use Rattle.std.proofs.lemmas.Int.{ints}
 use Rattle.std.proofs.Math.IntN.{neg_ℤ}
 use Rattle.tc_types.specs.Numbers.{IsOffset}
@@ -91,9 +91,9 @@ back_zero digits h =
           let bad : 0 ≡ suc is.0 = decimal_injective 0 (suc is.0) (omega arith) (omega arith) (sym h ∙ is.2) in absurd (omega arith);
     }
 
-pub back_some : (digits : List ℕ) (n : ℕ) (y : ℤ) (read : Option ℤ) → digits ≡ decimal n → 0 < n → n < 2 ^ 32 → y ≡ neg_ℤ (pos n) → (IsSome read ↔ IsOffset y) → IfSome read (λ z. z ≡ y) → Reads signed_decimal IsOffset (45 ∷ digits) read
-back_some digits zero y read e more small is found value = absurd (omega arith)
-back_some digits (suc m) y None e more small is found value =
+pub back_some : (digits : List ℕ) (n : ℕ) (y : ℤ) (read : Option ℤ) → digits ≡ decimal n → 0 < n → n < 2 ^ 32 → y ≡ neg_ℤ (pos n) → SomeIff read (IsOffset y) y → Reads signed_decimal IsOffset (45 ∷ digits) read
+back_some digits zero y read e more small is made = absurd (omega arith)
+back_some digits (suc m) y None e more small is made =
     record {
       found = tt;
       only = λ z inside same.
@@ -101,12 +101,12 @@ back_some digits (suc m) y None e more small is found value =
           let below : suc at.0 < 2 ^ 32 = at.3 in
           let equal : suc m ≡ suc at.0 = decimal_injective (suc m) (suc at.0) (omega arith) (omega arith) (sym e ∙ at.2) in
           let shown : z ≡ y = omega (arith, ints, is, at.1) in
-          absurd (false≢true (found.1 (rw (← shown) inside)));
+          absurd (made (rw (← shown) inside));
     }
-back_some digits (suc m) y (Some x) e more small is found value =
-    let here : x ≡ negsuc m = omega (arith, ints, is, value) in
+back_some digits (suc m) y (Some x) e more small is made =
+    let here : x ≡ negsuc m = omega (arith, ints, is, made.1) in
     record {
-      found = (rw (here, e) refl, rw value (found.0 refl));
+      found = (rw (here, e) refl, rw made.1 made.0);
       only = λ z inside same.
           let at = minus_is digits z inside same in
           let below : suc at.0 < 2 ^ 32 = at.3 in

@@ -1,5 +1,5 @@
 //! Numbers that keep their range. A contract sees each of them as the number itself.
-ghost use Rattle.std.specs.Prelude.{◌≡◌, ◌↔◌, ℕ, ℤ, IsSome, IfSome};
+ghost use Rattle.std.specs.Prelude.{◌≡◌, ℕ, ℤ, SomeIff};
 ghost use Rattle.tc_types.specs.Numbers.{IsMoment, IsOffset, IsRequestNumber, IsApid, IsSequenceCount, IsSteps, IsFailureCode, IsService, IsSubtype};
 
 use std::marker::Model;
@@ -26,8 +26,7 @@ impl Model for Moment {
 impl Moment {
     /// The value with this number; `None` where it is out of range.
     pub fn new(seconds: u32) -> Option<Moment>
-        ensures found { IsSome result ↔ IsMoment seconds }
-        ensures value { IfSome result (λ n. n ≡ seconds) }
+        ensures { SomeIff result (IsMoment seconds) seconds }
     {
         if seconds <= LARGEST_MOMENT {
             Some(Moment { seconds })
@@ -67,8 +66,7 @@ impl Model for Offset {
 impl Offset {
     /// The value with this number; `None` where it is out of range.
     pub fn new(seconds: i64) -> Option<Offset>
-        ensures found { IsSome result ↔ IsOffset seconds }
-        ensures value { IfSome result (λ n. n ≡ seconds) }
+        ensures { SomeIff result (IsOffset seconds) seconds }
     {
         if -LARGEST_OFFSET <= seconds && seconds <= LARGEST_OFFSET {
             Some(Offset { seconds })
@@ -108,8 +106,7 @@ impl Model for RequestNumber {
 impl RequestNumber {
     /// The value with this number; `None` where it is out of range.
     pub fn new(number: u32) -> Option<RequestNumber>
-        ensures found { IsSome result ↔ IsRequestNumber number }
-        ensures value { IfSome result (λ n. n ≡ number) }
+        ensures { SomeIff result (IsRequestNumber number) number }
     {
         if number != 0 && number <= MOST_REQUESTS {
             Some(RequestNumber { number })
@@ -146,8 +143,7 @@ impl Model for Apid {
 impl Apid {
     /// The value with this number; `None` where it is out of range.
     pub fn new(number: u16) -> Option<Apid>
-        ensures found { IsSome result ↔ IsApid number }
-        ensures value { IfSome result (λ n. n ≡ number) }
+        ensures { SomeIff result (IsApid number) number }
     {
         if number < 2_048 {
             Some(Apid { number })
@@ -184,8 +180,7 @@ impl Model for SequenceCount {
 impl SequenceCount {
     /// The value with this number; `None` where it is out of range.
     pub fn new(number: u16) -> Option<SequenceCount>
-        ensures found { IsSome result ↔ IsSequenceCount number }
-        ensures value { IfSome result (λ n. n ≡ number) }
+        ensures { SomeIff result (IsSequenceCount number) number }
     {
         if number < 16_384 {
             Some(SequenceCount { number })
@@ -222,8 +217,7 @@ impl Model for Steps {
 impl Steps {
     /// The value with this number; `None` where it is out of range.
     pub fn new(number: u8) -> Option<Steps>
-        ensures found { IsSome result ↔ IsSteps number }
-        ensures value { IfSome result (λ n. n ≡ number) }
+        ensures { SomeIff result (IsSteps number) number }
     {
         if number != 0 && number <= 9 {
             Some(Steps { number })
@@ -260,8 +254,7 @@ impl Model for FailureCode {
 impl FailureCode {
     /// The value with this number; `None` where it is out of range.
     pub fn new(number: u8) -> Option<FailureCode>
-        ensures found { IsSome result ↔ IsFailureCode number }
-        ensures value { IfSome result (λ n. n ≡ number) }
+        ensures { SomeIff result (IsFailureCode number) number }
     {
         if number >= 16 {
             Some(FailureCode { number })
@@ -298,8 +291,7 @@ impl Model for Service {
 impl Service {
     /// The value with this number; `None` where it is out of range.
     pub fn new(number: u8) -> Option<Service>
-        ensures found { IsSome result ↔ IsService number }
-        ensures value { IfSome result (λ n. n ≡ number) }
+        ensures { SomeIff result (IsService number) number }
     {
         if number != 0 && number != 11 {
             Some(Service { number })
@@ -336,8 +328,7 @@ impl Model for Subtype {
 impl Subtype {
     /// The value with this number; `None` where it is out of range.
     pub fn new(number: u8) -> Option<Subtype>
-        ensures found { IsSome result ↔ IsSubtype number }
-        ensures value { IfSome result (λ n. n ≡ number) }
+        ensures { SomeIff result (IsSubtype number) number }
     {
         if number != 0 {
             Some(Subtype { number })

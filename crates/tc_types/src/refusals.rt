@@ -75,8 +75,7 @@ impl Refusal {
     /// Its number, 1 to 34.
     pub fn number(self) -> u8
         ensures value { result ≡ refusal_number self }
-        ensures low { 1 ≤ result }
-        ensures high { result ≤ 34 }
+        ensures range { (1 ≤ result) × (result ≤ 34) }
     {
         match self {
             Refusal::BadText => 1,

@@ -17,8 +17,7 @@ impl Verdict {
     /// Its number, 1 to 3, in tables.
     pub fn number(self) -> u8
         ensures value { result ≡ verdict_number self }
-        ensures low { 1 ≤ result }
-        ensures high { result ≤ 3 }
+        ensures range { (1 ≤ result) × (result ≤ 3) }
     {
         match self {
             Verdict::Done => 1,

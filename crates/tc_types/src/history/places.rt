@@ -65,8 +65,7 @@ impl Place {
     /// Its number, 1 to 15, in tables and in the line of counts.
     pub fn number(self) -> u8
         ensures value { result ≡ place_number self }
-        ensures low { 1 ≤ result }
-        ensures high { result ≤ 15 }
+        ensures range { (1 ≤ result) × (result ≤ 15) }
     {
         match self {
             Place::Entered => 1,

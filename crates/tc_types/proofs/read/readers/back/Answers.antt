@@ -12,4 +12,4 @@ returns-then-seconds-eq0 c = back_zero _ (rw c.if-seconds-eq0.true at c.in_ok-se
 pub returns : goal.returns
 returns c =
     back_some _ c.in_ok-seconds.seconds _ _ c.in_ok-seconds.ensures.found.0 (omega arith) c.in_ok-seconds.ensures.found.1
-    (omega (arith, ints, c.from.ensures)) c.new.ensures.found c.new.ensures.value
+    (omega (arith, ints, c.from.ensures)) c.new.ensures
