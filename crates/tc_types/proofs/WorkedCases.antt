@@ -301,5 +301,5 @@ unfolding digits
 schedule-printed = refl
 
 pub limits-written : most_requests ∷ most_moves ∷ most_stacks ∷ most_stack_rows ∷ most_procedures ∷ most_steps ∷ most_executions ∷ most_activities ∷ last_moment ∷ longest_act ∷ longest_name ∷ longest_step_text ∷ [] ≡
-    65535 ∷ 4294901760 ∷ 1000 ∷ 200 ∷ 1000 ∷ 100 ∷ 10000 ∷ 64 ∷ 4102444799 ∷ 200 ∷ 16 ∷ 80 ∷ []
+    65535 ∷ 990000 ∷ 1000 ∷ 200 ∷ 1000 ∷ 100 ∷ 10000 ∷ 64 ∷ 4102444799 ∷ 200 ∷ 16 ∷ 80 ∷ []
 limits-written = refl

@@ -15,7 +15,7 @@ last_moment = LARGEST_MOMENT
 abbrev pub most_requests : ℕ
 most_requests = MOST_REQUESTS
 
--- moves in the history
+-- moves that stand when no more acts that make one are taken
 abbrev pub most_moves : ℕ
 most_moves = MOST_MOVES
 

@@ -15,8 +15,8 @@ pub const MOST_STEPS: u16 = 100;
 /// The most executions of procedures that are begun.
 pub const MOST_EXECUTIONS: usize = 10_000;
 
-/// The most moves that the history has room for: a number of 32 bits for each, and 65,536 left over.
-pub const MOST_MOVES: u32 = 4_294_901_760;
+/// How many moves stand in the history when the desk takes no more acts that make one.
+pub const MOST_MOVES: usize = 990_000;
 
 /// How many rows of a table are read at a time.
 pub const PAGE: usize = 1_000;
