@@ -2,6 +2,7 @@
 use Rattle.std.specs.Prelude.{◌≡◌, ◌⊎◌, ⊤, ℕ, ◌+◌, ◌<◌, ◌≤◌, Bool, true, Option, Some, None, IfSome, List, [], ◌∷◌, length, get_or, drop}
 use Rattle.std.specs.List.{AllByRecursion}
 use Rattle.std.specs.Fmt.{decimal}
+use Rattle.tc_types.specs.Limits.{most_steps}
 use Rattle.tc_types.specs.Numbers.{IsNumber}
 use Rattle.tc_types.specs.Grammar.{yes_no}
 use Rattle.tc_csv.specs.declared.columns.Column.{Column}
@@ -33,10 +34,10 @@ pub record IsStep (step : Step) : Type 0 where
   pub text : is_step_text step.text ≡ true
   pub request : IfSome step.request IsNumber
 
--- 1 to 100 steps
+-- one step or more, as many as a procedure has at most
 pub record IsProcedure (steps : List Step) : Type 0 where
   pub some : 0 < length steps
-  pub few : length steps ≤ 100
+  pub few : length steps ≤ most_steps
   pub each : AllByRecursion IsStep steps
 
 -- these rows, the first of them being row 1, spell these steps
@@ -68,8 +69,8 @@ KeepsStep number fields other = ⊤
 -- The first rule that a text breaks, and where: a rule of the table, or of the first row that breaks one.
 abbrev pub IsProcedureFault : List ℕ → Fault → Type 0
 IsProcedureFault text fault =
-    IsTableFault procedure_columns 100 text fault
-    ⊎ (KeepsAll (KeepsTable procedure_columns 100 text) table_rules × FirstBrokenRow KeepsStep step_rules 1 (drop 1 (records_of text)) fault)
+    IsTableFault procedure_columns most_steps text fault
+    ⊎ (KeepsAll (KeepsTable procedure_columns most_steps text) table_rules × FirstBrokenRow KeepsStep step_rules 1 (drop 1 (records_of text)) fault)
 
 -- what is told of a text: its fault, or that it spells a procedure
 abbrev pub Tells : List ℕ → Option Fault → Type 0

@@ -5,9 +5,6 @@ ghost use Rattle.tc_proc.specs.Procedures.{IsProcedure};
 use std::marker::Model;
 use tc_types::StepText;
 
-/// The most steps that a procedure has.
-pub const MOST_STEPS: u16 = 100;
-
 /// A step of a procedure.
 #[derive(Clone, Copy, Debug, PartialEq, Eq)]
 pub struct Step {

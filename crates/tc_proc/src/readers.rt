@@ -5,16 +5,18 @@ ghost use Rattle.tc_types.specs.declared.refusals.Refusal.TheVariants.{Memory};
 ghost use Rattle.tc_types.specs.Numbers.{IsNumber};
 ghost use Rattle.tc_types.specs.StepTexts.{is_step_text};
 ghost use Rattle.tc_types.specs.Grammar.{Reads};
+ghost use Rattle.tc_types.specs.Limits.{most_steps};
 ghost use Rattle.tc_csv.specs.declared.faults.Fault.{Fault as SomeFault};
 ghost use Rattle.tc_csv.specs.declared.faults.Rule.TheVariants.{StepText as TheText};
 ghost use Rattle.tc_csv.specs.Faults.{Judged, FirstBroken, FirstBrokenRow, rule_refusal};
 ghost use Rattle.tc_proc.specs.declared.procedures.Step.{Step as SomeStep};
 ghost use Rattle.tc_proc.specs.Procedures.{IsStep, AreSteps, step_record, step_records, KeepsStep, step_rules, SpellsProcedure, IsProcedureFault, Tells};
 
-use crate::procedures::{MOST_STEPS, Procedure, Step};
+use crate::procedures::{Procedure, Step};
 use csv::ByteRecord;
 use std::alloc::{AllocError, Global};
 use tc_csv::{Column, Fault, NotRead, Rule, field, optional_number, read_table};
+use tc_types::limits::MOST_STEPS;
 use tc_types::read::readers::{number, yes_or_no};
 use tc_types::{Refusal, StepText};
 
@@ -50,7 +52,7 @@ fn step_of(row: u32, fields: &ByteRecord) -> Result<Step, NotRead>
 
 /// The steps of these rows.
 fn steps_of(alloc: Global, rows: &[ByteRecord]) -> Result<Vec<Step>, NotRead>
-    requires { length rows.now ≤ 100 }
+    requires { length rows.now ≤ most_steps }
     ensures { Judged (λ v. AreSteps (map fields_of rows.now) v.items) (FirstBrokenRow KeepsStep step_rules 1 (map fields_of rows.now)) result }
 {
     let mut steps = Vec::new(alloc);

@@ -5,8 +5,8 @@ ghost use Rattle.tc_types.specs.History.{AllAfter};
 ghost use Rattle.tc_types.specs.Names.{is_same_name};
 ghost use Rattle.tc_proc.specs.GoodLogs.{HasNewName, IsNextStep};
 
-use crate::procedures::MOST_STEPS;
 use crate::steps::is_known;
+use tc_types::limits::MOST_STEPS;
 use tc_types::{LoadedProcedure, Name, ProcedureStep, is_same_name};
 
 /// Whether a procedure has a name that none of these has.

@@ -7,6 +7,7 @@ ghost use Rattle.tc_types.specs.Numbers.{IsRequestNumber};
 ghost use Rattle.tc_proc.specs.Logs.{is_past, names_unknown, kept_step, kept_steps};
 ghost use Rattle.tc_proc.specs.GoodLogs.{IsNextStep};
 ghost use Rattle.tc_types.specs.History.{AllAfter};
+ghost use Rattle.tc_types.specs.Limits.{most_steps};
 ghost use Rattle.tc_proc.specs.KeptLogs.{marks_in, is_step, request_in_steps};
 
 use crate::procedures::Step;
@@ -64,7 +65,7 @@ fn kept_step(name: Name, number: u32, step: &Step) -> ProcedureStep
 /// Adds the steps of the procedure with this name, which are numbered from 1. There is room for them.
 pub(crate) fn add_steps<A: Allocator>(kept: &mut Vec<ProcedureStep, A>, name: Name, steps: &[Step])
     requires room { vec_len kept.old + length steps.now ≤ vec_capacity kept.old }
-    requires few { length steps.now ≤ 100 }
+    requires few { length steps.now ≤ most_steps }
     requires numbered { AllByRecursion (λ s. IfSome s.request IsRequestNumber) steps.now }
     ensures { kept.new.items ≡ kept.old.items ++ kept_steps name 1 steps.now }
 {

@@ -9,6 +9,7 @@ use Rattle.tc_types.specs.declared.requests.Outcome.{Outcome}
 use Rattle.tc_types.specs.declared.requests.Outcome.TheVariants.{Completes}
 use Rattle.tc_types.specs.declared.requests.Command.{Command}
 use Rattle.tc_types.specs.declared.requests.Command.TheVariants as command
+use Rattle.tc_types.specs.Limits.{most_stack_rows}
 use Rattle.tc_types.specs.Numbers.{IsMoment, IsOffset, IsApid, IsService, IsSubtype}
 use Rattle.tc_types.specs.Grammar.{ack_word, yes_no, outcome_word, IsOutcome}
 use Rattle.tc_csv.specs.declared.columns.Column.{Column}
@@ -95,7 +96,7 @@ pub record SpellsRow (line : ℕ) (fields : List (List ℕ)) (row : StackRow) : 
 
 -- A text spells the stack with these rows.
 pub record SpellsStack (text : List ℕ) (rows : List StackRow) : Type 0 where
-  pub table : KeepsAll (KeepsTable stack_columns 200 text) table_rules
+  pub table : KeepsAll (KeepsTable stack_columns most_stack_rows text) table_rules
   pub are : SpellRows SpellsRow 1 (drop 1 (records_of text)) rows
   pub stack : IsStack rows
 
@@ -160,8 +161,8 @@ pub record HasBarred (text : List ℕ) (fault : Fault) : Type 0 where
 -- theirs, what the first row with such a target names.
 abbrev pub IsStackFault : List ℕ → Fault → Type 0
 IsStackFault text fault =
-    IsTableFault stack_columns 200 text fault
-    ⊎ (KeepsAll (KeepsTable stack_columns 200 text) table_rules
+    IsTableFault stack_columns most_stack_rows text fault
+    ⊎ (KeepsAll (KeepsTable stack_columns most_stack_rows text) table_rules
     × (FirstBrokenRow KeepsRow row_rules 1 (drop 1 (records_of text)) fault ⊎ HasBarred text fault))
 
 -- what is told of a text: its fault, or that it spells a stack

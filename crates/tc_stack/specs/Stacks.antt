@@ -4,6 +4,7 @@ use Rattle.tc_types.specs.declared.requests.Command.{Command}
 use Rattle.tc_types.specs.declared.requests.Command.TheVariants as command
 use Rattle.tc_types.specs.declared.history.places.Place.{Place}
 use Rattle.tc_types.specs.declared.history.places.Place.TheVariants as place
+use Rattle.tc_types.specs.Limits.{most_stack_rows}
 use Rattle.tc_types.specs.Grammar.{IsEntry}
 use Rattle.tc_types.specs.Schedule.{is_schedule}
 use Rattle.tc_stack.specs.declared.stacks.StackRow.{StackRow}
@@ -66,10 +67,10 @@ abbrev pub first_barred : List StackRow → ℕ → List StackRow → Option ℕ
 first_barred all line [] = None
 first_barred all line (row ∷ rows) = if names_barred all row then Some line else first_barred all (line + 1) rows
 
--- 1 to 200 rows, each with earlier lines, and none that names one that it may not name
+-- one row or more, as many as a stack has at most, each with earlier lines, and none that names one that it may not name
 pub record IsStack (rows : List StackRow) : Type 0 where
   pub some : 0 < length rows
-  pub few : length rows ≤ 200
+  pub few : length rows ≤ most_stack_rows
   pub each : AreRows 1 rows
   pub targets : first_barred rows 1 rows ≡ None
 

@@ -2,6 +2,7 @@
 ghost use Rattle.std.specs.Prelude.{◌≡◌, ◌⊎◌, ◌≤◌, List, Some, length, map, IfOk, IfErr};
 ghost use Rattle.csv.specs.Records.{fields_of};
 ghost use Rattle.tc_types.specs.declared.refusals.Refusal.TheVariants.{Memory};
+ghost use Rattle.tc_types.specs.Limits.{most_stack_rows};
 ghost use Rattle.tc_csv.specs.declared.faults.Fault.{Fault as SomeFault};
 ghost use Rattle.tc_csv.specs.Faults.{Judged, FirstBrokenRow, rule_refusal};
 ghost use Rattle.tc_csv.specs.Rows.{SpellRows};
@@ -11,10 +12,11 @@ ghost use Rattle.tc_stack.specs.StackTexts.{KeepsRow, row_rules, SpellsStack, Is
 ghost use Rattle.tc_stack.specs.RowTexts.{SpellsOnlyRow, IsOnlyStack};
 
 use crate::stack_rows::row_of;
-use crate::stacks::{MOST_ROWS, Stack, StackRow, row_at};
+use crate::stacks::{Stack, StackRow, row_at};
 use csv::ByteRecord;
 use std::alloc::{AllocError, Global};
 use tc_csv::{Column, Fault, NotRead, Rule, read_table};
+use tc_types::limits::MOST_STACK_ROWS;
 use tc_types::{Command, Entry, Refusal};
 
 /// The columns of the text of a stack.
@@ -33,7 +35,7 @@ const COLUMNS: [Column; 10] = [
 
 /// The rows of these records.
 fn rows_of(alloc: Global, records: &[ByteRecord]) -> Result<Vec<StackRow>, NotRead>
-    requires { length records.now ≤ 200 }
+    requires { length records.now ≤ most_stack_rows }
     ensures { Judged (λ v. SpellRows SpellsOnlyRow 1 (map fields_of records.now) v.items) (FirstBrokenRow KeepsRow row_rules 1 (map fields_of records.now)) result }
 {
     let mut rows = Vec::new(alloc);
@@ -81,7 +83,7 @@ fn names_barred(rows: &[StackRow], row: &StackRow) -> bool
 
 /// The first line whose command does so.
 fn first_barred(rows: &[StackRow]) -> Option<u32>
-    requires { length rows.now ≤ 200 }
+    requires { length rows.now ≤ most_stack_rows }
     ensures { result ≡ first_barred rows.now 1 rows.now }
 {
     for (index, row) in rows.iter().enumerate() {
@@ -96,7 +98,7 @@ fn first_barred(rows: &[StackRow]) -> Option<u32>
 fn read_rows(alloc: Global, text: &[u8]) -> Result<Vec<StackRow>, NotRead>
     ensures { Judged (λ v. IsOnlyStack text.now v.items) (IsStackFault text.now) result }
 {
-    let records = read_table(alloc, text, &COLUMNS, MOST_ROWS)?;
+    let records = read_table(alloc, text, &COLUMNS, MOST_STACK_ROWS)?;
     let rows = rows_of(alloc, &records[1..])?;
     match first_barred(&rows) {
         None => Ok(rows),

@@ -5,9 +5,6 @@ ghost use Rattle.tc_stack.specs.Stacks.{IsStack, at_line};
 use std::marker::Model;
 use tc_types::Entry;
 
-/// The most rows that a stack has.
-pub const MOST_ROWS: u16 = 200;
-
 /// A row of a stack. Rows are numbered from 1: a line.
 #[derive(Clone, Copy, Debug, PartialEq, Eq)]
 pub struct StackRow {
