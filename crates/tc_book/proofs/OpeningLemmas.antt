@@ -7,7 +7,6 @@ use Rattle.std.proofs.lemmas.List.{length-append, take_more}
 use Rattle.std.proofs.lemmas.List.Elements.{filter_map-append}
 use Rattle.std.proofs.lemmas.Bool.Decides.{nat_tests}
 use Rattle.std.proofs.lemmas.List.Sums.{count_by_more_yes, count_by_more_no, sum_by-take-le, sum_by-cons}
-use Rattle.std.proofs.lemmas.Option.{slice_get_read}
 use Rattle.tc_types.specs.declared.history.places.Place.{Place}
 use Rattle.tc_types.specs.declared.history.places.Place.TheVariants.{Entered, Approved, Queued, Sent, Confirmed, Riding, Scheduled, Accepted, Started, Completed, Failed, Doubtful, Withdrawn, Deleted, Closed}
 use Rattle.tc_types.specs.declared.history.causes.Cause.{Cause}
@@ -15,18 +14,15 @@ use Rattle.tc_types.specs.declared.history.causes.Cause.TheVariants as cause
 use Rattle.tc_types.specs.declared.history.moves.Move.{Move}
 use Rattle.tc_types.specs.declared.requests.Request.{Request}
 use Rattle.tc_types.specs.Lawful.{is_lawful, is_among, is_one_of}
-use Rattle.tc_types.specs.History.{AllAfter}
 use Rattle.tc_proc.specs.Logs.{LogState}
 use Rattle.tc_book.specs.declared.marks.Mark.{Mark}
 use Rattle.tc_book.specs.declared.stamps.Stamp.{Stamp}
 use Rattle.tc_book.specs.Batch.{GoesOn, mark_of, IsBehind}
 use Rattle.tc_book.specs.Book.{Book, place_in, stands, request_at, want, moved, row_of}
-use Rattle.tc_book.specs.Good.{IsGoodRequest}
 use Rattle.tc_book.specs.Held.{held_by, has_number, opened_from, looked_at}
 use Rattle.tc_book.specs.Opening.{opened_places, inserts, is_held, opened_to, desk_stamp, opened_request, opened_book, count_opened, HasNumbers}
 use Rattle.tc_book.specs.Targets.{is_insert, target_of}
 use Rattle.tc_book.proofs.GoesOnLemmas.{moved-goes_on, same-goes_on, on_and_on}
-use Rattle.tc_book.proofs.GoodLemmas.{numbers_known}
 use Rattle.tc_book.proofs.HistoryLemmas.{place_of-snoc}
 
 -- what holds of what a call answers, and what follows of it
@@ -143,10 +139,6 @@ opened_more left requests k row low is = by_test (stands left row.number opened_
 pub opened_front : (left : Book) (requests : List Request) (k : ℕ)
     → count_by (λ (r : Request). stands left r.number opened_places) (take k requests) ≤ count_by (λ (r : Request). stands left r.number opened_places) requests
 opened_front left requests k = sum_by-take-le (λ (r : Request). cond (stands left r.number opened_places) 1 0) requests k
-
--- a request has the number of its place
-pub numbered_there : (requests : List Request) (k : ℕ) (row : Request) → AllAfter IsGoodRequest [] requests → k < length requests → row ≡ get_or requests k row → row.number ≡ k + 1
-numbered_there requests k row all low is = let number = numbers_known [] requests k row all (slice_get_read requests (length requests) k row refl low is) in omega (arith, number)
 
 -- ---- numbers
 

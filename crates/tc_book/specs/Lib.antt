@@ -2,6 +2,7 @@ pub mod Appends
 pub mod Book
 pub mod Targets
 pub mod Stacks
+pub mod Moves
 pub mod Persons
 pub mod Good
 pub mod Conserved

@@ -20,7 +20,7 @@ const CLOSABLE: [Place; 6] = [
     Place::Doubtful,
 ];
 
-/// Closes a request.
+/// Closes a request. `withdraw` takes the same steps: each act has its own tests and its own contract, so its steps stand with it.
 pub fn close<A: Allocator + Copy + Drop>(
     records: &mut Records<A>,
     alloc: A,

@@ -1,17 +1,16 @@
 //! Whether those who were moved to Approved by their approvers have all of them that are wanted.
-ghost use Rattle.std.specs.Prelude.{◌≡◌, ◌↔◌, List, [], true, false, map, IfSome, IsTrue};
+ghost use Rattle.std.specs.Prelude.{◌≡◌, ◌↔◌, List, [], true, false, map, IsTrue};
 ghost use Rattle.std.specs.List.{AllByRecursion};
 ghost use Rattle.std.specs.Option.{option_map_or};
 ghost use Rattle.tc_types.specs.declared.history.causes.Cause.TheVariants as cause_of;
 ghost use Rattle.tc_types.specs.declared.history.moves.Move.{Move as SomeMove};
 ghost use Rattle.tc_types.specs.declared.tables.rows.Approval.{Approval as SomeApproval};
-ghost use Rattle.tc_types.specs.declared.tables.rows.StackApproval.{StackApproval as SomeStackApproval};
-ghost use Rattle.tc_stack.specs.Approvals.{IsApproval, is_complete};
+ghost use Rattle.tc_stack.specs.Approvals.{is_complete};
 ghost use Rattle.tc_book.specs.Approvals.{kept_approval};
 ghost use Rattle.tc_book.specs.Book.{approval_of, request_in};
-ghost use Rattle.tc_book.specs.declared.reopening.complete.Asked.{Asked as SomeAsked};
+ghost use Rattle.tc_book.specs.GoodApprovals.{AreStackApprovals, KnowsStacks};
 ghost use Rattle.tc_book.specs.Known.{approved_book, stack_with};
-ghost use Rattle.tc_book.specs.Stacks.{is_stack_approved, is_fully_approved, stack_approval_at};
+ghost use Rattle.tc_book.specs.Stacks.{is_stack_approved, is_fully_approved};
 
 use crate::approvals::approvals_of;
 use crate::reading::request_in;
@@ -47,7 +46,7 @@ fn is_alone_approved(approved: &[Approvals], n: u32) -> bool
 
 /// Whether as many approved the stack with this name as are wanted.
 fn is_stack_approved(requests: &[Request], approvals: &[StackApproval], name: &Name) -> bool
-    requires { AllByRecursion (λ (a : SomeStackApproval). IfSome (stack_approval_at (approved_book requests.now [] approvals.now) a.stack) IsApproval) approvals.now }
+    requires { AreStackApprovals requests.now approvals.now }
     ensures { result ≡ is_stack_approved (approved_book requests.now [] approvals.now) name.now }
 {
     let Some(first) = first_row(requests, name) else {
@@ -64,8 +63,7 @@ fn ask_stack(
     last: Option<Asked>,
     name: &Name,
 ) -> Asked
-    requires approved { AllByRecursion (λ (a : SomeStackApproval). IfSome (stack_approval_at (approved_book requests.now [] approvals.now) a.stack) IsApproval) approvals.now }
-    requires last { IfSome last (λ (a : SomeAsked). a.is_approved ≡ is_stack_approved (approved_book requests.now [] approvals.now) a.stack) }
+    requires { KnowsStacks requests.now approvals.now last }
     ensures stack { result.stack ≡ name.now }
     ensures answer { result.is_approved ≡ is_stack_approved (approved_book requests.now [] approvals.now) result.stack }
 {
@@ -105,10 +103,9 @@ fn look_at(
     last: Option<Asked>,
     n: u32,
 ) -> Looked
-    requires approved { AllByRecursion (λ (a : SomeStackApproval). IfSome (stack_approval_at (approved_book requests.now [] stack_approvals.now) a.stack) IsApproval) stack_approvals.now }
-    requires last { IfSome last (λ (a : SomeAsked). a.is_approved ≡ is_stack_approved (approved_book requests.now [] stack_approvals.now) a.stack) }
+    requires { KnowsStacks requests.now stack_approvals.now last }
     ensures complete { (approvals : List SomeApproval) → approved.now ≡ map (approval_of approvals) requests.now → result.is_complete ≡ is_fully_approved (approved_book requests.now approvals stack_approvals.now) n }
-    ensures last { IfSome result.last (λ (a : SomeAsked). a.is_approved ≡ is_stack_approved (approved_book requests.now [] stack_approvals.now) a.stack) }
+    ensures last { KnowsStacks requests.now stack_approvals.now result.last }
 {
     match stack_with(requests, n) {
         None => Looked {
@@ -134,10 +131,9 @@ fn look_at_row(
     last: Option<Asked>,
     row: &Move,
 ) -> Looked
-    requires approved { AllByRecursion (λ (a : SomeStackApproval). IfSome (stack_approval_at (approved_book requests.now [] stack_approvals.now) a.stack) IsApproval) stack_approvals.now }
-    requires last { IfSome last (λ (a : SomeAsked). a.is_approved ≡ is_stack_approved (approved_book requests.now [] stack_approvals.now) a.stack) }
+    requires { KnowsStacks requests.now stack_approvals.now last }
     ensures complete { (approvals : List SomeApproval) → approved.now ≡ map (approval_of approvals) requests.now → IsTrue result.is_complete ↔ (row.now.cause ≡ cause_of.Approve → is_fully_approved (approved_book requests.now approvals stack_approvals.now) row.now.request ≡ true) }
-    ensures last { IfSome result.last (λ (a : SomeAsked). a.is_approved ≡ is_stack_approved (approved_book requests.now [] stack_approvals.now) a.stack) }
+    ensures last { KnowsStacks requests.now stack_approvals.now result.last }
 {
     if is_approval(row) {
         look_at(requests, approved, stack_approvals, last, row.request.get())
@@ -156,7 +152,7 @@ pub(crate) fn are_complete(
     stack_approvals: &[StackApproval],
     moves: &[Move],
 ) -> bool
-    requires { AllByRecursion (λ (a : SomeStackApproval). IfSome (stack_approval_at (approved_book requests.now [] stack_approvals.now) a.stack) IsApproval) stack_approvals.now }
+    requires { AreStackApprovals requests.now stack_approvals.now }
     ensures { (approvals : List SomeApproval) → approved.now ≡ map (approval_of approvals) requests.now → IsTrue result ↔ AllByRecursion (λ (m : SomeMove). m.cause ≡ cause_of.Approve → is_fully_approved (approved_book requests.now approvals stack_approvals.now) m.request ≡ true) moves.now }
 {
     let mut last = None;

@@ -1,8 +1,6 @@
 //! The approvals of stacks in tables that were left.
-ghost use Rattle.std.specs.Prelude.{◌≡◌, ◌↔◌, [], IsTrue, IfSome};
-ghost use Rattle.std.specs.List.{AllByRecursion};
-ghost use Rattle.tc_stack.specs.Approvals.{IsApproval};
-ghost use Rattle.tc_book.specs.GoodApprovals.{AreGoodStackApprovals, MayApproveStack};
+ghost use Rattle.std.specs.Prelude.{◌≡◌, ◌↔◌, [], IsTrue};
+ghost use Rattle.tc_book.specs.GoodApprovals.{AreStackApprovals, AreGoodStackApprovals, MayApproveStack};
 ghost use Rattle.tc_book.specs.Known.{approved_book};
 ghost use Rattle.tc_book.specs.Stacks.{stack_approval_at};
 
@@ -16,7 +14,7 @@ fn stack_approval(
     approvals: &[StackApproval],
     name: &Name,
 ) -> Option<Approvals>
-    requires { AllByRecursion (λ a. IfSome (stack_approval_at (approved_book requests.now [] approvals.now) a.stack) IsApproval) approvals.now }
+    requires { AreStackApprovals requests.now approvals.now }
     ensures { result ≡ stack_approval_at (approved_book requests.now [] approvals.now) name.now }
 {
     let first = first_row(requests, name)?;
@@ -26,7 +24,7 @@ fn stack_approval(
 
 /// Whether this approval of a stack may be given behind these.
 fn may_approve_stack(requests: &[Request], before: &[StackApproval], given: &StackApproval) -> bool
-    requires { AllByRecursion (λ a. IfSome (stack_approval_at (approved_book requests.now [] before.now) a.stack) IsApproval) before.now }
+    requires { AreStackApprovals requests.now before.now }
     ensures { IsTrue result ↔ MayApproveStack requests.now before.now given.now }
 {
     match stack_approval(requests, before, &given.stack) {
