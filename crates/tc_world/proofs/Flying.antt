@@ -11,6 +11,7 @@ use Rattle.tc_world.specs.Kept.{IsKept, IsSane, IsInWindow, AreFrames, AreContro
 use Rattle.tc_world.specs.Flight.{AreNumbered, FliesInOrder}
 use Rattle.tc_world.proofs.Abstracted.{position_at, session_started, session_unstarted}
 use Rattle.tc_world.proofs.Newest.{distinct_newest}
+use Rattle.tc_world.proofs.Starting.{zeros_window}
 
 -- a number that stands at a place stands before the end
 within_at : (xs : List ℕ) (n x : ℕ) → slice_get xs n ≡ Some x → n < length xs
@@ -38,20 +39,7 @@ controls_numbered log base (Unlock ∷ fs) controls = controls_numbered log base
 controls_numbered log base (SetVr v ∷ fs) controls = controls_numbered log base fs controls.1
 
 nothing_in_window : IsInWindow 255 nothing_yet
-nothing_in_window = record {
-  small = omega arith;
-  accepted = refl;
-  confirmed = refl;
-  confirmed_few = omega arith;
-  accepted_few = omega arith;
-  sent_few = omega arith;
-  up_low = tt;
-  up_high = tt;
-  up_order = tt;
-  down_low = tt;
-  down_high = tt;
-  down_order = tt;
-}
+nothing_in_window = zeros_window 255 (omega arith) 0 [] tt
 
 sane_flies : (w : Bare) → Distinct w.newest.sent → IsSane 255 w → FliesInOrder w
 sane_flies w distinct (inl (started, kept)) =

@@ -90,7 +90,7 @@ zeros_rise (r ∷ rs) e =
     (each_map (λ (q : ℕ). q ≡ 0) (λ (q : ℕ). r ≤ q) rs (λ q z. omega (arith, e.0, z)) e.1, zeros_rise rs e.1)
 
 -- nothing was sent, and reports of 0 are in flight: the window is kept
-zeros_window : (bound : ℕ) → bound ≤ 255 → (base : ℕ) (rs : List ℕ) → Each (λ (r : ℕ). r ≡ 0) rs → IsInWindow bound (session_with (begun base) [] rs)
+pub zeros_window : (bound : ℕ) → bound ≤ 255 → (base : ℕ) (rs : List ℕ) → Each (λ (r : ℕ). r ≡ 0) rs → IsInWindow bound (session_with (begun base) [] rs)
 zeros_window bound fit base rs zeros = record {
   small = fit;
   accepted = refl;

@@ -10,6 +10,7 @@ returns-clause-happens g c =
     (let done = carried g.U.Carrier.kind _ _ _ _ _ _ _ _ (rw (c.reserve.ensures.machine, ← c.carry.ensures.machine) at c.offer_reserved-out.ensures.answers) c.reserve.ensures.readied c.carry.ensures.frames (rw c.reserve.ensures.log at c.carry.ensures.log) (c.many.ensures ∙ rw c.in_ok-answer.ensures.answer.0 at c.carry.ensures.answer) in
     (done.0, fresh, done.1, done.2))
 
+-- The invariants are argued as in carry_out: a goal speaks of its own function's names, and a lemma over all of them is longer.
 pub invariant_of-self : goal.invariant_of-self
 invariant_of-self g c = (
   c.self.invariant.0,

@@ -14,6 +14,7 @@ returns-then-view-eq0-clause-happens g c =
     rw (← c.self.view_is)
     (ticks_idly g.U.Carrier.kind g.D.Carrier.kind _ _ (sym (ap (λ (v : FopView). v.timer) c.view.ensures.view) ∙ c.if-view-eq0.true) c.none.ensures)
 
+-- The invariants are argued as in carry_out: a goal speaks of its own function's names, and a lemma over all of them is longer.
 pub invariant_of-self : goal.invariant_of-self
 invariant_of-self g c = (
   c.self.invariant.0,
