@@ -2,11 +2,13 @@
 use super::Told;
 use super::dice::Dice;
 use super::plain_procedures::{are_steps, fault};
-use super::procedure_texts::{is_judged, procedure};
 use super::random_texts::{Kind, see_all};
 use super::written::{Fields, Headers, field, number};
-use std::alloc::Global;
+use std::alloc::{AllocError, Global};
 use std::test::Fail;
+use tc_csv::Fault;
+use tc_proc::{read_procedure, why_no_procedure};
+use tc_types::Refusal;
 
 /// What stands in the column of requests: good ones, and behind them bad ones.
 const REQUESTS: [&[u8]; 9] = [
@@ -83,13 +85,13 @@ impl Kind for ProcedureTexts {
         fault(has_header, rows)
     }
 
-    fn is_judged(&self, alloc: Global, text: &[u8], told: Option<Told>) -> bool {
-        is_judged(alloc, text, told)
+    fn why_not(&self, alloc: Global, text: &[u8]) -> Result<Option<Fault>, AllocError> {
+        why_no_procedure(alloc, text)
     }
 
-    fn spells(&self, alloc: Global, text: &[u8], rows: &[Fields]) -> Option<bool> {
-        let read = procedure(alloc, text)?;
-        Some(are_steps(read.steps(), rows))
+    fn reads(&self, alloc: Global, text: &[u8], rows: &[Fields]) -> Result<bool, Refusal> {
+        let procedure = read_procedure(alloc, text)?;
+        Ok(are_steps(procedure.steps(), rows))
     }
 }
 

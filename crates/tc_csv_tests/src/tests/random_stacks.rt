@@ -3,10 +3,12 @@ use super::Told;
 use super::dice::Dice;
 use super::plain_stacks::{INSTANTS, OUTCOMES, are_rows, fault};
 use super::random_texts::{Kind, see_all};
-use super::stack_texts::{is_judged, stack};
 use super::written::{Fields, Headers, field, number};
-use std::alloc::Global;
+use std::alloc::{AllocError, Global};
 use std::test::Fail;
+use tc_csv::Fault;
+use tc_stack::{read_stack, why_no_stack};
+use tc_types::Refusal;
 use tc_types::read::readers::is;
 
 /// Application processes: good ones, and behind them bad ones.
@@ -140,13 +142,13 @@ impl Kind for StackTexts {
         fault(has_header, rows)
     }
 
-    fn is_judged(&self, alloc: Global, text: &[u8], told: Option<Told>) -> bool {
-        is_judged(alloc, text, told)
+    fn why_not(&self, alloc: Global, text: &[u8]) -> Result<Option<Fault>, AllocError> {
+        why_no_stack(alloc, text)
     }
 
-    fn spells(&self, alloc: Global, text: &[u8], rows: &[Fields]) -> Option<bool> {
-        let read = stack(alloc, text)?;
-        Some(are_rows(read.rows(), rows))
+    fn reads(&self, alloc: Global, text: &[u8], rows: &[Fields]) -> Result<bool, Refusal> {
+        let stack = read_stack(alloc, text)?;
+        Ok(are_rows(stack.rows(), rows))
     }
 }
 

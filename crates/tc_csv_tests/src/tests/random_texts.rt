@@ -1,10 +1,11 @@
 //! Random texts: rows with a field that is wrong now and then, written in the ways in which spreadsheets write them, beside the
 //! plain reader, which sees the fields as they were before they were written.
-use super::Told;
 use super::dice::Dice;
 use super::written::{Fields, Headers, write_text};
-use std::alloc::Global;
-use tc_csv::Rule;
+use super::{Told, is_agreed};
+use std::alloc::{AllocError, Global};
+use tc_csv::{Fault, Rule};
+use tc_types::Refusal;
 
 /// How many texts of a kind there are.
 const TEXTS: u32 = 5_000;
@@ -23,11 +24,11 @@ pub trait Kind {
     /// What is wrong with these rows, under a header that is right or not.
     fn fault(&self, has_header: bool, rows: &[Fields]) -> Option<Told>;
 
-    /// Whether a text has this fault, or none, and is refused so.
-    fn is_judged(&self, alloc: Global, text: &[u8], told: Option<Told>) -> bool;
+    /// What is wrong with a text.
+    fn why_not(&self, alloc: Global, text: &[u8]) -> Result<Option<Fault>, AllocError>;
 
-    /// Whether what a text spells has these rows, if it spells anything.
-    fn spells(&self, alloc: Global, text: &[u8], rows: &[Fields]) -> Option<bool>;
+    /// Whether what a text spells has these rows, or how the text is refused.
+    fn reads(&self, alloc: Global, text: &[u8], rows: &[Fields]) -> Result<bool, Refusal>;
 }
 
 /// The rows of a text.
@@ -40,7 +41,7 @@ fn rows<K: Kind>(kind: &K, alloc: Global, dice: &mut Dice) -> Option<Vec<Fields>
     Some(made)
 }
 
-/// Whether a text is judged so, and, where it spells something, has these rows.
+/// Whether this fault is told of a text, or none, and the text is refused so, or has these rows.
 fn is_read<K: Kind>(
     kind: &K,
     alloc: Global,
@@ -48,13 +49,11 @@ fn is_read<K: Kind>(
     told: Option<Told>,
     rows: &[Fields],
 ) -> bool {
-    if !kind.is_judged(alloc, text, told) {
-        return false;
-    }
-    match kind.spells(alloc, text, rows) {
-        Some(has_rows) => told.is_none() && has_rows,
-        None => told.is_some(),
-    }
+    let (has_rows, refused) = match kind.reads(alloc, text, rows) {
+        Ok(has_rows) => (has_rows, None),
+        Err(refusal) => (true, Some(refusal)),
+    };
+    has_rows && is_agreed(kind.why_not(alloc, text), refused, told)
 }
 
 /// What was seen of the texts: how many are good, have a bad row, are too long, and have a bad target.
