@@ -13,6 +13,7 @@ mod plain_stacks;
 mod procedure_texts;
 mod random_procedures;
 mod random_stacks;
+mod random_texts;
 mod stack_texts;
 mod written;
 

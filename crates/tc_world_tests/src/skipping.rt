@@ -1,4 +1,5 @@
-//! A link that loses one item where two or more stand at a take.
+//! A link that loses one item where two or more stand at a take. Up to `put` it is written as `ListCarrier` of tc_world is, since
+//! a link of the tests stands on none that is tested.
 ghost use Rattle.std.specs.Prelude.{◌≡◌, ◌+◌, ◌-◌, ◌≤◌, []};
 
 use std::alloc::{AllocError, Allocator};

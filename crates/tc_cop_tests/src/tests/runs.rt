@@ -36,6 +36,16 @@ fn fills<G: OnGround>(rt: &impl Abort, fop: &mut G) -> Result<(), Refusal> {
     Ok(())
 }
 
+/// A word that is not valid stops the service with these indications.
+fn check_stop<G: OnGround>(
+    rt: &impl Abort,
+    fop: &mut G,
+    indicated: &[Indication],
+) -> Result<(), Refusal> {
+    let what = "a word that is not valid";
+    check_call(rt, fop, Call::Invalid, &[], indicated, what)
+}
+
 /// The first request is confirmed and the second sent, which is in doubt when the service stops.
 fn empties<G: OnGround>(rt: &impl Abort, fop: &mut G) -> Result<(), Refusal> {
     let indicated = [
@@ -55,14 +65,7 @@ fn empties<G: OnGround>(rt: &impl Abort, fop: &mut G) -> Result<(), Refusal> {
         Indication::InDoubt(number(rt, 2)),
         Indication::Alert(AlertKind::Clcw),
     ];
-    check_call(
-        rt,
-        fop,
-        Call::Invalid,
-        &[],
-        &indicated,
-        "a word that is not valid",
-    )?;
+    check_stop(rt, fop, &indicated)?;
     check_call(rt, fop, Call::Invalid, &[], &[], "another in S6")?;
     check_offer(rt, fop, Some(Refusal::ServiceNotActive));
     Ok(())
@@ -152,14 +155,7 @@ fn sends_the_last_again<G: OnGround>(rt: &impl Abort, fop: &mut G) -> Result<(),
         Indication::InDoubt(number(rt, 256)),
         Indication::Alert(AlertKind::Clcw),
     ];
-    check_call(
-        rt,
-        fop,
-        Call::Invalid,
-        &[],
-        &indicated,
-        "a word that is not valid",
-    )
+    check_stop(rt, fop, &indicated)
 }
 
 #[test]

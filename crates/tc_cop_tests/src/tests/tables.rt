@@ -81,14 +81,14 @@ pub const OUT: FopView = FopView {
     limit: 3,
 };
 
-/// In S2 before the call.
+/// In S2 after Retransmit, where all was sent twice.
 const IN_S2: FopView = FopView {
     state: FopState::RetransmitWithoutWait,
     count: 2,
     ..OUT
 };
 
-/// In S3 before the call.
+/// In S3 after Retransmit and Wait, where all was sent once.
 const IN_S3: FopView = FopView {
     state: FopState::RetransmitWithWait,
     ..OUT
@@ -111,18 +111,38 @@ pub const STOPPED: FopView = FopView {
     ..OUT
 };
 
+/// After the three requests were sent and confirmed.
+const ALL_CONFIRMED: FopView = FopView {
+    vs: 3,
+    nn: 3,
+    sent: 0,
+    waiting: 0,
+    timer: 0,
+    ..OUT
+};
+
+/// A case of one call that puts nothing out: the others say where they differ.
+const QUIET: Case = Case {
+    row: "",
+    starts: &[Start::S1],
+    then: &[],
+    call: Call::Report(0),
+    frames: &[],
+    indicated: &[],
+    view: OUT,
+};
+
 /// A word that opens the service.
 pub const BEGINS: &[Case] = &[Case {
     row: "P1",
     starts: &[Start::S4, Start::S5],
-    then: &[],
     call: Call::Report(0),
-    frames: &[],
     indicated: &[Indicated::Started],
     view: FopView {
         timer: 0,
         ..NONE_OUT
     },
+    ..QUIET
 }];
 
 /// Words that acknowledge what is out, and all of it later, and some of it.
@@ -130,7 +150,6 @@ pub const ACKNOWLEDGES: &[Case] = &[
     Case {
         row: "P2",
         starts: TAKING,
-        then: &[],
         call: Call::Report(2),
         frames: &[Flown::Ad(2, 3)],
         indicated: &[
@@ -145,27 +164,20 @@ pub const ACKNOWLEDGES: &[Case] = &[
             waiting: 0,
             ..OUT
         },
+        ..QUIET
     },
     Case {
         row: "P2, later",
         starts: TAKING,
         then: &[Call::Report(2)],
         call: Call::Report(3),
-        frames: &[],
         indicated: &[Indicated::Confirmed(3)],
-        view: FopView {
-            vs: 3,
-            nn: 3,
-            sent: 0,
-            waiting: 0,
-            timer: 0,
-            ..OUT
-        },
+        view: ALL_CONFIRMED,
+        ..QUIET
     },
     Case {
         row: "P6",
         starts: TAKING,
-        then: &[],
         call: Call::Report(1),
         frames: &[Flown::Ad(2, 3)],
         indicated: &[Indicated::Confirmed(1), Indicated::Sent(3)],
@@ -175,6 +187,7 @@ pub const ACKNOWLEDGES: &[Case] = &[
             waiting: 0,
             ..OUT
         },
+        ..QUIET
     },
 ];
 
@@ -185,7 +198,6 @@ pub const LEFT: &[Case] = &[
         starts: TAKING,
         then: &[Call::Direct(Directive::SetLimit(1))],
         call: Call::Again(1),
-        frames: &[],
         indicated: &[
             Indicated::Confirmed(1),
             Indicated::Doubt(2),
@@ -197,36 +209,33 @@ pub const LEFT: &[Case] = &[
             limit: 1,
             ..STOPPED
         },
+        ..QUIET
     },
     Case {
         row: "P9",
         starts: TAKING,
-        then: &[],
         call: Call::Again(1),
         frames: &[Flown::Ad(1, 2), Flown::Ad(2, 3)],
         indicated: &[Indicated::Confirmed(1), Indicated::Sent(3)],
         view: FopView {
-            state: FopState::RetransmitWithoutWait,
             vs: 3,
             nn: 1,
             waiting: 0,
-            count: 2,
-            ..OUT
+            ..IN_S2
         },
+        ..QUIET
     },
     Case {
         row: "P10",
         starts: TAKING,
-        then: &[],
         call: Call::AgainWait(1),
-        frames: &[],
         indicated: &[Indicated::Confirmed(1)],
         view: FopView {
-            state: FopState::RetransmitWithWait,
             nn: 1,
             sent: 1,
-            ..OUT
+            ..IN_S3
         },
+        ..QUIET
     },
 ];
 
@@ -235,75 +244,52 @@ pub const ALL_AGAIN: &[Case] = &[
     Case {
         row: "P11",
         starts: &[Start::S1, Start::S3],
-        then: &[],
         call: Call::Again(0),
         frames: &[Flown::Ad(0, 1), Flown::Ad(1, 2)],
-        indicated: &[],
-        view: FopView {
-            state: FopState::RetransmitWithoutWait,
-            count: 2,
-            ..OUT
-        },
+        view: IN_S2,
+        ..QUIET
     },
     Case {
         row: "P12",
         starts: &[Start::S1],
-        then: &[],
         call: Call::AgainWait(0),
-        frames: &[],
-        indicated: &[],
-        view: FopView {
-            state: FopState::RetransmitWithWait,
-            ..OUT
-        },
+        view: IN_S3,
+        ..QUIET
     },
     Case {
         row: "P12",
         starts: &[Start::S2],
-        then: &[],
         call: Call::AgainWait(0),
-        frames: &[],
-        indicated: &[],
-        view: FopView {
-            state: FopState::RetransmitWithWait,
-            count: 2,
-            ..OUT
-        },
+        view: FopView { count: 2, ..IN_S3 },
+        ..QUIET
     },
     Case {
         row: "P17",
         starts: &[Start::S1],
-        then: &[],
         call: Call::Ticks(10),
         frames: &[Flown::Ad(0, 1), Flown::Ad(1, 2)],
-        indicated: &[],
         view: FopView { count: 2, ..OUT },
+        ..QUIET
     },
     Case {
         row: "P17",
         starts: &[Start::S2],
-        then: &[],
         call: Call::Ticks(10),
         frames: &[Flown::Ad(0, 1), Flown::Ad(1, 2)],
-        indicated: &[],
-        view: FopView {
-            state: FopState::RetransmitWithoutWait,
-            count: 3,
-            ..OUT
-        },
+        view: FopView { count: 3, ..IN_S2 },
+        ..QUIET
     },
     Case {
         row: "P17",
         starts: &[Start::S5],
-        then: &[],
         call: Call::Ticks(10),
         frames: &[Flown::Unlock],
-        indicated: &[],
         view: FopView {
             state: FopState::InitialisingWithBc,
             count: 2,
             ..NONE_OUT
         },
+        ..QUIET
     },
 ];
 
@@ -314,14 +300,8 @@ pub const NO_MORE: &[Case] = &[
         starts: &[Start::S1],
         then: &[Call::Direct(Directive::SetLimit(2)), Call::Ticks(10)],
         call: Call::Again(0),
-        frames: &[],
-        indicated: &[],
-        view: FopView {
-            state: FopState::RetransmitWithoutWait,
-            count: 2,
-            limit: 2,
-            ..OUT
-        },
+        view: FopView { limit: 2, ..IN_S2 },
+        ..QUIET
     },
     Case {
         row: "P13, after P12",
@@ -332,14 +312,8 @@ pub const NO_MORE: &[Case] = &[
             Call::AgainWait(0),
         ],
         call: Call::Again(0),
-        frames: &[],
-        indicated: &[],
-        view: FopView {
-            state: FopState::RetransmitWithoutWait,
-            count: 2,
-            limit: 2,
-            ..OUT
-        },
+        view: FopView { limit: 2, ..IN_S2 },
+        ..QUIET
     },
 ];
 
@@ -350,60 +324,43 @@ pub const IGNORED: &[Case] = &[
         starts: &[Start::S1],
         then: &[Call::Report(2), Call::Report(3)],
         call: Call::Report(3),
-        frames: &[],
-        indicated: &[],
-        view: FopView {
-            vs: 3,
-            nn: 3,
-            sent: 0,
-            waiting: 0,
-            timer: 0,
-            ..OUT
-        },
+        view: ALL_CONFIRMED,
+        ..QUIET
     },
     Case {
         row: "P5",
         starts: &[Start::S1],
-        then: &[],
         call: Call::Report(0),
-        frames: &[],
-        indicated: &[],
         view: OUT,
+        ..QUIET
     },
     Case {
         row: "P11",
         starts: &[Start::S2],
-        then: &[],
         call: Call::Again(0),
-        frames: &[],
-        indicated: &[],
         view: IN_S2,
+        ..QUIET
     },
     Case {
         row: "P12",
         starts: &[Start::S3],
-        then: &[],
         call: Call::AgainWait(0),
-        frames: &[],
-        indicated: &[],
         view: IN_S3,
+        ..QUIET
     },
     Case {
         row: "P13",
         starts: &[Start::S2],
         then: &[Call::Direct(Directive::SetLimit(2))],
         call: Call::Again(0),
-        frames: &[],
-        indicated: &[],
         view: FopView { limit: 2, ..IN_S2 },
+        ..QUIET
     },
     Case {
         row: "P17",
         starts: &[Start::S3],
-        then: &[],
         call: Call::Ticks(10),
-        frames: &[],
-        indicated: &[],
         view: FopView { timer: 0, ..IN_S3 },
+        ..QUIET
     },
 ];

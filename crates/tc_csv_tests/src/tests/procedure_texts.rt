@@ -11,7 +11,7 @@ pub fn procedure(alloc: Global, text: &[u8]) -> Option<Procedure> {
 }
 
 /// Whether a text has this fault, or none, and is refused so.
-pub fn is_judged(alloc: Global, text: &[u8], told: Option<Told>) -> bool {
+fn is_judged(alloc: Global, text: &[u8], told: Option<Told>) -> bool {
     let refused = read_procedure(alloc, text).err();
     is_agreed(why_no_procedure(alloc, text), refused, told)
 }

@@ -1,23 +1,15 @@
-//! Random texts of stacks: rows with a field that is wrong now and then, written in the ways in which spreadsheets write them, beside
-//! the plain reader, which sees the fields as they were before they were written.
+//! Random texts of stacks.
 use super::Told;
 use super::dice::Dice;
 use super::plain_stacks::{INSTANTS, OUTCOMES, are_rows, fault};
-use super::stack_texts::{is_judged, stack};
-use super::written::{Fields, Headers, field, number, write_text};
-use std::alloc::Global;
+use super::random_texts::{Kind, see_all};
+use super::written::{Fields, Headers, field, number};
+use std::alloc::{AllocError, Global};
 use std::test::Fail;
-use tc_csv::Rule;
+use tc_csv::Fault;
+use tc_stack::{read_stack, why_no_stack};
+use tc_types::Refusal;
 use tc_types::read::readers::is;
-
-/// How many texts there are.
-const TEXTS: u32 = 5_000;
-
-/// The header, and one in another order.
-const HEADERS: Headers = Headers {
-    right: b"line,apid,service,subtype,target,time,ack,critical,after,outcome",
-    wrong: b"line,apid,service,subtype,time,target,ack,critical,after,outcome",
-};
 
 /// Application processes: good ones, and behind them bad ones.
 const APIDS: [&[u8]; 6] = [b"5", b"0", b"2047", b"2048", b"", b"+5"];
@@ -100,105 +92,69 @@ fn scheduling(alloc: Global, dice: &mut Dice, line: u32, fields: &mut Fields) ->
     fields.push(field(alloc, time)?).ok()
 }
 
-/// The fields of a row, mostly ten.
-fn row(alloc: Global, dice: &mut Dice, line: u32) -> Option<Fields> {
-    let mut fields = Vec::new(alloc);
-    fields.push(number(alloc, dice, line)?).ok()?;
-    fields.push(field(alloc, dice.pick(&APIDS, 3))?).ok()?;
-    let is_plain = line == 1 || !dice.one_in(4);
-    if is_plain {
-        plain(alloc, dice, &mut fields)?;
-    } else {
-        scheduling(alloc, dice, line, &mut fields)?;
-    }
-    fields.push(field(alloc, dice.pick(&ACKS, 3))?).ok()?;
-    fields.push(field(alloc, dice.pick(&CRITICALS, 2))?).ok()?;
-    if line > 1 && dice.one_in(3) {
-        fields.push(line_field(alloc, dice, line)?).ok()?;
-    } else {
-        fields.push(field(alloc, b"")?).ok()?;
-    }
-    let outcomes = if is_plain { 4 } else { 1 };
-    fields
-        .push(field(alloc, dice.pick(&OUTCOMES, outcomes))?)
-        .ok()?;
-    if dice.one_in(300) {
-        fields.push(field(alloc, b"")?).ok()?;
-    }
-    Some(fields)
-}
+/// Texts of stacks.
+struct StackTexts;
 
-/// Rows: mostly a few, now and then some two hundred.
-fn rows(alloc: Global, dice: &mut Dice) -> Option<Vec<Fields>> {
-    let count = if dice.one_in(100) {
-        dice.roll(6).saturating_add(197)
-    } else {
-        dice.roll(8)
-    };
-    let mut made = Vec::new(alloc);
-    for index in 0..count {
-        made.push(row(alloc, dice, index.saturating_add(1))?).ok()?;
+impl Kind for StackTexts {
+    fn headers(&self) -> Headers {
+        Headers {
+            right: b"line,apid,service,subtype,target,time,ack,critical,after,outcome",
+            wrong: b"line,apid,service,subtype,time,target,ack,critical,after,outcome",
+        }
     }
-    Some(made)
-}
 
-/// Whether a text is judged so, and, where it spells a stack, has these rows.
-fn is_read(alloc: Global, text: &[u8], told: Option<Told>, rows: &[Fields]) -> bool {
-    if !is_judged(alloc, text, told) {
-        return false;
+    fn count(&self, dice: &mut Dice) -> u32 {
+        if dice.one_in(100) {
+            dice.roll(6).saturating_add(197)
+        } else {
+            dice.roll(8)
+        }
     }
-    match stack(alloc, text) {
-        Some(read) => told.is_none() && are_rows(read.rows(), rows),
-        None => told.is_some(),
-    }
-}
 
-/// What was seen of the texts.
-#[derive(Clone, Copy)]
-struct Seen {
-    good: u32,
-    bad: u32,
-    long: u32,
-    barred: u32,
-}
+    fn row(&self, alloc: Global, dice: &mut Dice, line: u32) -> Option<Fields> {
+        let mut fields = Vec::new(alloc);
+        fields.push(number(alloc, dice, line)?).ok()?;
+        fields.push(field(alloc, dice.pick(&APIDS, 3))?).ok()?;
+        let is_plain = line == 1 || !dice.one_in(4);
+        if is_plain {
+            plain(alloc, dice, &mut fields)?;
+        } else {
+            scheduling(alloc, dice, line, &mut fields)?;
+        }
+        fields.push(field(alloc, dice.pick(&ACKS, 3))?).ok()?;
+        fields.push(field(alloc, dice.pick(&CRITICALS, 2))?).ok()?;
+        if line > 1 && dice.one_in(3) {
+            fields.push(line_field(alloc, dice, line)?).ok()?;
+        } else {
+            fields.push(field(alloc, b"")?).ok()?;
+        }
+        let outcomes = if is_plain { 4 } else { 1 };
+        fields
+            .push(field(alloc, dice.pick(&OUTCOMES, outcomes))?)
+            .ok()?;
+        if dice.one_in(300) {
+            fields.push(field(alloc, b"")?).ok()?;
+        }
+        Some(fields)
+    }
 
-/// What is seen of one text more; none where it is judged otherwise than by the plain reader.
-fn see(alloc: Global, dice: &mut Dice, seen: Seen) -> Option<Seen> {
-    let rows = rows(alloc, dice)?;
-    let mut text = Vec::new(alloc);
-    let has_header = write_text(dice, &HEADERS, rows.as_slice(), &mut text)?;
-    let told = fault(has_header, rows.as_slice());
-    if !is_read(alloc, text.as_slice(), told, rows.as_slice()) {
-        return None;
+    fn fault(&self, has_header: bool, rows: &[Fields]) -> Option<Told> {
+        fault(has_header, rows)
     }
-    let mut next = seen;
-    match told {
-        None => next.good = seen.good.saturating_add(1),
-        Some((201, _)) => next.long = seen.long.saturating_add(1),
-        Some((_, Rule::TargetRow)) => next.barred = seen.barred.saturating_add(1),
-        Some(_) => next.bad = seen.bad.saturating_add(1),
-    }
-    Some(next)
-}
 
-/// What is seen of all texts.
-fn see_all(alloc: Global) -> Option<Seen> {
-    let mut dice = Dice::new(8);
-    let mut seen = Seen {
-        good: 0,
-        bad: 0,
-        long: 0,
-        barred: 0,
-    };
-    for _ in 0..TEXTS {
-        seen = see(alloc, &mut dice, seen)?;
+    fn why_not(&self, alloc: Global, text: &[u8]) -> Result<Option<Fault>, AllocError> {
+        why_no_stack(alloc, text)
     }
-    Some(seen)
+
+    fn reads(&self, alloc: Global, text: &[u8], rows: &[Fields]) -> Result<bool, Refusal> {
+        let stack = read_stack(alloc, text)?;
+        Ok(are_rows(stack.rows(), rows))
+    }
 }
 
 #[test]
 fn random_stacks_are_read_as_the_plain_reader_reads_them(rt: HostRuntime) -> Result<(), Fail> {
-    let seen = see_all(rt.alloc()).expect(&rt, "texts that are judged alike");
+    let seen = see_all(&StackTexts, rt.alloc(), 8).expect(&rt, "texts that are judged alike");
     assert!(rt; seen.good > 999);
     assert!(rt; seen.bad > 499);
     assert!(rt; seen.long > 9);

@@ -7,12 +7,12 @@ use tc_stack::{Stack, read_stack, why_no_stack};
 use tc_types::Command;
 
 /// The stack that a text spells, if it spells one.
-pub fn stack(alloc: Global, text: &[u8]) -> Option<Stack> {
+fn stack(alloc: Global, text: &[u8]) -> Option<Stack> {
     read_stack(alloc, text).ok()
 }
 
 /// Whether a text has this fault, or none, and is refused so.
-pub fn is_judged(alloc: Global, text: &[u8], told: Option<Told>) -> bool {
+fn is_judged(alloc: Global, text: &[u8], told: Option<Told>) -> bool {
     let refused = read_stack(alloc, text).err();
     is_agreed(why_no_stack(alloc, text), refused, told)
 }

@@ -12,7 +12,7 @@ use tc_fop::signals::FopState;
 use tc_types::{Directive, Refusal, RequestNumber, Telemetry, Verification};
 use tc_world::Event;
 
-/// A linear congruential generator.
+/// A linear congruential generator. The tests of `tc_board` have the same one, since no crate of tests can use another.
 #[derive(Drop)]
 pub struct Dice {
     state: u64,

@@ -10,15 +10,15 @@ use tc_farm::FarmState;
 use tc_fop::signals::{AlertKind, FopState};
 use tc_types::Directive;
 
-/// An act, and the alert that it tells, where it tells one.
-type Step = (Act, Option<AlertKind>);
+/// Acts in a row: none but the last tells an alert, and the last tells this one, or none.
+type Part = (&'static [Act], Option<AlertKind>);
 
 /// Acts with this K and this W.
 #[derive(Clone, Copy)]
 struct Course {
     k: u8,
     window: u16,
-    steps: &'static [Step],
+    parts: &'static [Part],
     /// Whether K fits from the making of the world on.
     fits: bool,
     /// Whether the start is level.
@@ -29,207 +29,159 @@ struct Course {
     confirmed: usize,
 }
 
+/// A control word is sent, and comes down.
+const WORD: &[Act] = &[Act::Clcw, Act::Downlink];
+
+/// After a start without check, two requests are offered.
+const TWO: &[Act] = &[START, Act::Offer(1), Act::Offer(2)];
+
+/// The same with four.
+const FOUR: &[Act] = &[
+    START,
+    Act::Offer(1),
+    Act::Offer(2),
+    Act::Offer(3),
+    Act::Offer(4),
+];
+
 /// The first of four frames is lost, and all are sent again.
-const ONE_LOST: &[Step] = &[
-    (START, None),
-    (Act::Offer(1), None),
-    (Act::Offer(2), None),
-    (Act::Offer(3), None),
-    (Act::Offer(4), None),
-    (Act::LoseUp(0), None),
-    (Act::Up, None),
-    (Act::Up, None),
-    (Act::Up, None),
-    (Act::Clcw, None),
-    (Act::Downlink, None),
-    (Act::Up, None),
-    (Act::Up, None),
-    (Act::Up, None),
-    (Act::Up, None),
-    (Act::Clcw, None),
-    (Act::Downlink, None),
+const ONE_LOST: &[Part] = &[
+    (FOUR, None),
+    (&[Act::LoseUp(0), Act::Up, Act::Up, Act::Up], None),
+    (WORD, None),
+    (&[Act::Up, Act::Up, Act::Up, Act::Up], None),
+    (WORD, None),
 ];
 
 /// The first of two frames is lost, and none may be sent twice.
-const AT_THE_LIMIT: &[Step] = &[
-    (Act::Directive(Directive::SetLimit(1)), None),
-    (START, None),
-    (Act::Offer(1), None),
-    (Act::Offer(2), None),
-    (Act::LoseUp(0), None),
-    (Act::Up, None),
-    (Act::Clcw, None),
-    (Act::Downlink, Some(AlertKind::Limit)),
+const AT_THE_LIMIT: &[Part] = &[
+    (&[Act::Directive(Directive::SetLimit(1))], None),
+    (TWO, None),
+    (&[Act::LoseUp(0), Act::Up], None),
+    (WORD, Some(AlertKind::Limit)),
 ];
 
 /// A frame and its repetition are lost, and the timer ends twice.
-const TIMER_ENDS: &[Step] = &[
-    (Act::Directive(Directive::SetLimit(2)), None),
-    (Act::Directive(Directive::SetT1(2)), None),
-    (CHECK, None),
-    (Act::Clcw, None),
-    (Act::Downlink, None),
-    (Act::Offer(1), None),
-    (Act::LoseUp(0), None),
-    (Act::Tick, None),
-    (Act::Tick, None),
-    (Act::LoseUp(0), None),
-    (Act::Tick, None),
-    (Act::Tick, Some(AlertKind::T1)),
+const TIMER_ENDS: &[Part] = &[
+    (&[Act::Directive(Directive::SetLimit(2))], None),
+    (&[Act::Directive(Directive::SetT1(2)), CHECK], None),
+    (WORD, None),
+    (&[Act::Offer(1), Act::LoseUp(0)], None),
+    (&[Act::Tick, Act::Tick, Act::LoseUp(0)], None),
+    (&[Act::Tick, Act::Tick], Some(AlertKind::T1)),
 ];
 
 /// No buffer is free for the first of two frames; one becomes free, and both are sent again.
-const FULL_BUFFER: &[Step] = &[
-    (START, None),
-    (Act::Offer(1), None),
-    (Act::Offer(2), None),
-    (Act::Blocked, None),
-    (Act::Up, None),
-    (Act::Clcw, None),
-    (Act::Downlink, None),
-    (Act::Release, None),
-    (Act::Clcw, None),
-    (Act::Downlink, None),
-    (Act::Up, None),
-    (Act::Up, None),
-    (Act::Clcw, None),
-    (Act::Downlink, None),
+const FULL_BUFFER: &[Part] = &[
+    (TWO, None),
+    (&[Act::Blocked, Act::Up], None),
+    (WORD, None),
+    (&[Act::Release], None),
+    (WORD, None),
+    (&[Act::Up, Act::Up], None),
+    (WORD, None),
 ];
 
 /// V(S) is not V(R), and the check tells it.
-const NOT_LEVEL: &[Step] = &[
-    (Act::Directive(Directive::SetVs(5)), None),
-    (CHECK, None),
-    (Act::Clcw, None),
-    (Act::Downlink, Some(AlertKind::NnR)),
+const NOT_LEVEL: &[Part] = &[
+    (&[Act::Directive(Directive::SetVs(5)), CHECK], None),
+    (WORD, Some(AlertKind::NnR)),
 ];
 
 /// The service ends, in S1 and in S4.
-const ENDS: &[Step] = &[
-    (START, None),
-    (Act::Offer(1), None),
-    (Act::Up, None),
-    (STOP, Some(AlertKind::Term)),
-    (Act::Directive(Directive::SetVs(1)), None),
-    (CHECK, None),
-    (STOP, Some(AlertKind::Term)),
+const ENDS: &[Part] = &[
+    (&[START, Act::Offer(1), Act::Up], None),
+    (&[STOP], Some(AlertKind::Term)),
+    (&[Act::Directive(Directive::SetVs(1)), CHECK], None),
+    (&[STOP], Some(AlertKind::Term)),
 ];
 
+/// Three frames are lost.
+const THREE_LOST: &[Act] = &[Act::LoseUp(0), Act::LoseUp(0), Act::LoseUp(0)];
+
 /// Four of five frames are lost: the fifth is past half of a window of eight.
-const LOSES_FOUR: &[Step] = &[
-    (START, None),
-    (Act::Offer(1), None),
-    (Act::Offer(2), None),
-    (Act::Offer(3), None),
-    (Act::Offer(4), None),
-    (Act::Offer(5), None),
-    (Act::LoseUp(0), None),
-    (Act::LoseUp(0), None),
-    (Act::LoseUp(0), None),
-    (Act::LoseUp(0), None),
-    (Act::Up, None),
-    (Act::Clcw, None),
-    (Act::Downlink, Some(AlertKind::Lockout)),
+const LOSES_FOUR: &[Part] = &[
+    (FOUR, None),
+    (&[Act::Offer(5)], None),
+    (THREE_LOST, None),
+    (&[Act::LoseUp(0), Act::Up], None),
+    (WORD, Some(AlertKind::Lockout)),
 ];
 
 /// The same where K is at most half: the fifth request waits, and no frame comes up.
-const LOSES_FOUR_OF_FOUR: &[Step] = &[
-    (START, None),
-    (Act::Offer(1), None),
-    (Act::Offer(2), None),
-    (Act::Offer(3), None),
-    (Act::Offer(4), None),
-    (Act::Offer(5), None),
-    (Act::LoseUp(0), None),
-    (Act::LoseUp(0), None),
-    (Act::LoseUp(0), None),
-    (Act::Up, None),
-    (Act::Clcw, None),
-    (Act::Downlink, None),
+const LOSES_FOUR_OF_FOUR: &[Part] = &[
+    (FOUR, None),
+    (&[Act::Offer(5)], None),
+    (THREE_LOST, None),
+    (&[Act::Up], None),
+    (WORD, None),
 ];
+
+/// A course in which K is half of the window and fits, the start is level, and the service ends with nothing confirmed: the
+/// others say where they differ.
+const FITS: Course = Course {
+    k: 4,
+    window: 8,
+    parts: ENDS,
+    fits: true,
+    level: true,
+    end: (false, FopState::Initial),
+    confirmed: 0,
+};
 
 /// All courses.
 const COURSES: &[Course] = &[
     Course {
-        k: 4,
-        window: 8,
-        steps: ONE_LOST,
-        fits: true,
-        level: true,
+        parts: ONE_LOST,
         end: (false, FopState::Active),
         confirmed: 4,
+        ..FITS
     },
     Course {
-        k: 4,
-        window: 8,
-        steps: AT_THE_LIMIT,
-        fits: true,
-        level: true,
-        end: (false, FopState::Initial),
-        confirmed: 0,
+        parts: AT_THE_LIMIT,
+        ..FITS
     },
     Course {
         k: 1,
         window: 2,
-        steps: TIMER_ENDS,
-        fits: true,
-        level: true,
-        end: (false, FopState::Initial),
-        confirmed: 0,
+        parts: TIMER_ENDS,
+        ..FITS
     },
     Course {
         k: 127,
         window: 254,
-        steps: FULL_BUFFER,
-        fits: true,
-        level: true,
+        parts: FULL_BUFFER,
         end: (false, FopState::Active),
         confirmed: 2,
+        ..FITS
     },
     Course {
         k: 10,
         window: 20,
-        steps: NOT_LEVEL,
-        fits: true,
+        parts: NOT_LEVEL,
         level: false,
-        end: (false, FopState::Initial),
-        confirmed: 0,
+        ..FITS
     },
+    FITS,
     Course {
-        k: 4,
-        window: 8,
-        steps: ENDS,
-        fits: true,
-        level: true,
-        end: (false, FopState::Initial),
-        confirmed: 0,
-    },
-    Course {
-        k: 4,
-        window: 8,
-        steps: LOSES_FOUR_OF_FOUR,
-        fits: true,
-        level: true,
+        parts: LOSES_FOUR_OF_FOUR,
         end: (false, FopState::RetransmitWithoutWait),
-        confirmed: 0,
+        ..FITS
     },
     Course {
         k: 5,
-        window: 8,
-        steps: LOSES_FOUR,
+        parts: LOSES_FOUR,
         fits: false,
-        level: true,
         end: (true, FopState::Initial),
-        confirmed: 0,
+        ..FITS
     },
     Course {
         k: 5,
-        window: 8,
-        steps: ONE_LOST,
+        parts: ONE_LOST,
         fits: false,
-        level: true,
         end: (false, FopState::Active),
         confirmed: 4,
+        ..FITS
     },
 ];
 
@@ -240,13 +192,40 @@ fn check_standing<L: Link>(rt: &impl Abort, link: &L, course: &Course) {
     assert!(rt; link.is_level() == (course.level && link.sessions() > 0));
 }
 
+/// Makes an act happen, and says which alert it tells.
+fn happens<L: Link>(
+    rt: &impl Abort,
+    link: &mut L,
+    course: &Course,
+    act: &Act,
+) -> Result<Option<AlertKind>, Fail> {
+    let told = link.alerts(event(rt, act))?;
+    check_standing(rt, link, course);
+    Ok(told)
+}
+
+/// Plays the part of a course at this place.
+fn plays_part<L: Link>(
+    rt: &impl Abort,
+    link: &mut L,
+    course: &Course,
+    (place, (acts, alert)): (usize, &Part),
+) -> Result<(), Fail> {
+    let (last, others) = acts.split_last().expect(rt, "an act");
+    for act in others {
+        let told = happens(rt, link, course, act)?;
+        assert!(rt; told.is_none(), "{told:?} within part {place}");
+    }
+    let told = happens(rt, link, course, last)?;
+    assert!(rt; told == *alert, "{told:?} at the end of part {place}");
+    Ok(())
+}
+
 /// Plays a course.
 fn plays<L: Link>(rt: &impl Abort, link: &mut L, course: &Course) -> Result<(), Fail> {
     check_standing(rt, link, course);
-    for (place, (act, alert)) in course.steps.iter().enumerate() {
-        let told = link.alerts(event(rt, act))?;
-        assert!(rt; told == *alert, "{told:?} at {place}");
-        check_standing(rt, link, course);
+    for part in course.parts.iter().enumerate() {
+        plays_part(rt, link, course, part)?;
     }
     let is_locked = link.farm().state == FarmState::Lockout;
     assert!(rt; (is_locked, link.fop().state) == course.end);
