@@ -27,7 +27,7 @@ use Rattle.tc_store.specs.Loads.{all_version_columns}
 use Rattle.tc_store.specs.Told.{IsTold, IsToldRequest, IsToldStep, IsToldRecord}
 use Rattle.tc_store.specs.Shows.{ShowsRows, ShowsRequests, ShowsStacks, ShowsProcedures, ShowsAll}
 use Rattle.tc_store.specs.Reads.{Stays, Spares, Reads, OnlyReads}
-use Rattle.tc_store.proofs.ReadLemmas.{rising, still_holds, fails_holding}
+use Rattle.tc_store.proofs.ReadLemmas.{rising, still_holds, fails_holding, if_ok}
 
 -- ---- what a read leaves
 
@@ -55,23 +55,26 @@ module _ {S : Type 0} (g : Ghosts S) where
     outside = λ h. two.outside (one.outside h);
   }
 
-  -- one call after another, each of which reads on after an Ok
-  abbrev pub Went : Held S → Held S → Type 0
-  Went old new = Spares g old new × (HasCleanDisk (state g new) → Stays g old new)
+  -- where the disk gives back what was written after a call that reads, it did so before
+  pub clean_before : {T E : Type 0} {Finds : Database → T → Type 0} {old new : Held S} {r : Result T E} → Reads g Finds old new r → HasCleanDisk (state g new) → HasCleanDisk (state g old)
+  clean_before it clean = omega (arith, clean, it.left.crash.clean)
 
-  pub went_then : (old mid new : Held S) → Went old mid → Spares g mid new → (HasCleanDisk (state g new) → Stays g mid new) → Went old new
-  went_then old mid new went left stays =
-      (spares_then old mid new went.1 went.0 left, λ clean. stays_then old mid new (went.1 (omega (arith, clean, left.crash.clean))) (stays clean))
+  -- A call that reads, after another that was Ok: what both find is so of the database before the first. The two are as one call, so that a third can follow.
+  pub reads_then : {A B E : Type 0} {P : Database → A → Type 0} {Q : Database → B → Type 0} {old mid new : Held S} {x : A} {r : Result B E} → Reads {E = E} g (λ db a. db.schema ≡ schema_1 → P db a) old mid (Ok x)
+      → Reads g (λ db b. db.schema ≡ schema_1 → Q db b) mid new r → Reads g (λ db b. db.schema ≡ schema_1 → P db x × Q db b) old new r
+  reads_then {Q = Q} {old = old} {mid = mid} {new = new} {r = r} one two = record {
+    finds = λ clean.
+        let before = clean_before two clean in
+        if_ok r _ _ (two.finds clean) (λ b shows has.
+        let there = (one.same before).same has in (one.finds before has, subst (λ (db : Database). Q db b) there (shows (ap (λ (db : Database). db.schema) there ∙ has))));
+    same = λ clean. on_ok r _ _ (two.same clean) (stays_then old mid new (one.same (clean_before two clean)));
+    left = spares_then old mid new one.same one.left two.left;
+  }
 
-  pub went_left : (old mid new : Held S) → Went old mid → Spares g mid new → Spares g old new
-  went_left old mid new went left = spares_then old mid new went.1 went.0 left
-
-  pub clean_before : (mid new : Held S) → Spares g mid new → HasCleanDisk (state g new) → HasCleanDisk (state g mid)
-  clean_before mid new left clean = omega (arith, clean, left.crash.clean)
-
-  -- what a later call shows of the database, the first found
-  pub seen_before : (P : Database → Type 0) (old mid : Held S) → Stays g old mid → (state g old).now.schema ≡ schema_1 → ((state g mid).now.schema ≡ schema_1 → P (state g mid).now) → P (state g old).now
-  seen_before P old mid stays has shows = let there = stays.same has in subst P there (shows (ap (λ (db : Database). db.schema) there ∙ has))
+  -- and between them the disk gives back what was written, and the tables hold what they held
+  pub held_then : {A B E : Type 0} {P : Database → A → Type 0} {Q : Database → B → Type 0} {old mid new : Held S} {x : A} {r : Result B E} → Reads {E = E} g P old mid (Ok x) → Reads g Q mid new r
+      → HasCleanDisk (state g new) → (image : Image) → Holds (state g old).now image → HasCleanDisk (state g mid) × Holds (state g mid).now image
+  held_then one two clean image held = let before = clean_before two clean in (before, (one.same before).holds image held)
 
   pub spares_in_crash : (old new : Held S) (image : Image) → Holds (state g old).now image → Spares g old new → Survives (state g old) (state g new) (λ _. ⊥)
   spares_in_crash old new image h it = survives_weaker (state g old) (state g new) _ _ (λ clean db none. none image h) it.crash
@@ -82,7 +85,7 @@ module _ {S : Type 0} (g : Ghosts S) where
     same = λ clean image held. on_ok r _ _ (it.same clean) (λ stays. stays.holds image held);
     kept = it.left.kept;
     crash = λ image held. spares_in_crash old new image held it.left;
-    clean = λ clean. clean_before old new it.left clean;
+    clean = clean_before it;
     outside = it.left.outside;
   }
 

@@ -12,6 +12,7 @@ pub mod Executions
 pub mod Records
 pub mod Schema
 pub mod Steps
+pub mod Commits
 pub mod Told
 pub mod Reads
 pub mod Loads

@@ -1,5 +1,5 @@
 -- What the tables show: all rows of each table, as the texts that read them show the columns.
-use Rattle.std.specs.Prelude.{◌≡◌, ℤ, pos, true, int_le, List, [], ◌∷◌, filter, map, None, IsPermutation}
+use Rattle.std.specs.Prelude.{◌≡◌, ℕ, ℤ, pos, true, int_le, List, [], ◌∷◌, filter, map, None, IsPermutation}
 use Rattle.std.specs.List.{AllByRecursion}
 use Rattle.sqlite_value.specs.declared.value.Value.{Value}
 use Rattle.sqlite_value.specs.declared.value.Value.TheVariants.{Int, Text}
@@ -89,6 +89,10 @@ pub record ShowsAll (db : Database) (image : Image) : Type 0 where
   pub requests : ShowsRequests db image.requests image.moves image.tallies image.approvals
   pub stacks : ShowsStacks db image.stacks image.stack_approvals
   pub procedures : ShowsProcedures db image.procedures image.steps image.executions image.records
+
+-- a row shows this number in a column
+abbrev pub ShowsNumber : Row → ℕ → ℕ → Type 0
+ShowsNumber row at n = column row at ≡ Int (pos n)
 
 -- a row of requests shows this body in its columns
 pub record ShowsBody (row : Row) (b : Body) : Type 0 where

@@ -10,6 +10,7 @@ ghost use Rattle.tc_types.specs.Verdicts.{verdict_number};
 ghost use Rattle.tc_store.specs.Moves.{from_number};
 ghost use Rattle.tc_store.specs.ProcedureSteps.{released_number};
 ghost use Rattle.tc_store.specs.Records.{second_text};
+ghost use Rattle.tc_store.specs.Shows.{ShowsNumber};
 
 use crate::faults::ReadFault;
 use sqlite::Row;
@@ -17,14 +18,14 @@ use tc_types::{Cause, Moment, Name, Place, RequestNumber, StepText, Verdict};
 
 /// A number.
 pub(crate) fn number_at(row: &Row, at: usize) -> Result<u32, ReadFault>
-    ensures reads { IfOk result (λ n. column row.now at ≡ Int (pos n)) }
+    ensures reads { IfOk result (ShowsNumber row.now at) }
 {
     Ok(row.get(at)?)
 }
 
 /// A number of one byte.
 fn byte_at(row: &Row, at: usize) -> Result<u8, ReadFault>
-    ensures reads { IfOk result (λ n. column row.now at ≡ Int (pos n)) }
+    ensures reads { IfOk result (ShowsNumber row.now at) }
 {
     let number = number_at(row, at)?;
     u8::try_from(number).map_err(|_| ReadFault::Damaged)
@@ -32,7 +33,7 @@ fn byte_at(row: &Row, at: usize) -> Result<u8, ReadFault>
 
 /// The number of a request.
 pub(crate) fn request_at(row: &Row, at: usize) -> Result<RequestNumber, ReadFault>
-    ensures reads { IfOk result (λ n. column row.now at ≡ Int (pos n)) }
+    ensures reads { IfOk result (ShowsNumber row.now at) }
 {
     let number = number_at(row, at)?;
     RequestNumber::new(number).ok_or(ReadFault::Damaged)
@@ -40,7 +41,7 @@ pub(crate) fn request_at(row: &Row, at: usize) -> Result<RequestNumber, ReadFaul
 
 /// A moment.
 pub(crate) fn moment_at(row: &Row, at: usize) -> Result<Moment, ReadFault>
-    ensures reads { IfOk result (λ n. column row.now at ≡ Int (pos n)) }
+    ensures reads { IfOk result (ShowsNumber row.now at) }
 {
     let seconds = number_at(row, at)?;
     Moment::new(seconds).ok_or(ReadFault::Damaged)

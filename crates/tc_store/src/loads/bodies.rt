@@ -8,7 +8,7 @@ ghost use Rattle.tc_types.specs.declared.tables.rows.PlacedRequest.{PlacedReques
 ghost use Rattle.tc_types.specs.Grammar.{IsCommand, IsOutcome, outcome_word};
 ghost use Rattle.tc_store.specs.Requests.{ack_number, stack_of, line_of, prior_of, request_given};
 ghost use Rattle.tc_store.specs.Told.{IsToldOrigin, IsToldRequest};
-ghost use Rattle.tc_store.specs.Shows.{ShowsBody};
+ghost use Rattle.tc_store.specs.Shows.{ShowsNumber, ShowsBody};
 
 use crate::cells::{flag_at, name_at, number_at, place_at, request_at, second_at, text_at};
 use crate::faults::ReadFault;
@@ -19,7 +19,7 @@ use tc_types::{Ack, Apid, Body, Identity, Origin, Outcome, PlacedRequest, Reques
 
 /// A number of two bytes.
 fn short_at(row: &Row, at: usize) -> Result<u16, ReadFault>
-    ensures reads { IfOk result (λ n. column row.now at ≡ Int (pos n)) }
+    ensures reads { IfOk result (ShowsNumber row.now at) }
 {
     let number = number_at(row, at)?;
     u16::try_from(number).map_err(|_| ReadFault::Damaged)
