@@ -6,6 +6,7 @@ use Rattle.sqlite_sql.specs.declared.ops.BinaryOp.TheVariants.{Compare}
 use Rattle.sqlite_sql.specs.declared.ops.CompareOp.TheVariants.{Ge, Lt}
 use Rattle.sqlite_sql.specs.Term.{Term, lit, col, op2}
 use Rattle.tc_types.specs.declared.history.moves.Move.{Move}
+use Rattle.tc_types.specs.Limits.{page}
 use Rattle.tc_store.specs.declared.loads.approvals.TheConstants.{ALL as ALL_APPROVAL}
 use Rattle.tc_store.specs.declared.loads.executions.TheConstants.{ALL as ALL_EXECUTION}
 use Rattle.tc_store.specs.declared.loads.procedures.TheConstants.{ALL as ALL_PROCEDURE}
@@ -85,7 +86,7 @@ moves_from first moves = filter (λ (m : Move). int_le first (pos m.seq)) moves
 
 -- how many moves a full page has
 abbrev pub page_size : ℕ
-page_size = 1000
+page_size = page
 
 abbrev pub move_page_text : List ℕ
 move_page_text = MOVE_PAGE.now
