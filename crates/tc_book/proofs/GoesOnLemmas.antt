@@ -6,7 +6,7 @@ use Rattle.std.proofs.Math.Seq.{drop-append_seam}
 use Rattle.std.proofs.lemmas.List.Folds.{list_all-append, list_any-append}
 use Rattle.std.proofs.lemmas.Bool.{and_parts}
 use Rattle.tc_types.specs.declared.history.places.Place.{Place}
-use Rattle.tc_types.specs.declared.history.places.Place.TheVariants.{Entered, Approved, Withdrawn, Closed}
+use Rattle.tc_types.specs.declared.history.places.Place.TheVariants.{Entered, Approved}
 use Rattle.tc_types.specs.declared.history.causes.Cause.{Cause}
 use Rattle.tc_types.specs.declared.history.causes.Cause.TheVariants as cause
 use Rattle.tc_types.specs.declared.acts.BookAct.TheVariants as act

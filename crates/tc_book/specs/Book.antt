@@ -1,6 +1,6 @@
 -- The book: the requests that were entered, the history of their moves, who approved which, or which stack, and the log of
 -- procedures. Where a request stands is read from the history alone, and which stacks were loaded from the requests.
-use Rattle.std.specs.Prelude.{ℕ, ◌+◌, ◌-◌, ◌%◌, ◌==◌, Bool, not, ◌&&◌, ◌||◌, nat_lt, if◌then◌else◌, Option, None, List, [], ◌∷◌, ◌++◌, length, map, filter, count_by, slice_get}
+use Rattle.std.specs.Prelude.{ℕ, ◌+◌, ◌-◌, ◌%◌, ◌==◌, Bool, not, ◌&&◌, ◌||◌, nat_le, nat_lt, if◌then◌else◌, Option, None, List, [], ◌∷◌, ◌++◌, length, map, filter, count_by, slice_get}
 use Rattle.std.specs.List.{list_any}
 use Rattle.std.specs.Option.{option_map}
 use Rattle.tc_types.specs.declared.history.places.Place.{Place}
@@ -18,6 +18,7 @@ use Rattle.tc_stack.specs.Approvals.{ApprovalState}
 use Rattle.tc_proc.specs.Logs.{LogState, empty_log}
 use Rattle.tc_types.specs.Lawful.{is_among, final_places}
 use Rattle.tc_types.specs.History.{place_of}
+use Rattle.tc_types.specs.Limits.{most_requests, most_moves}
 use Rattle.tc_book.specs.declared.stamps.Stamp.{Stamp}
 
 pub record Book : Type 0 where
@@ -68,10 +69,10 @@ is_identity_in_use book identity =
 
 -- the limits of the desk: 65,535 requests; and no more acts once 990,000 history rows stand
 abbrev pub has_all_requests : Book → Bool
-has_all_requests book = nat_lt 65534 (length book.requests)
+has_all_requests book = nat_le most_requests (length book.requests)
 
 abbrev pub has_all_rows : Book → Bool
-has_all_rows book = nat_lt 989999 (length book.history)
+has_all_rows book = nat_le most_moves (length book.history)
 
 -- a move that is wanted: which request, where to, why
 pub record Want : Type 0 where

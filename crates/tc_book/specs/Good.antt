@@ -10,6 +10,7 @@ use Rattle.tc_types.specs.declared.requests.Request.{Request}
 use Rattle.tc_types.specs.History.{IsGoodHistory, AllAfter, entered}
 use Rattle.tc_types.specs.Grammar.{IsEntry}
 use Rattle.tc_types.specs.Names.{IsName}
+use Rattle.tc_types.specs.Limits.{most_requests, most_stacks, most_stack_rows}
 use Rattle.tc_stack.specs.Approvals.{IsApproval}
 use Rattle.tc_stack.specs.Stacks.{IsEarlier}
 use Rattle.tc_proc.specs.GoodLogs.{IsGoodLog, NamesEntered}
@@ -25,10 +26,10 @@ pub record IsNextRow (author : List ℕ) (origin : Origin) (before : Request) : 
   pub stack : IsSomeAnd before.origin (λ (o : Origin). (o.stack ≡ origin.stack) × (origin.line ≡ o.line + 1))
 
 -- The rows of a stack are entered one after the other: line 1 under a name that no stack has, and each other line behind the one
--- before it. There are at most 200, and a row waits for an earlier line. The name has its form.
+-- before it. There are at most as many as a stack has rows, and a row waits for an earlier line. The name has its form.
 pub record IsGoodOrigin (before : List Request) (author : List ℕ) (origin : Origin) : Type 0 where
   pub line : ((origin.line ≡ 1) × (has_stack origin.stack before ≡ false)) ⊎ IsSomeAnd (request_in before (length before)) (IsNextRow author origin)
-  pub few : origin.line ≤ 200
+  pub few : origin.line ≤ most_stack_rows
   pub after : IfSome origin.after (IsEarlier origin.line)
   pub named : IsName origin.stack
 
@@ -51,7 +52,7 @@ pub record IsGoodRequest (before : List Request) (request : Request) : Type 0 wh
 pub record IsGoodBook (book : Book) : Type 0 where
   pub history : IsGoodHistory book.history
   pub requests : AllAfter IsGoodRequest [] book.requests
-  pub few : length book.requests ≤ 65535
+  pub few : length book.requests ≤ most_requests
   pub entered : entered book.history ≡ map (λ (r : Request). r.number) book.requests
   pub named : AllByRecursion (λ (a : Approval). a.request ≤ length book.requests) book.approvals
   pub alone : AllByRecursion (λ (a : Approval). came_alone book.requests a.request ≡ true) book.approvals
@@ -62,5 +63,5 @@ pub record IsGoodBook (book : Book) : Type 0 where
   pub log_named : NamesEntered (length book.requests) book.log
   pub complete : AllByRecursion (λ (m : Move). m.cause ≡ Approve → is_fully_approved book m.request ≡ true) book.history
   pub persons : NamesPersons book
-  pub few_stacks : count_by begins_stack book.requests ≤ 1000
+  pub few_stacks : count_by begins_stack book.requests ≤ most_stacks
   pub numbers : HasNumbers book

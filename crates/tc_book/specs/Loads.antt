@@ -1,6 +1,6 @@
 -- The load of a stack: its tests, with the refusal that each gives, in order; what it does to the book; and the first line of its
 -- reply. All rows are entered, one after the other, or none.
-use Rattle.std.specs.Prelude.{ℕ, ◌+◌, ◌-◌, ◌%◌, ◌<◌, ◌≤◌, ◌==◌, Bool, false, ◌||◌, nat_lt, Some, List, [], ◌∷◌, length, count_by}
+use Rattle.std.specs.Prelude.{ℕ, ◌+◌, ◌-◌, ◌%◌, ◌<◌, ◌≤◌, ◌==◌, Bool, false, ◌||◌, nat_le, nat_lt, Some, List, [], ◌∷◌, length, count_by}
 use Rattle.tc_types.specs.declared.refusals.Refusal.{Refusal}
 use Rattle.tc_types.specs.declared.refusals.Refusal.TheVariants.{NameUsed, IdentityInUse, DeskFull}
 use Rattle.tc_types.specs.declared.requests.Command.{Command}
@@ -9,6 +9,7 @@ use Rattle.tc_types.specs.declared.requests.Form.{Form}
 use Rattle.tc_types.specs.declared.requests.Identity.{Identity}
 use Rattle.tc_types.specs.declared.requests.Origin.{Origin}
 use Rattle.tc_types.specs.declared.requests.Request.{Request}
+use Rattle.tc_types.specs.Limits.{most_requests, most_stacks, most_stack_rows}
 use Rattle.tc_stack.specs.declared.stacks.StackRow.{StackRow}
 use Rattle.tc_book.specs.declared.stamps.Stamp.{Stamp}
 use Rattle.tc_book.specs.declared.firsts.First.{First}
@@ -19,7 +20,7 @@ use Rattle.tc_book.specs.Stacks.{is_loaded, begins_stack}
 
 -- a line that a stack can have
 abbrev pub IsWithin : ℕ → Type 0
-IsWithin line = (0 < line) × (line ≤ 200)
+IsWithin line = (0 < line) × (line ≤ most_stack_rows)
 
 -- a command of a row, with the number of the request that the named line becomes in place of the line; line 1 becomes this request
 abbrev pub command_from : ℕ → Command → Command
@@ -61,10 +62,10 @@ takes_identity_in_use stamp name start line book (row ∷ rows) =
 
 -- the limits of the desk: 1,000 stacks, 65,535 requests, and no load once 990,000 history rows stand
 abbrev pub has_all_stacks : Book → Bool
-has_all_stacks book = nat_lt 999 (count_by begins_stack book.requests)
+has_all_stacks book = nat_le most_stacks (count_by begins_stack book.requests)
 
 abbrev pub passes_requests : Book → List StackRow → Bool
-passes_requests book rows = nat_lt 65535 (length book.requests + length rows)
+passes_requests book rows = nat_lt most_requests (length book.requests + length rows)
 
 -- the tests, in order
 abbrev pub load_tests : Stamp → Book → List ℕ → List StackRow → List (Bool × Refusal)

@@ -8,6 +8,7 @@ use Rattle.tc_types.specs.declared.requests.Request.{Request}
 use Rattle.tc_types.specs.declared.tables.rows.StackApproval.{StackApproval}
 use Rattle.tc_types.specs.History.{IsGoodHistory, AllAfter, entered, count_at}
 use Rattle.tc_types.specs.Tables.{Image, tallies_by}
+use Rattle.tc_types.specs.Limits.{most_requests, most_stacks}
 use Rattle.tc_stack.specs.Approvals.{IsApproval}
 use Rattle.tc_proc.specs.GoodLogs.{NamesEntered}
 use Rattle.tc_book.specs.Good.{IsGoodRequest}
@@ -28,8 +29,8 @@ pub record IsSoundPast (image : Image) : Type 0 where
 -- which they came with
 pub record HasSoundRequests (image : Image) : Type 0 where
   pub requests : AllAfter IsGoodRequest [] (book_of image).requests
-  pub few : length (book_of image).requests ≤ 65535
-  pub few_stacks : count_by begins_stack (book_of image).requests ≤ 1000
+  pub few : length (book_of image).requests ≤ most_requests
+  pub few_stacks : count_by begins_stack (book_of image).requests ≤ most_stacks
   pub stacks : image.stacks ≡ stacks_of (book_of image).requests
 
 -- both, and the history enters the requests

@@ -24,5 +24,5 @@ mod tallies;
 pub use drafts::{Draft, Needs, make_room};
 pub use firsts::First;
 pub use openings::{Opened, open};
-pub use records::{MOST_REQUESTS, Records};
+pub use records::Records;
 pub use stamps::Stamp;

@@ -62,6 +62,7 @@ windowed_claims up down w are clean =
 
 -- ---- where it begins
 
+-- tc_world proves the same for itself (`Flying`)
 nothing_in_window : IsInWindow 255 nothing_yet
 nothing_in_window = record {
   small = omega arith;

@@ -1,6 +1,7 @@
 //! What the book hears of the link.
 ghost use Rattle.std.specs.Prelude.{◌≡◌, ◌+◌, ◌≤◌, false, min, length};
 ghost use Rattle.std.specs.List.{list_any};
+ghost use Rattle.tc_types.specs.Limits.{most_requests};
 ghost use Rattle.tc_board.specs.Mirror.{MirrorState};
 ghost use Rattle.tc_desk.specs.Effects.{ComesAlone, OnlyMoves, heard, heard_all, tells_report, told};
 
@@ -71,9 +72,9 @@ pub(crate) fn hear_telemetry<A: Allocator + Copy + Drop>(
     mirror: &Mirror<A>,
     item: &Telemetry,
 )
-    requires room { length records.old.book.history + 2 + min (length mirror.now.told.activities) 65535 ≤ records.old.most_rows }
+    requires room { length records.old.book.history + 2 + min (length mirror.now.told.activities) most_requests ≤ records.old.most_rows }
     ensures book { records.new.book ≡ told stamp.now mirror.now.told records.old.book item.now }
-    ensures only { OnlyMoves (2 + min (length mirror.now.told.activities) 65535) records.old records.new }
+    ensures only { OnlyMoves (2 + min (length mirror.now.told.activities) most_requests) records.old records.new }
 {
     match item {
         Telemetry::Summary(_) => {}
@@ -97,10 +98,10 @@ pub(crate) fn hear_down<A: Allocator + Copy + Drop>(
     said: &[LinkIndication],
 )
     requires few { length said.now ≤ 258 }
-    requires room { length records.old.book.history + 516 + min (length mirror.now.told.activities) 65535 ≤ records.old.most_rows }
+    requires room { length records.old.book.history + 516 + min (length mirror.now.told.activities) most_requests ≤ records.old.most_rows }
     requires alone { ComesAlone said.now }
     ensures book { records.new.book ≡ heard_all stamp.now mirror.now.told said.now records.old.book }
-    ensures only { OnlyMoves (516 + min (length mirror.now.told.activities) 65535) records.old records.new }
+    ensures only { OnlyMoves (516 + min (length mirror.now.told.activities) most_requests) records.old records.new }
 {
     match said.first() {
         Some(LinkIndication::Received(Report::Telemetry(item))) => {

@@ -44,9 +44,10 @@ pub fn alerts_are_fair<U: Carrier<Frame> + Drop, D: Carrier<Report> + Drop>()
     ensures started { (level : Bool) (state : FopState) → is_taking state ≡ true → (may_alert level state alert.Lockout ≡ false) × (may_alert level state alert.Synch ≡ false) × (may_alert level state alert.NnR ≡ false) × (may_alert level state alert.Clcw ≡ false) }
 {}
 
-/// Over links that are lists, whose control words in flight are the FARM's own, the desk machine is a function but for refused memory: two steps
-/// from one desk, of one person, moment and act, come to one reply and one desk, but for the room of its lists, or one of the two replies refuses
-/// for want of memory. Of a `clock` it is not said that the same flies down: activities that fall due under equal keys are reported in any order.
+/// Over links that are lists, the desk machine is a function but for refused memory, while all control words in flight are the FARM's own. An act is
+/// no question here: two steps from one desk, of one person, moment and act, come to one reply and one desk, but for the room of its lists, or one of
+/// the two replies refuses for want of memory. Of a `clock` it is not said that the same flies down: activities that fall due under equal keys are
+/// reported in any order.
 pub fn a_step_is_one()
     ensures { (at : ListDesk) (stamp : Stamp) (given : Act) (one other : Reply) (left right : ListDesk) → is_question given ≡ false → HasOwnWords at.world → DeskStep listed listed at stamp given one left → DeskStep listed listed at stamp given other right → EndsOnce given one other left right }
 {}

@@ -1,6 +1,7 @@
 //! What a report on a command of the on-board schedule moves besides its own request.
 ghost use Rattle.std.specs.Prelude.{◌≡◌, ◌+◌, ◌<◌, ◌≤◌, true, min, if◌then◌else◌, length};
 ghost use Rattle.std.specs.List.{list_any};
+ghost use Rattle.tc_types.specs.Limits.{most_requests};
 ghost use Rattle.tc_board.specs.Mirror.{is_listed_of};
 ghost use Rattle.tc_desk.specs.Effects.{OnlyMoves, is_completed, is_failed, inserted, removed, emptied, besides_at};
 
@@ -93,9 +94,9 @@ fn remove<A: Allocator + Copy + Drop>(
 
 /// A completed reset deletes what stood in the mirror and is scheduled, in order of number.
 fn empty<A: Allocator + Copy + Drop>(records: &mut Records<A>, stamp: &Stamp, mirror: &Mirror<A>)
-    requires room { length records.old.book.history + min (length mirror.now.told.activities) 65535 ≤ records.old.most_rows }
+    requires room { length records.old.book.history + min (length mirror.now.told.activities) most_requests ≤ records.old.most_rows }
     ensures book { records.new.book ≡ emptied stamp.now mirror.now.told records.old.book }
-    ensures only { OnlyMoves (min (length mirror.now.told.activities) 65535) records.old records.new }
+    ensures only { OnlyMoves (min (length mirror.now.told.activities) most_requests) records.old records.new }
 {
     for n in 1..records.count() + 1 {
         remove(records, stamp, mirror, n);
@@ -110,9 +111,9 @@ pub(crate) fn hear_besides<A: Allocator + Copy + Drop>(
     verification: &Verification,
     request: &Option<Request>,
 )
-    requires room { length records.old.book.history + 1 + min (length mirror.now.told.activities) 65535 ≤ records.old.most_rows }
+    requires room { length records.old.book.history + 1 + min (length mirror.now.told.activities) most_requests ≤ records.old.most_rows }
     ensures book { records.new.book ≡ besides_at stamp.now mirror.now.told verification.now request.now records.old.book }
-    ensures only { OnlyMoves (1 + min (length mirror.now.told.activities) 65535) records.old records.new }
+    ensures only { OnlyMoves (1 + min (length mirror.now.told.activities) most_requests) records.old records.new }
 {
     let Some(request) = request else {
         return;

@@ -1,5 +1,6 @@
 //! The load of a stack: all its rows are entered, or none.
 ghost use Rattle.std.specs.Prelude.{◌≡◌, ◌+◌, ◌<◌, ◌≤◌, ◌==◌, ◌||◌, ℕ, List, [], length, count_by, false, IfSome};
+ghost use Rattle.tc_types.specs.Limits.{most_requests};
 ghost use Rattle.tc_stack.specs.declared.stacks.StackRow.{StackRow as SomeRow};
 ghost use Rattle.tc_stack.specs.Stacks.{IsStack, named_line};
 ghost use Rattle.tc_book.specs.declared.stamps.Stamp.{Stamp as SomeStamp};
@@ -15,15 +16,15 @@ ghost use Rattle.tc_book.specs.Targets.{HasGoodTarget};
 
 use crate::drafts::{Draft, Needs, make_room};
 use crate::firsts::First;
-use crate::records::{MOST_REQUESTS, Records};
+use crate::records::Records;
 use crate::stamps::Stamp;
 use std::alloc::Allocator;
 use tc_stack::{Stack, StackRow};
-use tc_types::{Apid, Command, Entry, Form, Name, Origin, Refusal};
+use tc_types::{Apid, Command, Entry, Form, MOST_REQUESTS, Name, Origin, Refusal};
 
 /// The command of a row, where line 1 becomes request `start`: what it names is a request then.
 fn command_from(start: u32, command: Command) -> Command
-    requires few { start ≤ 65535 }
+    requires few { start ≤ most_requests }
     requires line { IfSome (named_line command) IsWithin }
     ensures { result ≡ command_from start command }
 {
@@ -45,7 +46,7 @@ fn command_from(start: u32, command: Command) -> Command
 
 /// The entry of a row, where line 1 becomes request `start`.
 fn entry_from(start: u32, entry: &Entry) -> Entry
-    requires few { start ≤ 65535 }
+    requires few { start ≤ most_requests }
     requires line { IfSome (named_line entry.now.command) IsWithin }
     ensures { result ≡ entry_from start entry.now }
 {
@@ -102,7 +103,7 @@ fn has_no_room<A: Allocator + Copy + Drop>(records: &Records<A>, rows: &[StackRo
     ensures { result ≡ (has_all_stacks records.now.book || passes_requests records.now.book rows.now || has_all_rows records.now.book) }
 {
     let requests = records.count() as usize + rows.len();
-    records.has_all_stacks() || requests > MOST_REQUESTS || records.has_all_rows()
+    records.has_all_stacks() || requests > MOST_REQUESTS as usize || records.has_all_rows()
 }
 
 /// Enters the row on this line, where line 1 becomes request `start`.
@@ -114,7 +115,7 @@ fn enter_row<A: Allocator + Copy + Drop>(
     line: u32,
     row: &StackRow,
 )
-    requires few { start ≤ 65535 }
+    requires few { start ≤ most_requests }
     requires named { IfSome (named_line row.now.entry.command) IsWithin }
     requires request_room { length records.old.book.requests < records.old.most_requests }
     requires room { length records.old.book.history < records.old.most_rows }
@@ -143,7 +144,7 @@ fn enter_rows<A: Allocator + Copy + Drop>(
     requires stack { IsStack rows.now }
     requires unused { has_stack name.now records.old.book.requests ≡ false }
     requires unapproved { stack_approvers_of records.old.book.stack_approvals name.now ≡ [] }
-    requires few { length records.old.book.requests + length rows.now ≤ 65535 }
+    requires few { length records.old.book.requests + length rows.now ≤ most_requests }
     requires request_room { length records.old.book.requests + length rows.now ≤ records.old.most_requests }
     requires room { length records.old.book.history + length rows.now ≤ records.old.most_rows }
     requires stack_room { length (stack_names records.old.book.requests) < records.old.most_stacks }

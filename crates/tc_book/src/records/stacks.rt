@@ -1,5 +1,6 @@
 //! What the records tell of stacks, and the approval of one.
 ghost use Rattle.std.specs.Prelude.{◌≡◌, ◌+◌, ◌<◌, ◌≤◌, ◌^◌, [], length, count_by, MatchOption, IfSome, if◌then◌else◌, None, Some, true, false};
+ghost use Rattle.tc_types.specs.Limits.{most_requests};
 ghost use Rattle.tc_proc.specs.Logs.{empty_log};
 ghost use Rattle.tc_book.specs.Acts.{first_refusal, approval_tests, completes, approvals_first, row_approved, rows_approved};
 ghost use Rattle.tc_book.specs.Book.{request_at};
@@ -11,13 +12,14 @@ ghost use Rattle.tc_book.specs.Stacks.{is_loaded, is_in_stack, came_with_stack, 
 use crate::firsts::First;
 use crate::histories::History;
 use crate::pushes::push_within;
-use crate::records::{MOST_STACKS, Records};
+use crate::records::Records;
 use crate::stacks::{
     approval_of_stack, count_rows, first_row, has_critical_row, has_name, is_in_stack,
 };
 use crate::stamps::Stamp;
 use std::alloc::Allocator;
 use tc_stack::Approvals;
+use tc_types::limits::MOST_STACKS;
 use tc_types::{Cause, Name, Origin, Person, Place, Refusal, Request, StackApproval};
 
 /// Whether the line that has to be completed before request `n`, which came from here, is not at Completed.
@@ -80,7 +82,7 @@ impl<A: Allocator + Copy + Drop> Records<A> {
     /// How many rows the stack with this name has.
     pub fn count_rows(&self, name: &Name) -> usize
         ensures count { result ≡ count_by (is_in_stack name.now) self.now.book.requests }
-        ensures few { result ≤ 65535 }
+        ensures few { result ≤ most_requests }
     {
         count_rows(&self.requests, name)
     }

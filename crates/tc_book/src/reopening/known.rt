@@ -7,6 +7,7 @@ ghost use Rattle.tc_types.specs.declared.tables.rows.PlacedRequest.{PlacedReques
 ghost use Rattle.tc_types.specs.History.{AllAfter};
 ghost use Rattle.tc_types.specs.Names.{is_same_name};
 ghost use Rattle.tc_types.specs.Grammar.{IsEntry};
+ghost use Rattle.tc_types.specs.Limits.{most_requests};
 ghost use Rattle.tc_stack.specs.Stacks.{IsEarlier};
 ghost use Rattle.tc_book.specs.Book.{form_of, next_identity, request_in};
 ghost use Rattle.tc_book.specs.Good.{IsNextRow, IsGoodOrigin, IsGoodRequest};
@@ -19,16 +20,14 @@ use crate::acts::enter::{is_bad_activity, target_of};
 use crate::counts::{count_one, next_identity, reserve_counts};
 use crate::pushes::push_within;
 use crate::reading::{is_same_identity, request_in};
-use crate::records::MOST_REQUESTS;
 use crate::stacks::{has_name, push_name};
 use std::alloc::{AllocError, Allocator};
 use tc_proc::ReopenFault;
+use tc_types::limits::MOST_STACK_ROWS;
 use tc_types::{
-    Command, Entry, Form, Identity, Name, Origin, PlacedRequest, Request, is_same_name,
+    Command, Entry, Form, Identity, MOST_REQUESTS, Name, Origin, PlacedRequest, Request,
+    is_same_name,
 };
-
-/// The most lines that a stack has.
-const MOST_LINES: u32 = 200;
 
 /// Requests of which each may follow those before it, how many each application process has, and the names of their stacks.
 #[derive(Drop)]
@@ -89,7 +88,7 @@ fn is_next_row(author: &Name, origin: &Origin, before: &Request) -> bool
 
 /// Whether a row goes on with the stack of the last of these requests, by the same author.
 fn goes_on(requests: &[Request], author: &Name, origin: &Origin) -> bool
-    requires { length requests.now ≤ 65535 }
+    requires { length requests.now ≤ most_requests }
     ensures { IsTrue result ↔ IsSomeAnd (request_in requests.now (length requests.now)) (IsNextRow author.now origin.now) }
 {
     match request_in(requests, requests.len() as u32) {
@@ -110,19 +109,19 @@ fn is_earlier(after: Option<u32>, line: u32) -> bool
 
 /// Whether the next request may be this row of a stack, where the stacks so far have these names.
 fn is_good_origin(requests: &[Request], stacks: &[Name], author: &Name, origin: &Origin) -> bool
-    requires few { length requests.now ≤ 65535 }
+    requires few { length requests.now ≤ most_requests }
     requires stacks { (name : List ℕ) → has_stack name requests.now ≡ list_any (λ known. is_same_name known name) stacks.now }
     ensures { IsTrue result ↔ IsGoodOrigin requests.now author.now origin.now }
 {
     origin.stack.keeps_form(); // read for the proof alone
     let begins = origin.line == 1 && !has_name(stacks, &origin.stack);
     let follows = begins || goes_on(requests, author, origin);
-    follows && origin.line <= MOST_LINES && is_earlier(origin.after, origin.line)
+    follows && origin.line <= u32::from(MOST_STACK_ROWS) && is_earlier(origin.after, origin.line)
 }
 
 /// Whether the next request may have come from here.
 fn may_come_from(requests: &[Request], stacks: &[Name], request: &Request) -> bool
-    requires few { length requests.now ≤ 65535 }
+    requires few { length requests.now ≤ most_requests }
     requires stacks { (name : List ℕ) → has_stack name requests.now ≡ list_any (λ known. is_same_name known name) stacks.now }
     ensures { IsTrue result ↔ IfSome request.now.origin (IsGoodOrigin requests.now request.now.author) }
 {
@@ -134,7 +133,7 @@ fn may_come_from(requests: &[Request], stacks: &[Name], request: &Request) -> bo
 
 /// Whether this request may follow these.
 fn may_follow(requests: &[Request], counts: &[u32], stacks: &[Name], request: &Request) -> bool
-    requires few { length requests.now < 65535 }
+    requires few { length requests.now < most_requests }
     requires known { AreKnown requests.now counts.now stacks.now }
     ensures { IsTrue result ↔ IsGoodRequest requests.now request.now }
 {
@@ -151,7 +150,7 @@ fn push_known<A: Allocator + Copy + Drop>(
     stacks: &mut Vec<Name, A>,
     request: &Request,
 )
-    requires few { length requests.old.items < 65535 }
+    requires few { length requests.old.items < most_requests }
     requires known { AreKnown requests.old.items counts.old.items stacks.old.items }
     requires good { IsGoodRequest requests.old.items request.now }
     requires room { length requests.old.items < vec_capacity requests.old }
@@ -178,7 +177,7 @@ fn push_all<A: Allocator + Copy + Drop>(
     rows: &[PlacedRequest],
 ) -> bool
     requires empty { requests.old.items ≡ [] }
-    requires few { length rows.now ≤ 65535 }
+    requires few { length rows.now ≤ most_requests }
     requires known { AreKnown requests.old.items counts.old.items stacks.old.items }
     requires room { length rows.now ≤ vec_capacity requests.old }
     requires stack_room { length rows.now ≤ vec_capacity stacks.old }
@@ -223,10 +222,10 @@ pub(crate) fn requests_of<A: Allocator + Copy + Drop>(
     rows: &[PlacedRequest],
 ) -> Result<KnownRequests<A>, ReopenFault>
     ensures known { IfOk result (KnowsRequests (map (λ (p : SomePlaced). p.request) rows.now)) }
-    ensures few { IfOk result (λ known. length known.requests.items ≤ 65535) }
+    ensures few { IfOk result (λ known. length known.requests.items ≤ most_requests) }
     ensures bad { IfErr result (λ why. why ≡ Unsound → ¬ AreTakenRequests (map (λ (p : SomePlaced). p.request) rows.now)) }
 {
-    if rows.len() > MOST_REQUESTS {
+    if rows.len() > MOST_REQUESTS as usize {
         return Err(ReopenFault::Unsound);
     }
     let KnownRequests {

@@ -14,8 +14,8 @@ use crate::hearing::hear_down;
 use crate::parts::Parts;
 use std::alloc::Allocator;
 use tc_board::Mirror;
-use tc_book::{MOST_REQUESTS, Records, Stamp};
-use tc_types::{Frame, Refusal, Report, ScheduleCommand, Summary, Telemetry};
+use tc_book::{Records, Stamp};
+use tc_types::{Frame, MOST_REQUESTS, Refusal, Report, ScheduleCommand, Summary, Telemetry};
 use tc_world::{Carrier, Event, LinkIndication};
 
 /// How many activities a summary tells.
@@ -118,7 +118,7 @@ impl<U: Carrier<Frame> + Drop, D: Carrier<Report> + Drop, A: Allocator + Copy + 
             return Err(Refusal::DeskFull);
         }
         self.mirror.reserve()?;
-        let most = MOST_ROWS + self.mirror.count().min(MOST_REQUESTS);
+        let most = MOST_ROWS + self.mirror.count().min(MOST_REQUESTS as usize);
         let flight = ask(
             &mut self.records,
             &mut self.world,

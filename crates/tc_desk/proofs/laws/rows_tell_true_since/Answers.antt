@@ -4,7 +4,7 @@ use Rattle.tc_desk.proofs.RunLemmas.{run_tells_since}
 use Rattle.tc_desk.proofs.laws.rows_tell_true_since.Given as given
 use Rattle.tc_desk.proofs.laws.rows_tell_true_since.Goals as goal
 
--- the links only lose
+-- The links only lose. The same stands in `rows_tell_true` and in `Desk::act`: what is known of the carriers (`given.Over`) is a type of each function.
 uplink_loses : (g : given.Over) → OnlyLoses g.U.Carrier.kind
 uplink_loses g = record {
   room = g.met.U.Carrier.room_holds_nothing;

@@ -1,4 +1,4 @@
-use Rattle.std.proofs.Common.{◌≡◌, ◌+◌, ◌≤◌, length, take}
+use Rattle.std.proofs.Common.{◌≡◌, ◌+◌, length, take}
 use Rattle.tc_book.specs.Loads.{with_rows}
 use Rattle.tc_book.specs.Records.{KeepsRoom}
 use Rattle.tc_book.specs.Steps.{HasSteps}
