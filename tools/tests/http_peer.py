@@ -32,6 +32,13 @@ class Ended(NamedTuple):
     err: str
 
 
+def parted(ended: Ended) -> tuple[Ended, list[str]]:
+    """How a program ended but for what it said of connections, and how it said that each of these ended."""
+    lines = ended.err.splitlines(keepends=True)
+    told = [it for it in lines if it.startswith("tcdesk: connection ")]
+    return ended._replace(err="".join(it for it in lines if it not in told)), [it.split(": ")[2].strip() for it in told]
+
+
 # ---- the server
 
 def free_port() -> int:
