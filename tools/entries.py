@@ -54,6 +54,7 @@ ENTRIES = (
     Entry("memory-kept", "the same on a desk in a file, which is then opened again", command=("faults/fail_kept.sh", "PROGRAM"), needs=C_COMPILER),
     Entry("stops", "the program stopped dead at each call on the files of a desk, with the power lost or not", modules=("faults.stop_kept",),
           needs=C_COMPILER),
+    Entry("store", "the calls on the files of a desk failed, from each one on", modules=("faults.fail_store",), needs=C_COMPILER),
     Entry("http", "the desk over sockets: each byte of each answer beside a plain reading; peers that cut, drip and go away",
           modules=("tests.test_http",)),
     Entry("http-stalls", "peers that say nothing or take nothing; no file handle left; a COUNT that is not given",
