@@ -66,5 +66,9 @@ ENTRIES = (
           needs="nginx and openssl, or that is not tried"),
     Entry("soak", "ten good clients beside rude peers for five minutes, or --count of them", modules=("bench.http_soak",), takes_seed=True,
           by_hand=True),
+    Entry("full-stops", "a desk of 65,535 requests and 989,000 rows, stopped at 200 random calls, or --count of them", modules=("faults.stop_full",),
+          needs=C_COMPILER, takes_seed=True, by_hand=True),
+    Entry("kills", "10,000 kills at random moments of random scripts, or --count of them", modules=("faults.kill_often",), takes_seed=True,
+          by_hand=True),
     Entry("sqlite-shell", "what the stock shell makes of a desk's file", command=("bench/sqlite_shell.sh", "PROGRAM"), needs="sqlite3", by_hand=True),
 )

@@ -1,6 +1,7 @@
 """The calls on the two files that keep a desk failed from one on: each write, each cut and each sync of the file and its log (tools/faults/stop_io.c).
 
-A run of a script is made again and again, where its calls fail from the first on, from the second, and so on up to the last. Each run has to end in one of these ways:
+A run of a script is made again and again, where its calls fail from the first on, from the second, and so on up to the last.
+Each run has to end in one of these ways:
   - at the opening: the file cannot be used, which is told, and nothing is printed;
   - at a line: it is answered 31, each line behind it 32, and so are the places at the end;
   - as the desk is closed: all is answered as it is where nothing fails.
@@ -45,7 +46,7 @@ def verdict_of(trial: Trial, number: int) -> str:
         return f"it ended in no way that it may: {ran}"
     if where == THE_END:
         return where
-    before, after = trial.rights[state], trial.rights[min(state + 1, len(trial.rights) - 1)]
+    before, after = trial.right_of(state), trial.right_of(state + 1)
     found = trial.again(folder)
     if found == before:
         return f"{where}: {'either' if before == after else 'before'}"

@@ -10,7 +10,6 @@ from typing import NamedTuple, Optional
 from model.facts import MOST_ROWS, MOST_STEPS, PROCEDURE_HEADER, STACK_HEADER
 from model.kept import sqlite3
 from model.rows import Tables, empty_tables
-from model.tables import opened_tables
 from tests.plain_runs import Plain, case_lines, kept_tables, text_of, unlike
 from tests.runs import made_shim, write_files
 
@@ -169,8 +168,8 @@ def with_moment(moment: int, lines: tuple[str, ...]) -> list[str]:
 
 
 class Trial:
-    """One run, and what its desk is where nothing disturbs it, by the plain desk: `fronts` has what is printed, and `rights` what is seen of the desk
-    that is opened again, of each state: before the opening, after that, and after each line."""
+    """One run, and what its desk is where nothing disturbs it, by the plain desk, in each state: before the opening, after that, and after each line.
+    `fronts` has what is printed up to there, `states` the tables."""
 
     def __init__(self, desks: Desks, run: Run) -> None:
         self.desks, self.run = desks, run
@@ -182,7 +181,8 @@ class Trial:
         before = self.plain_left()
         self.plain = Plain(lines, FILES, left=before, moment=OPENED, is_kept=True)
         self.fronts = ["", *self.plain.fronts]
-        self.rights = [self.right(it) for it in [before or empty_tables(), *self.plain.states]]
+        self.states = [before or empty_tables(), *self.plain.states]
+        self.rights: dict[int, Seen] = {}
         self.left = self.make_left()
 
     def script_of(self, name: str, lines: list[str]) -> str:
@@ -195,10 +195,13 @@ class Trial:
         """The tables of the desk that the run begins with; none where there is none."""
         return Plain(with_moment(LEFT, self.run.left), FILES, is_kept=True).states[-1] if self.run.left else None
 
-    def right(self, tables: Tables) -> Seen:
-        """What has to be seen of a desk that has these tables and is opened again."""
-        asked = Plain(self.asked, FILES, left=tables, moment=AGAIN)
-        return Seen(Ran(asked.status, asked.whole, ""), opened_tables(tables, AGAIN))
+    def right_of(self, state: int) -> Seen:
+        """What has to be seen of a desk that was left in this state, or in the last, and is opened again."""
+        state = min(state, len(self.states) - 1)
+        if state not in self.rights:
+            asked = Plain(self.asked, FILES, left=self.states[state], moment=AGAIN, is_kept=True)
+            self.rights[state] = Seen(Ran(asked.status, asked.whole, ""), asked.states[-1])
+        return self.rights[state]
 
     def empty(self) -> str:
         """A new folder."""

@@ -45,12 +45,11 @@ def stop(trial: Trial, number: int, way: str) -> str:
     if ran.status != STOPPED or ran.err or not states:
         return f"it did not stop, or printed no front of what it prints where it is not stopped: {ran}"
     # The last that was answered, and the next, which may have been in progress. An opening that moves nothing prints nothing.
-    before = trial.rights[states[-1]]
-    after = trial.rights[min(states[-1] + 1, len(trial.rights) - 1)]
+    before, after = trial.right_of(states[-1]), trial.right_of(states[-1] + 1)
     found = trial.again(folder)
     if before == after == found:
         return "either"
-    if found in [trial.rights[state] for state in states]:
+    if found in [trial.right_of(state) for state in states]:
         return "before"
     if found == after:
         return "after"
