@@ -4,8 +4,8 @@ By fail_io.c the read of each number of a connection fails: nothing is written, 
 number fails, or takes nothing: a front of the response went out, the act stands once, and 34 is told; all come in short pieces: the response is the
 same. By fail_malloc.c each request for memory from the first connection on is refused, one a run: the response is right, or tells that there was
 no memory (30, or 31 where the database had none), or is not there; an act that was answered stands, one that was refused 30 does not, and none
-stands twice. Where a request was told 30 it is sent again, and answered as it would have been. By a limit on the size of files the database fails: 31, and from then on 32. After each run the file is opened and asked. There is
-a line for each run that failed.
+stands twice. Where a request was told 30 it is sent again, and answered as it would have been. By a limit on the size of files the database fails:
+31, and from then on 32. After each run the file is opened and asked. There is a line for each run that failed.
 """
 import os
 import resource
@@ -145,8 +145,8 @@ class Exchange:
 
 
 def why_bad(it: Exchange, got: Sequence[bytes], stands: int) -> Optional[tuple[Sequence[bytes], int]]:
-    """What is wrong of these three responses, to the request, to the places, and to the request again where it was undone, else to nothing; and of how
-    many requests stand then; none where nothing is."""
+    """What is wrong of these three responses, to the request, to the places, and to the request again where it was undone, else to nothing; and of
+    how many requests stand then; none where nothing is."""
     first, second, third = got
     if first == it.right:
         is_right = second in (it.after, MEMORY, STORE, b"") and (third, stands) == (b"", it.enters)

@@ -26,7 +26,7 @@ from model.kept import sqlite3
 from model.lines import act_of
 from tests.asked import ASKED
 from tests.plain_runs import Plain, case_files, case_lines, kept_tables, text_of, unlike
-from tests.runs import Tried, made_shim, quick_folder, write_files
+from tests.runs import Ended, Tried, made_shim, quick_folder, write_files
 
 SPARE, MOST_BAD = 512, 10  # bytes behind a script; runs that are bad, until a share ends
 MEMORY, STORE, STOPPED = "refused 30 Memory\n", "refused 31 Store\n", "refused 32 Stopped\n"
@@ -69,14 +69,6 @@ def scripts() -> list[Script]:
     return made + [Script(f"{name}, kept", case_lines(name), step=KEPT_STEP, is_kept=True) for name in (*EACH, "each-load")]
 
 
-class Ran(NamedTuple):
-    """A run: its status, what it printed, what it said of faults, and whether the request was made that was to be refused."""
-    status: int
-    out: str
-    err: str
-    was_refused: bool
-
-
 class Found(NamedTuple):
     """What became of a run with a request refused: how it ended, the line at which, and what is bad of it."""
     how: str
@@ -99,8 +91,8 @@ class Trial:
         """What the plain desk makes of these lines."""
         return Plain(lines, self.files, self.script.options, is_kept=self.script.is_kept)
 
-    def run(self, lines: list[str], at: int) -> Ran:
-        """Runs these lines with one request for memory refused, on a new desk. The text is as long for any lines."""
+    def run(self, lines: list[str], at: int) -> Optional[Ended]:
+        """Runs these lines with one request for memory refused, on a new desk. The text is as long for any lines. None where it was not made."""
         for name in ("kept.db", "kept.db-wal", "kept.db-shm"):
             if os.path.exists(f"{self.folder}/{name}"):
                 os.remove(f"{self.folder}/{name}")
@@ -110,7 +102,8 @@ class Trial:
         words = [self.program, "run", *self.script.options, *(["--db", "kept.db"] if self.script.is_kept else []), "script"]
         ran = subprocess.run(words, cwd=self.folder, stdin=subprocess.DEVNULL, capture_output=True, pass_fds=[MARK], timeout=600, check=False,
                              env={**os.environ, "FAIL_AT": str(at), "LD_PRELOAD": self.shim})
-        return Ran(ran.returncode, ran.stdout.decode("latin-1"), ran.stderr.decode("latin-1"), os.fstat(MARK).st_size > 0)
+        ended = Ended(ran.returncode, ran.stdout.decode("latin-1"), ran.stderr.decode("latin-1"))
+        return ended if os.fstat(MARK).st_size else None
 
     def first(self) -> int:
         """The first request behind the opening, or one a little before it: a run whose request is refused before that prints nothing."""
@@ -120,10 +113,10 @@ class Trial:
         while low < high:
             middle = (low + high) // 2
             ran = self.run(self.script.lines, middle)
-            low, high = (middle + 1, high) if ran.status == 2 and not ran.out else (low, middle)
+            low, high = (middle + 1, high) if ran and ran.status == 2 and not ran.out else (low, middle)
         return low
 
-    def how(self, ran: Ran) -> Found:
+    def how(self, ran: Ended) -> Found:
         """How a run with a request refused ended, by what it printed."""
         right, count = self.right, len(self.script.lines)
         if ran.status == 2:
@@ -138,15 +131,15 @@ class Trial:
                 return Found(how, right.fronts.index(front))
         return Found("bad")
 
-    def tables_fault(self, *rights: Plain, states: list[int]) -> str:
-        """What is wrong of the tables of the file, which are to be those of one of these states, of any of these plain desks."""
+    def tables_fault(self, right: Plain, states: list[int]) -> str:
+        """What is wrong of the tables of the file, which are to be those of one of these states of the plain desk."""
         if not self.script.is_kept:
             return ""
         try:
             found = kept_tables(f"{self.folder}/kept.db", "mode=rw")
         except sqlite3.Error as fault:
             return f"the file does not read: {fault}"
-        wanted = [right.states[min(state, len(right.lines))] for right in rights for state in states]
+        wanted = [right.states[min(state, len(right.lines))] for state in states]
         if found in wanted or found is None and 0 in states:
             return ""
         return unlike(found, wanted[0])
@@ -154,7 +147,7 @@ class Trial:
     def look(self, at: int) -> Optional[Found]:
         """What becomes of a run with this request refused. None where that was not made."""
         ran, lines = self.run(self.script.lines, at), self.script.lines
-        if not ran.was_refused:
+        if ran is None:
             return None
         found = self.how(ran)
         line = found.line
@@ -164,20 +157,20 @@ class Trial:
             return self.refused(ran, at, line)
         if found.how == "refused 31" and ran.out != self.right.fronts[line] + STORE + STOPPED * (len(lines) - line):
             return found._replace(bad=f"{ran}")
-        return found._replace(bad=self.tables_fault(self.right, states=[line] if found.how == "right" else [line, line + 1]))
+        return found._replace(bad=self.tables_fault(self.right, [line] if found.how == "right" else [line, line + 1]))
 
-    def refused(self, ran: Ran, at: int, line: int) -> Found:
+    def refused(self, ran: Ended, at: int, line: int) -> Found:
         """What becomes of a run in which this line was refused 30, and of one with the line written twice."""
         lines, front = self.script.lines, self.right.fronts[line] + MEMORY
         without = self.plain(lines[:line] + lines[line + 1:])
         bad = "" if ran.out == front + (without.behind(line) if line < len(lines) else "") else f"without the line it goes on otherwise: {ran}"
-        bad = bad or self.tables_fault(without, states=[len(lines)])
+        bad = bad or self.tables_fault(without, [len(lines)])
         if line == len(lines) or bad:
             return Found("refused 30", line, bad)
         again = self.run(lines[:line] + lines[line:line + 1] + lines[line:], at)
-        if again != Ran(1, front + self.right.behind(line), "", True):
+        if again != Ended(1, front + self.right.behind(line), ""):
             bad = f"sent again: {again}"
-        return Found("refused 30", line, bad or self.tables_fault(self.right, states=[len(lines)]))
+        return Found("refused 30", line, bad or self.tables_fault(self.right, [len(lines)]))
 
 
 # The descriptor by which the library tells that it refused a request, of each process its own.

@@ -1,4 +1,5 @@
-"""The calls on the two files that keep a desk failed from one on: each write, each cut and each sync of the file and its log (tools/faults/stop_io.c).
+"""The calls on the two files that keep a desk failed from one on: each write, each cut and each sync of the file and its log, by
+tools/faults/stop_io.c.
 
 A run of a script is made again and again, where its calls fail from the first on, from the second, and so on up to the last.
 Each run has to end in one of these ways:
@@ -7,23 +8,24 @@ Each run has to end in one of these ways:
   - as the desk is closed: all is answered as it is where nothing fails.
 The two latter may end with status 2 besides, and the words that the file cannot be used, since it could not be closed.
 
-Then the file is opened without a fault. Its tables have to be those that an opening makes of the plain desk's before the act that was answered 31, or,
-where the fault came behind the commit, after the whole of it; and what the program tells of them is the plain desk's too. How many left which is told.
+Then the file is opened without a fault. Its tables have to be those that an opening makes of the plain desk's before the act that was answered 31,
+or, where the fault came behind the commit, after the whole of it; and what the program tells of them is the plain desk's too. How many left which
+is told.
 """
 import tempfile
 from collections import Counter
 from concurrent.futures import ThreadPoolExecutor
 
-from faults.kept_runs import OPENED, RUNS, Desks, Ran, Trial
+from faults.kept_runs import OPENED, RUNS, Desks, Trial
 from tests.asked import ASKED
-from tests.runs import Tried, quick_folder
+from tests.runs import Ended, Tried, quick_folder
 
 STORE, STOPPED = "refused 31 Store\n", "refused 32 Stopped\n"
 AT_ONCE = 4
 THE_END = "no call failed"
 
 
-def state_of(trial: Trial, ran: Ran) -> tuple[str, int]:
+def state_of(trial: Trial, ran: Ended) -> tuple[str, int]:
     """Where a run met the fault, in words, and the state before it, as far as its output tells; "" where it printed what it may not."""
     if not ran.out and ran.status == 2:
         return "at the opening", 0
@@ -56,7 +58,8 @@ def verdict_of(trial: Trial, number: int) -> str:
 
 
 def tell(trial: Trial, pool: ThreadPoolExecutor) -> tuple[int, list[str], Counter[str]]:
-    """Fails a run from each call on, some at a time, and says how that went. Gives how many runs there were, those that disagreed, and what was seen."""
+    """Fails a run from each call on, some at a time, and says how that went. Gives how many runs there were, those that disagreed, and what was
+    seen."""
     counts: Counter[str] = Counter()
     bad: list[str] = []
     calls = trial.desks.calls(trial.copy(), trial.script, OPENED)

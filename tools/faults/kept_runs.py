@@ -11,7 +11,7 @@ from model.facts import MOST_ROWS, MOST_STEPS, PROCEDURE_HEADER, STACK_HEADER
 from model.kept import sqlite3
 from model.rows import Tables, empty_tables
 from tests.plain_runs import Plain, case_lines, kept_tables, text_of, unlike
-from tests.runs import made_shim, write_files
+from tests.runs import Ended, made_shim, write_files
 
 # When the desk is left, when the run opens it that is stopped or fails, and when it is opened again.
 LEFT, OPENED, AGAIN = 100, 1000, 9000
@@ -118,16 +118,9 @@ def procedure_of(steps: int) -> bytes:
 FILES = {"some.csv": stack_of(12), "many.csv": stack_of(MOST_ROWS), "warm.csv": procedure_of(3), "long.csv": procedure_of(MOST_STEPS)}
 
 
-class Ran(NamedTuple):
-    """How a run ended, what it printed, and what it said of faults."""
-    status: int
-    out: str
-    err: str
-
-
 class Seen(NamedTuple):
     """What is seen of a desk when it is opened again: the run of its questions, and the tables that the file alone has then."""
-    ran: Ran
+    ran: Ended
     tables: Optional[Tables]
     fault: str = ""
 
@@ -146,13 +139,13 @@ class Desks:
         self.work, self.program, self.shim = work, program, made_shim("stop_io", work)
         write_files(work, FILES)
 
-    def run(self, folder: str, script: str, moment: int, **settings: str) -> Ran:
+    def run(self, folder: str, script: str, moment: int, **settings: str) -> Ended:
         """Runs a script on the desk of a folder."""
         database = f"{folder}/desk.db"
         words = [self.program, "run", "--db", database, "--at", str(moment), script]
         own = dict(os.environ, LD_PRELOAD=self.shim, STOP_FILE=database, **settings)
         it = subprocess.run(words, env=own, cwd=self.work, stdin=subprocess.DEVNULL, capture_output=True, timeout=600, check=False)
-        return Ran(it.returncode, it.stdout.decode("latin-1"), it.stderr.decode("latin-1"))
+        return Ended(it.returncode, it.stdout.decode("latin-1"), it.stderr.decode("latin-1"))
 
     def calls(self, folder: str, script: str, moment: int) -> int:
         """How many calls a run makes that is not stopped."""
@@ -200,7 +193,7 @@ class Trial:
         state = min(state, len(self.states) - 1)
         if state not in self.rights:
             asked = Plain(self.asked, FILES, left=self.states[state], moment=AGAIN, is_kept=True)
-            self.rights[state] = Seen(Ran(asked.status, asked.whole, ""), asked.states[-1])
+            self.rights[state] = Seen(Ended(asked.status, asked.whole, ""), asked.states[-1])
         return self.rights[state]
 
     def empty(self) -> str:

@@ -1,7 +1,7 @@
 """Desks of random lines, whose program is killed at random moments: `tools/run.py --only kills`, by hand.
 
-A random script is run on a desk that is kept in a file, and the program is killed while it runs, 10,000 times or so many as --count says. Each time the
-file is opened again: its tables have to be what the plain desk's opening makes of the plain desk's, after the lines that were answered, or after
+A random script is run on a desk that is kept in a file, and the program is killed while it runs, 10,000 times or so many as --count says. Each time
+the file is opened again: its tables have to be what the plain desk's opening makes of the plain desk's, after the lines that were answered, or after
 these and the one in progress. The next script goes on from there; after ten of them a new desk is made.
 """
 import os

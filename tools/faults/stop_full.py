@@ -19,9 +19,9 @@ from tests.runs import Tried, quick_folder
 ROWS_LEFT, STOPS = 989_000, 200
 # Requests 1 to 4 are on their way as the desk is left: two wait, two were sent.
 QUEUED, SENT = (1, 2), (3, 4)
-WORK = tuple(["ann set k 3", "ann initiate none"] + [f"ann release {number}" for number in range(10, 16)] + ["ann up", "ann up", "ann clcw", "ann down",
-             "ann up", "ann work", "ann down", "ann close 3", "ann procedure warm warm.csv", "ann begin warm", "ann step 1 1 done -", "ann terminate",
-             "ann withdraw 65535", "ann close 12"])
+WORK = ("ann set k 3", "ann initiate none", *(f"ann release {number}" for number in range(10, 16)), "ann up", "ann up", "ann clcw", "ann down",
+        "ann up", "ann work", "ann down", "ann close 3", "ann procedure warm warm.csv", "ann begin warm", "ann step 1 1 done -", "ann terminate",
+        "ann withdraw 65535", "ann close 12")
 
 
 def full_history() -> list[Move]:

@@ -15,9 +15,9 @@ import tempfile
 from collections import Counter
 from concurrent.futures import ThreadPoolExecutor
 
-from faults.kept_runs import OPENED, RUNS, Desks, Ran, Trial
+from faults.kept_runs import OPENED, RUNS, Desks, Trial
 from tests.asked import ASKED
-from tests.runs import Tried, quick_folder
+from tests.runs import Ended, Tried, quick_folder
 
 # The statuses of a program that tools/faults/stop_io.c stopped, and of one that it was to stop in the middle of a call that has none.
 STOPPED, NOTHING_TO_HALVE = 137, 138
@@ -39,7 +39,7 @@ def stop(trial: Trial, number: int, way: str) -> str:
     ran = trial.desks.run(folder, trial.script, OPENED, STOP_AT=str(number), **WAYS[way])
     if ran.status == NOTHING_TO_HALVE:
         return "nothing to halve"
-    if ran == Ran(trial.plain.status, trial.plain.whole, ""):
+    if ran == Ended(trial.plain.status, trial.plain.whole, ""):
         return "the end"
     states = trial.answered(ran.out)
     if ran.status != STOPPED or ran.err or not states:
