@@ -1,11 +1,11 @@
 """The server's reads and writes failed, its memory refused, its disk taken away.
 
-By fail_io.c the read of each number of a connection fails: nothing is written and no act is made; the write of each number fails, or
-takes nothing: a front of the response went out, and the act stands once; all come in short pieces: the response is the same. By
-fail_malloc.c each request for memory from the first connection on is refused, one a run: the response is right, or tells that there was
+By fail_io.c the read of each number of a connection fails: nothing is written, no act is made, and 33 is told on standard error; the write of each
+number fails, or takes nothing: a front of the response went out, the act stands once, and 34 is told; all come in short pieces: the response is the
+same. By fail_malloc.c each request for memory from the first connection on is refused, one a run: the response is right, or tells that there was
 no memory (30, or 31 where the database had none), or is not there; an act that was answered stands, one that was refused 30 does not, and none
-stands twice. By a limit on the size of files the database fails: 31, and from then on 32. After each run the file is opened and asked. There is
-a line for each run that failed.
+stands twice. Where a request was told 30 it is sent again, and answered as it would have been. By a limit on the size of files the database fails:
+31, and from then on 32. After each run the file is opened and asked. There is a line for each run that failed.
 """
 import os
 import resource
@@ -21,11 +21,12 @@ from generate import http_posts as posts, http_requests as requests
 from generate.http_words import BODY, ENTRY, PLACES, Case, Want, act, get, load, post
 from model.http import LARGE, NO_PATH, OTHER_METHOD, reply_response
 from tests.asked import ASKED
-from tests.http_peer import PATIENCE, SLOW, Ended, Expected, Fault, Server, run
+from tests.http_peer import PATIENCE, SLOW, Ended, Expected, Fault, Server, parted, run
 from tests.runs import made_shim, quick_folder
 
 MOST_BAD = 10
 MOST_BEHIND = 1000  # reads behind an answer
+READ_FAULT, NO_MEMORY, WRITE_FAULT = "33 ReadFault", "30 Memory", "34 WriteFault"  # what is told of a connection that was not answered
 MEMORY, STORE, STOPPED = (reply_response([it]) for it in ("refused 30 Memory", "refused 31 Store", "refused 32 Stopped"))
 
 
@@ -73,11 +74,12 @@ class Runs:
 # ---- streams
 
 class Wanted(NamedTuple):
-    """What a run with failing streams has to do: the answers, how often is read at least and how often written, where that is known, and how many
-    requests stand."""
+    """What a run with failing streams has to do: the answers, how often is read at least and how often written, where that is known, how many
+    requests stand, and what is told of the first connection."""
     answers: list[bytes]
     counts: Counts
     entered: int
+    end: str = "answered"
 
 
 def is_counted(wanted: Counts, counts: tuple[int, int], connections: int) -> bool:
@@ -90,13 +92,13 @@ def stream(runs: Runs, name: str, raws: Sequence[bytes], wanted: Wanted, within:
     """One run with these settings of fail_io.c, on these requests, within so many seconds."""
     runs.counts["streams"] += 1
     began = time.monotonic()
-    with runs.server(len(raws), "fail_io", settings={"SOCKETS": 1, **settings}) as server:
+    with runs.server(len(raws), "fail_io", ("--verbose",), settings={"SOCKETS": 1, **settings}) as server:
         got = [server.exchange(it) for it in raws]
-        took, ended = time.monotonic() - began, server.end()
+        took, (ended, ends) = time.monotonic() - began, parted(server.end())
     reads, writes = (int(it) for it in runs.told().split())
     counts = (reads, writes)
-    found = Wanted(got, wanted.counts if is_counted(wanted.counts, counts, len(raws)) else counts, runs.entered())
-    if found != wanted or ended != Ended(0, "", server.says) or took > within:
+    found = Wanted(got, wanted.counts if is_counted(wanted.counts, counts, len(raws)) else counts, runs.entered(), ends[0])
+    if found != wanted or ends[1:] != ["answered"] * (len(raws) - 1) or ended != Ended(0, "", server.says) or took > within:
         runs.bad(f"{name}, {settings}", found, wanted, ended, f"{took:.1f} s")
 
 
@@ -106,11 +108,11 @@ def each_fails(runs: Runs, request: bytes, entered: int, step: int) -> None:
     before = Expected(runs.folder, [Case("", PLACES)]).responses[0]
     raws, name = [request, PLACES], repr(request[:12])
     for at in range(1, len(request) + 1, step):
-        stream(runs, f"a read of {name}", raws, Wanted([b"", before], (at + len(PLACES), 1), 0), READ_MOST=1, READ_FAIL_AT=at)
+        stream(runs, f"a read of {name}", raws, Wanted([b"", before], (at + len(PLACES), 1), 0, READ_FAULT), READ_MOST=1, READ_FAIL_AT=at)
     for how in ("WRITE_FAIL_AT", "WRITE_NOTHING_AT"):
-        stream(runs, f"the write of {name}", raws, Wanted([b"", right[1]], (None, 2), entered), **{how: 1})
+        stream(runs, f"the write of {name}", raws, Wanted([b"", right[1]], (None, 2), entered, WRITE_FAULT), **{how: 1})
         for at in range(1, len(right[0]) + 1, step):
-            wanted = Wanted([right[0][:at - 1], right[1]], (None, at + len(right[1])), entered)
+            wanted = Wanted([right[0][:at - 1], right[1]], (None, at + len(right[1])), entered, WRITE_FAULT)
             stream(runs, f"a write of {name}", raws, wanted, WRITE_MOST=1, **{how: at})
     for most in (1, 2, 3, 7, 100, 4096):
         stream(runs, f"short pieces of {name}", raws, Wanted(right, (None, None), entered), READ_MOST=most, WRITE_MOST=most)
@@ -142,17 +144,19 @@ class Exchange:
         self.enters = int(self.after.split(b"places ")[1].split(b":")[0])
 
 
-def why_bad(it: Exchange, first: bytes, second: bytes, stands: int) -> Optional[tuple[bytes, bytes, int]]:
-    """What is wrong of these two responses and of how many requests stand then; none where nothing is."""
+def why_bad(it: Exchange, got: Sequence[bytes], stands: int) -> Optional[tuple[Sequence[bytes], int]]:
+    """What is wrong of these three responses, to the request, to the places, and to the request again where it was undone, else to nothing; and of
+    how many requests stand then; none where nothing is."""
+    first, second, third = got
     if first == it.right:
-        is_right = second in (it.after, MEMORY, STORE, b"") and stands == it.enters
+        is_right = second in (it.after, MEMORY, STORE, b"") and (third, stands) == (b"", it.enters)
     elif first == MEMORY:
-        is_right = second == it.before and stands == 0
+        is_right = (second, third, stands) == (it.before, it.right, it.enters)
     elif first == STORE:
-        is_right = second == STOPPED and stands in (0, it.enters)
+        is_right = (second, third) == (STOPPED, b"") and stands in (0, it.enters)
     else:
-        is_right = first == b"" and (second, stands) in ((it.before, 0), (it.after, it.enters))
-    return None if is_right else (first, second, stands)
+        is_right = first == b"" and (second, third, stands) in ((it.before, it.right, it.enters), (it.after, b"", it.enters))
+    return None if is_right else (got, stands)
 
 
 def kind_of(it: Exchange, response: bytes) -> str:
@@ -160,18 +164,11 @@ def kind_of(it: Exchange, response: bytes) -> str:
     return {it.right: "right", it.after: "right", MEMORY: "refused 30", STORE: "refused 31", b"": "not answered"}.get(response, "another")
 
 
-def parted(ended: Ended) -> tuple[Ended, list[str]]:
-    """How a program ended but for what it said of connections, and how it said that each of these ended."""
-    lines = ended.err.splitlines(keepends=True)
-    told = [it for it in lines if it.startswith("tcdesk: connection ")]
-    return ended._replace(err="".join(it for it in lines if it not in told)), [it.split(": ")[2].strip() for it in told]
-
-
 def look_at_ends(runs: Runs, got: Sequence[bytes], ends: Sequence[str]) -> None:
     """Whether of each connection is told that it was answered, or why not."""
     for response, end in zip(got, ends):
         runs.seen[f"told {end}"] += 1
-        if (response != b"") != (end == "answered") or end not in ("answered", "30 Memory", "34 WriteFault"):
+        if (response != b"") != (end == "answered") or end not in ("answered", NO_MEMORY, WRITE_FAULT):
             runs.bad("how a connection ended", end, response)
 
 
@@ -180,10 +177,13 @@ def refused(runs: Runs, it: Exchange, at: int) -> bool:
     got: list[bytes] = []
     ends: list[str] = []
     ended: Union[Ended, Fault]
-    with runs.server(2, "fail_malloc", ("--verbose",), settings={"FAIL_AT": at, "FAIL_BEHIND_ACCEPT": 1}) as server:
+    with runs.server(3, "fail_malloc", ("--verbose",), settings={"FAIL_AT": at, "FAIL_BEHIND_ACCEPT": 1}) as server:
         try:
             for raw in (it.raw, PLACES):
                 got.append(server.exchange(raw))
+            is_undone = got[0] == MEMORY or got[0] == b"" and got[1] == it.before
+            got.append(server.exchange(it.raw if is_undone else b"", shuts=not is_undone))
+            runs.seen["sent again"] += is_undone
             ended, ends = parted(server.end())
         except Fault as fault:
             ended = fault
@@ -191,9 +191,9 @@ def refused(runs: Runs, it: Exchange, at: int) -> bool:
         return False
     runs.counts["memory"] += 1
     runs.seen[kind_of(it, got[0]) if got else "not accepted"] += 1
-    look_at_ends(runs, got, ends)
-    why: object = why_bad(it, got[0], got[1], runs.entered()) if len(got) == 2 else got
-    # Where both were answered the memory was wanted as the desk was closed.
+    look_at_ends(runs, got[:2], ends)
+    why: object = why_bad(it, got, runs.entered()) if len(got) == 3 else got
+    # Where all were answered the memory was wanted as the desk was closed.
     closings = [Ended(0, "", server.says)]
     closings += [Ended(2, "", f"{server.says}tcdesk: cannot use {what}\n") for what in ("memory", "kept.db") if b"" not in got]
     if why or ended not in closings:
@@ -210,8 +210,8 @@ def memory(runs: Runs) -> None:
             at += step
         if at == 1:
             runs.bad(f"{raw[:20]!r}: no request for memory was counted")
-    if not runs.seen["right"] or not runs.seen["refused 30"] or not runs.seen["told 30 Memory"]:
-        runs.bad("no run was right, or none was refused 30, or told so", dict(runs.seen))
+    if not all(runs.seen[it] for it in ("right", "refused 30", f"told {NO_MEMORY}", "sent again")):
+        runs.bad("no run was right, or none was refused 30, or told so, or sent again", dict(runs.seen))
 
 
 # ---- the disk

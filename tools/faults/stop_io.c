@@ -1,5 +1,6 @@
 // Preloaded before a program, this stops it dead at one of its calls that change or sync a database file or the log beside it, and leaves the
-// two files as the end of the program, or of the power, would leave them. The settings are variables, each without effect where it is not set:
+// two files as the end of the program, or of the power, would leave them; or it fails all these calls from one on. The settings are variables, each
+// without effect where it is not set:
 //   STOP_FILE  the path of the database file; its log has that name with -wal behind it
 //   STOP_AT    the call of this number, from 1, is not made: the program ends there, with status 137. Of 0 none is stopped, and their number
 //              is told on the standard error at the end
@@ -7,8 +8,10 @@
 //              length half of the way. Half of a sync is nothing: there the status is 138
 //   STOP_LOST  1: before that, of each file all is undone that was done to it since its last sync. With STOP_HALF the half that is made comes
 //              to the disk all the same, as from one that writes in another order
+//   FAIL_FROM  the call of this number, from 1, fails, and so does each one behind it; nothing is made of them
 // No sync is passed on to the disk, whose time it would cost: here a sync is where what was done before it can be lost no more.
 #define _GNU_SOURCE
+#include <errno.h>
 #include <stdio.h>
 #include <stdlib.h>
 #include <sys/stat.h>
@@ -38,6 +41,7 @@ static unsigned long calls;
 static unsigned long stop_at;
 static unsigned long stop_half;
 static unsigned long stop_lost;
+static unsigned long fail_from;
 
 __attribute__((constructor)) static void read_settings(void) {
     const char *path = getenv("STOP_FILE");
@@ -48,6 +52,7 @@ __attribute__((constructor)) static void read_settings(void) {
     stop_at = setting("STOP_AT");
     stop_half = setting("STOP_HALF");
     stop_lost = setting("STOP_LOST");
+    fail_from = setting("FAIL_FROM");
 }
 
 __attribute__((destructor)) static void tell_calls(void) {
@@ -131,6 +136,15 @@ static int stops_here(void) {
     return 1;
 }
 
+// Whether the call that was counted last fails.
+static int fails_here(void) {
+    if (fail_from == 0 || calls < fail_from) {
+        return 0;
+    }
+    errno = EIO;
+    return 1;
+}
+
 // A write to one of the files, at a place.
 static ssize_t write_to(int file, int descriptor, const void *bytes, size_t size, off_t at) {
     if (stops_here()) {
@@ -138,6 +152,9 @@ static ssize_t write_to(int file, int descriptor, const void *bytes, size_t size
             (void)!put(descriptor, bytes, (size + 1) / 2, at);
         }
         _exit(STOPPED);
+    }
+    if (fails_here()) {
+        return -1;
     }
     remember(file, descriptor, at, at + (off_t)size);
     return put(descriptor, bytes, size, at);
@@ -174,6 +191,9 @@ int ftruncate(int descriptor, off_t length) {
         }
         _exit(STOPPED);
     }
+    if (fails_here()) {
+        return -1;
+    }
     remember(file, descriptor, length, before);
     return cut(descriptor, length);
 }
@@ -187,6 +207,9 @@ int fsync(int descriptor) {
     }
     if (stops_here()) {
         _exit(stop_half ? NOTHING_TO_HALVE : STOPPED);
+    }
+    if (fails_here()) {
+        return -1;
     }
     keep(file);
     return 0;

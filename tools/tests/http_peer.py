@@ -8,12 +8,13 @@ import socket
 import struct
 import subprocess
 import time
-from typing import Callable, Iterable, NamedTuple, Optional, Sequence, Union
+from typing import Callable, Iterable, Optional, Sequence, Union
 
 from generate.http_words import NOTHING, Case
 from model.desk import Desk
 from model.facts import status_of
 from model.http import Acts, Asks, Loads, Refused, answer_to, refused_response, reply_response
+from tests.runs import Ended
 
 PATIENCE = float(os.environ.get("PATIENCE", "20"))  # seconds for one exchange, or for the program to begin or to end
 SLOW = PATIENCE / 4  # seconds in which a request that comes a byte at a time has to be answered: 5, where nobody asks for more patience
@@ -25,11 +26,11 @@ class Fault(Exception):
     """What goes no further."""
 
 
-class Ended(NamedTuple):
-    """How the program ended."""
-    status: int
-    out: str
-    err: str
+def parted(ended: Ended) -> tuple[Ended, list[str]]:
+    """How a program ended but for what it said of connections, and how it said that each of these ended."""
+    lines = ended.err.splitlines(keepends=True)
+    told = [it for it in lines if it.startswith("tcdesk: connection ")]
+    return ended._replace(err="".join(it for it in lines if it not in told)), [it.split(": ")[2].strip() for it in told]
 
 
 # ---- the server

@@ -3,7 +3,7 @@ import os
 import subprocess
 import unittest
 from dataclasses import dataclass
-from typing import Iterable, Optional, Sequence
+from typing import Iterable, NamedTuple, Optional, Sequence
 
 from tests.asked import TOOLS
 
@@ -14,6 +14,13 @@ class Ran:
     status: int
     lines: list[str]
     errors: str
+
+
+class Ended(NamedTuple):
+    """How the program ended."""
+    status: int
+    out: str
+    err: str
 
 
 def write_lines(path: str, lines: Iterable[str]) -> None:

@@ -3,10 +3,9 @@ import os
 from typing import Iterator, NamedTuple, Optional
 
 from model.desk import answers
-from tests.asked import TOOLS
+from tests.plain_runs import CASES, case_files
 from tests.runs import Tried
 
-FOLDER = f"{TOOLS}/cases"
 
 
 class Case(NamedTuple):
@@ -28,8 +27,8 @@ def text_of(path: str, default: Optional[str] = None) -> str:
 
 def all_cases() -> Iterator[Case]:
     """All scripts, in order of name."""
-    for name in sorted(it[:-3] for it in os.listdir(FOLDER) if it.endswith(".tc")):
-        path = f"{FOLDER}/{name}"
+    for name in sorted(it[:-3] for it in os.listdir(CASES) if it.endswith(".tc")):
+        path = f"{CASES}/{name}"
         options = tuple(text_of(f"{path}.args", "").split())
         yield Case(name, text_of(f"{path}.tc"), options, text_of(f"{path}.stdout"), int(text_of(f"{path}.status", "0")))
 
@@ -39,7 +38,7 @@ class Cases(Tried):
 
     def test_cases(self) -> None:
         """Each line and the status of each."""
-        files = {name: text_of(f"{FOLDER}/data/{name}").encode("latin-1") for name in os.listdir(f"{FOLDER}/data")}
+        files = case_files()
         faults: list[str] = []
         count = 0
         for case in all_cases():

@@ -18,7 +18,7 @@ from generate import http_posts as posts, http_requests as requests
 from generate.http_words import BODY, ENTRY, PLACES, Case, act, entry, get, load, post
 from model.http import decided
 from tests.http_cases import Cases, Served
-from tests.http_peer import PATIENCE, SLOW, Ended, Server, free_port, received, reset, run, send
+from tests.http_peer import PATIENCE, SLOW, Ended, Server, free_port, parted, received, reset, run, send
 from tests.runs import bytes_of
 
 SEED = 20311126
@@ -29,7 +29,8 @@ class Pieces(Served):
     """Requests that are cut, that come in pieces, and that come slowly."""
 
     def test_cut(self) -> None:
-        """The bytes of a request cut after each byte but the last: nothing is answered, and no act is made. What a front decides stays decided."""
+        """The bytes of a request cut after each byte but the last: nothing is answered, no act is made, and 33 is told on standard error. What a
+        front decides stays decided."""
         cases = self.cases
         for raw, closes in ((act(ENTRY), "a shut end"), (post("/acts", BODY, end="\n"), "a closed connection"), (act(ENTRY), "a reset"),
                             (get("/history/1/0"), "a shut end"), (b"\r\n\n" + load("stack", "s1", posts.rows(1)), "a shut end")):
@@ -39,8 +40,10 @@ class Pieces(Served):
             none = cases.expected(folder, [Case("", PLACES, 0)]).responses[0]
             for at in fronts:
                 cases.tell(f"{name} after {at} bytes decides", None, decided(raw[:at]))
-            with cases.server(folder, len(raw) + len(fronts[::7]) + 2) as server:
+            told: list[str] = []
+            with cases.server(folder, len(raw) + len(fronts[::7]) + 2, "--verbose") as server:
                 for at in fronts:
+                    told += ["33 ReadFault", "answered"] if at % 7 == 0 else ["33 ReadFault"]
                     if closes == "a shut end":
                         cases.tell(f"{name} after {at} bytes", b"", server.exchange(raw[:at], shuts=True))
                     else:
@@ -51,7 +54,9 @@ class Pieces(Served):
                         cases.tell(f"the places after {name} after {at} bytes", none, server.exchange(PLACES))
                 cases.tell(f"{name}: all of it", last.responses[0], server.exchange(raw))
                 cases.tell(f"{name}: the places", last.responses[1], server.exchange(PLACES))
-                cases.ended(name, server)
+                ended, ends = parted(server.end())
+                cases.tell(f"{name}: the program's end", Ended(0, "", server.says), ended)
+                cases.tell(f"{name}: what is told of each connection", told + ["answered"] * 2, ends)
 
     def test_pieces(self) -> None:
         """The bytes of requests in pieces of each size, with and without pauses: the answer is the same."""

@@ -1,0 +1,242 @@
+"""Runs of the built program on desks that are kept in a file, whose calls on that file are stopped or fail (tools/faults/stop_io.c), and what of
+them is right: all of it by the plain desk, which asks the program nothing.
+"""
+import os
+import shutil
+import subprocess
+import tempfile
+from typing import NamedTuple, Optional
+
+from model.facts import MOST_ROWS, MOST_STEPS, PROCEDURE_HEADER, STACK_HEADER
+from model.kept import sqlite3
+from model.rows import Tables, empty_tables
+from tests.plain_runs import Plain, case_lines, kept_tables, text_of, unlike
+from tests.runs import Ended, made_shim, write_files
+
+# When the desk is left, when the run opens it that is stopped or fails, and when it is opened again.
+LEFT, OPENED, AGAIN = 100, 1000, 9000
+
+
+class Run(NamedTuple):
+    """A run: its lines, each without its moment, and those that made the desk before it (none: there is no file)."""
+    name: str
+    left: tuple[str, ...]
+    lines: tuple[str, ...]
+    # How many requests were entered before.
+    requests: int = 0
+    # Whether the desk before it was stopped too, with all its rows in the log.
+    is_left_open: bool = False
+
+
+# Requests that were never on their way: 1 and 2 are approved, 3 is not.
+QUIET = (
+    "ann enter 5 a--c no 8 1 - - ok",
+    "ann enter 5 a--c no 8 2 - - ok",
+    "ann enter 5 a--c no 8 3 - - ok",
+    "bob approve 1",
+    "bob approve 2",
+)
+
+# Request 1 is Scheduled, 3 Riding, 4 and 5 Sent, 6 Queued.
+ON_THE_WAY = (
+    "ann enter 5 a--c no 8 1 - - ok",
+    "ann enter 5 ---c no 11 4 1 600 ok",
+    "ann enter 5 a--c no 8 1 - - ok",
+    "ann enter 5 ---c no 11 4 3 700 ok",
+    "ann enter 5 a--c no 8 1 - - ok",
+    "ann enter 5 a--c no 8 1 - - ok",
+    *(f"bob approve {request}" for request in range(1, 7)),
+    "ann initiate none",
+    "ann set k 3",
+    "ann release 2",
+    "ann up",
+    "ann work",
+    "ann down",
+    "ann release 4",
+    "ann release 5",
+    "ann release 6",
+)
+
+# One act at least of each kind that writes rows.
+ACTS = (
+    "ann enter 5 a--c no 8 4 - - ok",
+    "bob approve 4",
+    "ann initiate none",
+    "ann release 4",
+    "ann up",
+    "ann work",
+    "ann down",
+    "ann stack some some.csv",
+    "bob approvestack some",
+    "ann procedure warm warm.csv",
+    "ann begin warm",
+    "ann step 1 1 done -",
+    "ann step 1 2 done bob",
+    "ann terminate",
+    "ann close 1",
+    "ann withdraw 3",
+    "ann set t1 1",
+    "ann set limit 1",
+    "ann initiate none",
+    "ann release 2",
+    "ann tick",
+)
+
+STACK = "ann stack many many.csv"
+PROCEDURE = "ann procedure long long.csv"
+
+
+def of_case(name: str) -> tuple[str, ...]:
+    """The lines of a script of tools/cases, without their moments."""
+    return tuple(line.split(" ", 1)[1] for line in case_lines(name))
+
+
+RUNS = (
+    Run("a desk that is made", (), ()),
+    Run("the opening of a desk with requests on their way", ON_THE_WAY, (), 6),
+    Run("the opening of one that was stopped", ON_THE_WAY, (), 6, is_left_open=True),
+    Run("a script of several acts", QUIET, ACTS, 3),
+    Run("an insert", (), of_case("insert")),
+    Run("an insert that comes too early", (), of_case("insert-too-early")),
+    Run(f"the load of {MOST_ROWS} rows", QUIET, (STACK, "bob approvestack many"), 3),
+    Run(f"the load of {MOST_STEPS} steps", QUIET, (PROCEDURE, "ann begin long"), 3),
+)
+
+
+def stack_of(rows: int) -> bytes:
+    """The text of a stack of so many rows, each of which waits for the one before it."""
+    made = [f"{row},{6 + row % 3},8,{row},,,a--c,no,{row - 1 or ''},ok" for row in range(1, rows + 1)]
+    return text_of([STACK_HEADER, *made]).encode()
+
+
+def procedure_of(steps: int) -> bytes:
+    """The text of a procedure of so many steps, of which the second is done by two, and releases request 1."""
+    made = [f"{step},check what number {step} shows,{'yes,1' if step == 2 else 'no,'}" for step in range(1, steps + 1)]
+    return text_of([PROCEDURE_HEADER, *made]).encode()
+
+
+FILES = {"some.csv": stack_of(12), "many.csv": stack_of(MOST_ROWS), "warm.csv": procedure_of(3), "long.csv": procedure_of(MOST_STEPS)}
+
+
+class Seen(NamedTuple):
+    """What is seen of a desk when it is opened again: the run of its questions, and the tables that the file alone has then."""
+    ran: Ended
+    tables: Optional[Tables]
+    fault: str = ""
+
+    def unlike(self, right: "Seen") -> str:
+        """In what this is not what is right, in words."""
+        if self.ran.status != right.ran.status or self.ran.err or self.fault or right.tables is None:
+            return f"it is not opened: {self.ran}, {self.fault}"
+        return unlike(self.tables, right.tables) or f"it prints {self.ran.out!r}, and not {right.ran.out!r}"
+
+
+class Desks:
+    """The folder in which desks are made, run and stopped, and the program that does it."""
+
+    def __init__(self, work: str, program: str) -> None:
+        """The library that stops the program, or fails its calls, is made in this folder, and the files that its lines load are put there."""
+        self.work, self.program, self.shim = work, program, made_shim("stop_io", work)
+        write_files(work, FILES)
+
+    def run(self, folder: str, script: str, moment: int, **settings: str) -> Ended:
+        """Runs a script on the desk of a folder."""
+        database = f"{folder}/desk.db"
+        words = [self.program, "run", "--db", database, "--at", str(moment), script]
+        own = dict(os.environ, LD_PRELOAD=self.shim, STOP_FILE=database, **settings)
+        it = subprocess.run(words, env=own, cwd=self.work, stdin=subprocess.DEVNULL, capture_output=True, timeout=600, check=False)
+        return Ended(it.returncode, it.stdout.decode("latin-1"), it.stderr.decode("latin-1"))
+
+    def calls(self, folder: str, script: str, moment: int) -> int:
+        """How many calls a run makes that is not stopped."""
+        told = self.run(folder, script, moment, STOP_AT="0").err.strip()
+        if not told.isdigit() or told == "0":
+            raise AssertionError(f"the program's calls on its files are not seen: {told}")
+        return int(told)
+
+
+def with_moment(moment: int, lines: tuple[str, ...]) -> list[str]:
+    """Lines that all have one moment."""
+    return [f"{moment} {line}" for line in lines]
+
+
+class Trial:
+    """One run, and what its desk is where nothing disturbs it, by the plain desk, in each state: before the opening, after that, and after each line.
+    `fronts` has what is printed up to there, `states` the tables."""
+
+    def __init__(self, desks: Desks, run: Run) -> None:
+        self.desks, self.run = desks, run
+        self.folder = tempfile.mkdtemp(dir=desks.work)
+        lines = with_moment(OPENED, run.lines)
+        self.script = self.script_of("script", lines)
+        self.asked = with_moment(AGAIN, ("zed places", *(f"zed history {request} 0" for request in range(1, run.requests + 1))))
+        self.questions = self.script_of("questions", self.asked)
+        before = self.plain_left()
+        self.plain = Plain(lines, FILES, left=before, moment=OPENED, is_kept=True)
+        self.fronts = ["", *self.plain.fronts]
+        self.states = [before or empty_tables(), *self.plain.states]
+        self.rights: dict[int, Seen] = {}
+        self.left = self.make_left()
+
+    def script_of(self, name: str, lines: list[str]) -> str:
+        """Writes a script, and gives its path."""
+        with open(f"{self.folder}/{name}", "w", encoding="latin-1", newline="") as file:
+            file.write(text_of(lines))
+        return file.name
+
+    def plain_left(self) -> Optional[Tables]:
+        """The tables of the desk that the run begins with; none where there is none."""
+        return Plain(with_moment(LEFT, self.run.left), FILES, is_kept=True).states[-1] if self.run.left else None
+
+    def right_of(self, state: int) -> Seen:
+        """What has to be seen of a desk that was left in this state, or in the last, and is opened again."""
+        state = min(state, len(self.states) - 1)
+        if state not in self.rights:
+            asked = Plain(self.asked, FILES, left=self.states[state], moment=AGAIN, is_kept=True)
+            self.rights[state] = Seen(Ended(asked.status, asked.whole, ""), asked.states[-1])
+        return self.rights[state]
+
+    def empty(self) -> str:
+        """A new folder."""
+        return tempfile.mkdtemp(dir=self.folder)
+
+    def copy(self) -> str:
+        """A new folder with a copy of the desk that the run begins with."""
+        return str(shutil.copytree(self.left, self.empty(), dirs_exist_ok=True))
+
+    def make_left(self) -> str:
+        """Makes the desk that the run begins with, and gives its folder."""
+        folder = self.empty()
+        if not self.run.left:
+            return folder
+        script = self.script_of("before", with_moment(LEFT, self.run.left))
+        ran = self.desks.run(folder, script, LEFT)
+        if ran.status or ran.err:
+            raise AssertionError(f"a run that was not stopped: {ran}")
+        return self.left_open(script) if self.run.is_left_open else folder
+
+    def left_open(self, script: str) -> str:
+        """A desk that was stopped at the first call after its last answer: its rows are in the log alone."""
+        found = ""
+        for at in range(self.desks.calls(self.empty(), script, LEFT), 0, -1):
+            folder = self.empty()
+            if "places" not in self.desks.run(folder, script, LEFT, STOP_AT=str(at)).out:
+                return found
+            found = folder
+        raise AssertionError("no stop comes before the last answer")
+
+    def again(self, folder: str) -> Seen:
+        """Opens the desk of a folder once more, tells what is seen of it, and removes the folder."""
+        ran = self.desks.run(folder, self.questions, AGAIN)
+        try:
+            seen = Seen(ran, kept_tables(f"{folder}/desk.db", "mode=ro&immutable=1"))
+        except sqlite3.Error as fault:
+            seen = Seen(ran, None, str(fault))
+        shutil.rmtree(folder)
+        return seen
+
+    def answered(self, out: str) -> list[int]:
+        """The states up to which a run printed exactly this."""
+        if out == self.plain.whole:
+            return [len(self.fronts) - 1]
+        return [state for state, front in enumerate(self.fronts) if front == out]
