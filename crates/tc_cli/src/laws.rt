@@ -1,5 +1,5 @@
 //! What is true of a desk's file from one run of the program to the next.
-ghost use Rattle.std.specs.Prelude.{◌≡◌, ◌⊎◌, IfOk};
+ghost use Rattle.std.specs.Prelude.{◌≡◌, ◌⊎◌, ℕ, IfOk};
 ghost use Rattle.sqlite_trees.specs.View.{IsClean};
 ghost use Rattle.sqlite_store.specs.FileStore.{view};
 ghost use Rattle.sqlite.specs.Files.{file_state, over_files};
@@ -11,11 +11,11 @@ ghost use Rattle.tc_book.specs.Tables.{image_of};
 ghost use Rattle.tc_book.specs.declared.stamps.Stamp.{Stamp};
 ghost use Rattle.tc_desk.specs.Loads.{Loading};
 ghost use Rattle.tc_room.specs.Crash.{Leaves, LeavesActs};
-ghost use Rattle.tc_room.specs.Joined.{IsKept, LinkState};
-ghost use Rattle.tc_room.specs.Opening.{OpensLeft};
+ghost use Rattle.tc_room.specs.Joined.{HasImage, IsKept, LinkState};
+ghost use Rattle.tc_room.specs.Opening.{LeavesOpening, OpensLeft};
 ghost use Rattle.tc_room.specs.Loads.{LoadsBook};
 ghost use Rattle.tc_room.specs.Room.{MakesBook};
-ghost use Rattle.tc_cli.specs.Crash.{HoldsSome, IsReopened};
+ghost use Rattle.tc_cli.specs.Crash.{HoldsSome, IsReopened, OpensBook, OpensEither};
 
 use sqlite::Connection;
 use sqlite_disk::Disk;
@@ -54,7 +54,8 @@ pub(crate) fn a_crash_loses_nothing<D: Disk + Drop, E: Disk + Drop>(
 
 /// The law of two rooms: what stood in one when a crash came, the next one opens. The tables of a book that a room keeps (`IsKept`, which each of its calls
 /// promises) are sound and told by their columns; where the next room opens over files that hold what the crash left, its desk is what an
-/// opening makes of that book. The first connection is taken apart here for the proof alone; its disk has to have given back what was
+/// opening makes of that book. Where the crash came in an act, a load or an opening, it is that of the book before, or of the book that this makes, if
+/// that is one that a room keeps. The first connection is taken apart here for the proof alone; its disk has to have given back what was
 /// written until then.
 pub(crate) fn what_stood_is_opened<D: Disk + Drop, E: Disk + Drop>(
     alloc: Global,
@@ -65,10 +66,16 @@ pub(crate) fn what_stood_is_opened<D: Disk + Drop, E: Disk + Drop>(
 ) -> Next<D, E>
     ensures kept { IsClean (view result.last) → IsReopened last found → (book : Book) → IsKept book → Leaves over_files last (λ image. image ≡ image_of book)
         → IfOk result.opened (λ opened. HasCleanDisk (file_state opened.room.tables) → ∥ OpensLeft over_files config moment (image_of book) opened.moves.items opened.room ∥₁) }
-    // where an act was in progress, of the book before or of the book that it makes, if that is one that a room keeps
     ensures act { IsClean (view result.last) → IsReopened last found → (old : LinkState) (stamp : Stamp) (given : Act) → IsKept old.book → ((after : Book) → MakesBook old stamp given after → IsKept after)
         → LeavesActs over_files last old.book (MakesBook old stamp given)
-        → IfOk result.opened (λ opened. HasCleanDisk (file_state opened.room.tables) → ∥ ((book : Book) × ((book ≡ old.book) ⊎ MakesBook old stamp given book) × OpensLeft over_files config moment (image_of book) opened.moves.items opened.room) ∥₁) }
+        → IfOk result.opened (λ opened. HasCleanDisk (file_state opened.room.tables) → OpensEither over_files old.book (MakesBook old stamp given) config moment opened.moves.items opened.room) }
+    ensures load { IsClean (view result.last) → IsReopened last found → (old : LinkState) (stamp : Stamp) (given : Loading) → IsKept old.book → ((after : Book) → LoadsBook old stamp given after → IsKept after)
+        → LeavesActs over_files last old.book (LoadsBook old stamp given)
+        → IfOk result.opened (λ opened. HasCleanDisk (file_state opened.room.tables) → OpensEither over_files old.book (LoadsBook old stamp given) config moment opened.moves.items opened.room) }
+    // of an opening that was refused, over tables that held the rows of a book
+    ensures opening { IsClean (view result.last) → IsReopened last found → (store : _) (chosen : Config) (at : ℕ) (old : Book) → IsKept old → ((after : Book) → OpensBook chosen at old after → IsKept after)
+        → HasImage over_files store (image_of old) → LeavesOpening over_files chosen at store last
+        → IfOk result.opened (λ opened. HasCleanDisk (file_state opened.room.tables) → OpensEither over_files old (OpensBook chosen at old) config moment opened.moves.items opened.room) }
 {
     let last = last.into_store();
     let opened = Room::open(alloc, found, config, moment);
