@@ -2,8 +2,11 @@
 use Rattle.std.specs.Prelude.{◌≡◌, ◌⊎◌, ℕ, ◌≤◌, ◌/◌, nat_lt, Bool, true, false, if◌then◌else◌, IfErr, OnOk, Option, Some, None, Result, []}
 use Rattle.tc_types.specs.declared.refusals.Refusal.{Refusal}
 use Rattle.tc_types.specs.declared.refusals.Refusal.TheVariants.{BadDirective, Memory}
+use Rattle.tc_types.specs.declared.link.frames.Frame.{Frame}
+use Rattle.tc_types.specs.declared.link.reports.Report.{Report}
 use Rattle.tc_farm.specs.Farm.{IsWindowWidth, new_farm}
 use Rattle.tc_fop.specs.Calls.{new_machine}
+use Rattle.tc_world.specs.Links.{Kind}
 use Rattle.tc_world.specs.Logs.{blank}
 use Rattle.tc_world.specs.World.{Whole, is_fitting}
 use Rattle.tc_board.specs.Board.{BoardState, new_board}
@@ -33,6 +36,11 @@ widest_k window = window / 2
 -- K as a desk is made: 10, or the widest that fits
 abbrev pub first_k : ℕ → ℕ
 first_k window = if nat_lt (widest_k window) 10 then widest_k window else 10
+
+-- nothing flies on these links
+pub record AreEmpty {U D : Type 0} (up : Kind U Frame) (down : Kind D Report) (uplink : U) (downlink : D) : Type 0 where
+  pub rises : up.content uplink ≡ []
+  pub falls : down.content downlink ≡ []
 
 pub record State (U D : Type 0) : Type 0 where
   pub book : Book
