@@ -37,11 +37,6 @@ widest_k window = window / 2
 abbrev pub first_k : ℕ → ℕ
 first_k window = if nat_lt (widest_k window) 10 then widest_k window else 10
 
--- nothing flies on these links
-pub record AreEmpty {U D : Type 0} (up : Kind U Frame) (down : Kind D Report) (uplink : U) (downlink : D) : Type 0 where
-  pub rises : up.content uplink ≡ []
-  pub falls : down.content downlink ≡ []
-
 pub record State (U D : Type 0) : Type 0 where
   pub book : Book
   pub world : Whole U D

@@ -4,10 +4,11 @@ ghost use Rattle.tc_types.specs.declared.refusals.Refusal.TheVariants.{BadDirect
 ghost use Rattle.tc_types.specs.declared.acts.Act.TheVariants as act;
 ghost use Rattle.tc_book.specs.Good.{IsGoodBook};
 ghost use Rattle.tc_book.specs.Batch.{GoesOn};
-ghost use Rattle.tc_desk.specs.State.{AreEmpty, IsConfig, IsRing, first_k, new_desk};
+ghost use Rattle.tc_desk.specs.State.{IsConfig, IsRing, first_k, new_desk};
 ghost use Rattle.tc_desk.specs.Acts.{is_question};
 ghost use Rattle.tc_desk.specs.Machine.{MakesRows};
 ghost use Rattle.tc_farm.specs.Farm.{new_farm};
+ghost use Rattle.tc_world.specs.Links.{AreEmpty};
 ghost use Rattle.tc_world.specs.Window.{IsClaimed};
 ghost use Rattle.tc_desk.specs.Downlink.{came_down};
 ghost use Rattle.tc_desk.specs.Parts.{IsEven, Performs, Responds};

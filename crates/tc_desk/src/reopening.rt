@@ -1,11 +1,11 @@
 //! A desk over tables that were left: the book is opened, and the link, the spacecraft and the mirror are new.
 ghost use Rattle.std.specs.Prelude.{◌≡◌, IfOk, []};
 ghost use Rattle.tc_types.specs.Images.{rows_in};
+ghost use Rattle.tc_world.specs.Links.{AreEmpty};
 ghost use Rattle.tc_book.specs.Sound.{IsSound};
 ghost use Rattle.tc_book.specs.Tables.{image_of};
 ghost use Rattle.tc_desk.specs.Acts.{plain};
 ghost use Rattle.tc_desk.specs.Opening.{MakesOpening, OpensOf, reopened_desk};
-ghost use Rattle.tc_desk.specs.State.{AreEmpty};
 
 use crate::configs::Config;
 use crate::desks::{Desk, Reopened};
