@@ -2,11 +2,8 @@
 use Rattle.std.specs.Prelude.{◌≡◌, ◌⊎◌, ℕ, ◌≤◌, ◌/◌, nat_lt, Bool, true, false, if◌then◌else◌, IfErr, OnOk, Option, Some, None, Result, []}
 use Rattle.tc_types.specs.declared.refusals.Refusal.{Refusal}
 use Rattle.tc_types.specs.declared.refusals.Refusal.TheVariants.{BadDirective, Memory}
-use Rattle.tc_types.specs.declared.link.frames.Frame.{Frame}
-use Rattle.tc_types.specs.declared.link.reports.Report.{Report}
 use Rattle.tc_farm.specs.Farm.{IsWindowWidth, new_farm}
 use Rattle.tc_fop.specs.Calls.{new_machine}
-use Rattle.tc_world.specs.Links.{Kind}
 use Rattle.tc_world.specs.Logs.{blank}
 use Rattle.tc_world.specs.World.{Whole, is_fitting}
 use Rattle.tc_board.specs.Board.{BoardState, new_board}
