@@ -37,10 +37,10 @@ use Rattle.tc_desk.specs.Effects.{heard_all}
 use Rattle.tc_desk.specs.StatusLines.{status_lines}
 use Rattle.tc_desk.specs.Replies.{Reply, act_reply}
 
-abbrev ann : Stamp
+abbrev pub ann : Stamp
 ann = record { by = codes "ann"; moment = 0 }
 
-abbrev entry : Form
+abbrev pub entry : Form
 entry = record {
   apid = 5;
   ack = record { acceptance = true; start = false; progress = false; completion = false };
@@ -50,7 +50,7 @@ entry = record {
 }
 
 -- a link with nothing in flight
-abbrev idle : {T : Type 0} → InFlight T
+abbrev pub idle : {T : Type 0} → InFlight T
 idle = record { content = []; covered = 0 }
 
 -- a desk with this book, over a link where nothing happened yet

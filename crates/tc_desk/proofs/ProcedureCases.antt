@@ -3,9 +3,6 @@
 use Rattle.std.proofs.Common.{◌≡◌, ℕ, true, false, Option, Some, None, List, [], ◌∷◌, ◌++◌, drop, length, refl}
 use Rattle.std.specs.Prelude.{codes}
 use Rattle.std.specs.Fmt.{digits}
-use Rattle.tc_types.specs.declared.requests.Form.{Form}
-use Rattle.tc_types.specs.declared.requests.Command.TheVariants.{Plain}
-use Rattle.tc_types.specs.declared.requests.Outcome.TheVariants.{Completes}
 use Rattle.tc_types.specs.declared.history.places.Place.TheVariants.{Approved}
 use Rattle.tc_types.specs.declared.history.causes.Cause.TheVariants as cause
 use Rattle.tc_types.specs.declared.refusals.Refusal.TheVariants as refusal
@@ -24,7 +21,6 @@ use Rattle.tc_world.specs.declared.events.LinkIndication.{LinkIndication}
 use Rattle.tc_world.specs.declared.events.LinkIndication.TheVariants.{Fop}
 use Rattle.tc_world.specs.InFlight.{InFlight}
 use Rattle.tc_board.specs.Mirror.{no_mirror}
-use Rattle.tc_book.specs.declared.stamps.Stamp.{Stamp}
 use Rattle.tc_book.specs.Book.{Book, empty_book, moved, want, with_entry}
 use Rattle.tc_desk.specs.declared.firsts.FirstLine.TheVariants as first
 use Rattle.tc_desk.specs.State.{State, new_desk, new_world}
@@ -32,20 +28,9 @@ use Rattle.tc_desk.specs.Acts.{acted, first_of, refusal_of}
 use Rattle.tc_desk.specs.Effects.{heard_all}
 use Rattle.tc_desk.specs.Loads.{Loading, Procedure, loaded_with, first_of_load}
 use Rattle.tc_desk.specs.Replies.{Reply, act_reply, log_lines}
-
-abbrev ann : Stamp
-ann = record { by = codes "ann"; moment = 0 }
+use Rattle.tc_desk.proofs.FlownCases.{ann, entry, idle}
 
 -- request 1, which is approved
-abbrev entry : Form
-entry = record {
-  apid = 5;
-  ack = record { acceptance = true; start = false; progress = false; completion = false };
-  critical = false;
-  command = Plain 8 1;
-  outcome = Completes;
-}
-
 abbrev start : Book
 start = moved ann (with_entry ann empty_book entry) (want 1 Approved cause.Approve)
 
@@ -60,9 +45,6 @@ abbrev given : Loading
 given = Procedure (codes "p1") steps
 
 -- a desk with this book, over a link in S1 with nothing in flight
-abbrev idle : {T : Type 0} → InFlight T
-idle = record { content = []; covered = 0 }
-
 abbrev desk_of : Book → State (InFlight Frame) (InFlight Report)
 desk_of book = record (new_desk (record { window = 20; channel = 3; ring = None }) idle idle) {
   book = book;

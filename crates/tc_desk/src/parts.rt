@@ -1,5 +1,5 @@
 //! The parts of the desk: its book, its link, the rehearsal spacecraft and the mirror of its schedule, and the acts on them.
-ghost use Rattle.std.specs.Prelude.{◌≡◌, ◌↔◌, ◌+◌, ◌==◌, ◌≤◌, IsTrue, true, false, length, IfErr, IfOk, OnOk, []};
+ghost use Rattle.std.specs.Prelude.{◌≡◌, ◌↔◌, ◌+◌, ◌==◌, ◌≤◌, IsTrue, true, false, length, IfErr, IfOk, OnOk};
 ghost use Rattle.tc_types.specs.declared.refusals.Refusal.TheVariants.{BadDirective, Memory};
 ghost use Rattle.tc_types.specs.declared.acts.Act.TheVariants as act;
 ghost use Rattle.tc_book.specs.Good.{IsGoodBook};
@@ -8,6 +8,7 @@ ghost use Rattle.tc_desk.specs.State.{IsConfig, IsRing, first_k, new_desk};
 ghost use Rattle.tc_desk.specs.Acts.{is_question};
 ghost use Rattle.tc_desk.specs.Machine.{MakesRows};
 ghost use Rattle.tc_farm.specs.Farm.{new_farm};
+ghost use Rattle.tc_world.specs.Links.{AreEmpty};
 ghost use Rattle.tc_world.specs.Window.{IsClaimed};
 ghost use Rattle.tc_desk.specs.Downlink.{came_down};
 ghost use Rattle.tc_desk.specs.Parts.{IsEven, Performs, Responds};
@@ -132,8 +133,7 @@ impl<U: Carrier<Frame> + Drop, D: Carrier<Report> + Drop, A: Allocator + Copy + 
     ) -> Result<Self, Refusal>
         requires config { IsConfig config }
         requires farm { farm ≡ new_farm config.window }
-        requires up { U.kind.content up ≡ [] }
-        requires down { D.kind.content down ≡ [] }
+        requires empty { AreEmpty U.kind D.kind up down }
         ensures desk { IfOk result (λ parts. parts ≡ record (new_desk config up down) { book = records.book }) }
         ensures refused { IfErr result (λ refusal. refusal ≡ Memory) }
     {

@@ -1,6 +1,7 @@
 //! A desk over tables that were left: the book is opened, and the link, the spacecraft and the mirror are new.
 ghost use Rattle.std.specs.Prelude.{◌≡◌, IfOk, []};
 ghost use Rattle.tc_types.specs.Images.{rows_in};
+ghost use Rattle.tc_world.specs.Links.{AreEmpty};
 ghost use Rattle.tc_book.specs.Sound.{IsSound};
 ghost use Rattle.tc_book.specs.Tables.{image_of};
 ghost use Rattle.tc_desk.specs.Acts.{plain};
@@ -34,8 +35,7 @@ impl<U: Carrier<Frame> + Drop, D: Carrier<Report> + Drop, A: Allocator + Copy + 
         up: U,
         down: D,
     ) -> Result<Reopened<U, D, A>, Refusal>
-        requires up { U.kind.content up ≡ [] }
-        requires down { D.kind.content down ≡ [] }
+        requires { AreEmpty U.kind D.kind up down }
         ensures desk { IfOk result (λ opened. opened.desk ≡ reopened_desk config moment (rows_in image.now) up down) }
         ensures made { IfOk result (λ opened. MakesOpening (rows_in image.now) opened.desk.parts.book opened.done.moves.items opened.done.batch.items) }
         // its own tables are such as an opening takes again
