@@ -7,11 +7,12 @@ ghost use Rattle.sqlite.specs.Files.{file_state, IsOpened};
 
 use crate::script::{ScriptFault, read_script};
 use sqlite::Connection;
-use sqlite_disk::Start;
+use sqlite_disk::{Start, Wary};
 use sqlite_std_file::FileFrom;
 use sqlite_store::FileStore;
 use std::rt::Files;
 use std::{fs, io};
+use tc_store::{StoreFault, Tables};
 use tc_types::Counted;
 
 /// The script at this path.
@@ -44,4 +45,24 @@ pub fn open_database<S: Start>(
         Ok(store) => Ok(store),
         Err((error, _)) => Err(ScriptFault::from(error)),
     }
+}
+
+/// The database of a desk in a file. One without a table gets those of an empty desk, which are copied into the file itself, so that a copy of the file alone
+/// is a desk's too; that a desk was made is said on the standard error.
+pub fn open_desk(
+    rt: &HostRuntime,
+    file: &str,
+) -> Result<Connection<FileStore<FileFrom<Wary>>>, ScriptFault>
+    ensures opened { IfOk result (λ c. HasCleanDisk (file_state c) → IsOpened c) }
+{
+    let store = open_database(rt, file, Wary)?;
+    let tables = match Tables::create(rt.alloc(), store) {
+        Ok(tables) => tables,
+        Err((StoreFault::NotEmpty, store)) => return Ok(store),
+        Err(_) => return Err(ScriptFault::Tables),
+    };
+    let made = tables.into_connection();
+    made.close().map_err(|_| ScriptFault::Tables)?;
+    let _ = eprintln!(rt; "tcdesk: {file} is a new desk");
+    open_database(rt, file, Wary)
 }

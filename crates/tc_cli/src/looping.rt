@@ -2,14 +2,13 @@
 //! and its response read. All that is by one thread, so a request has to fit what the system holds for a connection that is not read yet: it has
 //! at most 201 bytes of an act.
 
-use crate::files::{open_database, text_at};
+use crate::files::{open_desk, text_at};
 use crate::opened::{Opening, open_told};
 use crate::run::{is_skipped, put, status_of};
 use crate::script::ScriptFault;
 use crate::serving::{ServiceFault, closed};
 use bstr::ByteSlice;
 use sqlite::Alter;
-use sqlite_disk::Wary;
 use std::alloc::{AllocError, Global};
 use std::io::{self, Read, Write};
 use std::net::{Ipv4Addr, TcpListener, TcpStream};
@@ -173,7 +172,7 @@ pub fn send_to_file(
     opening: &Opening,
 ) -> Result<u8, ServiceFault> {
     let text = text_at(rt, script)?;
-    let store = open_database(rt, file, Wary)?;
+    let store = open_desk(rt, file)?;
     let mut writer = Counted::new(io::writer(rt));
     match open_told(rt.alloc(), store, opening, &mut writer) {
         Ok(mut room) => {

@@ -28,7 +28,7 @@ mod serving;
 mod unserved;
 
 use checking::{text_of, write_check};
-use files::{open_database, open_script, text_at};
+use files::{open_desk, open_script, text_at};
 use kept::run_kept;
 use looping::send_to_file;
 use opened::Opening;
@@ -37,7 +37,6 @@ use reporting::print_report;
 use run::run_script;
 use script::ScriptFault;
 use serving::{ServiceFault, ServiceTerms, serve};
-use sqlite_disk::Wary;
 use std::alloc::{AllocError, Global};
 use std::process::ExitCode;
 use std::rt::Files;
@@ -228,7 +227,7 @@ fn run_on_file(
     paths: &mut HostPaths<'_, HostRuntime>,
 ) -> Result<u8, ScriptFault> {
     let text = text_at(rt, script)?;
-    let store = open_database(rt, file, Wary)?;
+    let store = open_desk(rt, file)?;
     let mut writer = Counted::new(io::writer(rt));
     let (ended, store) = run_kept(rt.alloc(), store, opening, &text, paths, &mut writer);
     store.close().map_err(|_| ScriptFault::Tables)?;

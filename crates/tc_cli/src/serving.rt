@@ -1,5 +1,5 @@
 //! A desk that is kept in a file, served over HTTP (RFC 9112) on this machine alone.
-use crate::files::open_database;
+use crate::files::open_desk;
 use crate::opened::{Opening, open_told};
 use crate::patience::{Limits, Patient};
 use crate::script::ScriptFault;
@@ -167,7 +167,7 @@ fn serve_at(
     opening: &Opening,
     service: ServiceTerms,
 ) -> Result<(), ServiceFault> {
-    let store = open_database(rt, file, Wary)?;
+    let store = open_desk(rt, file)?;
     let mut writer = Counted::new(io::writer(rt));
     match open_told(rt.alloc(), store, opening, &mut writer) {
         Ok(mut room) => {
