@@ -1,10 +1,8 @@
 -- What stands of a desk between two acts stands after a load.
-use Rattle.std.proofs.Common.{◌≡◌, ℕ, Ok, Err, Result, List, [], ◌++◌, sym, ◌∙◌, ap, subst, append-nil}
+use Rattle.std.proofs.Common.{◌≡◌, ℕ, Ok, Err, Result, List, [], ◌++◌, sym, ◌∙◌, subst, append-nil}
 use Rattle.tc_types.specs.declared.link.frames.Frame.{Frame}
 use Rattle.tc_types.specs.declared.refusals.Refusal.{Refusal}
 use Rattle.tc_types.specs.declared.link.reports.Report.{Report}
-use Rattle.tc_types.specs.declared.tables.rows.Row.{Row}
-use Rattle.tc_types.specs.Tables.{applied}
 use Rattle.tc_fop.specs.Requests.{waiting_requests}
 use Rattle.tc_world.specs.declared.events.LinkIndication.{LinkIndication}
 use Rattle.tc_world.specs.Abstraction.{seen}
@@ -16,13 +14,9 @@ use Rattle.tc_world.proofs.Payloads.{payloads_weaker}
 use Rattle.tc_board.specs.Names.{Agrees}
 use Rattle.tc_board.proofs.NameLemmas.{names_weaker}
 use Rattle.tc_board.proofs.RollLemmas.{board_agrees}
-use Rattle.tc_book.specs.declared.marks.Mark.{Mark}
 use Rattle.tc_book.specs.declared.stamps.Stamp.{Stamp}
-use Rattle.tc_book.specs.Batch.{mark_of, GoesOn}
 use Rattle.tc_book.specs.Book.{Book}
-use Rattle.tc_book.specs.Good.{IsGoodBook}
 use Rattle.tc_book.specs.Steps.{HasSteps}
-use Rattle.tc_book.specs.Tables.{image_of}
 use Rattle.tc_desk.specs.declared.firsts.FirstLine.{FirstLine}
 use Rattle.tc_desk.specs.Followed.{roll_of, IsPayloadOf, IsFlown, IsNamedDown, IsFollowed}
 use Rattle.tc_desk.specs.Loads.{Loading, loaded_with, LoadAnswers}
@@ -32,12 +26,6 @@ use Rattle.tc_desk.specs.State.{State, DeskState}
 use Rattle.tc_desk.proofs.BookSteps.{TiedAlong, steps_tied}
 use Rattle.tc_desk.proofs.ReadLemmas.{named_down_weaker, through_agrees}
 use Rattle.tc_desk.proofs.RollOfLemmas.{flown_grows, grown_agrees}
-
--- the rows that a load wrote are those since the mark that was taken before it
-pub load_fills : {U D : Type 0} (before now : State U D) (mark : Mark) (new : Book) (rows : List Row) → before ≡ now → mark ≡ mark_of before.book → IsGoodBook before.book → GoesOn before.book new
-    → ((old : Book) → IsGoodBook old → mark ≡ mark_of old → GoesOn old new → applied rows (image_of old) ≡ image_of new) → applied rows (image_of now.book) ≡ image_of new
-load_fills {U} {D} before now mark new rows is marked good on fills =
-    fills now.book (subst (λ (at : State U D). IsGoodBook at.book) is good) (marked ∙ ap (λ (at : State U D). mark_of at.book) is) (subst (λ (at : State U D). GoesOn at.book new) is on)
 
 -- the desk with another book
 abbrev with_book : {U D : Type 0} → DeskState U D → Book → DeskState U D
