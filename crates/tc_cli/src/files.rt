@@ -52,9 +52,7 @@ pub fn open_database<S: Start>(
 pub fn open_desk(
     rt: &HostRuntime,
     file: &str,
-) -> Result<Connection<FileStore<FileFrom<Wary>>>, ScriptFault>
-    ensures opened { IfOk result (λ c. HasCleanDisk (file_state c) → IsOpened c) }
-{
+) -> Result<Connection<FileStore<FileFrom<Wary>>>, ScriptFault> {
     let store = open_database(rt, file, Wary)?;
     let tables = match Tables::create(rt.alloc(), store) {
         Ok(tables) => tables,
