@@ -15,7 +15,7 @@ work=$(mktemp -d) || exit 1
 trap 'rm -rf "$work"' EXIT
 cd "$work" || exit 1
 "$top/tools/faults/make_shim.sh" fail_malloc . || exit 1
-"$program" run --db left.db "$top/examples/monday.tc" >left.out || exit 1
+"$program" run --db left.db "$top/examples/monday.tc" >left.out 2>err || { cat err >&2; exit 1; }
 for request in 1 2 3 4; do
     echo "99999 zed history $request 0"
 done >histories
