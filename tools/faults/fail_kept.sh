@@ -1,9 +1,10 @@
 #!/bin/bash
-# tools/faults/fail_kept.sh [PROGRAM [STEP]] refuses the built program its requests for memory, every STEPth of them (the 11th where none is given), one a
-# run, on a desk that is kept in a file: the opening of what examples/monday.tc left, and the lines of examples/tuesday.tc. Each run may end as a
-# run in memory does, or with `cannot use` the file or memory; and then the file is opened again, where all that was left and all that was
-# printed stands. So it is of a desk that is made: the next run finds none and makes it, or an empty one, and that where it was told as new. So it is of a report of the file, of which a front is printed, or all where memory was not wanted after all; the file stays as it is, and
-# no log comes beside it. Status 1 where that is not so.
+# tools/faults/fail_kept.sh [PROGRAM [STEP]] refuses the built program its requests for memory, every STEPth of them (the 11th where none is given),
+# one a run, on a desk that is kept in a file: the opening of what examples/monday.tc left, and the lines of examples/tuesday.tc. Each run may end as
+# a run in memory does, or with `cannot use` the file or memory; and then the file is opened again, where all that was left and all that was printed
+# stands. So it is of a desk that is made: the next run finds none and makes it, or an empty one, and that where it was told as new. And so of a
+# report of the file, of which a front is printed, or all where memory was not wanted after all; the file stays as it is, and no log comes beside it.
+# Status 1 where that is not so.
 set -u
 
 top=$(cd "$(dirname "${BASH_SOURCE[0]}")/../.." && pwd) || exit 1

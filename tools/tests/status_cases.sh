@@ -2,9 +2,9 @@
 # What becomes of the program where it cannot read, write or go on: tools/tests/status_cases.sh [PROGRAM], at any place.
 #
 # Each command is run with an output that takes nothing: a full disk (/dev/full), one that is closed, and a pipe whose reader is gone.
-# Each has to end with status 2 and one line on standard error, behind that of a new desk where it made one. Where that takes nothing either the status is the same. A standard
-# input that is closed, or is a folder, is one that cannot be used, and is nothing to a command that does not read it. Then the disk under
-# the file that keeps the desk: a limit on the size of files, and a small file system, where one may be mounted.
+# Each has to end with status 2 and one line on standard error, behind that of a new desk where it made one. Where that takes nothing either the
+# status is the same. A standard input that is closed, or is a folder, is one that cannot be used, and is nothing to a command that does not read it.
+# Then the disk under the file that keeps the desk: a limit on the size of files, and a small file system, where one may be mounted.
 #
 # Each case that fails is printed, and makes the status 1. The last line counts them.
 set -u
