@@ -27,13 +27,45 @@ same() {
     tell "$1:"$'\n'"-- wanted:"$'\n'"$2"$'\n'"-- got:"$'\n'"$3"
 }
 
+# expect_new WORD..: sets $new to the line that the program has to say first on standard error by these words, with its end: that it made a desk, where
+# the file that they open holds nothing yet. It is empty where nothing is to be said.
+expect_new() {
+    local file='' before='' word
+    case ${1:-} in
+    serve | loop) file=${2:-} ;;
+    run)
+        for word in "$@"; do
+            [[ $before != --db ]] || file=$word
+            before=$word
+        done
+        ;;
+    esac
+    new=
+    [[ -z $file || -s $file ]] || new="tcdesk: $file is a new desk"$'\n'
+}
+
+# take_new STATUS: takes the line $new from the front of the file err. Where it is missing that is added there, but of a run that ended with 2, which may
+# come before.
+take_new() {
+    local said
+    [[ -n $new ]] || return 0
+    IFS= read -r -d '' said <err
+    if [[ $said == "$new"* ]]; then
+        printf '%s' "${said#"$new"}" >err
+    elif [[ $1 != 2 ]]; then
+        echo "not said first: $new" >>err
+    fi
+}
+
 # check NAME STATUS STDOUT STDERR WORD..: runs the program on the words in the folder $work, with its file `input` as standard input. STDERR
-# is a piece that standard error holds; nothing at all is wanted there where it is empty.
+# is a piece that standard error holds; nothing at all is wanted there where it is empty, but that a desk is new where it is.
 check() {
     local name=$1 status=$2 out=$3 err=$4
     shift 4
+    expect_new "$@"
     "$program" "$@" <input >out 2>err
     local got=$?
+    take_new $got
     [[ $got == "$status" && $(cat out; echo .) == "$out." ]] &&
         { [[ -z $err && ! -s err ]] || { [[ -n $err ]] && grep -qF -- "$err" err; }; }
     tell "$name: status $got"

@@ -1,9 +1,10 @@
 #!/bin/bash
-# tools/faults/fail_kept.sh [PROGRAM [STEP]] refuses the built program its requests for memory, every STEPth of them (the 11th where none is given), one a
-# run, on a desk that is kept in a file: the opening of what examples/monday.tc left, and the lines of examples/tuesday.tc. Each run may end as a
-# run in memory does, or with `cannot use` the file or memory; and then the file is opened again, where all that was left and all that was
-# printed stands. So it is of a report of the file, of which a front is printed, or all where memory was not wanted after all; the file stays as it is, and
-# no log comes beside it. Status 1 where that is not so.
+# tools/faults/fail_kept.sh [PROGRAM [STEP]] refuses the built program its requests for memory, every STEPth of them (the 11th where none is given),
+# one a run, on a desk that is kept in a file: the opening of what examples/monday.tc left, and the lines of examples/tuesday.tc. Each run may end as
+# a run in memory does, or with `cannot use` the file or memory; and then the file is opened again, where all that was left and all that was printed
+# stands. So it is of a desk that is made: the next run finds none and makes it, or an empty one, and that where it was told as new. And so of a
+# report of the file, of which a front is printed, or all where memory was not wanted after all; the file stays as it is, and no log comes beside it.
+# Status 1 where that is not so.
 set -u
 
 top=$(cd "$(dirname "${BASH_SOURCE[0]}")/../.." && pwd) || exit 1
@@ -15,7 +16,7 @@ work=$(mktemp -d) || exit 1
 trap 'rm -rf "$work"' EXIT
 cd "$work" || exit 1
 "$top/tools/faults/make_shim.sh" fail_malloc . || exit 1
-"$program" run --db left.db "$top/examples/monday.tc" >left.out || exit 1
+"$program" run --db left.db "$top/examples/monday.tc" >left.out 2>err || { cat err >&2; exit 1; }
 for request in 1 2 3 4; do
     echo "99999 zed history $request 0"
 done >histories
@@ -50,6 +51,32 @@ try() {
     return 0
 }
 
+# Makes a desk with request $1 refused, and opens it again. False where that request was not made.
+try_made() {
+    rm -f made.db made.db-wal
+    : >mark
+    FAIL_AT=$1 LD_PRELOAD=$work/fail_malloc.so "$program" run --db made.db /dev/null >out 2>err 9>mark </dev/null
+    local status=$?
+    [[ -s mark ]] || return 1
+    makings=$((makings + 1))
+    local how=bad told=
+    [[ $(head -n 1 err) != "$new" ]] || told=$new$'\n'
+    case $status in
+    0) [[ $(<err) == "$new" && $(<out) == "$none" ]] && how=told ;;
+    1) [[ $(<err) == "$new" && $(<out) == @(refused 30 Memory|refused 31 Store) ]] && how=told ;;
+    2) [[ $(<err) == "${told}tcdesk: cannot use "@(memory|made.db) && $(<out) == @(|"$none"|refused 31 Store) ]] && how=told ;;
+    esac
+    "$program" run --db made.db /dev/null >seen 2>again
+    [[ $? == 0 && $(<seen) == "$none" && ( ! -s again || ( -z $told && $(<again) == "$new" ) ) ]] || how=bad
+    [[ -z $told ]] || founds=$((founds + 1))
+    if [[ $how == bad ]]; then
+        bad=$((bad + 1))
+        echo "fail_kept: a desk that is made, request $1: status $status" >&2
+        cat out err seen again >&2
+    fi
+    return 0
+}
+
 # Reports the file with request $1 refused, and then looks at the file. False where that request was not made.
 try_report() {
     cp left.db kept.db
@@ -78,6 +105,15 @@ while try "$at"; do
     at=$((at + step))
 done
 
+new="tcdesk: made.db is a new desk"
+none="places 0: 0 0 0 0 0 0 0 0 0 0 0 0 0 0 0"
+makings=0
+founds=0
+at=1
+while try_made "$at"; do
+    at=$((at + step))
+done
+
 "$program" report left.db 0 4102444799 >report || exit 1
 reports=0
 at=1
@@ -85,5 +121,5 @@ while try_report "$at"; do
     at=$((at + step))
 done
 
-echo "fail_kept: $runs runs, $unharmed unharmed, and $reports reports, $bad bad"
-((bad == 0 && runs * step > 5000 && reports * step > 200))
+echo "fail_kept: $runs runs, $unharmed unharmed, $makings of a desk that is made, $founds of them told, and $reports reports, $bad bad"
+((bad == 0 && runs * step > 5000 && founds > 0 && makings * step > 200 && reports * step > 200))

@@ -25,6 +25,7 @@ from model.desk import QUESTIONS
 from model.kept import sqlite3
 from model.lines import act_of
 from tests.asked import ASKED
+from tests.new_desks import new_desk
 from tests.plain_runs import Plain, case_files, case_lines, kept_tables, text_of, unlike
 from tests.runs import Ended, Tried, made_shim, quick_folder, write_files
 
@@ -102,8 +103,16 @@ class Trial:
         words = [self.program, "run", *self.script.options, *(["--db", "kept.db"] if self.script.is_kept else []), "script"]
         ran = subprocess.run(words, cwd=self.folder, stdin=subprocess.DEVNULL, capture_output=True, pass_fds=[MARK], timeout=600, check=False,
                              env={**os.environ, "FAIL_AT": str(at), "LD_PRELOAD": self.shim})
-        ended = Ended(ran.returncode, ran.stdout.decode("latin-1"), ran.stderr.decode("latin-1"))
+        ended = Ended(ran.returncode, ran.stdout.decode("latin-1"), self.said_besides(ran.stderr.decode("latin-1"), ran.stdout != b""))
         return ended if os.fstat(MARK).st_size else None
+
+    def said_besides(self, err: str, has_printed: bool) -> str:
+        """What was said but for the line that a desk in a file is new. That is due where something was printed: an opening may end for memory before its
+        tables stand, or behind that, with an empty desk."""
+        line = new_desk("kept.db")
+        if not self.script.is_kept or not (has_printed or err.startswith(line)):
+            return err
+        return err.removeprefix(line) if err.startswith(line) else f"{err}[and not that it is a new desk]"
 
     def first(self) -> int:
         """The first request behind the opening, or one a little before it: a run whose request is refused before that prints nothing."""

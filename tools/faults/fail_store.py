@@ -6,7 +6,8 @@ Each run has to end in one of these ways:
   - at the opening: the file cannot be used, which is told, and nothing is printed;
   - at a line: it is answered 31, each line behind it 32, and so are the places at the end;
   - as the desk is closed: all is answered as it is where nothing fails.
-The two latter may end with status 2 besides, and the words that the file cannot be used, since it could not be closed.
+The two latter may end with status 2 besides, and the words that the file cannot be used, since it could not be closed. A desk that is made is told as a new one
+but where the opening failed before its tables stood in the file; it may fail behind them, and then an empty desk is left.
 
 Then the file is opened without a fault. Its tables have to be those that an opening makes of the plain desk's before the act that was answered 31,
 or, where the fault came behind the commit, after the whole of it; and what the program tells of them is the plain desk's too. How many left which
@@ -16,9 +17,9 @@ import tempfile
 from collections import Counter
 from concurrent.futures import ThreadPoolExecutor
 
-from faults.kept_runs import OPENED, RUNS, Desks, Trial
+from faults.kept_runs import OPENED, RUNS, Desks, Ended, Trial
 from tests.asked import ASKED
-from tests.runs import Ended, Tried, quick_folder
+from tests.runs import Tried, quick_folder
 
 STORE, STOPPED = "refused 31 Store\n", "refused 32 Stopped\n"
 AT_ONCE = 4
@@ -44,12 +45,12 @@ def verdict_of(trial: Trial, number: int) -> str:
     ran = trial.desks.run(folder, trial.script, OPENED, FAIL_FROM=str(number))
     where, state = state_of(trial, ran)
     told = {0: "", 1: "", 2: f"tcdesk: cannot use {folder}/desk.db\n"}
-    if not where or ran.err != told.get(ran.status, "no such status"):
+    if not where or ran.err != told.get(ran.status, "no such status") or not trial.is_told(ran):
         return f"it ended in no way that it may: {ran}"
     if where == THE_END:
         return where
     before, after = trial.right_of(state), trial.right_of(state + 1)
-    found = trial.again(folder)
+    found = trial.again(folder, ran)
     if found == before:
         return f"{where}: {'either' if before == after else 'before'}"
     if found == after and where != "at the closing":

@@ -10,8 +10,9 @@ from typing import NamedTuple, Optional
 from model.facts import MOST_ROWS, MOST_STEPS, PROCEDURE_HEADER, STACK_HEADER
 from model.kept import sqlite3
 from model.rows import Tables, empty_tables
+from tests.new_desks import holds_no_table, new_desk
 from tests.plain_runs import Plain, case_lines, kept_tables, text_of, unlike
-from tests.runs import Ended, made_shim, write_files
+from tests.runs import made_shim, write_files
 
 # When the desk is left, when the run opens it that is stopped or fails, and when it is opened again.
 LEFT, OPENED, AGAIN = 100, 1000, 9000
@@ -118,6 +119,14 @@ def procedure_of(steps: int) -> bytes:
 FILES = {"some.csv": stack_of(12), "many.csv": stack_of(MOST_ROWS), "warm.csv": procedure_of(3), "long.csv": procedure_of(MOST_STEPS)}
 
 
+class Ended(NamedTuple):
+    """How the program ended, and whether it said first that its desk is a new one, with what it said besides."""
+    status: int
+    out: str
+    err: str
+    is_new: bool = False
+
+
 class Seen(NamedTuple):
     """What is seen of a desk when it is opened again: the run of its questions, and the tables that the file alone has then."""
     ran: Ended
@@ -145,7 +154,8 @@ class Desks:
         words = [self.program, "run", "--db", database, "--at", str(moment), script]
         own = dict(os.environ, LD_PRELOAD=self.shim, STOP_FILE=database, **settings)
         it = subprocess.run(words, env=own, cwd=self.work, stdin=subprocess.DEVNULL, capture_output=True, timeout=600, check=False)
-        return Ended(it.returncode, it.stdout.decode("latin-1"), it.stderr.decode("latin-1"))
+        err, line = it.stderr.decode("latin-1"), new_desk(database)
+        return Ended(it.returncode, it.stdout.decode("latin-1"), err.removeprefix(line), err.startswith(line))
 
     def calls(self, folder: str, script: str, moment: int) -> int:
         """How many calls a run makes that is not stopped."""
@@ -175,6 +185,7 @@ class Trial:
         self.plain = Plain(lines, FILES, left=before, moment=OPENED, is_kept=True)
         self.fronts = ["", *self.plain.fronts]
         self.states = [before or empty_tables(), *self.plain.states]
+        self.is_new = before is None
         self.rights: dict[int, Seen] = {}
         self.left = self.make_left()
 
@@ -211,7 +222,7 @@ class Trial:
             return folder
         script = self.script_of("before", with_moment(LEFT, self.run.left))
         ran = self.desks.run(folder, script, LEFT)
-        if ran.status or ran.err:
+        if ran.status or ran.err or not ran.is_new:
             raise AssertionError(f"a run that was not stopped: {ran}")
         return self.left_open(script) if self.run.is_left_open else folder
 
@@ -225,13 +236,20 @@ class Trial:
             found = folder
         raise AssertionError("no stop comes before the last answer")
 
-    def again(self, folder: str) -> Seen:
-        """Opens the desk of a folder once more, tells what is seen of it, and removes the folder."""
-        ran = self.desks.run(folder, self.questions, AGAIN)
+    def is_told(self, ran: Ended) -> bool:
+        """Whether a run said that its desk is a new one exactly where it was. One that ended before it printed anything may have made none yet."""
+        return ran.is_new == self.is_new or not (ran.is_new or ran.out)
+
+    def again(self, folder: str, ran: Ended) -> Seen:
+        """Opens the desk that this run left in a folder once more, tells what is seen of it, and removes the folder. Of a desk that is made a run may leave no
+        table, and then this one says that it is new, or those of an empty desk. Where the run said so itself its tables have to stand."""
+        is_new = holds_no_table(f"{folder}/desk.db")
+        again = self.desks.run(folder, self.questions, AGAIN)
+        fault = "" if again.is_new == is_new and not (is_new and (ran.is_new or not self.is_new)) else f"new: {is_new}, said {ran.is_new}, {again.is_new}"
         try:
-            seen = Seen(ran, kept_tables(f"{folder}/desk.db", "mode=ro&immutable=1"))
-        except sqlite3.Error as fault:
-            seen = Seen(ran, None, str(fault))
+            seen = Seen(again._replace(is_new=False), kept_tables(f"{folder}/desk.db", "mode=ro&immutable=1"), fault)
+        except sqlite3.Error as why:
+            seen = Seen(again, None, str(why))
         shutil.rmtree(folder)
         return seen
 

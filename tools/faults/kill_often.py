@@ -2,7 +2,8 @@
 
 A random script is run on a desk that is kept in a file, and the program is killed while it runs, 10,000 times or so many as --count says. Each time
 the file is opened again: its tables have to be what the plain desk's opening makes of the plain desk's, after the lines that were answered, or after
-these and the one in progress. The next script goes on from there; after ten of them a new desk is made.
+these and the one in progress. The next script goes on from there; after ten of them a new desk is made. Of that the program says so first, unless it is
+killed before; where it said so the desk's tables stand.
 """
 import os
 import random
@@ -22,6 +23,7 @@ from model.lines import is_answered
 from model.rows import Tables, empty_tables
 from model.tables import opened_tables
 from tests.asked import ASKED
+from tests.new_desks import holds_no_table, new_desk
 from tests.plain_runs import Plain, kept_tables, text_of, unlike
 from tests.runs import Tried, bytes_of, quick_folder, run_kept, write_files
 
@@ -39,7 +41,7 @@ class Desk:
         os.mkdir(folder)
 
     def killed(self, moment: int, limit: float) -> Optional[str]:
-        """Runs the script, and kills the program within so many seconds. What it printed; none where it ended before."""
+        """Runs the script, and kills the program within so many seconds. What it printed on both its outputs; none where it ended before."""
         words = [self.program, "run", "--db", "desk.db", "--at", str(moment), "script"]
         with open(f"{self.folder}/out", "wb") as out:
             process = subprocess.Popen(words, cwd=self.folder, stdin=subprocess.DEVNULL, stdout=out, stderr=subprocess.STDOUT)
@@ -51,12 +53,17 @@ class Desk:
     def go_on(self, limit: float) -> str:
         """One script more, of a few lines or many; what is wrong of what it left, nothing where nothing is."""
         self.day += 1
-        moment = 2 * self.day * SPAN
+        moment, first = 2 * self.day * SPAN, new_desk("desk.db") if holds_no_table(f"{self.folder}/desk.db") else ""
         script = day_script(self.dice, self.tables, moment, self.day, self.dice.randrange(1, MOST_LINES))
         lines = [it for it in script.lines if is_answered(it)]
         plain = Plain(lines, script.files, left=self.tables, moment=moment, is_kept=True)
         write_files(self.folder, {**script.files, "script": text_of(lines).encode("latin-1")})
-        out = self.killed(moment, limit)
+        said = self.killed(moment, limit)
+        out = said.removeprefix(first) if said else said
+        if said and not said.startswith(first):
+            return f"it did not say first that its desk is new: {said[:300]!r}"
+        if said and holds_no_table(f"{self.folder}/desk.db"):
+            return f"it has no table: {said[-300:]!r}"
         if out is None or out == plain.whole:
             states, how = plain.states[-1:], "ended before"
         elif not out:  # also the opening may be in progress

@@ -8,6 +8,9 @@ What is left is opened by the program, which has to end with status 0, and SQLit
 that the plain desk's opening makes of the plain desk's tables, after the acts of which the stopped run printed an answer, or after these and the
 one act in progress: no answered act is missing, and none is there by half. What the program itself tells of them has to be the plain desk's too.
 
+A desk that is made is stopped also before its tables stand, and between their making and the opening behind it: then the file has no table, and the next run
+says that it is a new desk, or it has those of an empty desk. Where the stopped run had said so its tables stand, also where the power failed.
+
 For each disagreement there is a line, and for each run one with how many stops left the state before the act in progress, how many that
 after it, and how many either, where both are the same.
 """
@@ -15,9 +18,9 @@ import tempfile
 from collections import Counter
 from concurrent.futures import ThreadPoolExecutor
 
-from faults.kept_runs import OPENED, RUNS, Desks, Trial
+from faults.kept_runs import OPENED, RUNS, Desks, Ended, Trial
 from tests.asked import ASKED
-from tests.runs import Ended, Tried, quick_folder
+from tests.runs import Tried, quick_folder
 
 # The statuses of a program that tools/faults/stop_io.c stopped, and of one that it was to stop in the middle of a call that has none.
 STOPPED, NOTHING_TO_HALVE = 137, 138
@@ -39,14 +42,14 @@ def stop(trial: Trial, number: int, way: str) -> str:
     ran = trial.desks.run(folder, trial.script, OPENED, STOP_AT=str(number), **WAYS[way])
     if ran.status == NOTHING_TO_HALVE:
         return "nothing to halve"
-    if ran == Ended(trial.plain.status, trial.plain.whole, ""):
+    if ran == Ended(trial.plain.status, trial.plain.whole, "", trial.is_new):
         return "the end"
     states = trial.answered(ran.out)
-    if ran.status != STOPPED or ran.err or not states:
+    if ran.status != STOPPED or ran.err or not states or not trial.is_told(ran):
         return f"it did not stop, or printed no front of what it prints where it is not stopped: {ran}"
     # The last that was answered, and the next, which may have been in progress. An opening that moves nothing prints nothing.
     before, after = trial.right_of(states[-1]), trial.right_of(states[-1] + 1)
-    found = trial.again(folder)
+    found = trial.again(folder, ran)
     if before == after == found:
         return "either"
     if found in [trial.right_of(state) for state in states]:

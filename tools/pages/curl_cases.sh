@@ -18,6 +18,7 @@ cd "$top" || exit 1
 start() {
     port=$(free_port)
     count=$2
+    expect_new serve "$1"
     "$program" serve "$1" "$port" "$count" >"$work/served" 2>"$work/served.err" &
     server=$!
     for ((i = 0; i < 200; i++)); do
@@ -27,7 +28,7 @@ start() {
     done
 }
 
-# ended NAME: the server that was started ends by itself, with status 0, and says where it listened and why it ended.
+# ended NAME: the server that was started ends by itself, with status 0, and says whether its desk is new, where it listened and why it ended.
 ended() {
     for ((i = 0; i < 200; i++)); do
         kill -0 "$server" 2>/dev/null || break
@@ -39,7 +40,7 @@ ended() {
     server=
     cp "$work/served" "$work/out"
     cp "$work/served.err" "$work/err"
-    [[ $status == 0 && $(<"$work/err") == "tcdesk: listening on 127.0.0.1:$port"$'\n'"tcdesk: ended after $count connections" ]]
+    [[ $status == 0 && $(<"$work/err") == "${new}tcdesk: listening on 127.0.0.1:$port"$'\n'"tcdesk: ended after $count connections" ]]
     tell "$1: status $status"
 }
 
@@ -161,7 +162,7 @@ tell "a file that cannot be made, and a port that is taken"
 [[ $? == 2 && ! -s $work/out && $(<"$work/err") == "tcdesk: cannot use port $port" && ! -e $work/second.db && ! -e $work/second.db-wal ]]
 tell "a port that is taken, and no file"
 # its next opening would put what is Sent in doubt
-"$program" run --db "$work/second.db" examples/monday.tc >/dev/null && cp "$work/second.db" "$work/stood.db"
+"$program" run --db "$work/second.db" examples/monday.tc >/dev/null 2>"$work/err" && cp "$work/second.db" "$work/stood.db"
 "$program" serve "$work/second.db" "$port" 1 >"$work/out" 2>"$work/err"
 [[ $? == 2 && ! -s $work/out && $(<"$work/err") == "tcdesk: cannot use port $port" ]] && cmp "$work/stood.db" "$work/second.db" >>"$work/err" 2>&1
 tell "a port that is taken, and a desk"

@@ -7,11 +7,11 @@
 # The section "The desk over HTTP" is left to tools/pages/curl_cases.sh.
 #
 # Then each examples/NAME.tc is run, by the command of its line `# ./tcdesk ..`, else by `./tcdesk run examples/NAME.tc`, in another
-# such folder, in order of name. It has to print NAME.out and nothing on standard error, its status is 1 where a line is refused, else
-# 0, and the manual has to name it.
+# such folder, in order of name. It has to print NAME.out, and nothing on standard error but that its desk is a new one where it is; its status is 1
+# where a line is refused, else 0, and the manual has to name it.
 #
 # Then the commands of README.md, but for the gate, in a third, in their order. Each ends with 0, or with 1 where a line is refused, says nothing
-# on standard error, and prints the block that stands behind it, where one does: behind the first one does. The server is started at a port that
+# on standard error but of a new desk, and prints the block that stands behind it, where one does: behind the first one does. The server is started at a port that
 # nobody uses, for one connection, which is the line of curl behind it. README.md has at most 150 lines.
 #
 # The first difference ends it with status 1. The last line counts what was as it is shown.
@@ -22,8 +22,8 @@ manual=$top/docs/OPERATORS.md
 [[ -x $program ]] || { echo "manual: $program is not built" >&2; exit 1; }
 command -v curl >/dev/null || { echo "manual: curl is not installed (Debian: curl)" >&2; exit 1; }
 work=$(mktemp -d) || exit 1
-server=
-trap '[[ -z $server ]] || kill "$server" 2>/dev/null; rm -rf "$work"' EXIT
+. "$top/tools/lib.sh"
+trap end_cases EXIT
 mkdir "$work/blocks" "$work/page" || exit 1
 
 # fail WORDS..: says what is wrong, and ends.
@@ -37,6 +37,14 @@ compare() {
     cmp -s "$2" "$3" && return
     diff -U 2 --label wanted "$2" --label printed "$3" | head -n 30 >&2
     fail "$1 is otherwise than it is shown"
+}
+
+# expect_said WORDS: puts what these words have to say on standard error into the file $work/due: nothing, or that the desk of their file is new.
+expect_said() {
+    local given
+    read -ra given <<<"$1"
+    expect_new "${given[@]:1}"
+    printf '%s' "$new" >"$work/due"
 }
 
 # folder NAME: a new folder as the top of the repository is to a person who types commands there; it is then the current one.
@@ -123,10 +131,11 @@ for script in examples/*.tc; do
     words=$(sed -n 's/^# \(\.\/tcdesk .*\)/\1/p' "$script" | head -n 1)
     words=${words:-./tcdesk run $script}
     [[ " $words " == *" $script "* ]] || fail "$script says that it is run by another command: $words"
+    expect_said "$words"
     timeout 300 bash -c "$words" >"$work/printed" 2>"$work/errors" </dev/null
     status=$?
     compare "what $words prints" "$wanted" "$work/printed"
-    compare "what $words says on standard error" "$empty" "$work/errors"
+    compare "what $words says on standard error" "$work/due" "$work/errors"
     grep -q '^refused ' "$wanted"
     refused=$((1 - $?))
     ((status == refused)) || fail "$words ends with status $status"
@@ -140,17 +149,19 @@ done
 
 # run_command WORDS: runs a command of README.md. What it prints is in $work/printed.
 run_command() {
+    expect_said "$1"
     timeout 300 bash -c "$1" >"$work/printed" 2>"$work/errors" </dev/null
     status=$?
     grep -q '^refused ' "$work/printed"
     refused=$((1 - $?))
-    compare "what README.md's $1 says on standard error" "$empty" "$work/errors"
+    compare "what README.md's $1 says on standard error" "$work/due" "$work/errors"
     ((status == refused)) || fail "README.md's $1 ends with status $status"
 }
 
 # start_server WORDS: starts the server of README.md, for one connection, and waits until it says that it listens.
 start_server() {
     port=$(python3 -c 'import socket; s = socket.socket(); s.bind(("127.0.0.1", 0)); print(s.getsockname()[1])') || exit 1
+    expect_said "$1"
     bash -c "exec ${1/8080/$port} 1" >"$work/served" 2>"$work/said" </dev/null &
     server=$!
     for ((i = 0; i < 200; i++)); do
@@ -171,7 +182,7 @@ ask_server() {
     status=$?
     server=
     ((status == 0)) || fail "the server of README.md ends with status $status"
-    printf 'tcdesk: listening on 127.0.0.1:%s\ntcdesk: ended after 1 connections\n' "$port" >"$work/wanted"
+    { cat "$work/due"; printf 'tcdesk: listening on 127.0.0.1:%s\ntcdesk: ended after 1 connections\n' "$port"; } >"$work/wanted"
     compare "what the server of README.md says on standard error" "$work/wanted" "$work/said"
 }
 

@@ -62,7 +62,8 @@ tell "the folder cannot be written"
 command=$(sed -n '/^```sh/,/^```$/p' "$top/README.md" | grep -m 1 '^\./tcdesk')
 in_root "$command" && [[ ! -s $work/err ]] && diff "$top/examples/first-pass.out" "$work/out" >&2
 tell "README.md's first command: $command"
-in_root "./tcdesk run --db /tmp/desk.db examples/monday.tc" && diff "$top/examples/monday.out" "$work/out" >&2
+in_root "./tcdesk run --db /tmp/desk.db examples/monday.tc" && [[ $(<"$work/err") == "tcdesk: /tmp/desk.db is a new desk" ]] &&
+    diff "$top/examples/monday.out" "$work/out" >&2
 tell "a shift on a file"
 port=$(free_port)
 "${within[@]}" /bin/bash -c "cd /opt/tcdesk && exec ./tcdesk serve /tmp/desk.db $port 1" >"$work/out" 2>"$work/err" <&- &

@@ -14,6 +14,7 @@ from generate.http_words import NOTHING, Case
 from model.desk import Desk
 from model.facts import status_of
 from model.http import Acts, Asks, Loads, Refused, answer_to, refused_response, reply_response
+from tests.new_desks import said_first, said_then
 from tests.runs import Ended
 
 PATIENCE = float(os.environ.get("PATIENCE", "20"))  # seconds for one exchange, or for the program to begin or to end
@@ -61,6 +62,7 @@ class Server:
             if first:
                 first()
         self.port, self.count = port or free_port(), count
+        self.first = said_first(folder, ["serve", database])
         self.files = [open(f"{folder}/served.{it}", "w+b") for it in ("out", "err")]
         words = [program, "serve", database, str(self.port), *([] if count is None else [str(count)]), *words]
         self.process = subprocess.Popen(words, cwd=folder, stdin=subprocess.DEVNULL, stdout=self.files[0], stderr=self.files[1], close_fds=False,
@@ -78,8 +80,8 @@ class Server:
 
     @property
     def listens(self) -> str:
-        """What it says on the standard error once it listens."""
-        return f"tcdesk: listening on {HERE}:{self.port}\n"
+        """What it says on the standard error until it listens: also that its desk is a new one, where that is so."""
+        return f"{self.first}tcdesk: listening on {HERE}:{self.port}\n"
 
     @property
     def says(self) -> str:
@@ -169,11 +171,13 @@ def reset(peer: socket.socket) -> None:
 # ---- what has to be answered
 
 def run(program: str, folder: str, lines: Iterable[str], *words: str) -> str:
-    """Runs a script of these lines."""
+    """Runs a script of these lines, which says nothing on the standard error but of a new desk."""
     with open(f"{folder}/script.tc", "w", encoding="ascii", newline="") as file:
         file.write("".join(f"{it}\n" for it in lines))
-    ran = subprocess.run([program, "run", *words, "script.tc"], cwd=folder, stdin=subprocess.DEVNULL, capture_output=True, timeout=900, check=False)
-    ended = Ended(ran.returncode, ran.stdout.decode("latin-1"), ran.stderr.decode("latin-1"))
+    words = ("run", *words, "script.tc")
+    first = said_first(folder, words)
+    ran = subprocess.run([program, *words], cwd=folder, stdin=subprocess.DEVNULL, capture_output=True, timeout=900, check=False)
+    ended = Ended(ran.returncode, ran.stdout.decode("latin-1"), said_then(first, ran.returncode, ran.stderr.decode("latin-1")))
     if ended.status > 1 or ended.err:
         raise Fault(f"a run of a script: {ended}")
     return ended.out

@@ -1,15 +1,16 @@
 #!/bin/bash
-# Runs the built program on desks that are kept in a file: a shift that is continued, what opening makes of what was left, a copy of the
-# file alone, files that are no desk's, two programs at once, and a program that is killed. Ends with how many passed; status 1 where one failed.
+# Runs the built program on desks that are kept in a file: what is said of one that is made, a shift that is continued, what opening makes of what was left,
+# a copy of the file alone, also while it is open, files that are no desk's, two programs at once, and a program that is killed. Ends with how many passed;
+# status 1 where one failed.
 set -u
 top=$(cd "$(dirname "${BASH_SOURCE[0]}")/../.." && pwd) || exit 1
 program=${1:-$top/crates/tc_cli/out/tc_cli}
 [[ -x $program ]] || { echo "kept_cases: $program is not built" >&2; exit 1; }
 work=$(mktemp -d) || exit 1
-trap 'rm -rf "$work"' EXIT
 cd "$work" || exit 1
 me=kept_cases
 . "$top/tools/lib.sh"
+trap end_cases EXIT
 
 # refused NAME FILE: the program cannot use this file, and leaves it as it is.
 refused() {
@@ -18,6 +19,83 @@ refused() {
     cmp -s before "$2"
     tell "$1: the file"
 }
+
+# without_table KIND FILE: makes a file that holds no table: none at all, one of no bytes, or a database as SQLite makes one.
+without_table() {
+    rm -f "$2" "$2-wal"
+    case $1 in
+    empty) : >"$2" ;;
+    bare) python3 -c 'import sqlite3, sys; sqlite3.connect(sys.argv[1]).execute("PRAGMA user_version = 0")' "$2" ;;
+    esac
+}
+
+# serve FILE COUNT: serves a desk, and waits until it listens.
+serve() {
+    port=$(free_port)
+    "$program" serve "$1" "$port" "$2" >served 2>said &
+    server=$!
+    for ((turn = 0; turn < 400; turn++)); do
+        ! grep -q "^tcdesk: listening" said || return 0
+        sleep 0.05
+    done
+}
+
+# ask REQUEST: sends the server a request of HTTP, and prints what it answers.
+ask() {
+    exec 8<>"/dev/tcp/127.0.0.1/$port"
+    printf '%s' "$1" >&8
+    cat <&8
+    exec 8>&-
+}
+places=$'GET /places HTTP/1.1\r\n\r\n'
+
+# ended: waits for the server, whose status it has. What that said is then in err, but that it listened and ended.
+ended() {
+    local status
+    wait "$server"
+    status=$?
+    server=
+    sed '/^tcdesk: listening on /d; /^tcdesk: ended after /d' said >err
+    return $status
+}
+
+# opens COMMAND FILE: opens the file by a command, which does nothing more.
+opens() {
+    case $1 in
+    run) "$program" run --db "$2" input >out 2>err ;;
+    loop) "$program" loop "$2" input >out 2>err ;;
+    serve) serve "$2" 1 && ask "$places" >out && ended ;;
+    esac
+}
+
+# alone NAME FILE MOST: a copy of the file alone, without the log beside it, is that of a desk with its tables, of so many requests at most. It is no new one.
+alone() {
+    cp "$2" alone.db
+    rm -f alone.db-wal
+    "$program" report alone.db 0 0 >out 2>err
+    [[ $? == 0 && ! -s err && $(head -n 4 out) == $'SHIFT REPORT\nfrom 1970-01-01 00:00:00\nto   1970-01-01 00:00:00\npremise closed' ]]
+    tell "$1: a report"
+    "$program" run --db alone.db input >out 2>err
+    [[ $? == 0 && ! -s err && $(<out) =~ ^places\ ([0-9]+):\  && ${BASH_REMATCH[1]} -le $3 ]]
+    tell "$1"
+}
+
+# ---- a desk that is made
+
+: >input
+for kind in none empty bare; do
+    for way in "run made.db" "loop ./made.db" "serve $work/a made.db"; do
+        command=${way%% *}
+        file=${way#* }
+        without_table $kind "$file"
+        opens "$command" "$file"
+        same "$command of a file with no table ($kind)" "0 tcdesk: $file is a new desk" "$? $(<err)"
+        for again in run loop serve; do
+            opens $again "$file"
+            same "$command of a file with no table ($kind), then $again" "0 " "$? $(<err)"
+        done
+    done
+done
 
 # ---- a shift, and the next
 
@@ -143,10 +221,11 @@ mkfifo pipe
 first=$!
 exec 7<pipe
 head -c 20000 <&7 >first.out
+alone "a copy of the file alone of a new desk that is open" busy.db 3000
 check "a file that another program has" 2 "" "tcdesk: cannot use busy.db" run --db busy.db input
 cat <&7 >>first.out
 wait $first
-[[ $? == 0 && $(tail -n 1 first.out) == "places 3000: 3000 0 0 0 0 0 0 0 0 0 0 0 0 0 0" && ! -s first.err ]]
+[[ $? == 0 && $(tail -n 1 first.out) == "places 3000: 3000 0 0 0 0 0 0 0 0 0 0 0 0 0 0" && $(<first.err) == "tcdesk: busy.db is a new desk" ]]
 tell "the program that had it"
 exec 7<&-
 check "the file once it was closed" 0 $'places 3000: 3000 0 0 0 0 0 0 0 0 0 0 0 0 0 0\n' "" run --db busy.db input
@@ -160,11 +239,27 @@ wait $first 2>/dev/null
 cat <&7 >>first.out
 exec 7<&-
 acknowledged=$(grep -c '^move ' first.out)
+[[ $(<first.err) == "tcdesk: killed.db is a new desk" ]]
+tell "the program that was killed had told a new desk"
+alone "a copy of the file alone of a new desk whose program was killed" killed.db 3000
 "$program" run --db killed.db input >out 2>err
 entered=$(sed -n 's/^places \([0-9]*\): .*/\1/p' out)
 [[ -n $entered && $entered -ge $acknowledged && $acknowledged -gt 100 && $entered -le 3000 && ! -s err ]]
 tell "what was answered before the program was killed stands: $acknowledged, $entered"
 check "the file of a program that was killed, once more" 0 "places $entered: $entered 0 0 0 0 0 0 0 0 0 0 0 0 0 0"$'\n' "" run --db killed.db input
+
+serve served.db 3
+body='{"by":"ann","moment":7,"act":"enter 7 ---- no 8 1 - - ok"}'
+for ((n = 1; n < 3; n++)); do
+    ask "POST /acts HTTP/1.1"$'\r\n'"Content-Length: ${#body}"$'\r\n\r\n'"$body" >answer
+    [[ $(tail -n 1 answer) == '{"lines":["ok request '$n' 7/'$((n - 1))'",'* ]]
+    tell "act $n of a served desk"
+    alone "a copy of the file alone of a new desk that is served" served.db $n
+done
+ask "$places" >answer
+ended
+same "what was said as the desk was served" "0 tcdesk: served.db is a new desk" "$? $(<err)"
+check "the file that was served" 0 $'places 2: 2 0 0 0 0 0 0 0 0 0 0 0 0 0 0\n' "" run --db served.db input
 
 echo "kept cases: $passed passed, $failed failed"
 [[ $failed == 0 ]]

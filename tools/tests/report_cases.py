@@ -14,6 +14,7 @@ from typing import Any, Callable, Iterable, NamedTuple, Optional, Sequence
 
 from tests.asked import ASKED
 from tests.changes import change_file, changed_by
+from tests.new_desks import said_first, said_then
 from tests.report_printer import Moved, moves_in, places_of, report_of
 from tests.runs import write_lines
 
@@ -27,7 +28,7 @@ WORKED = ["100 ann enter 5 a--c no 8 1 - - ok", "110 bob enter 5 a--c no 8 2 - -
 # ---- what differs: no text where nothing does
 
 class Ran(NamedTuple):
-    """How the program ended, and what it printed."""
+    """How the program ended, what it printed, and what it said but for the line that it made a new desk, where that was due."""
     status: int
     out: str
     err: str
@@ -109,9 +110,10 @@ class Cases:
 
     def call(self, folder: str, words: Sequence[str], out: Any = subprocess.PIPE, first: Optional[Callable[[], None]] = None) -> Ran:
         """Runs the program in a folder."""
+        due = said_first(folder, words)
         it = subprocess.run([self.program, *words], cwd=folder, stdin=subprocess.DEVNULL, stdout=out, stderr=subprocess.PIPE,
                             timeout=900, preexec_fn=first, check=False)
-        return Ran(it.returncode, (it.stdout or b"").decode("latin-1"), it.stderr.decode("latin-1"))
+        return Ran(it.returncode, (it.stdout or b"").decode("latin-1"), said_then(due, it.returncode, it.stderr.decode("latin-1")))
 
     def run(self, folder: str, lines: Iterable[str], *words: str) -> Ran:
         """Runs a script on a new desk in memory, or on that of the folder where the words say so."""

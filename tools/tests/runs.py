@@ -6,11 +6,12 @@ from dataclasses import dataclass
 from typing import Iterable, NamedTuple, Optional, Sequence
 
 from tests.asked import TOOLS
+from tests.new_desks import said_first, said_then
 
 
 @dataclass
 class Ran:
-    """What a run of the program left."""
+    """What a run of the program left: of its errors all but the line that it made a new desk, where that was due."""
     status: int
     lines: list[str]
     errors: str
@@ -44,9 +45,10 @@ def bytes_of(path: str) -> bytes:
 
 def run_kept(program: str, folder: str, path: str, moment: int, script: str) -> Ran:
     """Runs a script, a file of the folder, on the desk that is kept in another, opened at this moment."""
-    words = [program, "run", "--db", path, "--at", str(moment), script]
-    done = subprocess.run(words, cwd=folder, stdin=subprocess.DEVNULL, capture_output=True, timeout=900, check=False)
-    return Ran(done.returncode, done.stdout.decode("latin-1").splitlines(), done.stderr.decode("latin-1"))
+    words = ["run", "--db", path, "--at", str(moment), script]
+    first = said_first(folder, words)
+    done = subprocess.run([program, *words], cwd=folder, stdin=subprocess.DEVNULL, capture_output=True, timeout=900, check=False)
+    return Ran(done.returncode, done.stdout.decode("latin-1").splitlines(), said_then(first, done.returncode, done.stderr.decode("latin-1")))
 
 
 def quick_folder() -> Optional[str]:

@@ -2,9 +2,9 @@
 # What becomes of the program where it cannot read, write or go on: tools/tests/status_cases.sh [PROGRAM], at any place.
 #
 # Each command is run with an output that takes nothing: a full disk (/dev/full), one that is closed, and a pipe whose reader is gone.
-# Each has to end with status 2 and one line on standard error. Where that takes nothing either the status is the same. A standard
-# input that is closed, or is a folder, is one that cannot be used, and is nothing to a command that does not read it. Then the disk under
-# the file that keeps the desk: a limit on the size of files, and a small file system, where one may be mounted.
+# Each has to end with status 2 and one line on standard error, behind that of a new desk where it made one. Where that takes nothing either the
+# status is the same. A standard input that is closed, or is a folder, is one that cannot be used, and is nothing to a command that does not read it.
+# Then the disk under the file that keeps the desk: a limit on the size of files, and a small file system, where one may be mounted.
 #
 # Each case that fails is printed, and makes the status 1. The last line counts them.
 set -u
@@ -38,7 +38,8 @@ exec 7<>pipe 8>pipe 7>&-
 unusable=$'tcdesk: cannot use output\n2'
 for command in "${commands[@]}"; do
     read -ra words <<<"$command"
-    same "$command, on a full disk" "$unusable" "$("$program" "${words[@]}" 2>&1 >/dev/full; echo $?)"
+    expect_new "${words[@]}"
+    same "$command, on a full disk" "$new$unusable" "$("$program" "${words[@]}" 2>&1 >/dev/full; echo $?)"
     same "$command, its output closed" "$unusable" "$("$program" "${words[@]}" 2>&1 >&-; echo $?)"
     same "$command, the reader of its pipe gone" "$unusable" "$("$program" "${words[@]}" 2>&1 >&8; echo $?)"
     same "$command, nothing to be told to" 2 "$("$program" "${words[@]}" >/dev/full 2>&-; echo $?)"
@@ -68,12 +69,12 @@ for ((n = 0; n < 400; n++)); do
     echo "100 ann enter $((n % 7)) a--c no 8 1 - - ok"
 done >many.tc
 
-# filled NAME STATUS: of a run of many.tc on disk/desk.db that ended so, where not all could be kept: some lines were answered, the next 31, and
+# filled NAME STATUS: of a run of many.tc on the new disk/desk.db that ended so, where not all could be kept: some lines were answered, the next 31, and
 # all others 32. What was answered stands once there is room.
 filled() {
-    local name=$1 status=$2 moves wanted=
+    local name=$1 status=$2 moves wanted="tcdesk: disk/desk.db is a new desk"
     moves=$(grep -c '^move ' out)
-    [[ $status == 1 ]] || wanted="tcdesk: cannot use disk/desk.db"
+    [[ $status == 1 ]] || wanted+=$'\ntcdesk: cannot use disk/desk.db'
     same "$name: its end" "${status/[!12]/1 or 2} $wanted" "$status $(<err)"
     same "$name: what is refused" "refused 31 Store refused 32 Stopped" "$(grep '^refused ' out | uniq | paste -sd ' ')"
     same "$name: the lines that are answered, where some are as ever" 400 "$((moves > 0 ? $(head -n -1 out | grep -c '^ok request\|^refused') : 0))"
@@ -81,11 +82,12 @@ filled() {
     same "$name: what stands" "places $moves: $moves 0 0 0 0 0 0 0 0 0 0 0 0 0 0" "$("$program" run --db disk/desk.db /dev/null 2>&1)"
 }
 
-# unopened NAME STATUS: of a run on a disk that takes not even the tables of a desk.
+# unopened NAME STATUS: of a run on a disk that takes not even the tables of a desk: no new desk is told, and the next run may find none.
 unopened() {
     same "$1: its end" "2 tcdesk: cannot use disk/desk.db" "$2 $(<err)$(<out)"
     [[ ! -e disk/room ]] || mount -o remount,size=4m disk
-    same "$1: what stands" "places 0: 0 0 0 0 0 0 0 0 0 0 0 0 0 0 0" "$("$program" run --db disk/desk.db /dev/null 2>&1)"
+    "$program" run --db disk/desk.db /dev/null >out 2>err
+    same "$1: what stands" "places 0: 0 0 0 0 0 0 0 0 0 0 0 0 0 0 0" "$(grep -vxF "tcdesk: disk/desk.db is a new desk" err; cat out)"
 }
 
 # small KIB: runs many.tc where no file may be larger.

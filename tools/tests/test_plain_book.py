@@ -21,6 +21,7 @@ from model.facts import LAWFUL, TESTS, Cause, Place, Refusal, cause_word, place_
 from model.kept import read_tables, sqlite3
 from model.rows import ROWS
 from tests.asked import ASKED
+from tests.new_desks import said_first
 from tests.runs import Tried, write_files
 
 SEEDS = 24
@@ -86,14 +87,15 @@ def write_script(script: Written, folder: str) -> None:
 def compare(program: str, script: Written, folder: str, is_kept: bool) -> str:
     """Runs a script, and tells how that differs from the plain desk; nothing where it does not."""
     write_script(script, folder)
-    words = [program, "run", *(["--db", "kept.db"] if is_kept else []), "script.tc"]
+    words = ["run", *(["--db", "kept.db"] if is_kept else []), "script.tc"]
+    first = said_first(folder, words)
     try:
-        ran = subprocess.run(words, cwd=folder, stdin=subprocess.DEVNULL, capture_output=True, timeout=LONGEST, check=False)
+        ran = subprocess.run([program, *words], cwd=folder, stdin=subprocess.DEVNULL, capture_output=True, timeout=LONGEST, check=False)
     except subprocess.SubprocessError as why:
         return str(why)
     lines = ran.stdout.decode("latin-1").split("\n")
     fault = first_fault(script, lines[:-1])
-    if not fault and (ran.returncode, ran.stderr, lines[-1]) != (script.status(), b"", ""):
+    if not fault and (ran.returncode, ran.stderr, lines[-1]) != (script.status(), first.encode(), ""):
         fault = f"status {ran.returncode}, and not {script.status()}: {ran.stderr!r:.200}"
     return fault or (table_fault(script, f"{folder}/kept.db") if is_kept else "")
 

@@ -215,7 +215,8 @@ def left(cases: Cases, name: str, folder: str, moves: Optional[Sequence[Moved]] 
     cases.closed(name, folder, moves or stood, ALL, (500, 501), (1000, 1020), (1020, 1020))
     again = ["9001 ann history 1 0", f"9002 ann {ENTRY}", "9003 ann places"]
     ours, other = (cases.run(it, again, "--db", "desk.db", "--at", "9000") for it in (folder, twin))
-    cases.tell(f"{name}: opened then", *unlike(ours, other.out, "", 0), unless(found(folder) == found(twin), "its tables are others"))
+    cases.tell(f"{name}: opened then", unless(other.status < 2, f"status {other.status}"), *unlike(ours, other.out, "", other.status),
+               unless(found(folder) == found(twin), "its tables are others"))
 
 
 class Left(Reported):
@@ -243,8 +244,7 @@ class Left(Reported):
             left(cases, f"{name}, a copy of files that a program has", copy, moves)
             left(cases, f"{name}, a program that was killed", folder, moves)
             left(cases, f"{name}, a log that is cut short", cut)
-            if lines:
-                left(cases, f"{name}, the file without its log", alone)
+            left(cases, f"{name}, the file without its log", alone)
         folder, moves = cases.made(first)
         held, more = hold(cases, folder, acts)
         cases.unusable("a file that another program has, which goes on", folder)
