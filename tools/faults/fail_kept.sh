@@ -111,7 +111,7 @@ makings=0
 founds=0
 at=1
 while try_made "$at"; do
-    at=$((at + step))
+    at=$((at + 7 * step)) # a making waits for the disk too
 done
 
 "$program" report left.db 0 4102444799 >report || exit 1
