@@ -10,6 +10,7 @@ pub mod Procedures
 pub mod ProcedureSteps
 pub mod Executions
 pub mod Records
+pub mod Replies
 pub mod Schema
 pub mod Steps
 pub mod Commits

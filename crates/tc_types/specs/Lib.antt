@@ -18,6 +18,7 @@ pub mod ProcedureLines
 pub mod Words
 pub mod Loads
 pub mod Tables
+pub mod Replies
 pub mod Counts
 pub mod Stages
 pub mod Tests

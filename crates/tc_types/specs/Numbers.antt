@@ -13,6 +13,10 @@ IsOffset seconds = (negsuc 4102444798 ≤ℤ seconds) × (seconds ≤ℤ pos 410
 abbrev pub IsRequestNumber : ℕ → Type 0
 IsRequestNumber n = (0 < n) × (n ≤ 65535)
 
+-- what a caller gives an act or a load: any number of its width but 0
+abbrev pub IsCallNumber : ℕ → Type 0
+IsCallNumber n = (0 < n) × (n < 2 ^ 32)
+
 -- an application process identifier, 11 bits (CCSDS 133.0-B)
 abbrev pub IsApid : ℕ → Type 0
 IsApid n = n < 2048

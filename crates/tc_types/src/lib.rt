@@ -38,8 +38,8 @@ pub use link::telecommands::{Payload, ScheduleCommand, Task, Telecommand};
 pub use loads::{Load, LoadKind};
 pub use names::{DESK, Name, is_same_name};
 pub use numbers::{
-    Apid, FailureCode, LARGEST_MOMENT, MOST_REQUESTS, Moment, Offset, RequestNumber, SequenceCount,
-    Service, Steps, Subtype,
+    Apid, CallNumber, FailureCode, LARGEST_MOMENT, MOST_REQUESTS, Moment, Offset, RequestNumber,
+    SequenceCount, Service, Steps, Subtype,
 };
 pub use persons::{Person, is_person};
 pub use print::link_texts::{
@@ -58,7 +58,7 @@ pub use requests::{Ack, Body, Command, Form, Identity, Origin, Outcome, Request}
 pub use step_texts::StepText;
 pub use tables::images::Image;
 pub use tables::rows::{
-    Approval, BegunExecution, LoadedProcedure, LoadedStack, PlacedRequest, ProcedureStep, Row,
-    StackApproval, StepRecord, Tally,
+    Approval, Batch, BegunExecution, KeptReply, LoadedProcedure, LoadedStack, NEWEST,
+    PlacedRequest, ProcedureStep, Row, StackApproval, StepRecord, Tally, Version,
 };
 pub use verdicts::Verdict;

@@ -2,7 +2,8 @@
 use crate::history::moves::Move;
 use crate::history::places::Place;
 use crate::names::Name;
-use crate::numbers::{Moment, RequestNumber};
+use crate::numbers::{CallNumber, Moment, RequestNumber};
+use crate::persons::Person;
 use crate::requests::Request;
 use crate::step_texts::StepText;
 use crate::verdicts::Verdict;
@@ -133,4 +134,38 @@ pub enum Row {
     Begun(BegunExecution),
     /// A new row of the table `record`.
     Recorded(StepRecord),
+}
+
+/// Which schema tables are of.
+#[derive(Clone, Copy, Debug, PartialEq, Eq)]
+pub enum Version {
+    /// With no table of replies.
+    First,
+    /// With a table of replies.
+    Second,
+}
+
+/// The version of which new tables are, and to which an opening brings those of an earlier one.
+pub const NEWEST: Version = Version::Second;
+
+/// A row of the table `reply`: what an act or a load was answered that was accepted under a number of its caller.
+#[derive(Clone, Copy)]
+pub struct KeptReply<'a> {
+    /// The caller.
+    pub person: Person,
+    /// The number that the caller gave it.
+    pub number: CallNumber,
+    /// The lines of the reply, each ended by LF.
+    pub body: &'a str,
+}
+
+/// All that is written at once, or none of it: tables of an earlier version become those of the newest, then come the rows, then the reply.
+#[derive(Clone, Copy)]
+pub struct Batch<'a> {
+    /// The version of the tables that stand, where it is not the newest.
+    pub migrates: Option<Version>,
+    /// The rows, in order.
+    pub rows: &'a [Row],
+    /// The reply that is kept, if one is.
+    pub reply: Option<KeptReply<'a>>,
 }
