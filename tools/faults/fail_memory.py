@@ -17,7 +17,9 @@ import os
 import subprocess
 import tempfile
 from collections import Counter
+from collections.abc import Iterator
 from concurrent.futures import ProcessPoolExecutor
+from contextlib import contextmanager
 from itertools import count
 from typing import NamedTuple, Optional
 
@@ -187,6 +189,27 @@ MARK = 9
 SHARES = 4
 
 
+def is_open(number: int) -> bool:
+    """Whether this process has such a descriptor."""
+    try:
+        os.fstat(number)
+    except OSError:
+        return False
+    return True
+
+
+@contextmanager
+def held(number: int) -> Iterator[None]:
+    """Holds a descriptor that nothing has, so that it becomes none of the pipes of the processes that are made meanwhile."""
+    if is_open(number):
+        yield
+        return
+    with open(os.devnull, "rb") as nothing:
+        os.dup2(nothing.fileno(), number)
+    yield
+    os.close(number)
+
+
 class Share(NamedTuple):
     """What one process tries of a script: each so manyth request, from one on."""
     program: str
@@ -224,7 +247,7 @@ class Memory(Tried):
 
     def test_each_request(self) -> None:
         """Each request of each script, and the line that was refused sent again."""
-        with tempfile.TemporaryDirectory(prefix="memory-", dir=quick_folder()) as work, ProcessPoolExecutor(SHARES) as pool:
+        with held(MARK), tempfile.TemporaryDirectory(prefix="memory-", dir=quick_folder()) as work, ProcessPoolExecutor(SHARES) as pool:
             shim = made_shim("fail_malloc", work)
             shares = [Share(ASKED.program, shim, work, it, part) for it in scripts() for part in range(SHARES)]
             told = list(pool.map(Share.tries, shares))
