@@ -204,8 +204,10 @@ def held(number: int) -> Iterator[None]:
     if is_open(number):
         yield
         return
-    with open(os.devnull, "rb") as nothing:
-        os.dup2(nothing.fileno(), number)
+    nothing = os.open(os.devnull, os.O_RDONLY)
+    if nothing != number:
+        os.dup2(nothing, number)
+        os.close(nothing)
     yield
     os.close(number)
 
