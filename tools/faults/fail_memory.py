@@ -17,9 +17,7 @@ import os
 import subprocess
 import tempfile
 from collections import Counter
-from collections.abc import Iterator
 from concurrent.futures import ProcessPoolExecutor
-from contextlib import contextmanager
 from itertools import count
 from typing import NamedTuple, Optional
 
@@ -101,12 +99,14 @@ class Trial:
                 os.remove(f"{self.folder}/{name}")
         with open(f"{self.folder}/script", "w", encoding="latin-1", newline="") as file:
             file.write(text_of(lines).ljust(self.size, "\n"))
-        os.ftruncate(MARK, 0)
         words = [self.program, "run", *self.script.options, *(["--db", "kept.db"] if self.script.is_kept else []), "script"]
-        ran = subprocess.run(words, cwd=self.folder, stdin=subprocess.DEVNULL, capture_output=True, pass_fds=[MARK], timeout=600, check=False,
-                             env={**os.environ, "FAIL_AT": str(at), "LD_PRELOAD": self.shim})
+        with open(f"{self.folder}/mark", "wb") as mark:
+            told = mark.fileno()
+            ran = subprocess.run(words, cwd=self.folder, stdin=subprocess.DEVNULL, capture_output=True, pass_fds=[told], timeout=600, check=False,
+                                 env={**os.environ, "FAIL_AT": str(at), "FAIL_MARK": str(told), "LD_PRELOAD": self.shim})
+            was_refused = os.fstat(told).st_size > 0
         ended = Ended(ran.returncode, ran.stdout.decode("latin-1"), self.said_besides(ran.stderr.decode("latin-1"), ran.stdout != b""))
-        return ended if os.fstat(MARK).st_size else None
+        return ended if was_refused else None
 
     def said_besides(self, err: str, has_printed: bool) -> str:
         """What was said but for the line that a desk in a file is new. That is due where something was printed: an opening may end for memory before its
@@ -184,32 +184,7 @@ class Trial:
         return Found("refused 30", line, bad or self.tables_fault(self.right, [len(lines)]))
 
 
-# The descriptor by which the library tells that it refused a request, of each process its own.
-MARK = 9
-SHARES = 4
-
-
-def is_open(number: int) -> bool:
-    """Whether this process has such a descriptor."""
-    try:
-        os.fstat(number)
-    except OSError:
-        return False
-    return True
-
-
-@contextmanager
-def held(number: int) -> Iterator[None]:
-    """Holds a descriptor that nothing has, so that it becomes none of the pipes of the processes that are made meanwhile."""
-    if is_open(number):
-        yield
-        return
-    nothing = os.open(os.devnull, os.O_RDONLY)
-    if nothing != number:
-        os.dup2(nothing, number)
-        os.close(nothing)
-    yield
-    os.close(number)
+SHARES = 4  # processes
 
 
 class Share(NamedTuple):
@@ -222,8 +197,7 @@ class Share(NamedTuple):
 
     def tries(self) -> tuple[str, list[Found]]:
         """All runs of this share."""
-        with tempfile.TemporaryDirectory(dir=self.work) as folder, open(f"{folder}/mark", "w+b") as mark:
-            os.dup2(mark.fileno(), MARK)
+        with tempfile.TemporaryDirectory(dir=self.work) as folder:
             trial = Trial(self.program, self.shim, folder, self.script)
             step, first = self.script.step, trial.first()
             found: list[Found] = []
@@ -249,7 +223,7 @@ class Memory(Tried):
 
     def test_each_request(self) -> None:
         """Each request of each script, and the line that was refused sent again."""
-        with held(MARK), tempfile.TemporaryDirectory(prefix="memory-", dir=quick_folder()) as work, ProcessPoolExecutor(SHARES) as pool:
+        with tempfile.TemporaryDirectory(prefix="memory-", dir=quick_folder()) as work, ProcessPoolExecutor(SHARES) as pool:
             shim = made_shim("fail_malloc", work)
             shares = [Share(ASKED.program, shim, work, it, part) for it in scripts() for part in range(SHARES)]
             told = list(pool.map(Share.tries, shares))
