@@ -27,3 +27,7 @@ CREATE TEMP VIEW moves AS
 -- how many requests stand at each place
 CREATE TEMP VIEW counts AS
     SELECT place_name.name AS place, amount FROM tally JOIN place_name USING (place) ORDER BY tally.place;
+
+-- each reply that is kept, by its first line; a file of the first version has none, and no table of them
+CREATE TEMP VIEW replies AS
+    SELECT person, number, substr(body, 1, instr(body, char(10)) - 1) AS line FROM reply ORDER BY rowid;

@@ -8,12 +8,14 @@ A run of a script with one request refused (tools/faults/fail_malloc.c) may end 
 Where a line was refused 30, the script is run once more with that line written twice, and the same request refused: the first is refused 30, and the
 second and all behind it are answered as in a run that is not disturbed. The text has the same length both times, by line ends behind it, so that it
 takes the same memory. What is right is the plain desk's. Of a desk that is kept in a file the tables are read too: those of the acts that were
-answered, or, where a run was stopped, these and the whole of the act in progress.
+answered, or, where a run was stopped, these and the whole of the act in progress. An opening of a file of the first version of the schema that is stopped leaves
+it as it was, of that version, or has brought it to the newest whole.
 
 The number of the refused request goes up until a run asks for less memory than that. Where each was refused, each act of the script has to have been
 refused 30 by some run.
 """
 import os
+import shutil
 import subprocess
 import tempfile
 from collections import Counter
@@ -22,9 +24,11 @@ from itertools import count
 from typing import NamedTuple, Optional
 
 from model.desk import QUESTIONS
-from model.kept import sqlite3
+from model.kept import read_tables, sqlite3
 from model.lines import act_of
+from model.rows import Tables
 from tests.asked import ASKED
+from tests.made_files import FIRST_DAY, FIRST_NAMES, first_day, make_first
 from tests.new_desks import new_desk
 from tests.plain_runs import Plain, case_files, case_lines, kept_tables, text_of, unlike
 from tests.runs import Ended, Tried, made_shim, quick_folder, write_files
@@ -41,6 +45,8 @@ class Script(NamedTuple):
     step: int = 1
     has_opening: bool = False
     is_kept: bool = False
+    # The file of the first version that is opened; none, where a desk is made.
+    first: str = ""
 
 
 def over_the_end() -> list[str]:
@@ -56,9 +62,9 @@ def over_the_end() -> list[str]:
     return lines
 
 
-# Scripts of which each request is refused, in memory; and how many are left out of those of a desk that is kept.
+# Scripts of which each request is refused, in memory; and each how manyth of those of a desk that is kept, and of one of the first version.
 EACH = ("one-lost-frame", "limit-alert", "insert-too-early", "insert", "stack-approval", "interlock", "procedure")
-KEPT_STEP = 5
+KEPT_STEP, FIRST_STEP = 5, 13
 
 
 def scripts() -> list[Script]:
@@ -67,7 +73,9 @@ def scripts() -> list[Script]:
             Script("each-act over rings", case_lines("each-act"), ("--ring", "8"), 13, has_opening=True),
             Script("over the end of the numbers", over_the_end(), ("--w", "254"), 997)]
     made += [Script(name, case_lines(name)) for name in EACH]
-    return made + [Script(f"{name}, kept", case_lines(name), step=KEPT_STEP, is_kept=True) for name in (*EACH, "each-load")]
+    made += [Script(f"{name}, kept", case_lines(name), step=KEPT_STEP, is_kept=True) for name in (*EACH, "each-load")]
+    return made + [Script(f"{name}, of the first version", first_day(name)[0].splitlines(), step=FIRST_STEP, has_opening=True, is_kept=True, first=name)
+                   for name in FIRST_NAMES]
 
 
 class Found(NamedTuple):
@@ -83,23 +91,33 @@ class Trial:
     def __init__(self, program: str, shim: str, folder: str, script: Script) -> None:
         self.program, self.shim, self.script, self.folder = program, shim, script, folder
         self.files = case_files()
+        self.before = self.make_first() if script.first else None
         self.right = self.plain(script.lines)
         self.size = len(text_of(script.lines)) + SPARE
         self.cuts = ["memory", "kept.db"] if script.is_kept else ["memory", "tables"]
         write_files(folder, self.files)
 
+    def make_first(self) -> Tables:
+        """Makes the file of the first version that the runs begin with, and gives its tables."""
+        make_first(f"{self.folder}/first.db", self.script.first)
+        return read_tables(f"{self.folder}/first.db")
+
     def plain(self, lines: list[str]) -> Plain:
         """What the plain desk makes of these lines."""
-        return Plain(lines, self.files, self.script.options, is_kept=self.script.is_kept)
+        return Plain(lines, self.files, self.script.options, left=self.before, moment=FIRST_DAY, is_kept=self.script.is_kept)
 
     def run(self, lines: list[str], at: int) -> Optional[Ended]:
-        """Runs these lines with one request for memory refused, on a new desk. The text is as long for any lines. None where it was not made."""
+        """Runs these lines with one request for memory refused, on a new desk, or on that of the first version. The text is as long for any lines. None where it
+        was not made."""
         for name in ("kept.db", "kept.db-wal", "kept.db-shm"):
             if os.path.exists(f"{self.folder}/{name}"):
                 os.remove(f"{self.folder}/{name}")
+        if self.before:
+            shutil.copy(f"{self.folder}/first.db", f"{self.folder}/kept.db")
         with open(f"{self.folder}/script", "w", encoding="latin-1", newline="") as file:
             file.write(text_of(lines).ljust(self.size, "\n"))
-        words = [self.program, "run", *self.script.options, *(["--db", "kept.db"] if self.script.is_kept else []), "script"]
+        words = [self.program, "run", *self.script.options, *(["--db", "kept.db"] if self.script.is_kept else []),
+                 *(["--at", str(FIRST_DAY)] if self.before else []), "script"]
         with open(f"{self.folder}/mark", "wb") as mark:
             told = mark.fileno()
             ran = subprocess.run(words, cwd=self.folder, stdin=subprocess.DEVNULL, capture_output=True, pass_fds=[told], timeout=600, check=False,
@@ -112,7 +130,7 @@ class Trial:
         """What was said but for the line that a desk in a file is new. That is due where something was printed: an opening may end for memory before its
         tables stand, or behind that, with an empty desk."""
         line = new_desk("kept.db")
-        if not self.script.is_kept or not (has_printed or err.startswith(line)):
+        if not self.script.is_kept or self.before or not (has_printed or err.startswith(line)):
             return err
         return err.removeprefix(line) if err.startswith(line) else f"{err}[and not that it is a new desk]"
 
@@ -160,6 +178,8 @@ class Trial:
         ran, lines = self.run(self.script.lines, at), self.script.lines
         if ran is None:
             return None
+        if self.before and (ran.status, ran.out) == (2, ""):
+            return self.not_opened(ran, self.before)
         found = self.how(ran)
         line = found.line
         if found.how == "bad":
@@ -169,6 +189,12 @@ class Trial:
         if found.how == "refused 31" and ran.out != self.right.fronts[line] + STORE + STOPPED * (len(lines) - line):
             return found._replace(bad=f"{ran}")
         return found._replace(bad=self.tables_fault(self.right, [line] if found.how == "right" else [line, line + 1]))
+
+    def not_opened(self, ran: Ended, before: Tables) -> Found:
+        """What becomes of a run that printed nothing, since it could not open the desk that was left, or had just opened it."""
+        found = kept_tables(f"{self.folder}/kept.db", "mode=rw")
+        is_right = ran.err in [f"tcdesk: cannot use {it}\n" for it in self.cuts] and found in (before, self.right.states[0])
+        return Found("left" if found == before else "ended", 0, "" if is_right else f"{ran}, {unlike(found, before)}")
 
     def refused(self, ran: Ended, at: int, line: int) -> Found:
         """What becomes of a run in which this line was refused 30, and of one with the line written twice."""
@@ -233,5 +259,6 @@ class Memory(Tried):
             hows = Counter(it.how for it in found)
             bad = [it.bad for it in found if it.bad] + never_refused(script, found)
             print(f"memory: {script.name}: {len(found)} requests: {', '.join(f'{hows[it]} {it}' for it in sorted(hows))}; {len(bad)} bad", flush=True)
-            faults += bad + ([] if hows["refused 30"] else [f"{script.name}: no line was refused 30"])
+            wanted = "left" if script.first else "refused 30"
+            faults += bad + ([] if hows[wanted] else [f"{script.name}: no run was {wanted}"])
         self.no_faults(faults)

@@ -9,9 +9,9 @@ Each run has to end in one of these ways:
 The two latter may end with status 2 besides, and the words that the file cannot be used, since it could not be closed. A desk that is made is told as a new one
 but where the opening failed before its tables stood in the file; it may fail behind them, and then an empty desk is left.
 
-Then the file is opened without a fault. Its tables have to be those that an opening makes of the plain desk's before the act that was answered 31,
-or, where the fault came behind the commit, after the whole of it; and what the program tells of them is the plain desk's too. How many left which
-is told.
+Its tables, as they lie in the file and its log, have to be the plain desk's before the act that was answered 31, or, where the fault came behind the commit,
+after the whole of it; before an opening that fails they are of the version of which they were. Then the file is opened without a fault: its tables are those that
+an opening makes of these, and what the program tells of them is the plain desk's too. How many left which is told.
 """
 import tempfile
 from collections import Counter
@@ -49,13 +49,7 @@ def verdict_of(trial: Trial, number: int) -> str:
         return f"it ended in no way that it may: {ran}"
     if where == THE_END:
         return where
-    before, after = trial.right_of(state), trial.right_of(state + 1)
-    found = trial.again(folder, ran)
-    if found == before:
-        return f"{where}: {'either' if before == after else 'before'}"
-    if found == after and where != "at the closing":
-        return f"{where}: after"
-    return f"{where}, state {state}: not as before, {found.unlike(before)}; nor as after it, {found.unlike(after)}"
+    return f"{where}: {trial.verdict(folder, ran, [state])}"
 
 
 def tell(trial: Trial, pool: ThreadPoolExecutor) -> tuple[int, list[str], Counter[str]]:

@@ -5,11 +5,12 @@ import os
 import shutil
 import subprocess
 import tempfile
-from typing import NamedTuple, Optional
+from typing import NamedTuple, Optional, Sequence
 
 from model.facts import MOST_ROWS, MOST_STEPS, PROCEDURE_HEADER, STACK_HEADER
 from model.kept import sqlite3
 from model.rows import Tables, empty_tables
+from tests.made_files import as_first, make_file
 from tests.new_desks import holds_no_table, new_desk
 from tests.plain_runs import Plain, case_lines, kept_tables, text_of, unlike
 from tests.runs import made_shim, write_files
@@ -27,6 +28,8 @@ class Run(NamedTuple):
     requests: int = 0
     # Whether the desk before it was stopped too, with all its rows in the log.
     is_left_open: bool = False
+    # Whether the desk before it is of the first version of the schema, as SQLite makes it.
+    is_first: bool = False
 
 
 # Requests that were never on their way: 1 and 2 are approved, 3 is not.
@@ -96,6 +99,9 @@ RUNS = (
     Run("a desk that is made", (), ()),
     Run("the opening of a desk with requests on their way", ON_THE_WAY, (), 6),
     Run("the opening of one that was stopped", ON_THE_WAY, (), 6, is_left_open=True),
+    Run("the opening of one of the first version", ON_THE_WAY, ("ann close 1", "bob withdraw 2"), 6, is_first=True),
+    Run("the opening of one of the first version that moves nothing", QUIET, (), 3, is_first=True),
+    Run("the opening of one of the first version that was stopped", ON_THE_WAY, (), 6, is_left_open=True, is_first=True),
     Run("a script of several acts", QUIET, ACTS, 3),
     Run("an insert", (), of_case("insert")),
     Run("an insert that comes too early", (), of_case("insert-too-early")),
@@ -197,13 +203,14 @@ class Trial:
 
     def plain_left(self) -> Optional[Tables]:
         """The tables of the desk that the run begins with; none where there is none."""
-        return Plain(with_moment(LEFT, self.run.left), FILES, is_kept=True).states[-1] if self.run.left else None
+        left = Plain(with_moment(LEFT, self.run.left), FILES, is_kept=True).states[-1] if self.run.left else None
+        return as_first(left) if left and self.run.is_first else left
 
     def right_of(self, state: int) -> Seen:
         """What has to be seen of a desk that was left in this state, or in the last, and is opened again."""
         state = min(state, len(self.states) - 1)
         if state not in self.rights:
-            asked = Plain(self.asked, FILES, left=self.states[state], moment=AGAIN, is_kept=True)
+            asked = Plain(self.asked, FILES, left=self.state(state), moment=AGAIN, is_kept=True)
             self.rights[state] = Seen(Ended(asked.status, asked.whole, ""), asked.states[-1])
         return self.rights[state]
 
@@ -219,6 +226,9 @@ class Trial:
         """Makes the desk that the run begins with, and gives its folder."""
         folder = self.empty()
         if not self.run.left:
+            return folder
+        if self.run.is_first:
+            make_file(f"{folder}/desk.db", self.states[0], self.run.is_left_open)
             return folder
         script = self.script_of("before", with_moment(LEFT, self.run.left))
         ran = self.desks.run(folder, script, LEFT)
@@ -239,6 +249,40 @@ class Trial:
     def is_told(self, ran: Ended) -> bool:
         """Whether a run said that its desk is a new one exactly where it was. One that ended before it printed anything may have made none yet."""
         return ran.is_new == self.is_new or not (ran.is_new or ran.out)
+
+    def state(self, number: int) -> Tables:
+        """The tables of this state, or of the last."""
+        return self.states[min(number, len(self.states) - 1)]
+
+    def lies(self, folder: str) -> Tables:
+        """The tables of the desk in a folder as they lie there, in the file and in the log beside it; those of an empty desk where one is made and there is no
+        table yet. It raises sqlite3.Error where they are no desk's."""
+        if self.is_new and holds_no_table(f"{folder}/desk.db"):
+            return empty_tables()
+        copy = str(shutil.copytree(folder, self.empty(), dirs_exist_ok=True))
+        try:
+            found = kept_tables(f"{copy}/desk.db", "mode=rw")
+        finally:
+            shutil.rmtree(copy)
+        if found is None:
+            raise sqlite3.DatabaseError("there is no table")
+        return found
+
+    def verdict(self, folder: str, ran: Ended, states: Sequence[int]) -> str:
+        """What a run left that was disturbed once it had come to one of these states: the tables of such a one (before), of the state behind them (after), or of
+        either, by what lies in the folder and by what is seen of it when it is opened again. Of anything else, what it is."""
+        try:
+            lies = self.lies(folder)
+        except sqlite3.Error as why:
+            return f"what it left does not read: {why}"
+        # The last that was answered, and the next, which may have been in progress. An opening that moves nothing prints nothing.
+        next_ = states[-1] + 1
+        found, before, after = self.again(folder, ran), self.right_of(states[-1]), self.right_of(next_)
+        was = {it for it in (*states, next_) if lies == self.state(it) and found == self.right_of(it)}
+        if was:
+            return "either" if next_ in was and len(was) > 1 else "after" if next_ in was else "before"
+        return (f"after {ran.out[-60:]!r}: not as before the act, {unlike(lies, self.state(states[-1]))}, {found.unlike(before)}; nor as after it,"
+                f" {unlike(lies, self.state(next_))}, {found.unlike(after)}")
 
     def again(self, folder: str, ran: Ended) -> Seen:
         """Opens the desk that this run left in a folder once more, tells what is seen of it, and removes the folder. Of a desk that is made a run may leave no

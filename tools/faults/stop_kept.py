@@ -4,9 +4,10 @@ A run of a script on a desk in a file is stopped dead (tools/faults/stop_io.c) a
 log, until a run ends that has no such call. Each stop is tried in four ways: before the call or when half of it is made; and with all on the disk
 that was written, as where the program is killed, or with all lost of each file that was written since its last sync, as where the power fails.
 
-What is left is opened by the program, which has to end with status 0, and SQLite then reads all tables from the file alone. They have to be those
-that the plain desk's opening makes of the plain desk's tables, after the acts of which the stopped run printed an answer, or after these and the
-one act in progress: no answered act is missing, and none is there by half. What the program itself tells of them has to be the plain desk's too.
+What is left is read by SQLite, as it lies in the file and its log: it has to be the plain desk's tables, after the acts of which the stopped run printed an answer,
+or after these and the one act in progress: no answered act is missing, and none is there by half. A desk of the first version of the schema is of that version
+still, or of the newest. Then it is opened by the program, which has to end with status 0, and SQLite reads all tables from the file alone: those that the plain
+desk's opening makes of them. What the program itself tells of them has to be the plain desk's too.
 
 A desk that is made is stopped also before its tables stand, and between their making and the opening behind it: then the file has no table, and the next run
 says that it is a new desk, or it has those of an empty desk. Where the stopped run had said so its tables stand, also where the power failed.
@@ -47,16 +48,7 @@ def stop(trial: Trial, number: int, way: str) -> str:
     states = trial.answered(ran.out)
     if ran.status != STOPPED or ran.err or not states or not trial.is_told(ran):
         return f"it did not stop, or printed no front of what it prints where it is not stopped: {ran}"
-    # The last that was answered, and the next, which may have been in progress. An opening that moves nothing prints nothing.
-    before, after = trial.right_of(states[-1]), trial.right_of(states[-1] + 1)
-    found = trial.again(folder, ran)
-    if before == after == found:
-        return "either"
-    if found in [trial.right_of(state) for state in states]:
-        return "before"
-    if found == after:
-        return "after"
-    return f"after {ran.out[-60:]!r}: not as before the act, {found.unlike(before)}; nor as after it, {found.unlike(after)}"
+    return trial.verdict(folder, ran, states)
 
 
 def tell(trial: Trial, pool: ThreadPoolExecutor) -> tuple[int, list[str]]:

@@ -305,6 +305,15 @@ WHOLE = Left("whole", """\
 8 bob step 1 2 failed cid
 """, [Day(9, "places 3: 1 2 0 0 0 0 0 0 0 0 0 0 0 0 0\n")])
 
+# What is printed as the file of the first version is opened that has rows in every table (tools/cases/schema-1).
+FIRST = Day(500, """\
+move 35 500 desk 1 Scheduled Doubtful open
+move 36 500 desk 2 Riding Approved open
+move 37 500 desk 7 Queued Approved open
+move 38 500 desk 11 Sent Doubtful open
+places 12: 4 4 0 0 0 0 0 0 0 1 1 2 0 0 0
+""")
+
 
 # ---- a history that is full
 

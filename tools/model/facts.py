@@ -279,7 +279,8 @@ MARK = b"\xef\xbb\xbf"  # one at the very front is dropped
 
 # ---- the tables
 
-SCHEMA_VERSION = 1
+SCHEMA_VERSION = 2  # of a new desk, and of each that was opened
+# The statements that make them, in order.
 SCHEMA = """\
 CREATE TABLE meta (name TEXT PRIMARY KEY, value INTEGER NOT NULL) STRICT
 CREATE TABLE request (num INTEGER PRIMARY KEY, apid INTEGER NOT NULL, cnt INTEGER NOT NULL, ack INTEGER NOT NULL, critical INTEGER NOT NULL, \
@@ -298,7 +299,18 @@ PRIMARY KEY (procedure, step)) STRICT
 CREATE TABLE execution (num INTEGER PRIMARY KEY, procedure TEXT NOT NULL, person TEXT NOT NULL, moment INTEGER NOT NULL) STRICT
 CREATE TABLE record (execution INTEGER NOT NULL, step INTEGER NOT NULL, verdict INTEGER NOT NULL, person TEXT NOT NULL, second TEXT NOT NULL, \
 moment INTEGER NOT NULL, PRIMARY KEY (execution, step)) STRICT
+CREATE TABLE reply (person TEXT NOT NULL, number INTEGER NOT NULL, body TEXT NOT NULL, PRIMARY KEY (person, number)) STRICT
 """.splitlines()
-# The columns of each table, and the class of its values, in order.
-COLUMNS = {found[1]: {name: str if kind == "TEXT" else int for name, kind in re.findall(r"(\w+) (TEXT|INTEGER)\b", found[2])}
-           for found in (re.match(r"CREATE TABLE (\w+) \((.*)\) STRICT", it) for it in SCHEMA) if found}
+# Of each version those that make its tables: an earlier version has the first of them.
+SCHEMAS = {1: SCHEMA[:12], SCHEMA_VERSION: SCHEMA}
+
+
+def columns_by(statements: list[str]) -> dict[str, dict[str, type]]:
+    """The columns of each table that these make, and the class of its values, in order."""
+    found = (re.match(r"CREATE TABLE (\w+) \((.*)\) STRICT", it) for it in statements)
+    return {it[1]: {name: str if kind == "TEXT" else int for name, kind in re.findall(r"(\w+) (TEXT|INTEGER)\b", it[2])} for it in found if it}
+
+
+COLUMNS = columns_by(SCHEMA)
+# The tables of each version, in order.
+TABLES = {version: tuple(columns_by(statements)) for version, statements in SCHEMAS.items()}

@@ -1,4 +1,7 @@
 """How the file of a desk is read, by Python's SQLite: the rows of its tables, without the program."""
+from typing import Any
+
+from model.facts import SCHEMA_VERSION, TABLES
 from model.rows import ROWS, Tables
 
 try:
@@ -22,9 +25,22 @@ def columns_of(connection: sqlite3.Connection) -> dict[str, list[str]]:
     return {name: [row[1] for row in connection.execute(f"PRAGMA table_info({name})")] for name in names}
 
 
+def version_of(connection: sqlite3.Connection) -> int:
+    """Of which version of the schema the tables are, by their names; the newest, where they are those of none."""
+    names = tuple(columns_of(connection))
+    return next((version for version, tables in TABLES.items() if tables == names), SCHEMA_VERSION)
+
+
 def tables_of(connection: sqlite3.Connection) -> Tables:
     """All rows of the desk's tables, each table in the order in which its rows were written."""
-    return Tables(*([make(*row) for row in connection.execute(f"SELECT * FROM {name} ORDER BY rowid")] for name, make in ROWS.items()))
+    version = version_of(connection)
+
+    def rows_of(name: str) -> list[Any]:
+        """The rows of a table, none where the version has no such table."""
+        found = connection.execute(f"SELECT * FROM {name} ORDER BY rowid") if name in TABLES[version] else []
+        return [ROWS[name](*row) for row in found]
+
+    return Tables(*map(rows_of, ROWS), version=version)
 
 
 def read_tables(path: str) -> Tables:

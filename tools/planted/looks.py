@@ -67,7 +67,7 @@ def text_faults(recorded: Recorded) -> Iterator[str]:
 
 def rows_by(tables: object) -> Rows:
     """The rows of tables, as a file has them."""
-    return {name: [tuple(row) for row in rows] for name, rows in vars(tables).items()}
+    return {name: [tuple(row) for row in rows] for name, rows in vars(tables).items() if name != "version"}
 
 
 def script_fault(script: Script) -> str:
@@ -96,9 +96,11 @@ def table_fault(title: str, got: Rows, wanted: Rows) -> str:
 def opening_fault(it: Opening) -> str:
     """A file that is opened: whether a desk could have written it, and what the opening makes of it."""
     from model.desk import Desk
+    from model.facts import TABLES
     from model.rows import ROWS, Tables
     from model.sound import why_unsound
-    tables = Tables(**{name: [ROWS[name](*row) for row in it.before.get(name, [])] for name in ROWS})
+    version = max(version for version, names in TABLES.items() if {*names} <= {*it.before})
+    tables = Tables(*([make(*row) for row in it.before.get(name, [])] for name, make in ROWS.items()), version=version)
     why = why_unsound(tables)
     if it.printed is None or it.after is None:
         return "" if why else f"{it.title}: the file is taken for sound"

@@ -1,4 +1,6 @@
-"""Desks of which every table has several rows, and where a request stands at every place; their scripts are written by hand."""
+"""Desks of which every table has several rows, and where a request stands at every place; their scripts are written by hand, and their replies are made by
+SQLite.
+"""
 import shutil
 from dataclasses import dataclass
 
@@ -6,6 +8,7 @@ from model.facts import place_word
 from model.kept import columns_of, connect, tables_of
 from model.rows import ROWS, Tables
 from model.sound import why_unsound
+from tests.made_files import as_first, keep_replies, make_file, some_replies
 from tests.runs import run_kept, write_lines
 
 FILES = {
@@ -150,6 +153,9 @@ NEXT = """\
 """.splitlines()
 
 
+REPLIES = 250  # more than two pages of 100, in which an opening reads them
+
+
 @dataclass
 class Desk:
     """A desk as it was left: its file, its tables and its columns."""
@@ -169,25 +175,30 @@ def left_desk(path: str, moment: int) -> Desk:
 
 
 def make_desks(program: str, folder: str) -> list[Desk]:
-    """Runs the scripts: a day at the desk, and the next one on a copy of its file."""
+    """Runs the scripts: a day at the desk, and the next one on a copy of its file, which has the replies of both. And as a program wrote it that knew no other
+    version than the first: the desk of the first day."""
     for name, text in FILES.items():
         write_lines(f"{folder}/{name}", text.splitlines())
     write_lines(f"{folder}/day.tc", DAY)
     write_lines(f"{folder}/next.tc", NEXT)
     write_lines(f"{folder}/empty.tc", [])
     made = run_kept(program, folder, "day.db", 0, "day.tc")
+    keep_replies(f"{folder}/day.db", REPLIES)
     shutil.copy(f"{folder}/day.db", f"{folder}/next.db")
     more = run_kept(program, folder, "next.db", 86400, "next.tc")
     refused = [line for it in (made, more) for line in it.lines if line.startswith("refused")]
     if made.status or more.status or refused:
         raise AssertionError(f"the desks could not be made: {made.status} {more.status} {refused} {made.errors}{more.errors}")
-    return [left_desk(f"{folder}/day.db", 86400), left_desk(f"{folder}/next.db", 172800)]
+    desks = [left_desk(f"{folder}/day.db", 86400), left_desk(f"{folder}/next.db", 172800)]
+    make_file(f"{folder}/first.db", as_first(desks[0].tables))
+    return [*desks, left_desk(f"{folder}/first.db", 86400)]
 
 
 def lacks(desks: list[Desk]) -> list[str]:
     """What the desks should have and do not: tables of few rows, and places where nobody stands."""
     day = desks[0].tables
     few = [name for name in ROWS if name != "meta" and len(getattr(day, name)) < 2]
+    few += [f"the replies of {desk.path}" for desk, count in zip(desks, (REPLIES, REPLIES, 0)) if desk.tables.reply != some_replies(count)]
     empty = [place_word(t.place) for t in day.tally if t.amount == 0]
     unsound = [why for why in (why_unsound(desk.tables) for desk in desks) if why]
     unknown = [name for desk in desks for name in desk.columns if name not in ROWS]

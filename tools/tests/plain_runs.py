@@ -4,8 +4,8 @@ import tempfile
 from typing import Iterable, Optional, Sequence
 
 from model.desk import Desk, desk_by
-from model.facts import COLUMNS
-from model.kept import columns_of, connect, sqlite3, tables_of
+from model.facts import SCHEMAS
+from model.kept import connect, sqlite3, tables_of
 from model.lines import script_lines
 from model.rows import ROWS, Tables
 from tests.asked import TOOLS
@@ -64,11 +64,11 @@ def kept_tables(path: str, words: str = "mode=ro") -> Optional[Tables]:
     its tables are not a desk's."""
     connection = connect(path, words)
     try:
-        columns = columns_of(connection)
+        made = [it for it, in connection.execute("SELECT sql FROM sqlite_schema WHERE sql IS NOT NULL ORDER BY rowid")]
         sound = connection.execute("PRAGMA integrity_check").fetchall()
-        if sound != [("ok",)] or columns and {name: tuple(it) for name, it in columns.items()} != {name: tuple(it) for name, it in COLUMNS.items()}:
-            raise sqlite3.DatabaseError(f"no desk's: {sound}, {columns}")
-        return tables_of(connection) if columns else None
+        if sound != [("ok",)] or made and made not in SCHEMAS.values():
+            raise sqlite3.DatabaseError(f"no desk's: {sound}, {made}")
+        return tables_of(connection) if made else None
     finally:
         connection.close()
 
@@ -77,7 +77,7 @@ def unlike(found: Optional[Tables], wanted: Tables) -> str:
     """In what these tables are not those that are wanted, in words; nothing where they are."""
     if found is None:
         return "there is no table"
-    parts = []
+    parts = [] if found.version == wanted.version else [f"of version {found.version}, and not {wanted.version}"]
     for name in ROWS:
         there, right = getattr(found, name), getattr(wanted, name)
         if there != right:

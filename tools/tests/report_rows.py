@@ -4,7 +4,7 @@ of full_desks.py, of which each table has rows. Request 5 is of no stack and of 
 
 # Of each table, columns with values that no row may have: the row does not read, wherever it lies.
 UNREADABLE = {
-    "meta": ["value = 0", "value = 2", "name = 'other'"],
+    "meta": ["value = 0", "value = 1", "value = 3", "name = 'other'"],
     "request WHERE num = 5": [
         "num = 65536", "apid = 2048", "apid = -1", "cnt = 16384", "ack = 16", "ack = 99", "ack = -1", "critical = 2", "service = 0", "service = 256",
         "subtype = 0", "subtype = 256", "service = 11, subtype = 6", "target = 1", "at_time = 1", "outcome = ''", "outcome = 'ok/10'",
@@ -26,6 +26,11 @@ UNREADABLE = {
                                 "moment = -1"],
     "record WHERE rowid = 1": ["execution = -1", "step = -1", "verdict = 0", "verdict = 4", "person = ''", "person = 'A'", "second = 'B'",
                                "moment = 4102444800", "moment = -1"],
+    "reply WHERE rowid = 1": ["person = ''", "person = 'A'", "person = 'desk'", "number = 0", "number = -1", "number = 4294967296", "body = ''",
+                              "body = 'ok'", "body = CAST(x'ff0a' AS TEXT)"],
+    "reply WHERE rowid = 100": ["body = 'ok'"],
+    "reply WHERE rowid = 101": ["body = 'ok'"],
+    "reply WHERE rowid = 250": ["body = 'ok'", "rowid = -5, number = 0"],
 }
 # Statements behind which all rows read, though no desk wrote them: a number that is left out, a row that is another's or gone, a place or a sum
 # that is another. A report of such a file is printed.
@@ -37,4 +42,6 @@ READABLE = [
     "UPDATE request SET place = 15 WHERE num = 1", "UPDATE request SET cnt = 16383 WHERE num = 1", "UPDATE request SET author = 'zed' WHERE num = 1",
     "UPDATE tally SET amount = amount + 1 WHERE place = 1", "UPDATE stack SET critical = 1 WHERE name = 'spare'",
     "UPDATE request_approval SET person = 'zed' WHERE rowid = 1", "UPDATE step SET request = 65535 WHERE rowid = 1",
-    "UPDATE execution SET procedure = 'none' WHERE num = 1", "UPDATE record SET step = 99 WHERE rowid = 1"]
+    "UPDATE execution SET procedure = 'none' WHERE num = 1", "UPDATE record SET step = 99 WHERE rowid = 1", "DELETE FROM reply",
+    "DELETE FROM reply WHERE rowid = 100", "UPDATE reply SET person = 'zed', number = 4294967295, body = char(10) WHERE rowid = 1",
+    "UPDATE reply SET rowid = -5 WHERE rowid = 250"]

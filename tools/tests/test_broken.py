@@ -20,6 +20,7 @@ from model.rows import ROWS, Tables
 from model.sound import is_name, is_outcome, why_unsound
 from tests.asked import ASKED
 from tests.changes import Change, change_file, why_not_opened, why_not_refused
+from tests.made_files import bound, mark_of
 from tests.full_desks import Desk, lacks, make_desks
 from tests.runs import Tried, bytes_of, run_kept
 
@@ -73,16 +74,6 @@ def names_in(tables: Tables) -> list[str]:
 
 
 # ---- changes
-
-def bound(value: Optional[Union[int, str]]) -> Optional[Union[bytes, int]]:
-    """A value as it is bound: a text by its bytes, which need not be any text."""
-    return value.encode("latin-1") if isinstance(value, str) else value
-
-
-def mark_of(value: Optional[Union[int, str]]) -> str:
-    """The mark that stands for a value in a statement."""
-    return "CAST(? AS TEXT)" if isinstance(value, str) else "?"
-
 
 def set_value(desk: Desk, name: str, column: str, row: int, value: Optional[Union[int, str]]) -> Change:
     """One value of one row, changed. Rows are counted from 0, in order."""

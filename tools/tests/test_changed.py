@@ -2,21 +2,23 @@
 
 What each opening answers is written out in generate/left_desks.py, by hand: desks on which requests were on their way, opened a second time and
 a third; one whose approvals, stacks and executions go on; and one whose history lacks one row, and then is full. Then single values, rows, tables
-and indexes of files are changed by SQLite, and it stands there which of these a desk could have written: that is opened, and has the rows of the
-opening then; all else is refused, and its file left byte for byte.
+and indexes of files are changed by SQLite, also of one of the first version, and it stands there which of these a desk could have written: that is opened, and
+has the rows of the opening then; all else is refused, and its file left byte for byte. So it is of replies, in pages that end in each way.
 """
 import shutil
 import tempfile
 from concurrent.futures import ThreadPoolExecutor
+from functools import partial
 from itertools import zip_longest
 from typing import Optional, Sequence
 
-from generate.left_changes import OF_FIVE, OF_WHOLE
-from generate.left_desks import EVERYWHERE, FILES, FIVE, FULL, GOING, OTHERS, RIDERS, WHOLE, Day, Left, fill
+from generate.left_changes import OF_FIRST, OF_FIRST_ROWS, OF_FIVE, OF_NEWEST, OF_REPLIES, OF_WHOLE, kept
+from generate.left_desks import EVERYWHERE, FILES, FIRST, FIVE, FULL, GOING, OTHERS, RIDERS, WHOLE, Day, Left, fill
 from model.facts import MOST_HISTORY
 from model.kept import read_tables
 from tests.asked import ASKED
 from tests.changes import change_file, changed_by, left_beside, why_not_opened
+from tests.made_files import keep_replies, make_first
 from tests.runs import Tried, bytes_of, run_kept, write_lines
 from model.rows import empty_tables
 
@@ -101,13 +103,31 @@ def open_pages(program: str, work: str, told: Told) -> None:
             told.taken, told.refused = told.taken + is_sound, told.refused + (not is_sound)
 
 
-def open_changed(program: str, work: str, path: str, left: Left, change: tuple[str, bool]) -> str:
-    """A changed copy of a desk's file, opened: what is wrong with that."""
-    statement, is_sound = change
-    folder, day = tempfile.mkdtemp(dir=work), left.days[0]
+def open_replies(program: str, work: str, told: Told) -> None:
+    """Replies that end before, at and behind a full page of 100; and the same with one at such an end that no desk kept, or that is a row more."""
+    folder = made(program, work, WHOLE, told)
+    if not folder:
+        return
+    for count in (1, 99, 100, 101, 199, 200, 201, 250):
+        path = f"{folder}/{count}.db"
+        shutil.copy(f"{folder}/desk.db", path)
+        keep_replies(path, count)
+        ends = [it for it in (1, 99, 100, 101, 199, 200, 201, 250) if it <= count]
+        changes = [(kept("'zed'", "1", "'ok'"), False), (kept("'zed'", "1", "char(10)"), True), ((f"DELETE FROM reply WHERE rowid = {count}",), True)]
+        changes += [((f"UPDATE reply SET {it} WHERE rowid = {end}",), False) for end in ends for it in ("body = 'ok'", "number = 0")]
+        changes += [((f"UPDATE reply SET rowid = {to} WHERE rowid = {end}",), True) for end in ends for to in (-5, "-9223372036854775807 - 1", 1_000_000)]
+        changes += [((f"UPDATE reply SET rowid = {to}, person = 'desk' WHERE rowid = {end}",), False) for end in ends for to in (-5, "-9223372036854775807 - 1")]
+        change_each(program, work, path, WHOLE.days[0], changes, told)
+
+
+def open_changed(program: str, work: str, path: str, day: Day, change: tuple[tuple[str, ...], bool]) -> str:
+    """A changed copy of a desk's file, opened as on a day: what is wrong with that."""
+    statements, is_sound = change
+    folder = tempfile.mkdtemp(dir=work)
     file = f"{folder}/desk.db"
     shutil.copy(path, file)
-    change_file(file, changed_by(statement))
+    if not change_file(file, changed_by(*statements)):
+        return "it was not changed"
     before, tables = bytes_of(file), read_tables(file) if is_sound else empty_tables()
     ran = run_kept(program, folder, "desk.db", day.moment, "/dev/null")
     if is_sound:
@@ -117,16 +137,24 @@ def open_changed(program: str, work: str, path: str, left: Left, change: tuple[s
     return "the file was changed" if bytes_of(file) != before else f"beside it stay {left_beside(folder)}" if left_beside(folder) else ""
 
 
-def change_left(program: str, work: str, left: Left, changes: Sequence[tuple[str, bool]], told: Told) -> None:
-    """All changes of a desk, four at a time."""
-    folder = made(program, work, left, told)
-    if not folder:
-        return
+def change_each(program: str, work: str, path: str, day: Day, changes: Sequence[tuple[tuple[str, ...], bool]], told: Told) -> None:
+    """All changes of a desk's file, four at a time."""
     with ThreadPoolExecutor(4) as pool:
-        found = pool.map(lambda it: open_changed(program, work, f"{folder}/desk.db", left, it), changes)
-        for (statement, is_sound), fault in zip(changes, found):
-            told.tell(f"{left.name}, {statement}", fault)
+        for (statements, is_sound), fault in zip(changes, pool.map(partial(open_changed, program, work, path, day), changes)):
+            told.tell(f"{path}, {'; '.join(statements):.300}", fault)
             told.taken, told.refused = told.taken + is_sound, told.refused + (not is_sound)
+
+
+def change_left(program: str, work: str, left: Left, changes: Sequence[tuple[tuple[str, ...], bool]], told: Told) -> None:
+    """All changes of a desk as its first day leaves it."""
+    folder = made(program, work, left, told)
+    if folder:
+        change_each(program, work, f"{folder}/desk.db", left.days[0], changes, told)
+
+
+def alone(changes: Sequence[tuple[str, bool]]) -> list[tuple[tuple[str, ...], bool]]:
+    """Changes of one statement each."""
+    return [((statement,), is_sound) for statement, is_sound in changes]
 
 
 class Changed(Tried):
@@ -154,8 +182,20 @@ class Changed(Tried):
 
     def test_changes(self) -> None:
         """Single values, rows, tables and indexes that are others."""
-        for left, changes in ((FIVE, OF_FIVE), (WHOLE, OF_WHOLE)):
+        for left, changes in ((FIVE, alone(OF_FIVE)), (WHOLE, alone(OF_WHOLE)), (WHOLE, OF_NEWEST)):
             change_left(ASKED.program, self.work, left, changes, self.told)
+        self.settle()
+
+    def test_first(self) -> None:
+        """A file of the first version, with the tables or the number of another, or with rows that no desk wrote."""
+        make_first(f"{self.work}/first.db", "every-table")
+        change_each(ASKED.program, self.work, f"{self.work}/first.db", FIRST, OF_FIRST + OF_FIRST_ROWS, self.told)
+        self.settle()
+
+    def test_replies(self) -> None:
+        """Replies that a desk could have kept, and that it could not."""
+        change_left(ASKED.program, self.work, WHOLE, OF_REPLIES, self.told)
+        open_replies(ASKED.program, self.work, self.told)
         self.settle()
 
     def test_pages(self) -> None:

@@ -71,7 +71,7 @@ class PlainDesk(unittest.TestCase):
             self.assertIsNone(why_unsound(tables), case.name)
             for name in ROWS:
                 with self.subTest(f"{case.name}, {name}"):
-                    wanted = case.rows.get(name, {"meta": "schema|1", "tally": NO_TALLY}.get(name, "")).splitlines()
+                    wanted = case.rows.get(name, {"meta": "schema|2", "tally": NO_TALLY}.get(name, "")).splitlines()
                     rows = ["|".join(str(int(it) if isinstance(it, int) else it) for it in row) for row in getattr(tables, name)]
                     self.assertEqual(wanted, rows)
                     count += len(rows)

@@ -7,10 +7,12 @@ from concurrent.futures import ThreadPoolExecutor
 from functools import partial
 from pathlib import Path
 
+from generate.left_changes import OF_FIRST, OF_FIRST_ROWS, OF_NEWEST, OF_REPLIES, REPLY_TABLE, SECOND
 from model.kept import read_tables
 from model.rows import move_line
 from tests.full_desks import make_desks
-from tests.report_cases import LAST, WORKED, Reported, change
+from tests.made_files import make_first
+from tests.report_cases import ALL, LAST, WORKED, Reported, change
 from tests.report_printer import moves_in, places_of, report_of
 from tests.report_rows import READABLE, UNREADABLE
 
@@ -83,10 +85,27 @@ class Files(Reported):
                 report = report_of(moves, "closed", begin, end).replace(places_of(moves), stand)
                 self.cases.ask(statement, folder, ["desk.db", str(begin), str(end)], report)
 
+    def test_versions(self) -> None:
+        """Files of the first version and of the newest: tables of one with the number of the other, other tables, and replies. All that an opening takes is
+        reported, and nothing else; a row that only others refute is none of these."""
+        cases, first = self.cases, self.cases.folder()
+        make_first(f"{first}/desk.db", "every-table")
+        newest = cases.copy(first)
+        change(newest, REPLY_TABLE, SECOND)
+        moves = moves_in("\n".join(move_line(it) for it in read_tables(f"{first}/desk.db").move))
+        some = [(newest, *it) for it in OF_NEWEST + OF_REPLIES] + [(first, *it) for it in OF_FIRST] + [(first, it, True) for it, _ in OF_FIRST_ROWS[:2]]
+        for desk, statements, is_read in some:
+            folder = cases.copy(desk)
+            change(folder, *statements)
+            if is_read:
+                cases.closed("; ".join(statements)[:300], folder, moves, ALL, (2, 4))
+            else:
+                cases.unusable("; ".join(statements)[:300], folder)
+
     def full_desk(self) -> str:
         """A folder with a desk every table of which has rows."""
         work = self.cases.folder()
-        left, _ = make_desks(self.cases.program, work)
+        left, *_ = make_desks(self.cases.program, work)
         folder = self.cases.folder()
         os.rename(left.path, f"{folder}/desk.db")
         return folder

@@ -13,13 +13,14 @@ use Rattle.tc_types.specs.declared.refusals.Refusal.{Refusal}
 use Rattle.tc_types.specs.declared.refusals.Refusal.TheVariants.{Stopped}
 use Rattle.tc_routes.specs.declared.paths.Post.{Post}
 use Rattle.tc_routes.specs.declared.paths.Post.TheVariants as paths
+use Rattle.tc_store.specs.Ledgers.{KeptAnswer}
 use Rattle.tc_front.specs.Front.{Asked, asks, posts, refuses}
 use Rattle.tc_book.specs.declared.stamps.Stamp.{Stamp}
-use Rattle.tc_book.specs.Tables.{image_of}
 use Rattle.tc_desk.specs.Headline.{TellsTrue}
 use Rattle.tc_desk.specs.Machine.{stamp_of}
 use Rattle.tc_desk.specs.Replies.{Reply, refusal_reply}
-use Rattle.tc_room.specs.Joined.{HasImage, HoldsBook, Standing}
+use Rattle.tc_room.specs.Crash.{ledger_of}
+use Rattle.tc_room.specs.Joined.{HasLedger, HoldsBook, Standing}
 use Rattle.tc_room.specs.Loads.{LoadsText, RoomLoad}
 use Rattle.tc_room.specs.Room.{FailsStore, RoomStep, StepsDesk}
 use Rattle.tc_api.specs.Kept.{FailedAt, FailsTables, KeepsPromise, KeepsTables, ServesAll, ServesRead}
@@ -29,38 +30,38 @@ use Rattle.tc_api.specs.Serving.{Outcome, Serves, ServesAct, ServesLine, ServesL
 -- a room that is as it was keeps its tables
 same_keeps : {S : Type 0} (g : Ghosts S) (old new : Standing S) → new ≡ old → KeepsTables g old new
 same_keeps {S} g old new same = record {
-  held = λ held. subst (HoldsBook g) (sym same) held;
-  failed = λ held clean was now. absurd (false≢true (sym was ∙ (ap (λ (s : Standing S). s.stopped) (sym same) ∙ now)));
+  held = λ replies held. subst (λ (s : Standing S). HoldsBook g s replies) (sym same) held;
+  failed = λ replies held clean was now. absurd (false≢true (sym was ∙ (ap (λ (s : Standing S). s.stopped) (sym same) ∙ now)));
   stays = λ clean was. same;
 }
 
--- what a room that went on comes to: it is as it was, its tables hold its book, or the database failed
-abbrev Comes : {S : Type 0} → Ghosts S → Standing S → Standing S → Type 0
-Comes g old new =
-    (new ≡ old) ⊎ ((HasImage g new.tables (image_of new.desk.book) × (new.stopped ≡ false)) ⊎ ((new.stopped ≡ true) × FailsTables g old new))
+-- what a room that went on comes to: it is as it was, its tables hold its book and the replies, or the database failed
+abbrev Comes : {S : Type 0} → Ghosts S → List KeptAnswer → Standing S → Standing S → Type 0
+Comes g replies old new =
+    (new ≡ old) ⊎ ((HasLedger g new.tables (ledger_of new.desk.book replies) × (new.stopped ≡ false)) ⊎ ((new.stopped ≡ true) × FailsTables g replies old new))
 
 module _ {S : Type 0} (g : Ghosts S) (old new : Standing S) where
-  held_by : (b : Bool) → MatchBool b (new ≡ old) (Comes g old new) → HoldsBook g old → HoldsBook g new
-  held_by true same held = subst (HoldsBook g) (sym same) held
-  held_by false (inl same) held = subst (HoldsBook g) (sym same) held
-  held_by false (inr (inl image)) held = λ going clean. image.0
-  held_by false (inr (inr fails)) held = λ going clean. absurd (false≢true (sym going ∙ fails.0))
+  held_by : (replies : List KeptAnswer) (b : Bool) → MatchBool b (new ≡ old) (Comes g replies old new) → HoldsBook g old replies → HoldsBook g new replies
+  held_by replies true same held = subst (λ (s : Standing S). HoldsBook g s replies) (sym same) held
+  held_by replies false (inl same) held = subst (λ (s : Standing S). HoldsBook g s replies) (sym same) held
+  held_by replies false (inr (inl ledger)) held = λ going clean. ledger.0
+  held_by replies false (inr (inr fails)) held = λ going clean. absurd (false≢true (sym going ∙ fails.0))
 
-  failed_by : (b : Bool) → b ≡ false → old.stopped ≡ false → MatchBool b (new ≡ old) (Comes g old new) → new.stopped ≡ true → FailsTables g old new
-  failed_by true flag was m now = absurd (false≢true (sym flag))
-  failed_by false flag was (inl same) now = absurd (false≢true (sym was ∙ (ap (λ (s : Standing S). s.stopped) (sym same) ∙ now)))
-  failed_by false flag was (inr (inl image)) now = absurd (false≢true (sym image.1 ∙ now))
-  failed_by false flag was (inr (inr fails)) now = fails.1
+  failed_by : (replies : List KeptAnswer) (b : Bool) → b ≡ false → old.stopped ≡ false → MatchBool b (new ≡ old) (Comes g replies old new) → new.stopped ≡ true → FailsTables g replies old new
+  failed_by replies true flag was m now = absurd (false≢true (sym flag))
+  failed_by replies false flag was (inl same) now = absurd (false≢true (sym was ∙ (ap (λ (s : Standing S). s.stopped) (sym same) ∙ now)))
+  failed_by replies false flag was (inr (inl ledger)) now = absurd (false≢true (sym ledger.1 ∙ now))
+  failed_by replies false flag was (inr (inr fails)) now = fails.1
 
-  stays_by : (b : Bool) → b ≡ true → MatchBool b (new ≡ old) (Comes g old new) → new ≡ old
+  stays_by : (b : Bool) → b ≡ true → MatchBool b (new ≡ old) (Comes g [] old new) → new ≡ old
   stays_by true flag same = same
   stays_by false flag m = absurd (false≢true flag)
 
-  keeps_by : (HoldsBook g old → HasCleanDisk (state g new.tables) → MatchBool old.stopped (new ≡ old) (Comes g old new)) → KeepsTables g old new
+  keeps_by : ((replies : List KeptAnswer) → HoldsBook g old replies → HasCleanDisk (state g new.tables) → MatchBool old.stopped (new ≡ old) (Comes g replies old new)) → KeepsTables g old new
   keeps_by comes = record {
-    held = λ held going clean. held_by old.stopped (comes held clean) held going clean;
-    failed = λ held clean was now. failed_by old.stopped was was (comes held clean) now;
-    stays = λ clean was. stays_by old.stopped was (comes (λ going _. absurd (false≢true (sym going ∙ was))) clean);
+    held = λ replies held going clean. held_by replies old.stopped (comes replies held clean) held going clean;
+    failed = λ replies held clean was now. failed_by replies old.stopped was was (comes replies held clean) now;
+    stays = λ clean was. stays_by old.stopped was (comes [] (λ going _. absurd (false≢true (sym going ∙ was))) clean);
   }
 
 -- by a flag, each side says so much
@@ -72,22 +73,22 @@ weaker_by false A B C D first second m = second m
 
 step_keeps : {S : Type 0} (g : Ghosts S) (old new : Standing S) (stamp : Stamp) (given : Act) (reply : Reply) → RoomStep g old stamp given reply new → KeepsTables g old new
 step_keeps g old new stamp given reply step =
-    keeps_by g old new (λ held clean. weaker_by old.stopped ((reply ≡ refusal_reply Stopped) × (new ≡ old)) (StepsDesk g old stamp given reply new ⊎ FailsStore g old stamp given reply new) (new ≡ old) (Comes g old new)
-    (λ told. told.1) came (step held clean))
+    keeps_by g old new (λ replies held clean. weaker_by old.stopped ((reply ≡ refusal_reply Stopped) × (new ≡ old)) (StepsDesk g replies old stamp given reply new ⊎ FailsStore g replies old stamp given reply new) (new ≡ old)
+    (Comes g replies old new) (λ told. told.1) (came replies) (step replies held clean))
   where
-    came : StepsDesk g old stamp given reply new ⊎ FailsStore g old stamp given reply new → Comes g old new
-    came (inl steps) = inr (inl (steps.tables, steps.going))
-    came (inr fails) = inr (inr (fails.stopped, inl (stamp, given, reply, fails)))
+    came : (replies : List KeptAnswer) → StepsDesk g replies old stamp given reply new ⊎ FailsStore g replies old stamp given reply new → Comes g replies old new
+    came replies (inl steps) = inr (inl (steps.tables, steps.going))
+    came replies (inr fails) = inr (inr (fails.stopped, inl (stamp, given, reply, fails)))
 
 load_keeps : {S : Type 0} (g : Ghosts S) (old new : Standing S) (stamp : Stamp) (kind : LoadKind) (name text : List ℕ) (reply : Reply) → RoomLoad g old stamp kind name text reply new → KeepsTables g old new
 load_keeps g old new stamp kind name text reply load =
-    keeps_by g old new (λ held clean. weaker_by old.stopped ((reply ≡ refusal_reply Stopped) × (new ≡ old)) (LoadsText g old stamp kind name text reply new) (new ≡ old) (Comes g old new)
-    (λ told. told.1) came (load held clean))
+    keeps_by g old new (λ replies held clean. weaker_by old.stopped ((reply ≡ refusal_reply Stopped) × (new ≡ old)) (LoadsText g replies old stamp kind name text reply new) (new ≡ old) (Comes g replies old new)
+    (λ told. told.1) (came replies) (load replies held clean))
   where
-    came : LoadsText g old stamp kind name text reply new → Comes g old new
-    came (inl (_, _, _, same)) = inl same
-    came (inr (given, _, inl steps)) = inr (inl (steps.tables, steps.going))
-    came (inr (given, _, inr fails)) = inr (inr (fails.stopped, inr (stamp, given, reply, fails)))
+    came : (replies : List KeptAnswer) → LoadsText g replies old stamp kind name text reply new → Comes g replies old new
+    came replies (inl (_, _, _, same)) = inl same
+    came replies (inr (given, _, inl steps)) = inr (inl (steps.tables, steps.going))
+    came replies (inr (given, _, inr fails)) = inr (inr (fails.stopped, inr (stamp, given, reply, fails)))
 
 -- ---- what is served
 
@@ -133,29 +134,30 @@ all_told : {S : Type 0} (g : Ghosts S) (start end : Standing S) (read : List (Op
 all_told {S} g start end [] told same = subst (λ (s : Standing S). TellsTrue s.opened s.desk) (sym same) told
 all_told g start end (read ∷ others) told (next, one, later) = all_told g next end others one.told later
 
-all_held : {S : Type 0} (g : Ghosts S) (start end : Standing S) (read : List (Option Asked)) → ServesAll g start read end → HoldsBook g start → HoldsBook g end
-all_held g start end [] same held = subst (HoldsBook g) (sym same) held
-all_held g start end (read ∷ others) (next, one, later) held =
-    let keeps : KeepsTables g start next = read_keeps g start next read one.served in all_held g next end others later (keeps.held held)
+all_held : {S : Type 0} (g : Ghosts S) (start end : Standing S) (read : List (Option Asked)) (replies : List KeptAnswer) → ServesAll g start read end → HoldsBook g start replies → HoldsBook g end replies
+all_held {S} g start end [] replies same held = subst (λ (s : Standing S). HoldsBook g s replies) (sym same) held
+all_held g start end (read ∷ others) replies (next, one, later) held =
+    let keeps : KeepsTables g start next = read_keeps g start next read one.served in all_held g next end others replies later (keeps.held replies held)
 
 -- told of another count of rows that is the same
 told_at : {S : Type 0} (n m : ℕ) (at : Standing S) → n ≡ m → TellsTrue n at.desk → TellsTrue m at.desk
 told_at n m at same told = subst (λ (k : ℕ). TellsTrue k at.desk) same told
 
 -- the exchange at which the database failed is this one, or a later one
-failed_at : {S : Type 0} (g : Ghosts S) (start next : Standing S) → TellsTrue start.opened start.desk → HoldsBook g start → start.stopped ≡ false → next.stopped ≡ true → KeepsTables g start next → FailedAt g start
-failed_at g start next told held going stopped keeps = record {
+failed_at : {S : Type 0} (g : Ghosts S) (replies : List KeptAnswer) (start next : Standing S) → TellsTrue start.opened start.desk → HoldsBook g start replies → start.stopped ≡ false → next.stopped ≡ true → KeepsTables g start next
+    → FailedAt g replies start
+failed_at g replies start next told held going stopped keeps = record {
   last = start;
   next = next;
   opened = refl;
   told = told;
   going = going;
   stopped = stopped;
-  failed = λ clean. keeps.failed held clean going stopped;
+  failed = λ clean. keeps.failed replies held clean going stopped;
 }
 
-failed_later : {S : Type 0} (g : Ghosts S) (start next : Standing S) → next.opened ≡ start.opened → FailedAt g next → FailedAt g start
-failed_later g start next same at = record {
+failed_later : {S : Type 0} (g : Ghosts S) (replies : List KeptAnswer) (start next : Standing S) → next.opened ≡ start.opened → FailedAt g replies next → FailedAt g replies start
+failed_later g replies start next same at = record {
   last = at.last;
   next = at.next;
   opened = at.opened ∙ same;
@@ -169,19 +171,19 @@ at_flag : (b : Bool) (P : Type 0) → (b ≡ true → P) → (b ≡ false → P)
 at_flag true P on off = on refl
 at_flag false P on off = off refl
 
-all_failed : {S : Type 0} (g : Ghosts S) (start end : Standing S) (read : List (Option Asked)) → TellsTrue start.opened start.desk → ServesAll g start read end
-    → HoldsBook g start → start.stopped ≡ false → end.stopped ≡ true → FailedAt g start
-all_failed {S} g start end [] told same held going stopped = absurd (false≢true (sym going ∙ (ap (λ (s : Standing S). s.stopped) (sym same) ∙ stopped)))
-all_failed g start end (read ∷ others) told (next, one, later) held going stopped =
+all_failed : {S : Type 0} (g : Ghosts S) (start end : Standing S) (read : List (Option Asked)) (replies : List KeptAnswer) → TellsTrue start.opened start.desk → ServesAll g start read end
+    → HoldsBook g start replies → start.stopped ≡ false → end.stopped ≡ true → FailedAt g replies start
+all_failed {S} g start end [] replies told same held going stopped = absurd (false≢true (sym going ∙ (ap (λ (s : Standing S). s.stopped) (sym same) ∙ stopped)))
+all_failed g start end (read ∷ others) replies told (next, one, later) held going stopped =
     let keeps : KeepsTables g start next = read_keeps g start next read one.served in
-    at_flag next.stopped (FailedAt g start) (λ is. failed_at g start next told held going is keeps)
-    (λ is. failed_later g start next one.opened (all_failed g next end others one.told later (keeps.held held) is stopped))
+    at_flag next.stopped (FailedAt g replies start) (λ is. failed_at g replies start next told held going is keeps)
+    (λ is. failed_later g replies start next one.opened (all_failed g next end others replies one.told later (keeps.held replies held) is stopped))
 
 -- The promise is kept after any exchanges.
 pub all_keep : {S : Type 0} (g : Ghosts S) (start end : Standing S) (read : List (Option Asked)) → TellsTrue start.opened start.desk → ServesAll g start read end → KeepsPromise g start end
 all_keep g start end read told serves = record {
   opened = all_opened g start end read serves;
   told = told_at end.opened start.opened end (all_opened g start end read serves) (all_told g start end read told serves);
-  held = all_held g start end read serves;
-  failed = λ held going stopped. all_failed g start end read told serves held going stopped;
+  held = λ replies. all_held g start end read replies serves;
+  failed = λ replies held going stopped. all_failed g start end read replies told serves held going stopped;
 }

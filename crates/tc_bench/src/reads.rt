@@ -1,7 +1,7 @@
 //! Questions, and what each costs.
 use crate::clocks::nanoseconds_each;
 use crate::entries::{EntryRows, entry_rows, later_row};
-use crate::stores::{MOST_TOLD, in_memory};
+use crate::stores::{MOST_TOLD, in_memory, put};
 use sqlite::MemStore;
 use std::alloc::Global;
 use std::rt::Clock;
@@ -42,7 +42,7 @@ fn request_at(place: u32, stride: u32, requests: u32) -> u32 {
 fn write_request(tables: &mut Tables<MemStore>, place: u32) -> Option<()> {
     let rows: EntryRows = entry_rows(place)?;
     let [request, _, tally] = rows;
-    tables.write(&[request, tally]).ok()
+    put(tables, &[request, tally])
 }
 
 /// Writes the moves from one place to another as a batch.
@@ -58,7 +58,7 @@ fn write_moves(
         let request = request_at(place, rows / MOVES_OF_LAST, requests_in(rows));
         batch.push(later_row(place.checked_add(1)?, request)?).ok()?;
     }
-    tables.write(&batch).ok()
+    put(tables, &batch)
 }
 
 /// Writes so many moves.

@@ -5,7 +5,8 @@ use sqlite_disk::Wary;
 use sqlite_std_file::FileFrom;
 use sqlite_store::FileStore;
 use std::alloc::Global;
-use tc_store::Tables;
+use tc_store::{Batch, Tables};
+use tc_types::Row;
 
 /// How many moves of a request are told at most: as many as the room asks its tables for.
 pub const MOST_TOLD: u32 = 51;
@@ -39,16 +40,26 @@ pub fn closed(tables: Tables<InFile>) -> Option<()> {
     tables.into_connection().close().ok()
 }
 
+/// Writes these rows at once.
+pub fn put<S: Alter + Drop>(tables: &mut Tables<S>, rows: &[Row]) -> Option<()> {
+    let batch = Batch {
+        migrates: None,
+        rows,
+        reply: None,
+    };
+    tables.write(&batch).ok()
+}
+
 /// Writes the batch of the entry at this place of the list, from 0.
 pub fn enter<S: Alter + Drop>(tables: &mut Tables<S>, place: u32) -> Option<()> {
     let rows: EntryRows = entry_rows(place)?;
-    tables.write(&rows).ok()
+    put(tables, &rows)
 }
 
 /// Writes the batch of its withdrawal, where so many were entered in all, and those before it were withdrawn.
 pub fn withdraw<S: Alter + Drop>(tables: &mut Tables<S>, place: u32, count: u32) -> Option<()> {
     let rows: WithdrawalRows = withdrawal_rows(place, count)?;
-    tables.write(&rows).ok()
+    put(tables, &rows)
 }
 
 /// Enters so many requests, and tells the moves of each in turn.

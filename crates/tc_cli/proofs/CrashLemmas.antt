@@ -1,6 +1,5 @@
 -- From one run to the next: what a crash leaves of a desk's files is found.
 use Rattle.std.proofs.Common.{◌≡◌, ℕ, IsTrue, List, inl, inr, refl, subst, sym}
-use Rattle.std.specs.Prelude.{◌⊎◌}
 use Rattle.std.proofs.Math.Logic.{∥∥₁_map}
 use Rattle.sqlite_disk.specs.declared.Disk as disk
 use Rattle.sqlite_store.specs.declared.store.FileStore.{FileStore}
@@ -12,61 +11,89 @@ use Rattle.sqlite.specs.Files.{file_state, over_files}
 use Rattle.sqlite.specs.State.{HasCleanDisk}
 use Rattle.sqlite.proofs.Theorems.{next_run}
 use Rattle.tc_types.specs.declared.history.moves.Move.{Move}
-use Rattle.tc_types.specs.Tables.{Image}
 use Rattle.tc_book.specs.Book.{Book}
 use Rattle.tc_book.specs.Tables.{image_of}
 use Rattle.tc_desk.specs.declared.configs.Config.{Config}
-use Rattle.tc_store.specs.Schema.{schema_1, Holds}
+use Rattle.tc_store.specs.declared.versions.Version.{Version}
+use Rattle.tc_store.specs.Ledgers.{KeptAnswer, Ledger, newest}
+use Rattle.tc_store.specs.Schema.{schema_of, HoldsAs}
 use Rattle.tc_store.specs.Told.{IsTold}
-use Rattle.tc_room.specs.Crash.{HasRows, Leaves, LeavesActs}
-use Rattle.tc_room.specs.Joined.{HasImage, IsKept, Standing}
+use Rattle.tc_room.specs.Crash.{Leaves, LeavesActs, ledger_of}
+use Rattle.tc_room.specs.Joined.{IsKept, Standing}
 use Rattle.tc_room.specs.Opening.{LeavesOpening, OpensAs, OpensLeft}
-use Rattle.tc_cli.specs.Crash.{HoldsSome, IsReopened, OpensBook, OpensEither}
+use Rattle.tc_cli.specs.Crash.{HasLedgerAs, HasRowsAs, HoldsSome, IsEither, IsReopened, LeavesSome, OfNewest, OpensBook, OpensEither}
 
--- a sound database whose trees are a desk's tables has the desk's schema
-desk_rows : (db : Database) (image : Image) → IsDatabase db → HasRows db.trees image → Holds db image
-desk_rows db image sound rows = record { schema = lists_once _ db.schema schema_1 sound.lists rows.1.lists; rows = rows.0; sound = sound }
+-- a sound database whose trees are the tables of a version has the schema of that version
+desk_rows : (version : Version) (db : Database) (ledger : Ledger) → IsDatabase db → HasRowsAs version db.trees ledger → HoldsAs version db ledger
+desk_rows version db ledger sound rows =
+    record { schema = lists_once _ db.schema (schema_of version) sound.lists rows.1.lists; rows = rows.0; lacks = rows.2; sound = sound }
+
+-- what tables of the newest version leave
+pub of_newest : {D : Type 0} {g : disk.Ghosts D} (last : Held (FileStore D g)) (May : Ledger → Type 0) → Leaves over_files last May → LeavesSome over_files last (OfNewest May)
+of_newest last May leaves trees may = let left = leaves trees may in (newest, left.0, (refl, left.1), (left.2.0, left.2.1, tt))
 
 -- one of the tables that a crash leaves is found
-pub found_again : {D E : Type 0} {g : disk.Ghosts D} {h : disk.Ghosts E} (last : Held (FileStore D g)) (found : Held (FileStore E h)) (May : Image → Type 0)
-    → IsTrue (view last.store).is_numbered → IsReopened last found → Leaves over_files last May → HoldsSome May (file_state found).now
+pub found_again : {D E : Type 0} {g : disk.Ghosts D} {h : disk.Ghosts E} (last : Held (FileStore D g)) (found : Held (FileStore E h)) (May : Version → Ledger → Type 0)
+    → IsTrue (view last.store).is_numbered → IsReopened last found → LeavesSome over_files last May → HoldsSome May (file_state found).now
 found_again last found May numbered again leaves =
-    ∥∥₁_map (next_run last.store numbered (λ db may. (schema_1, (leaves db may).2.1)) again.bytes again.left (file_state found) again.finds)
+    ∥∥₁_map (next_run last.store numbered (λ db may. let left = leaves db may in (schema_of left.0, left.3.1)) again.bytes again.left (file_state found) again.finds)
     (λ recovered.
     let now = (file_state found).now in
     let same : now ≡ (file_state found).committed = again.opened.0.clean in
     let has = leaves (file_state found).committed.trees recovered in
-    let rows : HasRows now.trees has.0 = subst (λ (db : Database). HasRows db.trees has.0) (sym same) has.2 in
-    let r : (image : Image) × May image × Holds now image = (has.0, has.1, desk_rows now has.0 ((again.opened.1 again.opened.0.is_open).0) rows) in r)
+    let rows : HasRowsAs has.0 now.trees has.1 = subst (λ (db : Database). HasRowsAs has.0 db.trees has.1) (sym same) has.3 in
+    let r : (version : Version) × (ledger : Ledger) × May version ledger × HoldsAs version now ledger = (has.0, has.1, has.2, desk_rows has.0 now has.1 ((again.opened.1 again.opened.0.is_open).0) rows) in r)
 
 -- and opened, if it is told by its columns
-pub opened_again : {D E : Type 0} {g : disk.Ghosts D} {h : disk.Ghosts E} (last : Held (FileStore D g)) (found : Held (FileStore E h)) (May : Image → Type 0) (config : Config) (moment : ℕ) (moves : List Move) (room : Standing (FileStore E h))
-    → IsTrue (view last.store).is_numbered → IsReopened last found → Leaves over_files last May → ((image : Image) → May image → IsTold image)
-    → OpensAs over_files config moment found moves room → HasCleanDisk (file_state room.tables) → ∥ ((image : Image) × May image × OpensLeft over_files config moment image moves room) ∥₁
+pub opened_again : {D E : Type 0} {g : disk.Ghosts D} {h : disk.Ghosts E} (last : Held (FileStore D g)) (found : Held (FileStore E h)) (May : Version → Ledger → Type 0) (config : Config) (moment : ℕ) (moves : List Move) (room : Standing (FileStore E h))
+    → IsTrue (view last.store).is_numbered → IsReopened last found → LeavesSome over_files last May → ((version : Version) (ledger : Ledger) → May version ledger → IsTold ledger.image)
+    → OpensAs over_files config moment found moves room → HasCleanDisk (file_state room.tables) → ∥ ((version : Version) × (ledger : Ledger) × May version ledger × OpensLeft over_files config moment ledger moves room) ∥₁
 opened_again last found May config moment moves room numbered again leaves told opens clean =
     ∥∥₁_map (found_again last found May numbered again leaves)
-    (λ some. let r : (image : Image) × May image × OpensLeft over_files config moment image moves room = (some.0, some.1, opens.left clean some.0 (told some.0 some.1) some.2) in r)
+    (λ some.
+    let r : (version : Version) × (ledger : Ledger) × May version ledger × OpensLeft over_files config moment ledger moves room =
+    (some.0, some.1, some.2, opens.left clean some.0 some.1 (told some.0 some.1 some.2) some.3) in r)
 
 -- and opened, as the tables of a book or of what was made of it, where these are books that a room keeps
-pub opened_either : {D E : Type 0} {g : disk.Ghosts D} {h : disk.Ghosts E} (last : Held (FileStore D g)) (found : Held (FileStore E h)) (old : Book) (Makes : Book → Type 0) (config : Config) (moment : ℕ) (moves : List Move) (room : Standing (FileStore E h))
-    → IsTrue (view last.store).is_numbered → IsReopened last found → IsKept old → ((after : Book) → Makes after → IsKept after) → LeavesActs over_files last old Makes
-    → OpensAs over_files config moment found moves room → HasCleanDisk (file_state room.tables) → OpensEither over_files old Makes config moment moves room
-opened_either last found old Makes config moment moves room numbered again kept keeps leaves opens clean =
-    ∥∥₁_map (opened_again last found (λ image. (image ≡ image_of old) ⊎ ((after : Book) × Makes after × (image ≡ image_of after))) config moment moves room numbered again leaves
-    (λ image may. elim may [
-      | inl before ↦ subst IsTold (sym before) kept.told
-      | inr made ↦ subst IsTold (sym made.2) (keeps made.0 made.1).told
+pub opened_either : {D E : Type 0} {g : disk.Ghosts D} {h : disk.Ghosts E} (last : Held (FileStore D g)) (found : Held (FileStore E h)) (May : Version → Ledger → Type 0) (old : Book) (Makes : Book → Type 0) (replies : List KeptAnswer)
+    (config : Config) (moment : ℕ) (moves : List Move) (room : Standing (FileStore E h)) → ((version : Version) (ledger : Ledger) → May version ledger → IsEither old Makes replies ledger)
+    → IsTrue (view last.store).is_numbered → IsReopened last found → IsKept old → ((after : Book) → Makes after → IsKept after) → LeavesSome over_files last May
+    → OpensAs over_files config moment found moves room → HasCleanDisk (file_state room.tables) → OpensEither over_files old Makes replies config moment moves room
+opened_either last found May old Makes replies config moment moves room is numbered again kept keeps leaves opens clean =
+    ∥∥₁_map (opened_again last found May config moment moves room numbered again leaves
+    (λ version ledger may. elim (is version ledger may) [
+      | inl before ↦ subst (λ (l : Ledger). IsTold l.image) (sym before) kept.told
+      | inr made ↦ subst (λ (l : Ledger). IsTold l.image) (sym made.2) (keeps made.0 made.1).told
     ]) opens clean)
-    (λ some. elim some.1 [
-      | inl before ↦ (old, inl refl, subst (λ (image : Image). OpensLeft over_files config moment image moves room) before some.2)
-      | inr made ↦ (made.0, inr made.1, subst (λ (image : Image). OpensLeft over_files config moment image moves room) made.2 some.2)
+    (λ some. elim (is some.0 some.1 some.2) [
+      | inl before ↦ (old, inl refl, subst (λ (l : Ledger). OpensLeft over_files config moment l moves room) before some.3)
+      | inr made ↦ (made.0, inr made.1, subst (λ (l : Ledger). OpensLeft over_files config moment l moves room) made.2 some.3)
     ])
 
--- an opening that was refused leaves the tables of the book that they held, or those of what the opening makes of it
-pub opening_leaves : {D : Type 0} {g : disk.Ghosts D} (store last : Held (FileStore D g)) (chosen : Config) (moment : ℕ) (old : Book)
-    → IsTold (image_of old) → HasImage over_files store (image_of old) → LeavesOpening over_files chosen moment store last → LeavesActs over_files last old (OpensBook chosen moment old)
-opening_leaves store last chosen moment old told has leaves trees may =
-    elim (leaves.held (image_of old) has.holds trees may) [
-      | inl before ↦ let was = has.leaves trees before in (was.0, inl was.1, was.2)
-      | inr made ↦ let opened = made told in (image_of opened.1.book, inr (opened.1.book, (opened.1, opened.2, refl), refl), opened.3)
+-- what a crash in an act or a load leaves is opened so
+pub act_opened : {D E : Type 0} {g : disk.Ghosts D} {h : disk.Ghosts E} (last : Held (FileStore D g)) (found : Held (FileStore E h)) (old : Book) (Makes : Book → Type 0) (replies : List KeptAnswer)
+    (config : Config) (moment : ℕ) (moves : List Move) (room : Standing (FileStore E h)) → IsTrue (view last.store).is_numbered → IsReopened last found → IsKept old → ((after : Book) → Makes after → IsKept after)
+    → LeavesActs over_files last old replies Makes → OpensAs over_files config moment found moves room → HasCleanDisk (file_state room.tables) → OpensEither over_files old Makes replies config moment moves room
+act_opened last found old Makes replies config moment moves room numbered again kept keeps leaves =
+    opened_either last found (OfNewest (IsEither old Makes replies)) old Makes replies config moment moves room (λ version ledger may. may.1) numbered again kept keeps (of_newest last (IsEither old Makes replies) leaves)
+
+-- an opening that was refused leaves the tables of the book that they held, of the version that they were of, or those of what the opening makes of it
+opening_leaves : {D : Type 0} {g : disk.Ghosts D} (version : Version) (store last : Held (FileStore D g)) (chosen : Config) (moment : ℕ) (old : Book) (replies : List KeptAnswer)
+    → IsTold (image_of old) → HasLedgerAs over_files version store (ledger_of old replies) → LeavesOpening over_files chosen moment store last
+    → LeavesSome over_files last (λ _ ledger. IsEither old (OpensBook chosen moment old) replies ledger)
+opening_leaves version store last chosen moment old replies told has leaves trees may =
+    elim (leaves.held version (ledger_of old replies) has.holds trees may) [
+      | inl before ↦ (version, ledger_of old replies, inl refl, has.leaves trees before)
+      | inr made ↦
+          let opened = made told in
+          (newest, ledger_of opened.2.book replies, inr (opened.2.book, (opened.2, opened.3, refl), refl), (opened.4.0, opened.4.1, tt))
     ]
+
+-- and that is opened again
+pub opening_opened : {D E : Type 0} {g : disk.Ghosts D} {h : disk.Ghosts E} (last store : Held (FileStore D g)) (found : Held (FileStore E h)) (version : Version) (chosen : Config) (at : ℕ) (old : Book) (replies : List KeptAnswer)
+    (config : Config) (moment : ℕ) (moves : List Move) (room : Standing (FileStore E h)) → IsTrue (view last.store).is_numbered → IsReopened last found → IsKept old → ((after : Book) → OpensBook chosen at old after → IsKept after)
+    → HasLedgerAs over_files version store (ledger_of old replies) → LeavesOpening over_files chosen at store last
+    → OpensAs over_files config moment found moves room → HasCleanDisk (file_state room.tables) → OpensEither over_files old (OpensBook chosen at old) replies config moment moves room
+opening_opened last store found version chosen at old replies config moment moves room numbered again kept keeps has leaves =
+    opened_either last found (λ _ ledger. IsEither old (OpensBook chosen at old) replies ledger) old (OpensBook chosen at old) replies config moment moves room (λ _ ledger may. may) numbered again kept keeps
+    (opening_leaves version store last chosen at old replies kept.told has leaves)

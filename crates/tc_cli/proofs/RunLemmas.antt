@@ -136,11 +136,11 @@ module _ {S : Type 0} (g : Ghosts S) where
         status_is = ap (λ (b : Bool). if b then 1 else 0) (sym any);
         kept = asked.kept;
         tells = subst (λ (n : ℕ). TellsTrue n end.desk) ran.opened told;
-        held = λ held. step_held g end after nobody (act.Ask query.Places) reply (asked.asked nobody) (lines_held g start end (script_lines input) ran.files replies ran.taken held);
-        failed = λ held going. question_failed g start end after (script_lines input) ran.files replies reply (script_lines input, sym (append-nil (script_lines input)), ran.taken) asked.asked
-            (lines_held g start end (script_lines input) ran.files replies ran.taken held)
-            (front_failed g start end (script_lines input) ran.files replies [] (script_lines input, sym (append-nil (script_lines input)), ran.taken) held going);
-        told = λ held clean. places_told g end after reply asked.asked (lines_held g start end (script_lines input) ran.files replies ran.taken held) clean;
+        held = λ stored held. step_held g stored end after nobody (act.Ask query.Places) reply (asked.asked nobody) (lines_held g stored start end (script_lines input) ran.files replies ran.taken held);
+        failed = λ stored held going. question_failed g stored start end after (script_lines input) ran.files replies reply (script_lines input, sym (append-nil (script_lines input)), ran.taken) asked.asked
+            (lines_held g stored start end (script_lines input) ran.files replies ran.taken held)
+            (front_failed g stored start end (script_lines input) ran.files replies [] (script_lines input, sym (append-nil (script_lines input)), ran.taken) held going);
+        told = λ stored held clean. places_told g stored end after reply asked.asked (lines_held g stored start end (script_lines input) ran.files replies ran.taken held) clean;
       }
 
 -- ---- in memory
@@ -148,4 +148,4 @@ module _ {S : Type 0} (g : Ghosts S) where
 -- a run in a room that was just opened in memory
 pub run_answered : (config : configs.Config) (input : List ℕ) (start after : Standing MemStore) (status : ℕ) (gave gives : Option (List FileAnswer)) (old new : Option (List ℕ))
     → IsJustOpened over_memory config start → RunsLines over_memory start input status gave gives old new after → IsAnswered config input status gave gives old new
-run_answered config input start after status gave gives old new opened run = (start, after, run, opened, run.told opened.tables (memory_is_clean after.tables))
+run_answered config input start after status gave gives old new opened run = (start, after, run, opened, run.told [] opened.tables (memory_is_clean after.tables))

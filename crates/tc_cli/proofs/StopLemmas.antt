@@ -17,6 +17,7 @@ use Rattle.tc_types.specs.declared.refusals.Refusal.TheVariants as refusal
 use Rattle.tc_desk.specs.Replies.{Reply}
 use Rattle.tc_desk.specs.State.{IsConfig}
 use Rattle.tc_desk.specs.declared.configs.Config as configs
+use Rattle.tc_store.specs.Ledgers.{KeptAnswer}
 use Rattle.tc_room.specs.Answers.{AsksPlaces, RefusesWith}
 use Rattle.tc_room.specs.Joined.{HoldsBook, Standing}
 use Rattle.tc_room.specs.Loads.{RoomLoad, loader_of}
@@ -142,19 +143,19 @@ module _ {S : Type 0} (g : Ghosts S) where
   next_taken : (old after : Standing S) (line : List ℕ) (files : List FileAnswer) (reply : Reply) → is_skipped line ≡ false → AnswersScriptLine g old line files reply after → TakesLine g old line files (reply ∷ []) after
   next_taken old after line files reply goes_on answers = rw goes_on (reply, refl, answers)
 
-  moves_held : (old after : Standing S) (left : List (List ℕ)) (files : List FileAnswer) → Moves old left files after → HoldsBook g old → HoldsBook g after
-  moves_held old after left files (inl same) held = subst (HoldsBook g) (sym same) held
-  moves_held old after [] files (inr (reply, (none, asks))) held = step_held g old after nobody (act.Ask query.Places) reply (asks nobody) held
-  moves_held old after (line ∷ lines) files (inr (reply, (goes_on, answers))) held = line_held g old after line files (reply ∷ []) (next_taken old after line files reply goes_on answers) held
+  moves_held : (stored : List KeptAnswer) (old after : Standing S) (left : List (List ℕ)) (files : List FileAnswer) → Moves old left files after → HoldsBook g old stored → HoldsBook g after stored
+  moves_held stored old after left files (inl same) held = subst (λ (s : Standing S). HoldsBook g s stored) (sym same) held
+  moves_held stored old after [] files (inr (reply, (none, asks))) held = step_held g stored old after nobody (act.Ask query.Places) reply (asks nobody) held
+  moves_held stored old after (line ∷ lines) files (inr (reply, (goes_on, answers))) held = line_held g stored old after line files (reply ∷ []) (next_taken old after line files reply goes_on answers) held
 
-  moves_failed : (start old after : Standing S) (lines left : List (List ℕ)) (files more : List FileAnswer) (replies : List Reply) → TakesFront g start lines files replies old left
-      → Moves old left more after → HoldsBook g old → Failed g start lines replies old → (told : List Reply) × Failed g start lines (replies ++ told) after
-  moves_failed start old after lines left files more replies front (inl same) held failed =
-      ([], subst (Failed g start lines (replies ++ [])) (sym same) (subst (λ (l : List Reply). Failed g start lines l old) (sym (append-nil replies)) failed))
-  moves_failed start old after lines [] files more replies front (inr (reply, (none, asks))) held failed =
-      (reply ∷ [], question_failed g start old after lines files replies reply front asks held failed)
-  moves_failed start old after lines (line ∷ others) files more replies front (inr (reply, (goes_on, answers))) held failed =
-      (reply ∷ [], line_failed g start old after lines files replies line others more (reply ∷ []) front (next_taken old after line more reply goes_on answers) held failed)
+  moves_failed : (stored : List KeptAnswer) (start old after : Standing S) (lines left : List (List ℕ)) (files more : List FileAnswer) (replies : List Reply) → TakesFront g start lines files replies old left
+      → Moves old left more after → HoldsBook g old stored → Failed g stored start lines replies old → (told : List Reply) × Failed g stored start lines (replies ++ told) after
+  moves_failed stored start old after lines left files more replies front (inl same) held failed =
+      ([], subst (Failed g stored start lines (replies ++ [])) (sym same) (subst (λ (l : List Reply). Failed g stored start lines l old) (sym (append-nil replies)) failed))
+  moves_failed stored start old after lines [] files more replies front (inr (reply, (none, asks))) held failed =
+      (reply ∷ [], question_failed g stored start old after lines files replies reply front asks held failed)
+  moves_failed stored start old after lines (line ∷ others) files more replies front (inr (reply, (goes_on, answers))) held failed =
+      (reply ∷ [], line_failed g stored start old after lines files replies line others more (reply ∷ []) front (next_taken old after line more reply goes_on answers) held failed)
 
   -- ---- all of it
 
@@ -174,9 +175,9 @@ module _ {S : Type 0} (g : Ghosts S) where
     leaves = leaves;
     given = gives_more gave so_far gives files more given gives_next;
     written = Appends-trans _ _ _ _ _ written appends;
-    held = λ held. moves_held reached after left more moves (lines_held g start reached taken.0 files replies taken.2 held);
-    failed = λ held going stopped clean.
-        let h = moves_failed start reached after lines left files more replies taken moves (lines_held g start reached taken.0 files replies taken.2 held) (front_failed g start reached lines files replies left taken held going) in
+    held = λ stored held. moves_held stored reached after left more moves (lines_held g stored start reached taken.0 files replies taken.2 held);
+    failed = λ stored held going stopped clean.
+        let h = moves_failed stored start reached after lines left files more replies taken moves (lines_held g stored start reached taken.0 files replies taken.2 held) (front_failed g stored start reached lines files replies left taken held going) in
         (h.0, h.1 stopped clean);
   }
     where

@@ -1,27 +1,49 @@
 -- What an opening finds in files that a crash left.
 use Rattle.std.specs.Prelude.{◌≡◌, ◌⊎◌, ℕ, List}
+use Rattle.sqlite_trees.specs.Tree.{Trees}
 use Rattle.sqlite_trees.specs.declared.store.Store.{Ghosts}
+use Rattle.sqlite_catalog.specs.Listing.{IsSound as IsListed}
 use Rattle.sqlite_wal.specs.Recovery.{Image as Bytes}
 use Rattle.sqlite_store.specs.declared.store.FileStore.{FileStore}
 use Rattle.sqlite_store.specs.FileStore as files
 use Rattle.sqlite_disk.specs.declared.Disk as disk
 use Rattle.sqlite.specs.Effect.{Database}
-use Rattle.sqlite.specs.Held.{Held}
+use Rattle.sqlite.specs.Held.{Held, state}
 use Rattle.sqlite.specs.Files.{file_state, IsOpened}
 use Rattle.sqlite.specs.Start.{FindsIn}
-use Rattle.tc_types.specs.Tables.{Image}
 use Rattle.tc_types.specs.declared.history.moves.Move.{Move}
 use Rattle.tc_book.specs.Book.{Book}
 use Rattle.tc_book.specs.Tables.{image_of}
 use Rattle.tc_desk.specs.declared.configs.Config.{Config}
-use Rattle.tc_store.specs.Schema.{Holds}
+use Rattle.tc_sql.specs.Contents.{Matches}
+use Rattle.tc_store.specs.declared.versions.Version.{Version}
+use Rattle.tc_store.specs.Ledgers.{KeptAnswer, Ledger, newest}
+use Rattle.tc_store.specs.Schema.{schema_of, contents_of, HoldsAs, Lacks}
+use Rattle.tc_room.specs.Crash.{ledger_of}
 use Rattle.tc_room.specs.Joined.{LinkState, Standing}
 use Rattle.tc_room.specs.Opening as opening
 use Rattle.tc_room.specs.Opening.{OpensLeft}
 
--- a desk's tables are found, with such rows
-abbrev pub HoldsSome : (Image → Type 0) → Database → Type 0
-HoldsSome May db = ∥ ((image : Image) × May image × Holds db image) ∥₁
+-- what the files hold, as tables of a version with these rows and no other
+abbrev pub HasRowsAs : Version → Trees → Ledger → Type 0
+HasRowsAs version trees ledger = Matches trees (contents_of version ledger.image ledger.replies) × IsListed (schema_of version) trees × Lacks version ledger.replies
+
+-- the tables of a connection are of a version and hold this ledger, and a crash leaves just that
+pub record HasLedgerAs {S : Type 0} (g : Ghosts S) (version : Version) (tables : Held S) (ledger : Ledger) : Type 0 where
+  pub holds : HoldsAs version (state g tables).now ledger
+  pub leaves : (trees : Trees) → (state g tables).may_leave trees → HasRowsAs version trees ledger
+
+-- a crash leaves tables of some version with some rows, which may be these
+abbrev pub LeavesSome : {S : Type 0} → Ghosts S → Held S → (Version → Ledger → Type 0) → Type 0
+LeavesSome g tables May = (trees : Trees) → (state g tables).may_leave trees → (version : Version) × (ledger : Ledger) × May version ledger × HasRowsAs version trees ledger
+
+-- a desk's tables are found, of such a version and with such rows
+abbrev pub HoldsSome : (Version → Ledger → Type 0) → Database → Type 0
+HoldsSome May db = ∥ ((version : Version) × (ledger : Ledger) × May version ledger × HoldsAs version db ledger) ∥₁
+
+-- of the newest version
+abbrev pub OfNewest : (Ledger → Type 0) → Version → Ledger → Type 0
+OfNewest May version ledger = (version ≡ newest) × May ledger
 
 -- a connection was opened over two files that held what a crash left of another
 pub record IsReopened {D E : Type 0} {g : disk.Ghosts D} {h : disk.Ghosts E} (last : Held (FileStore D g)) (found : Held (FileStore E h)) : Type 0 where
@@ -34,7 +56,11 @@ pub record IsReopened {D E : Type 0} {g : disk.Ghosts D} {h : disk.Ghosts E} (la
 abbrev pub OpensBook : Config → ℕ → Book → Book → Type 0
 OpensBook config moment old new = (desk : LinkState) × opening.IsReopened config moment (image_of old) desk × (new ≡ desk.book)
 
--- a room that was opened over the tables of a book, or over those of what was made of it
-abbrev pub OpensEither : {S : Type 0} → Ghosts S → Book → (Book → Type 0) → Config → ℕ → List Move → Standing S → Type 0
-OpensEither g old Makes config moment moves room =
-    ∥ ((book : Book) × ((book ≡ old) ⊎ Makes book) × OpensLeft g config moment (image_of book) moves room) ∥₁
+-- the tables of a book as it was, or of what was made of it, with the replies as they were
+abbrev pub IsEither : Book → (Book → Type 0) → List KeptAnswer → Ledger → Type 0
+IsEither old Makes replies ledger = (ledger ≡ ledger_of old replies) ⊎ ((after : Book) × Makes after × (ledger ≡ ledger_of after replies))
+
+-- a room that was opened over the tables of a book, or over those of what was made of it; the replies stayed
+abbrev pub OpensEither : {S : Type 0} → Ghosts S → Book → (Book → Type 0) → List KeptAnswer → Config → ℕ → List Move → Standing S → Type 0
+OpensEither g old Makes replies config moment moves room =
+    ∥ ((book : Book) × ((book ≡ old) ⊎ Makes book) × OpensLeft g config moment (ledger_of book replies) moves room) ∥₁

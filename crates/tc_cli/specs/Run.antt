@@ -23,6 +23,7 @@ use Rattle.tc_desk.specs.Loads.{Loading}
 use Rattle.tc_desk.specs.Machine.{stamp_of}
 use Rattle.tc_desk.specs.Replies.{Reply}
 use Rattle.tc_desk.specs.declared.configs.Config as configs
+use Rattle.tc_store.specs.Ledgers.{KeptAnswer}
 use Rattle.tc_room.specs.Answers.{AnswersLine, AsksPlaces, RefusesWith}
 use Rattle.tc_room.specs.Joined.{HoldsBook, IsKept, Standing}
 use Rattle.tc_room.specs.Loads.{FailsLoad, RoomLoad, SpellsLoading, loader_of}
@@ -109,22 +110,24 @@ status_of replies = if list_any is_refused replies then 1 else 0
 
 -- ---- a database that failed
 
-module _ {S : Type 0} (g : Ghosts S) where
+-- over tables that keep these replies
+module _ {S : Type 0} (g : Ghosts S) (stored : List KeptAnswer) where
   -- the database failed at the act or the question of a line, or at its load
   abbrev pub FailsLine : Standing S → List ℕ → Reply → Standing S → Type 0
   FailsLine old line told new =
       ((load : LoadLine) × (text : List ℕ) × (given : Loading) × IsLoadLine line load × SpellsLoading load.kind load.name text given
-      × FailsLoad g old (loader_of load) given told new)
-      ⊎ ((read : Line) × SpellsLine line read × FailsStore g old (stamp_of read) read.act told new)
+      × FailsLoad g stored old (loader_of load) given told new)
+      ⊎ ((read : Line) × SpellsLine line read × FailsStore g stored old (stamp_of read) read.act told new)
 
   -- it failed at the next line, or, where none is left, at the question `places`
   abbrev pub FailsNext : Standing S → List (List ℕ) → Reply → Standing S → Type 0
-  FailsNext old [] told new = (stamp : Stamp) × FailsStore g old stamp (act.Ask query.Places) told new
+  FailsNext old [] told new = (stamp : Stamp) × FailsStore g stored old stamp (act.Ask query.Places) told new
   FailsNext old (line ∷ lines) told new = FailsLine old line told new
 
 -- The room has stopped in a run of these lines with these replies, since the database failed at one of them. What the tables hold is what that left:
--- the book as the lines before had made it, where the database is still open; and after a crash that, or the whole of what was asked.
-pub record HasFailed {S : Type 0} (g : Ghosts S) (start : Standing S) (lines : List (List ℕ)) (replies : List Reply) (after : Standing S) : Type 0 where
+-- the book as the lines before had made it, where the database is still open; and after a crash that, or the whole of what was asked. The replies that are
+-- stored beside it stay.
+pub record HasFailed {S : Type 0} (g : Ghosts S) (stored : List KeptAnswer) (start : Standing S) (lines : List (List ℕ)) (replies : List Reply) (after : Standing S) : Type 0 where
   pub files : List FileAnswer
   pub before : List Reply
   pub last : Standing S
@@ -132,7 +135,7 @@ pub record HasFailed {S : Type 0} (g : Ghosts S) (start : Standing S) (lines : L
   pub told : Reply
   pub later : List Reply
   pub taken : TakesFront g start lines files before last left
-  pub fails : FailsNext g last left told after
+  pub fails : FailsNext g stored last left told after
   pub among : replies ≡ before ++ told ∷ later
 
 -- ---- a run that ends
@@ -156,12 +159,12 @@ pub record RunsLines {S : Type 0} (g : Ghosts S) (start : Standing S) (input : L
   pub kept : IsKept end.desk.book
   -- what the rows since the room was opened tell of its link is true
   pub tells : TellsTrue start.opened end.desk
-  -- the tables hold the book in the end too, while the room goes on; else what the failure of the database left
-  pub held : HoldsBook g start → HoldsBook g after
-  pub failed : HoldsBook g start → start.stopped ≡ false → after.stopped ≡ true → HasCleanDisk (state g after.tables)
-      → HasFailed g start (script_lines input) (replies ++ last ∷ []) after
+  -- the tables hold the book in the end too, and the replies that were stored, while the room goes on; else what the failure of the database left
+  pub held : (stored : List KeptAnswer) → HoldsBook g start stored → HoldsBook g after stored
+  pub failed : (stored : List KeptAnswer) → HoldsBook g start stored → start.stopped ≡ false → after.stopped ≡ true → HasCleanDisk (state g after.tables)
+      → HasFailed g stored start (script_lines input) (replies ++ last ∷ []) after
   -- the numbers that are printed are those of the book
-  pub told : HoldsBook g start → HasCleanDisk (state g after.tables) → TellsBook end.desk.book last
+  pub told : (stored : List KeptAnswer) → HoldsBook g start stored → HasCleanDisk (state g after.tables) → TellsBook end.desk.book last
 
 -- These bytes were read, and their lines run in a room that was just opened over a new database in memory.
 abbrev pub IsAnswered : configs.Config → List ℕ → ℕ → Option (List FileAnswer) → Option (List FileAnswer) → Option (List ℕ) → Option (List ℕ) → Type 0

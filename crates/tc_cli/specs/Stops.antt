@@ -12,6 +12,7 @@ use Rattle.tc_desk.specs.Replies.{Reply}
 use Rattle.tc_desk.specs.State.{IsConfig}
 pub use Rattle.tc_front.specs.Write.{IsCutShort}
 use Rattle.tc_desk.specs.declared.configs.Config as configs
+use Rattle.tc_store.specs.Ledgers.{KeptAnswer}
 use Rattle.tc_room.specs.Answers.{AsksPlaces}
 use Rattle.tc_room.specs.Joined.{HoldsBook, Standing}
 use Rattle.tc_room.specs.Replies.{ended}
@@ -75,10 +76,10 @@ pub record StopsAfter {S : Type 0} (g : Ghosts S) (fault : ScriptFault) (start :
   pub leaves : LeavesPart g fault reached left more part after
   pub given : Gives gave gives (files ++ more)
   pub written : Appends old new (flat_map ended replies ++ part)
-  -- the tables hold the book of the room, while it goes on; else what the failure of the database left
-  pub held : HoldsBook g start → HoldsBook g after
-  pub failed : HoldsBook g start → start.stopped ≡ false → after.stopped ≡ true → HasCleanDisk (state g after.tables)
-      → (told : List Reply) × HasFailed g start lines (replies ++ told) after
+  -- the tables hold the book of the room, and the replies that were stored, while it goes on; else what the failure of the database left
+  pub held : (stored : List KeptAnswer) → HoldsBook g start stored → HoldsBook g after stored
+  pub failed : (stored : List KeptAnswer) → HoldsBook g start stored → start.stopped ≡ false → after.stopped ≡ true → HasCleanDisk (state g after.tables)
+      → (told : List Reply) × HasFailed g stored start lines (replies ++ told) after
 
 -- ---- before the first line
 

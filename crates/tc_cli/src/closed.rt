@@ -5,9 +5,10 @@ ghost use Rattle.sqlite.specs.Held.{state};
 ghost use Rattle.sqlite.specs.State.{HasCleanDisk};
 ghost use Rattle.tc_types.specs.Counts.{counts_of, inner_of, no_counts};
 ghost use Rattle.tc_types.specs.History.{shift_rows};
-ghost use Rattle.tc_types.specs.Tables.{Image};
 ghost use Rattle.tc_report.specs.ShiftReport.{AreAdded};
-ghost use Rattle.tc_store.specs.Schema.{Holds};
+ghost use Rattle.tc_store.specs.declared.versions.Version.{Version as SomeVersion};
+ghost use Rattle.tc_store.specs.Ledgers.{Ledger};
+ghost use Rattle.tc_store.specs.Schema.{HoldsAs};
 ghost use Rattle.tc_room.specs.Closed.{AreJudged, IsClosedReport, LeavesTables, OnlyReads};
 ghost use Rattle.tc_cli.specs.Closed.{CutsReport, CutsRows};
 ghost use Rattle.tc_cli.specs.Script.{written_counts};
@@ -19,7 +20,7 @@ use std::alloc::Global;
 use std::io::Write;
 use tc_report::END;
 use tc_room::{closed_head, closed_page};
-use tc_store::Tables;
+use tc_store::{Tables, Version};
 use tc_types::{Counted, Moment};
 
 /// Writes the lines of the moves of a shift, a page of them after the other.
@@ -30,10 +31,10 @@ fn write_pages<S: Alter + Drop, W: Write>(
     to: Moment,
     writer: &mut Counted<W>,
 ) -> Result<(), ScriptFault>
-    ensures told { HasCleanDisk (state S.Store tables.new) → OnOk result ((image : Image) → Holds (state S.Store tables.old).now image
-        → (text : List ℕ) × AreAdded (shift_rows from to image.moves) [] text × Appends (W.contents (inner_of writer.old)) (W.contents (inner_of writer.new)) text) }
-    ensures cut { HasCleanDisk (state S.Store tables.new) → OnErr result ((image : Image) → Holds (state S.Store tables.old).now image
-        → (part : List ℕ) × CutsRows image from to part × Appends (W.contents (inner_of writer.old)) (W.contents (inner_of writer.new)) part) }
+    ensures told { HasCleanDisk (state S.Store tables.new) → OnOk result ((of : SomeVersion) (ledger : Ledger) → HoldsAs of (state S.Store tables.old).now ledger
+        → (text : List ℕ) × AreAdded (shift_rows from to ledger.image.moves) [] text × Appends (W.contents (inner_of writer.old)) (W.contents (inner_of writer.new)) text) }
+    ensures cut { HasCleanDisk (state S.Store tables.new) → OnErr result ((of : SomeVersion) (ledger : Ledger) → HoldsAs of (state S.Store tables.old).now ledger
+        → (part : List ℕ) × CutsRows ledger.image from to part × Appends (W.contents (inner_of writer.old)) (W.contents (inner_of writer.new)) part) }
     ensures reads { OnOk result (OnlyReads S.Store tables.old tables.new) }
     ensures left { LeavesTables S.Store tables.old tables.new }
     ensures fault { IfErr result (λ fault. (fault ≡ ScriptFault.Output) ⊎ (fault ≡ ScriptFault.Memory) ⊎ (fault ≡ ScriptFault.Tables)) }
@@ -52,30 +53,31 @@ fn write_pages<S: Alter + Drop, W: Write>(
     Err(ScriptFault::Tables)
 }
 
-/// Writes the shift report of these tables: the moves of `from` and later, and before `to`, in order of number, and where the requests stand.
+/// Writes the shift report of these tables, which are of this version: the moves of `from` and later, and before `to`, in order of number, and where the requests stand.
 /// No more than a page of the moves is held at a time, and the tables are only read. Fails with `Tables` where they cannot be read, `Memory`
 /// where that is refused, and `Output` where a write fails. The tables stay then, too, as long as the database is open, and what was written is nothing, or
 /// a front of a report without its last line.
 pub fn closed_report<S: Alter + Drop, W: Write>(
     alloc: Global,
     tables: &mut Tables<S>,
+    version: Version,
     from: Moment,
     to: Moment,
     writer: &mut Counted<W>,
 ) -> Result<(), ScriptFault>
-    ensures told { HasCleanDisk (state S.Store tables.new) → OnOk result ((image : Image) → Holds (state S.Store tables.old).now image
-        → (text : List ℕ) × IsClosedReport image from to text × Appends (W.contents (inner_of writer.old)) (W.contents (inner_of writer.new)) text) }
+    ensures told { HasCleanDisk (state S.Store tables.new) → OnOk result ((of : SomeVersion) (ledger : Ledger) → HoldsAs of (state S.Store tables.old).now ledger
+        → (text : List ℕ) × IsClosedReport ledger.image from to text × Appends (W.contents (inner_of writer.old)) (W.contents (inner_of writer.new)) text) }
     // it is told only of tables whose rows all read as rows that a desk writes
-    ensures judged { HasCleanDisk (state S.Store tables.new) → OnOk result (AreJudged S.Store tables.old) }
+    ensures judged { HasCleanDisk (state S.Store tables.new) → OnOk result (AreJudged S.Store version tables.old) }
     // what one that fails has written does not look whole
-    ensures cut { HasCleanDisk (state S.Store tables.new) → OnErr result ((image : Image) → Holds (state S.Store tables.old).now image
-        → (part : List ℕ) × CutsReport image from to part × Appends (W.contents (inner_of writer.old)) (W.contents (inner_of writer.new)) part) }
+    ensures cut { HasCleanDisk (state S.Store tables.new) → OnErr result ((of : SomeVersion) (ledger : Ledger) → HoldsAs of (state S.Store tables.old).now ledger
+        → (part : List ℕ) × CutsReport ledger.image from to part × Appends (W.contents (inner_of writer.old)) (W.contents (inner_of writer.new)) part) }
     ensures reads { OnOk result (OnlyReads S.Store tables.old tables.new) }
     ensures left { LeavesTables S.Store tables.old tables.new }
     ensures fault { IfErr result (λ fault. (fault ≡ ScriptFault.Output) ⊎ (fault ≡ ScriptFault.Memory) ⊎ (fault ≡ ScriptFault.Tables)) }
     ensures counted { counts_of writer.old ≡ no_counts → counts_of writer.new ≡ written_counts result }
 {
-    let head = closed_head(alloc, tables, from, to)?;
+    let head = closed_head(alloc, tables, version, from, to)?;
     put(writer, head.as_bytes())?;
     write_pages(alloc, tables, from, to, writer)?;
     put(writer, END.as_bytes())

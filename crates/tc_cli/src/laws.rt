@@ -1,21 +1,21 @@
 //! What is true of a desk's file from one run of the program to the next.
-ghost use Rattle.std.specs.Prelude.{◌≡◌, ◌⊎◌, ℕ, IfOk};
+ghost use Rattle.std.specs.Prelude.{◌≡◌, ℕ, List, IfOk};
 ghost use Rattle.sqlite_trees.specs.View.{IsClean};
 ghost use Rattle.sqlite_store.specs.FileStore.{view};
 ghost use Rattle.sqlite.specs.Files.{file_state, over_files};
 ghost use Rattle.sqlite.specs.State.{HasCleanDisk};
-ghost use Rattle.tc_types.specs.Tables.{Image};
 ghost use Rattle.tc_types.specs.declared.acts.Act.{Act};
 ghost use Rattle.tc_book.specs.Book.{Book};
-ghost use Rattle.tc_book.specs.Tables.{image_of};
 ghost use Rattle.tc_book.specs.declared.stamps.Stamp.{Stamp};
 ghost use Rattle.tc_desk.specs.Loads.{Loading};
-ghost use Rattle.tc_room.specs.Crash.{Leaves, LeavesActs};
-ghost use Rattle.tc_room.specs.Joined.{HasImage, IsKept, LinkState};
+ghost use Rattle.tc_store.specs.declared.versions.Version.{Version as SomeVersion};
+ghost use Rattle.tc_store.specs.Ledgers.{KeptAnswer};
+ghost use Rattle.tc_room.specs.Crash.{Leaves, LeavesActs, ledger_of};
+ghost use Rattle.tc_room.specs.Joined.{IsKept, LinkState};
 ghost use Rattle.tc_room.specs.Opening.{LeavesOpening, OpensLeft};
 ghost use Rattle.tc_room.specs.Loads.{LoadsBook};
 ghost use Rattle.tc_room.specs.Room.{MakesBook};
-ghost use Rattle.tc_cli.specs.Crash.{HoldsSome, IsReopened, OpensBook, OpensEither};
+ghost use Rattle.tc_cli.specs.Crash.{HasLedgerAs, HoldsSome, IsEither, IsReopened, OfNewest, OpensBook, OpensEither};
 
 use sqlite::Connection;
 use sqlite_disk::Disk;
@@ -42,19 +42,19 @@ pub(crate) fn a_crash_loses_nothing<D: Disk + Drop, E: Disk + Drop>(
     last: Connection<FileStore<D>>,
     found: &Connection<FileStore<E>>,
 ) -> FileStore<D>
-    ensures book { IsClean (view result) → IsReopened last found.now → (book : Book) → Leaves over_files last (λ image. image ≡ image_of book)
-        → HoldsSome (λ image. image ≡ image_of book) (file_state found.now).now }
-    ensures act { IsClean (view result) → IsReopened last found.now → (old : LinkState) (stamp : Stamp) (given : Act) → LeavesActs over_files last old.book (MakesBook old stamp given)
-        → HoldsSome (λ image. (image ≡ image_of old.book) ⊎ ((after : Book) × MakesBook old stamp given after × (image ≡ image_of after))) (file_state found.now).now }
-    ensures load { IsClean (view result) → IsReopened last found.now → (old : LinkState) (stamp : Stamp) (given : Loading) → LeavesActs over_files last old.book (LoadsBook old stamp given)
-        → HoldsSome (λ image. (image ≡ image_of old.book) ⊎ ((after : Book) × LoadsBook old stamp given after × (image ≡ image_of after))) (file_state found.now).now }
+    ensures book { IsClean (view result) → IsReopened last found.now → (book : Book) (replies : List KeptAnswer) → Leaves over_files last (λ ledger. ledger ≡ ledger_of book replies)
+        → HoldsSome (OfNewest (λ ledger. ledger ≡ ledger_of book replies)) (file_state found.now).now }
+    ensures act { IsClean (view result) → IsReopened last found.now → (old : LinkState) (stamp : Stamp) (given : Act) (replies : List KeptAnswer) → LeavesActs over_files last old.book replies (MakesBook old stamp given)
+        → HoldsSome (OfNewest (IsEither old.book (MakesBook old stamp given) replies)) (file_state found.now).now }
+    ensures load { IsClean (view result) → IsReopened last found.now → (old : LinkState) (stamp : Stamp) (given : Loading) (replies : List KeptAnswer) → LeavesActs over_files last old.book replies (LoadsBook old stamp given)
+        → HoldsSome (OfNewest (IsEither old.book (LoadsBook old stamp given) replies)) (file_state found.now).now }
 {
     last.into_store()
 }
 
 /// The law of two rooms: what stood in one when a crash came, the next one opens. The tables of a book that a room keeps (`IsKept`, which each of its calls
 /// promises) are sound and told by their columns; where the next room opens over files that hold what the crash left, its desk is what an
-/// opening makes of that book. Where the crash came in an act, a load or an opening, it is that of the book before, or of the book that this makes, if
+/// opening makes of that book, and the replies that are kept beside it stay. Where the crash came in an act, a load or an opening, it is that of the book before, or of the book that this makes, if
 /// that is one that a room keeps. The first connection is taken apart here for the proof alone; its disk has to have given back what was
 /// written until then.
 pub(crate) fn what_stood_is_opened<D: Disk + Drop, E: Disk + Drop>(
@@ -64,18 +64,18 @@ pub(crate) fn what_stood_is_opened<D: Disk + Drop, E: Disk + Drop>(
     config: Config,
     moment: Moment,
 ) -> Next<D, E>
-    ensures kept { IsClean (view result.last) → IsReopened last found → (book : Book) → IsKept book → Leaves over_files last (λ image. image ≡ image_of book)
-        → IfOk result.opened (λ opened. HasCleanDisk (file_state opened.room.tables) → ∥ OpensLeft over_files config moment (image_of book) opened.moves.items opened.room ∥₁) }
-    ensures act { IsClean (view result.last) → IsReopened last found → (old : LinkState) (stamp : Stamp) (given : Act) → IsKept old.book → ((after : Book) → MakesBook old stamp given after → IsKept after)
-        → LeavesActs over_files last old.book (MakesBook old stamp given)
-        → IfOk result.opened (λ opened. HasCleanDisk (file_state opened.room.tables) → OpensEither over_files old.book (MakesBook old stamp given) config moment opened.moves.items opened.room) }
-    ensures load { IsClean (view result.last) → IsReopened last found → (old : LinkState) (stamp : Stamp) (given : Loading) → IsKept old.book → ((after : Book) → LoadsBook old stamp given after → IsKept after)
-        → LeavesActs over_files last old.book (LoadsBook old stamp given)
-        → IfOk result.opened (λ opened. HasCleanDisk (file_state opened.room.tables) → OpensEither over_files old.book (LoadsBook old stamp given) config moment opened.moves.items opened.room) }
-    // of an opening that was refused, over tables that held the rows of a book
-    ensures opening { IsClean (view result.last) → IsReopened last found → (store : _) (chosen : Config) (at : ℕ) (old : Book) → IsKept old → ((after : Book) → OpensBook chosen at old after → IsKept after)
-        → HasImage over_files store (image_of old) → LeavesOpening over_files chosen at store last
-        → IfOk result.opened (λ opened. HasCleanDisk (file_state opened.room.tables) → OpensEither over_files old (OpensBook chosen at old) config moment opened.moves.items opened.room) }
+    ensures kept { IsClean (view result.last) → IsReopened last found → (book : Book) (replies : List KeptAnswer) → IsKept book → Leaves over_files last (λ ledger. ledger ≡ ledger_of book replies)
+        → IfOk result.opened (λ opened. HasCleanDisk (file_state opened.room.tables) → ∥ OpensLeft over_files config moment (ledger_of book replies) opened.moves.items opened.room ∥₁) }
+    ensures act { IsClean (view result.last) → IsReopened last found → (old : LinkState) (stamp : Stamp) (given : Act) (replies : List KeptAnswer) → IsKept old.book → ((after : Book) → MakesBook old stamp given after → IsKept after)
+        → LeavesActs over_files last old.book replies (MakesBook old stamp given)
+        → IfOk result.opened (λ opened. HasCleanDisk (file_state opened.room.tables) → OpensEither over_files old.book (MakesBook old stamp given) replies config moment opened.moves.items opened.room) }
+    ensures load { IsClean (view result.last) → IsReopened last found → (old : LinkState) (stamp : Stamp) (given : Loading) (replies : List KeptAnswer) → IsKept old.book → ((after : Book) → LoadsBook old stamp given after → IsKept after)
+        → LeavesActs over_files last old.book replies (LoadsBook old stamp given)
+        → IfOk result.opened (λ opened. HasCleanDisk (file_state opened.room.tables) → OpensEither over_files old.book (LoadsBook old stamp given) replies config moment opened.moves.items opened.room) }
+    // of an opening that was refused, over tables of any version that held the rows of a book
+    ensures opening { IsClean (view result.last) → IsReopened last found → (store : _) (version : SomeVersion) (chosen : Config) (at : ℕ) (old : Book) (replies : List KeptAnswer) → IsKept old
+        → ((after : Book) → OpensBook chosen at old after → IsKept after) → HasLedgerAs over_files version store (ledger_of old replies) → LeavesOpening over_files chosen at store last
+        → IfOk result.opened (λ opened. HasCleanDisk (file_state opened.room.tables) → OpensEither over_files old (OpensBook chosen at old) replies config moment opened.moves.items opened.room) }
 {
     let last = last.into_store();
     let opened = Room::open(alloc, found, config, moment);

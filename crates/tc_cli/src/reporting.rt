@@ -9,7 +9,7 @@ use sqlite_store::FileStore;
 use std::alloc::Global;
 use std::rt::Files;
 use std::{fs, io};
-use tc_store::{StoreFault, Tables};
+use tc_store::{StoreFault, Tables, Version};
 use tc_types::{Counted, Moment};
 
 /// The desk's file, and its log beside it, which is a file that a reader has to make where there is none.
@@ -66,14 +66,14 @@ pub(crate) fn open_kept(
     }
 }
 
-/// The tables of a desk in this database.
+/// The tables of a desk in this database, and which version they are of.
 fn tables_in(
     rt: &HostRuntime,
     kept: &Kept,
     store: Connection<FileStore<FileFrom<Wary>>>,
-) -> Result<Tables<FileStore<FileFrom<Wary>>>, ScriptFault> {
+) -> Result<(Tables<FileStore<FileFrom<Wary>>>, Version), ScriptFault> {
     match Tables::open(rt.alloc(), store) {
-        Ok(tables) => Ok(tables),
+        Ok(found) => Ok(found),
         Err((fault, store)) => {
             forget_log(rt, kept);
             drop(store);
@@ -95,9 +95,9 @@ pub fn print_report(
 ) -> Result<(), ScriptFault> {
     let kept = find(rt, file)?;
     let store = open_kept(rt, &kept)?;
-    let mut tables = tables_in(rt, &kept, store)?;
+    let (mut tables, version) = tables_in(rt, &kept, store)?;
     let mut writer = Counted::new(io::writer(rt));
-    let printed = closed_report(rt.alloc(), &mut tables, from, to, &mut writer);
+    let printed = closed_report(rt.alloc(), &mut tables, version, from, to, &mut writer);
     forget_log(rt, &kept);
     printed
 }

@@ -10,7 +10,7 @@ use sqlite_schema::schema::Schema;
 use std::alloc::Global;
 use std::fs;
 use tc_room::reopen_desk;
-use tc_store::{StoreFault, Tables};
+use tc_store::{StoreFault, Tables, Version};
 
 /// Whether a database holds no table, no index and no view.
 fn is_bare(schema: &Schema) -> bool {
@@ -21,9 +21,10 @@ fn is_bare(schema: &Schema) -> bool {
 fn judge_tables<S: Alter + Drop>(
     alloc: Global,
     tables: &mut Tables<S>,
+    version: Version,
     opening: &Opening,
 ) -> Result<(), ScriptFault> {
-    let image = tables.load().map_err(|_| ScriptFault::Tables)?;
+    let image = tables.load(version).map_err(|_| ScriptFault::Tables)?;
     reopen_desk(alloc, &image, opening.config, opening.moment)?;
     Ok(())
 }
@@ -35,8 +36,8 @@ fn judge<S: Alter + Drop>(
     opening: &Opening,
 ) -> (Result<(), ScriptFault>, Connection<S>) {
     match Tables::open(alloc, store) {
-        Ok(mut tables) => {
-            let judged = judge_tables(alloc, &mut tables, opening);
+        Ok((mut tables, version)) => {
+            let judged = judge_tables(alloc, &mut tables, version, opening);
             (judged, tables.into_connection())
         }
         Err((StoreFault::Foreign, store)) if is_bare(store.schema()) => (Ok(()), store),

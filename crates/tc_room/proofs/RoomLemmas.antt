@@ -9,7 +9,7 @@ use Rattle.sqlite.specs.Held.{Held, state}
 use Rattle.sqlite.specs.State.{HasCleanDisk}
 use Rattle.tc_types.specs.ActGrammar.{HasLongAct, SpellsLine, act_text}
 use Rattle.tc_types.specs.History.{entered, count_at, counts_of}
-use Rattle.tc_types.specs.Tables.{empty_image, tallies_by}
+use Rattle.tc_types.specs.Tables.{tallies_by}
 use Rattle.tc_types.specs.declared.tables.rows.Tally.{Tally}
 use Rattle.tc_types.specs.declared.acts.Line.{Line}
 use Rattle.tc_types.specs.declared.refusals.Refusal.{Refusal}
@@ -34,12 +34,13 @@ use Rattle.tc_desk.specs.declared.firsts.FirstLine.{FirstLine}
 use Rattle.tc_desk.specs.Acts.{is_question, refusal_of}
 use Rattle.tc_desk.specs.Machine.{Carries, DeskStep, Does, Refuses, Serves, StaysSame, rows_new}
 use Rattle.tc_desk.specs.Replies.{Reply, act_reply, history_lines, Replies, refusal_reply, request_lines}
+use Rattle.tc_store.specs.Ledgers.{KeptAnswer, empty_ledger}
 use Rattle.tc_store.specs.Schema.{Holds}
 use Rattle.tc_store.specs.Steps.{LeavesOnly}
-use Rattle.tc_room.specs.Crash.{LeavesActs}
-use Rattle.tc_room.specs.Joined.{HasImage, HoldsBook, IsKept, LinkState, Standing}
+use Rattle.tc_room.specs.Crash.{LeavesActs, ledger_of}
+use Rattle.tc_room.specs.Joined.{HasLedger, HoldsBook, IsKept, LinkState, Standing}
 use Rattle.tc_room.specs.Answers.{IsUnread}
-use Rattle.tc_room.proofs.TableLemmas.{only_image}
+use Rattle.tc_room.proofs.TableLemmas.{only_ledger}
 use Rattle.tc_room.proofs.ToldLemmas.{good_told}
 use Rattle.tc_room.specs.Room.{IsNewDesk, MakesBook, RoomStep}
 
@@ -47,24 +48,32 @@ use Rattle.tc_room.specs.Room.{IsNewDesk, MakesBook, RoomStep}
 pub goes_on : {S : Type 0} (inside view : Standing S) (told : Bool) → inside ≡ view → told ≡ view.stopped → told ≡ false → inside.stopped ≡ false
 goes_on {S} inside view told same is none = ap (λ (s : Standing S). s.stopped) same ∙ sym is ∙ none
 
--- the desk machine's step, and the tables that hold its book
-pub steps : {S : Type 0} (g : Ghosts S) (old new : Standing S) (stamp : Stamp) (given : Act) (reply : Reply) → old.stopped ≡ false
-    → DeskStep either either old.desk stamp given reply new.desk → (HoldsBook g old → HasCleanDisk (state g new.tables) → HasImage g new.tables (image_of new.desk.book))
+-- the desk machine's step, of which the tables that hold its book may tell, and the tables that hold it then
+pub steps_read : {S : Type 0} (g : Ghosts S) (old new : Standing S) (stamp : Stamp) (given : Act) (reply : Reply) → old.stopped ≡ false
+    → ((replies : List KeptAnswer) → HoldsBook g old replies → HasCleanDisk (state g new.tables) → DeskStep either either old.desk stamp given reply new.desk × HasLedger g new.tables (ledger_of new.desk.book replies))
     → new.opened ≡ old.opened → new.stopped ≡ false → RoomStep g old stamp given reply new
-steps g old new stamp given reply going step holds opened goes = λ held clean. rw going (inl (record { desk = step; tables = holds held clean; opened = opened; going = goes }))
+steps_read g old new stamp given reply going step opened goes = λ replies held clean.
+    let made = step replies held clean in
+    rw going (inl (record { desk = made.0; tables = made.1; opened = opened; going = goes }))
+
+-- a step of which they tell nothing
+pub steps : {S : Type 0} (g : Ghosts S) (old new : Standing S) (stamp : Stamp) (given : Act) (reply : Reply) → old.stopped ≡ false
+    → DeskStep either either old.desk stamp given reply new.desk → ((replies : List KeptAnswer) → HoldsBook g old replies → HasCleanDisk (state g new.tables) → HasLedger g new.tables (ledger_of new.desk.book replies))
+    → new.opened ≡ old.opened → new.stopped ≡ false → RoomStep g old stamp given reply new
+steps g old new stamp given reply going step holds opened goes = steps_read g old new stamp given reply going (λ replies held clean. (step, holds replies held clean)) opened goes
 
 -- so it is of what changes no table
 pub steps_same : {S : Type 0} (g : Ghosts S) (at : Standing S) (stamp : Stamp) (given : Act) (reply : Reply) → at.stopped ≡ false
     → DeskStep either either at.desk stamp given reply at.desk → RoomStep g at stamp given reply at
-steps_same g at stamp given reply going step = steps g at at stamp given reply going step (λ held clean. held going clean) refl going
+steps_same g at stamp given reply going step = steps g at at stamp given reply going step (λ replies held clean. held going clean) refl going
 
 -- the database failed
 pub fails : {S : Type 0} (g : Ghosts S) (old new : Standing S) (stamp : Stamp) (given : Act) → old.stopped ≡ false → refusal_of stamp old.desk given ≡ None → new.stopped ≡ true
-    → (HoldsBook g old → HasCleanDisk (state g new.tables) → IsTrue (state g new.tables).is_open → Holds (state g new.tables).now (image_of old.desk.book))
-    → (HoldsBook g old → HasCleanDisk (state g new.tables) → LeavesActs g new.tables old.desk.book (MakesBook old.desk stamp given))
+    → ((replies : List KeptAnswer) → HoldsBook g old replies → HasCleanDisk (state g new.tables) → IsTrue (state g new.tables).is_open → Holds (state g new.tables).now (ledger_of old.desk.book replies))
+    → ((replies : List KeptAnswer) → HoldsBook g old replies → HasCleanDisk (state g new.tables) → LeavesActs g new.tables old.desk.book replies (MakesBook old.desk stamp given))
     → new.opened ≡ old.opened → RoomStep g old stamp given (refusal_reply Store) new
-fails g old new stamp given going free stopped holds leaves opened = λ held clean.
-    rw going (inr (record { free = free; reply = refl; stopped = stopped; tables = holds held clean; crash = leaves held clean; opened = opened }))
+fails g old new stamp given going free stopped holds leaves opened = λ replies held clean.
+    rw going (inr (record { free = free; reply = refl; stopped = stopped; tables = holds replies held clean; crash = leaves replies held clean; opened = opened }))
 
 -- the desk refused
 pub refused : (old new : LinkState) (stamp : Stamp) (given : Act) (refusal : Refusal) → Refuses either either stamp given old new refusal
@@ -148,13 +157,13 @@ unread text read refusal was only long others = record {
 }
 
 -- the tables of a desk where nothing happened yet hold its book
-empty_tables : image_of empty_book ≡ empty_image
+empty_tables : ledger_of empty_book [] ≡ empty_ledger
 empty_tables = refl
 
-pub new_held : {S : Type 0} (g : Ghosts S) (config : Config) (desk : LinkState) (tables : Held S) → IsNewDesk config desk → Holds (state g tables).now empty_image
-    → LeavesOnly (state g tables) (state g tables).now.trees → HasImage g tables (image_of desk.book)
+pub new_held : {S : Type 0} (g : Ghosts S) (config : Config) (desk : LinkState) (tables : Held S) → IsNewDesk config desk → Holds (state g tables).now empty_ledger
+    → LeavesOnly (state g tables) (state g tables).now.trees → HasLedger g tables (ledger_of desk.book [])
 new_held g config desk tables (up, down, _, _, new) made only =
-    subst (λ (book : Book). HasImage g tables (image_of book)) (sym (ap (λ (at : LinkState). at.book) new)) (subst (HasImage g tables) (sym empty_tables) (only_image g tables empty_image made only))
+    subst (λ (book : Book). HasLedger g tables (ledger_of book [])) (sym (ap (λ (at : LinkState). at.book) new)) (subst (HasLedger g tables) (sym empty_tables) (only_ledger g tables empty_ledger made only))
 
 -- the amounts of a book's tallies are its counts
 pub amounts_counted : (history : List Move) → map (λ (t : Tally). t.amount) (tallies_by (count_at history)) ≡ counts_of history

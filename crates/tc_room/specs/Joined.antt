@@ -1,12 +1,11 @@
 -- What joins a desk and its tables.
-use Rattle.std.specs.Prelude.{◌≡◌, ℕ, Bool, true, false}
+use Rattle.std.specs.Prelude.{◌≡◌, ℕ, Bool, true, false, List}
 use Rattle.std.specs.declared.alloc.Global.{Global}
 use Rattle.sqlite_trees.specs.declared.store.Store.{Ghosts}
 use Rattle.sqlite.specs.Held.{Held, state}
 use Rattle.sqlite.specs.State.{HasCleanDisk}
 use Rattle.tc_types.specs.declared.link.frames.Frame.{Frame}
 use Rattle.tc_types.specs.declared.link.reports.Report.{Report}
-use Rattle.tc_types.specs.Tables.{Image}
 use Rattle.tc_world.specs.declared.link_carriers.LinkCarrier.{LinkCarrier}
 use Rattle.tc_world.specs.EitherLink.{content_of}
 use Rattle.tc_board.specs.Mirror.{mirror_of}
@@ -17,9 +16,10 @@ use Rattle.tc_book.specs.Sound.{IsSound}
 use Rattle.tc_book.specs.Tables.{image_of}
 use Rattle.tc_desk.specs.Followed.{mirror_through}
 use Rattle.tc_desk.specs.State.{DeskState, State}
+use Rattle.tc_store.specs.Ledgers.{KeptAnswer, Ledger}
 use Rattle.tc_store.specs.Schema.{Holds}
 use Rattle.tc_store.specs.Told.{IsTold}
-use Rattle.tc_room.specs.Crash.{Leaves}
+use Rattle.tc_room.specs.Crash.{Leaves, ledger_of}
 
 -- a direction of a room's link: a list or a ring
 abbrev pub Link : Type 0 → Type 0
@@ -49,13 +49,14 @@ FollowsBoard room =
     room.whole ≡ true → mirror_through room.desk.book (content_of room.desk.world.down) room.desk.mirror ≡ mirror_of room.desk.board.schedule
 
 -- tables that hold these rows and no other, also after a crash
-pub record HasImage {S : Type 0} (g : Ghosts S) (tables : Held S) (image : Image) : Type 0 where
-  pub holds : Holds (state g tables).now image
-  pub leaves : Leaves g tables (λ left. left ≡ image)
+pub record HasLedger {S : Type 0} (g : Ghosts S) (tables : Held S) (ledger : Ledger) : Type 0 where
+  pub holds : Holds (state g tables).now ledger
+  pub leaves : Leaves g tables (λ left. left ≡ ledger)
 
--- While a room goes on, its tables hold the book of its desk, if the disk gave back what was written. A room that has stopped knows nothing of them.
-abbrev pub HoldsBook : {S : Type 0} → Ghosts S → Standing S → Type 0
-HoldsBook g room = room.stopped ≡ false → HasCleanDisk (state g room.tables) → HasImage g room.tables (image_of room.desk.book)
+-- While a room goes on, its tables hold the book of its desk and these replies, if the disk gave back what was written. A room that has stopped
+-- knows nothing of them.
+abbrev pub HoldsBook : {S : Type 0} → Ghosts S → Standing S → List KeptAnswer → Type 0
+HoldsBook g room replies = room.stopped ≡ false → HasCleanDisk (state g room.tables) → HasLedger g room.tables (ledger_of room.desk.book replies)
 
 -- A book that the desk could have written, with a history row for each move, numbered in order, that says where its
 -- request stood; its tables are such as an opening takes, and their columns tell their rows; each request that was entered

@@ -1,5 +1,5 @@
 -- The room: a desk whose book stands in tables too, until the tables fail.
-use Rattle.std.specs.Prelude.{◌≡◌, ◌↔◌, ◌⊎◌, true, false, None, MatchBool, IsTrue, Result, Ok, Err}
+use Rattle.std.specs.Prelude.{◌≡◌, ◌↔◌, ◌⊎◌, true, false, None, MatchBool, IsTrue, Result, Ok, Err, List, []}
 use Rattle.sqlite_trees.specs.declared.store.Store.{Ghosts}
 use Rattle.sqlite.specs.Held.{state}
 use Rattle.sqlite.specs.State.{HasCleanDisk}
@@ -11,16 +11,16 @@ use Rattle.tc_types.specs.declared.acts.Act.{Act}
 use Rattle.tc_world.specs.EitherLink.{IsMade, either}
 use Rattle.tc_book.specs.declared.stamps.Stamp.{Stamp}
 use Rattle.tc_book.specs.Book.{Book}
-use Rattle.tc_book.specs.Tables.{image_of}
 use Rattle.tc_desk.specs.declared.configs.Config.{Config}
 use Rattle.tc_desk.specs.State.{new_desk}
 use Rattle.tc_desk.specs.Acts.{refusal_of}
 use Rattle.tc_desk.specs.Headline.{TellsTrue}
 use Rattle.tc_desk.specs.Machine.{DeskStep}
 use Rattle.tc_desk.specs.Replies.{Reply, refusal_reply}
+use Rattle.tc_store.specs.Ledgers.{KeptAnswer}
 use Rattle.tc_store.specs.Schema.{Holds}
-use Rattle.tc_room.specs.Crash.{LeavesActs}
-use Rattle.tc_room.specs.Joined.{HasImage, HoldsBook, Link, LinkState, Standing}
+use Rattle.tc_room.specs.Crash.{LeavesActs, ledger_of}
+use Rattle.tc_room.specs.Joined.{HasLedger, HoldsBook, Link, LinkState, Standing}
 
 -- a desk where nothing happened yet, over links of the kind that was chosen, with nothing in flight
 abbrev pub IsNewDesk : Config → LinkState → Type 0
@@ -32,13 +32,13 @@ pub record IsJustOpened {S : Type 0} (g : Ghosts S) (config : Config) (room : St
   pub desk : IsNewDesk config room.desk
   pub opened : room.opened ≡ 0
   pub whole : room.whole ≡ true
-  pub tables : HoldsBook g room
+  pub tables : HoldsBook g room []
   pub going : room.stopped ≡ false
 
--- the desk machine made a step, and the tables hold its book
-pub record StepsDesk {S : Type 0} (g : Ghosts S) (old : Standing S) (stamp : Stamp) (given : Act) (reply : Reply) (new : Standing S) : Type 0 where
+-- the desk machine made a step, and the tables hold its book, with the replies as they were
+pub record StepsDesk {S : Type 0} (g : Ghosts S) (replies : List KeptAnswer) (old : Standing S) (stamp : Stamp) (given : Act) (reply : Reply) (new : Standing S) : Type 0 where
   pub desk : DeskStep either either old.desk stamp given reply new.desk
-  pub tables : HasImage g new.tables (image_of new.desk.book)
+  pub tables : HasLedger g new.tables (ledger_of new.desk.book replies)
   -- as many rows stood once the desk was made
   pub opened : new.opened ≡ old.opened
   pub going : new.stopped ≡ false
@@ -49,20 +49,20 @@ MakesBook old stamp given book = (reply : Reply) × (new : LinkState) × DeskSte
 
 -- The database failed at what no test refused, and the room has stopped. Its tables hold the book as it was before, where the database is still
 -- open. After a crash they hold that, or what was asked is there as a whole.
-pub record FailsStore {S : Type 0} (g : Ghosts S) (old : Standing S) (stamp : Stamp) (given : Act) (told : Reply) (new : Standing S) : Type 0 where
+pub record FailsStore {S : Type 0} (g : Ghosts S) (replies : List KeptAnswer) (old : Standing S) (stamp : Stamp) (given : Act) (told : Reply) (new : Standing S) : Type 0 where
   pub free : refusal_of stamp old.desk given ≡ None
   pub reply : told ≡ refusal_reply Store
   pub stopped : new.stopped ≡ true
-  pub tables : IsTrue (state g new.tables).is_open → Holds (state g new.tables).now (image_of old.desk.book)
-  pub crash : LeavesActs g new.tables old.desk.book (MakesBook old.desk stamp given)
+  pub tables : IsTrue (state g new.tables).is_open → Holds (state g new.tables).now (ledger_of old.desk.book replies)
+  pub crash : LeavesActs g new.tables old.desk.book replies (MakesBook old.desk stamp given)
   pub opened : new.opened ≡ old.opened
 
 -- One step of a room whose tables hold its book, over a disk that gave back what was written: a room that has stopped says so and stays as it
--- was; else an act or a question is answered as the desk machine answers it, or the database fails.
+-- was; else an act or a question is answered as the desk machine answers it, or the database fails. Whatever replies are kept, they stay.
 abbrev pub RoomStep : {S : Type 0} → Ghosts S → Standing S → Stamp → Act → Reply → Standing S → Type 0
-RoomStep g old stamp given reply new = HoldsBook g old → HasCleanDisk (state g new.tables) → MatchBool old.stopped
+RoomStep g old stamp given reply new = (replies : List KeptAnswer) → HoldsBook g old replies → HasCleanDisk (state g new.tables) → MatchBool old.stopped
     ((reply ≡ refusal_reply Stopped) × (new ≡ old))
-    (StepsDesk g old stamp given reply new ⊎ FailsStore g old stamp given reply new)
+    (StepsDesk g replies old stamp given reply new ⊎ FailsStore g replies old stamp given reply new)
 
 -- the answer to a step, of which the lines of a reply are made
 abbrev pub AnswersStep : {X S : Type 0} → (X → Reply) → Ghosts S → Standing S → Stamp → Act → Standing S → Result X Refusal → Type 0

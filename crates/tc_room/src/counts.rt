@@ -2,11 +2,11 @@
 ghost use Rattle.std.specs.Prelude.{◌≡◌, ◌≤◌, ◌^◌, IfSome, OnSome, IsTrue, MatchOption, map, sum};
 ghost use Rattle.sqlite.specs.Held.{state};
 ghost use Rattle.sqlite.specs.State.{HasCleanDisk};
-ghost use Rattle.tc_types.specs.Tables.{Image};
 ghost use Rattle.tc_types.specs.declared.tables.rows.Tally.{Tally};
+ghost use Rattle.tc_store.specs.Ledgers.{Ledger};
 ghost use Rattle.tc_store.specs.Schema.{Holds};
 ghost use Rattle.tc_room.specs.Crash.{Leaves};
-ghost use Rattle.tc_room.specs.Joined.{HasImage};
+ghost use Rattle.tc_room.specs.Joined.{HasLedger};
 
 use sqlite::Alter;
 use tc_store::Tables;
@@ -35,14 +35,16 @@ pub(crate) fn total(places: &[u32; PLACES]) -> Option<u32>
 /// How many requests were entered and how many stand at each place: the amounts of the tallies. `None` where they cannot be read, or are
 /// more together than there are numbers.
 pub(crate) fn count_all<S: Alter + Drop>(tables: &mut Tables<S>) -> Option<PlaceCounts>
-    ensures places { HasCleanDisk (state S.Store tables.new) → IfSome result (λ found. (image : Image) → HasImage S.Store tables.old image → found.places ≡ map (λ (t : Tally). t.amount) image.tallies) }
+    ensures places { HasCleanDisk (state S.Store tables.new) → IfSome result (λ found. (ledger : Ledger) → HasLedger S.Store tables.old ledger → found.places ≡ map (λ (t : Tally). t.amount) ledger.image.tallies) }
     ensures entered { IfSome result (λ found. found.entered ≡ sum found.places) }
-    ensures same { HasCleanDisk (state S.Store tables.new) → OnSome result ((image : Image) → HasImage S.Store tables.old image → HasImage S.Store tables.new image) }
-    ensures kept { HasCleanDisk (state S.Store tables.new) → IsTrue (state S.Store tables.new).is_open → (image : Image) → HasImage S.Store tables.old image → Holds (state S.Store tables.new).now image }
-    ensures left { HasCleanDisk (state S.Store tables.new) → (image : Image) → HasImage S.Store tables.old image → Leaves S.Store tables.new (λ left. left ≡ image) }
+    ensures same { HasCleanDisk (state S.Store tables.new) → OnSome result ((ledger : Ledger) → HasLedger S.Store tables.old ledger → HasLedger S.Store tables.new ledger) }
+    ensures kept { HasCleanDisk (state S.Store tables.new) → IsTrue (state S.Store tables.new).is_open → (ledger : Ledger) → HasLedger S.Store tables.old ledger → Holds (state S.Store tables.new).now ledger }
+    ensures left { HasCleanDisk (state S.Store tables.new) → (ledger : Ledger) → HasLedger S.Store tables.old ledger → Leaves S.Store tables.new (λ left. left ≡ ledger) }
     ensures clean { HasCleanDisk (state S.Store tables.new) → HasCleanDisk (state S.Store tables.old) }
 {
-    let places = tables.counts().ok()?;
+    let Ok(places) = tables.counts() else {
+        return None;
+    };
     let entered = total(&places)?;
     Some(PlaceCounts { entered, places })
 }

@@ -10,6 +10,7 @@ mod loadings;
 mod opening;
 mod replies;
 mod rooms;
+mod writes;
 
 pub use answers::{
     Answer, Untold, answer_line, answer_load, answer_loading, answer_places, answer_query,

@@ -6,9 +6,10 @@ ghost use Rattle.sqlite.specs.State.{HasCleanDisk};
 ghost use Rattle.sqlite.specs.Steps.{over_memory};
 ghost use Rattle.tc_sql.specs.Builds.{no_schema};
 ghost use Rattle.tc_types.specs.declared.refusals.Refusal.TheVariants.{BadDirective, Memory, Store};
-ghost use Rattle.tc_types.specs.Tables.{Image as Rows, empty_image};
 ghost use Rattle.tc_desk.specs.State.{IsConfig};
-ghost use Rattle.tc_store.specs.Schema.{schema_1, Holds};
+ghost use Rattle.tc_store.specs.declared.versions.Version.{Version as SomeVersion};
+ghost use Rattle.tc_store.specs.Ledgers.{Ledger, empty_ledger};
+ghost use Rattle.tc_store.specs.Schema.{schema_of, HoldsAs};
 ghost use Rattle.tc_store.specs.Told.{IsTold};
 ghost use Rattle.tc_room.specs.Crash.{HasRows, LeavesOr};
 ghost use Rattle.tc_room.specs.Opening.{KeepsTables, LeavesOpening, OpensAs, OpensLeft, OpensTo, ShowsDesk};
@@ -16,10 +17,11 @@ ghost use Rattle.tc_room.specs.Room.{IsJustOpened};
 
 use crate::desks::{is_fit, make_desk, reopen_desk};
 use crate::rooms::Room;
+use crate::writes::write_rows;
 use sqlite::{Alter, Connection, MemStore};
 use std::alloc::Global;
 use tc_desk::{Config, Reopened};
-use tc_store::{StoreFault, Tables};
+use tc_store::{StoreFault, Tables, Version};
 use tc_types::{Moment, Move, Refusal};
 
 /// A room that was opened.
@@ -31,23 +33,25 @@ pub struct OpenedRoom<S: Alter + Drop> {
     pub moves: Vec<Move>,
 }
 
-/// Opens a room over tables that were left, and writes what that makes of them in one batch.
+/// Opens a room over tables that were left, and writes what that makes of them in one batch, which brings tables of an earlier version to the
+/// newest.
 fn open_left<S: Alter + Drop>(
     alloc: Global,
     tables: Tables<S>,
+    version: Version,
     config: Config,
     moment: Moment,
 ) -> Result<OpenedRoom<S>, (Refusal, Connection<S>)>
     requires fit { IsConfig config }
-    ensures left { IfOk result (λ opened. HasCleanDisk (state S.Store opened.room.tables) → (image : Rows) → IsTold image → Holds (state S.Store tables).now image → OpensLeft S.Store config moment image opened.moves.items opened.room) }
+    ensures left { IfOk result (λ opened. HasCleanDisk (state S.Store opened.room.tables) → (ledger : Ledger) → IsTold ledger.image → HoldsAs version (state S.Store tables).now ledger → OpensLeft S.Store config moment ledger opened.moves.items opened.room) }
     ensures going { IfOk result (λ opened. opened.room.stopped ≡ false) }
-    ensures kept { IfErr result (λ e. HasCleanDisk (state S.Store e.1) → IsTrue (state S.Store e.1).is_open → (image : Rows) → Holds (state S.Store tables).now image → Holds (state S.Store e.1).now image) }
-    ensures crash { IfErr result (λ e. HasCleanDisk (state S.Store e.1) → (image : Rows) → Holds (state S.Store tables).now image → LeavesOr S.Store tables e.1 (OpensTo config moment image)) }
+    ensures kept { IfErr result (λ e. HasCleanDisk (state S.Store e.1) → IsTrue (state S.Store e.1).is_open → (of : SomeVersion) (ledger : Ledger) → HoldsAs of (state S.Store tables).now ledger → HoldsAs of (state S.Store e.1).now ledger) }
+    ensures crash { IfErr result (λ e. HasCleanDisk (state S.Store e.1) → (ledger : Ledger) → HoldsAs version (state S.Store tables).now ledger → LeavesOr S.Store tables e.1 (OpensTo config moment ledger)) }
     ensures kind { IfErr result (λ e. (e.0 ≡ Memory) ⊎ (e.0 ≡ Store)) }
-    ensures memory { IfErr result (λ e. e.0 ≡ Memory → HasCleanDisk (state S.Store e.1) → (state S.Store tables).now.schema ≡ schema_1 → ShowsDesk (state S.Store tables).now) }
+    ensures memory { IfErr result (λ e. e.0 ≡ Memory → HasCleanDisk (state S.Store e.1) → (state S.Store tables).now.schema ≡ schema_of version → ShowsDesk version (state S.Store tables).now) }
 {
     let mut tables = tables;
-    let image = match tables.load() {
+    let image = match tables.load(version) {
         Ok(image) => image,
         Err(_) => return Err((Refusal::Store, tables.into_connection())),
     };
@@ -55,7 +59,7 @@ fn open_left<S: Alter + Drop>(
         Ok(left) => left,
         Err(refusal) => return Err((refusal, tables.into_connection())),
     };
-    match tables.write(&done.batch) {
+    match write_rows(&mut tables, version, &done.batch) {
         Ok(()) => Ok(OpenedRoom {
             room: Room::over(desk, tables),
             moves: done.moves,
@@ -75,7 +79,7 @@ fn open_new<S: Alter + Drop>(
     ensures none { IfOk result (λ opened. opened.moves.items ≡ []) }
     ensures empty { OnOk result ((state S.Store store).now.schema ≡ no_schema) }
     ensures kept { IfErr result (λ e. HasCleanDisk (state S.Store e.1) → IsTrue (state S.Store e.1).is_open → (state S.Store e.1).now ≡ (state S.Store store).now) }
-    ensures crash { IfErr result (λ e. HasCleanDisk (state S.Store e.1) → LeavesOr S.Store store e.1 (λ trees. HasRows trees empty_image)) }
+    ensures crash { IfErr result (λ e. HasCleanDisk (state S.Store e.1) → LeavesOr S.Store store e.1 (λ trees. HasRows trees empty_ledger)) }
     ensures untouched { IfErr result (λ e. (state S.Store store).now.schema ≢ no_schema → e.1 ≡ store) }
     ensures kind { IfErr result (λ e. (e.0 ≡ Memory) ⊎ (e.0 ≡ Store)) }
 {
@@ -94,7 +98,8 @@ fn open_new<S: Alter + Drop>(
 
 impl<S: Alter + Drop> Room<S> {
     /// Opens a room over a database, at a moment. An empty database becomes the tables of a desk where nothing happened yet. Over the tables
-    /// that were left in another the desk is opened again: it moves each request that was on its way, which is written in one batch.
+    /// that were left in another the desk is opened again: it moves each request that was on its way, which is written in one batch, and
+    /// that batch brings tables of an earlier version to the newest.
     /// Refused, and the connection handed back, with `BadDirective` exactly where the window is not even and 2 to 254, the channel is
     /// above 63, or a ring is none of 1 to 4,096 items; with `Memory` where that is refused; and with `Store` where the database fails, or its
     /// tables are no desk's or tell what no desk could have written. Then the tables are as they were, as long as the database is open.
@@ -106,22 +111,22 @@ impl<S: Alter + Drop> Room<S> {
     ) -> Result<OpenedRoom<S>, (Refusal, Connection<S>)>
         ensures opened { IfOk result (λ opened. OpensAs S.Store config moment store opened.moves.items opened.room) }
         ensures going { IfOk result (λ opened. opened.room.stopped ≡ false) }
-        ensures ours { OnOk result (((state S.Store store).now.schema ≡ no_schema) ⊎ ((state S.Store store).now.schema ≡ schema_1)) }
+        ensures ours { OnOk result (((state S.Store store).now.schema ≡ no_schema) ⊎ ((version : SomeVersion) × ((state S.Store store).now.schema ≡ schema_of version))) }
         ensures config { OnOk result (IsConfig config) }
         ensures refused { IfErr result (λ e. (e.0 ≡ BadDirective) ↔ (¬ IsConfig config)) }
         ensures kind { IfErr result (λ e. (e.0 ≡ BadDirective) ⊎ (e.0 ≡ Memory) ⊎ (e.0 ≡ Store)) }
         // tables that show no rows as a desk writes them are refused with `Store`, and never with `Memory`
-        ensures memory { IfErr result (λ e. e.0 ≡ Memory → HasCleanDisk (state S.Store e.1) → (state S.Store store).now.schema ≡ schema_1 → ShowsDesk (state S.Store store).now) }
+        ensures memory { IfErr result (λ e. e.0 ≡ Memory → HasCleanDisk (state S.Store e.1) → (version : SomeVersion) → (state S.Store store).now.schema ≡ schema_of version → ShowsDesk version (state S.Store store).now) }
         ensures kept { IfErr result (λ e. HasCleanDisk (state S.Store e.1) → IsTrue (state S.Store e.1).is_open → KeepsTables (state S.Store store).now (state S.Store e.1).now) }
         // also after a crash they are as they were, or all of the opening is there
         ensures crash { IfErr result (λ e. HasCleanDisk (state S.Store e.1) → LeavesOpening S.Store config moment store e.1) }
-        ensures foreign { IfErr result (λ e. (state S.Store store).now.schema ≢ no_schema → (state S.Store store).now.schema ≢ schema_1 → e.1 ≡ store) }
+        ensures foreign { IfErr result (λ e. (state S.Store store).now.schema ≢ no_schema → ((version : SomeVersion) → (state S.Store store).now.schema ≢ schema_of version) → e.1 ≡ store) }
     {
         if !is_fit(config) {
             return Err((Refusal::BadDirective, store));
         }
         match Tables::open(alloc, store) {
-            Ok(tables) => open_left(alloc, tables, config, moment),
+            Ok((tables, version)) => open_left(alloc, tables, version, config, moment),
             Err((StoreFault::Foreign, store)) => open_new(alloc, store, config),
             Err((_, store)) => Err((Refusal::Store, store)),
         }

@@ -15,14 +15,14 @@ use Rattle.tc_sql.specs.Puts.{PutsInto}
 use Rattle.tc_sql.specs.Numbered.{numbered, IsKeyedAt, AreAlike, HasAppended}
 use Rattle.tc_sql.proofs.Appends.{appends, same_text}
 use Rattle.tc_store.specs.Approvals.{approval_tree, approval_places, approval_form, approval_put, approval_terms, approval_values, is_same_approval}
-use Rattle.tc_store.specs.Schema.{schema_1}
+use Rattle.tc_store.specs.Schema.{newest_schema}
 use Rattle.tc_store.proofs.SchemaLemmas.{stepped_last}
 
-approval_puts : PutsInto schema_1 approval_form approval_tree approval_put approval_terms
+approval_puts : PutsInto newest_schema approval_form approval_tree approval_put approval_terms
 unfolding understood everything
 approval_puts = record { at = 4; listed = refl; command = refl; plain = (refl, refl); single = refl; quiet = λ _ _. refl }
 
-approval_keyed : IsKeyedAt schema_1 approval_form approval_tree approval_places
+approval_keyed : IsKeyedAt newest_schema approval_form approval_tree approval_places
 approval_keyed = record { at = 2; index = _; listed = refl; guarded = refl; columns = refl; order = refl }
 
 -- two approvals of one request by one person have the same key
@@ -32,7 +32,7 @@ tells y x m n h = (
   ((ap Text (same_text y.person x.person (second_of_both _ _ h)), refl), tt),
 )
 
-appended : (a : Approval) (old new : State) (count : ℕ) → Executes approval_put (approval_values a) old new (Ok count) → (xs : List Approval) → old.now.schema ≡ schema_1
+appended : (a : Approval) (old new : State) (count : ℕ) → Executes approval_put (approval_values a) old new (Ok count) → (xs : List Approval) → old.now.schema ≡ newest_schema
     → old.now.trees approval_tree ≡ numbered (map approval_values xs) → HasAppended approval_tree approval_values is_same_approval a xs old.now new.now
 appended a old new count h xs has held =
     appends approval_values is_same_approval approval_places tells approval_puts approval_keyed a xs (approval_values a) old new (Ok count) has refl refl held h

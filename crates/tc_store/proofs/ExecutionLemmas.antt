@@ -13,14 +13,14 @@ use Rattle.tc_types.specs.Tables.{execution_key}
 use Rattle.tc_sql.specs.Puts.{PutsInto, HasInserted}
 use Rattle.tc_sql.proofs.Inserts.{puts}
 use Rattle.tc_store.specs.Executions.{execution_tree, execution_form, execution_put, execution_terms, execution_given, execution_row}
-use Rattle.tc_store.specs.Schema.{schema_1}
+use Rattle.tc_store.specs.Schema.{newest_schema}
 use Rattle.tc_store.proofs.SchemaLemmas.{stepped}
 
-execution_puts : PutsInto schema_1 execution_form execution_tree execution_put execution_terms
+execution_puts : PutsInto newest_schema execution_form execution_tree execution_put execution_terms
 unfolding understood everything
 execution_puts = record { at = 9; listed = refl; command = refl; plain = (refl, refl); single = refl; quiet = λ _ _. refl }
 
-inserted : (b : BegunExecution) (old new : State) (count : ℕ) → Executes execution_put (execution_given b) old new (Ok count) → old.now.schema ≡ schema_1 → HasInserted execution_tree (execution_row b) old.now new.now
+inserted : (b : BegunExecution) (old new : State) (count : ℕ) → Executes execution_put (execution_given b) old new (Ok count) → old.now.schema ≡ newest_schema → HasInserted execution_tree (execution_row b) old.now new.now
 inserted b old new count h has = puts execution_puts execution_key execution_row (λ _. refl) b (execution_given b) old new (Ok count) has refl refl h
 
 pub begun : {S : Type 0} (g : Ghosts S) (b : BegunExecution) (old new : Held S) (r : Result ℕ Error) → IfOk r (λ count. Ran g execution_put (execution_given b) count old new) → OnOk r (Step g (Begun b ∷ []) old new)

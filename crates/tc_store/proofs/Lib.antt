@@ -11,6 +11,11 @@ pub mod ProcedureLemmas
 pub mod ProcedureStepLemmas
 pub mod ExecutionLemmas
 pub mod RecordLemmas
+pub mod ReplyLemmas
+pub mod ReplyPageLemmas
+pub mod FindLemmas
+pub mod MigrationLemmas
+pub mod BehindLemmas
 pub mod ReadLemmas
 pub mod LoadLemmas
 pub mod TextLemmas

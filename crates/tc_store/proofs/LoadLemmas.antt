@@ -8,26 +8,26 @@ use Rattle.sqlite_trees.specs.Tree.{IsTable}
 use Rattle.sqlite_trees.specs.declared.store.Store.{Ghosts}
 use Rattle.sqlite_sql.specs.Term.{Term, eval_all}
 use Rattle.sqlite.specs.Effect.{Database}
-use Rattle.sqlite.specs.Given.{IsPlain}
 use Rattle.sqlite.specs.Listing.{understood}
 use Rattle.sqlite.specs.State.{State, Shown, FailsToQuery, HasCleanDisk, Survives, CommitsShowing}
 use Rattle.sqlite.specs.Held.{Held, state}
 use Rattle.sqlite.specs.declared.error.Error.{Error}
 use Rattle.sqlite.proofs.StateLemmas.{survives_then, survives_weaker}
-use Rattle.sqlite.proofs.Callers.{never_commits}
 use Rattle.tc_types.specs.Tables.{Image}
+use Rattle.tc_store.specs.declared.versions.Version.{Version}
+use Rattle.tc_store.specs.Ledgers.{Ledger}
 use Rattle.tc_sql.specs.Contents.{has_tree, rows_in}
 use Rattle.tc_sql.specs.Numbered.{numbered_from, numbered}
 use Rattle.tc_sql.specs.Lists.{passes, no_limit, ListsFrom}
 use Rattle.tc_sql.proofs.Changes.{matches_at}
-use Rattle.tc_sql.proofs.Selects.{listed, listed_as, unchanged}
-use Rattle.tc_store.specs.Schema.{schema_1, contents, Holds}
+use Rattle.tc_sql.proofs.Selects.{listed, listed_as}
+use Rattle.tc_store.specs.Schema.{schema_of, contents_of, HoldsAs}
 use Rattle.tc_store.specs.Meta.{meta_tree, version_shown}
 use Rattle.tc_store.specs.Loads.{all_version_columns}
 use Rattle.tc_store.specs.Told.{IsTold, IsToldRequest, IsToldStep, IsToldRecord}
-use Rattle.tc_store.specs.Shows.{ShowsRows, ShowsRequests, ShowsStacks, ShowsProcedures, ShowsAll}
-use Rattle.tc_store.specs.Reads.{Stays, Spares, Reads, OnlyReads}
-use Rattle.tc_store.proofs.ReadLemmas.{rising, still_holds, fails_holding, if_ok}
+use Rattle.tc_store.specs.Shows.{ShowsRows, ShowsRequests, ShowsStacks, ShowsProcedures, AreJudged, ShowsAll}
+use Rattle.tc_store.specs.Reads.{IsQuiet, Stays, Spares, Reads, OnlyReads}
+use Rattle.tc_store.proofs.ReadLemmas.{rising, still_same, still_holds, fails_holding, commits_none, if_ok}
 
 -- ---- what a read leaves
 
@@ -37,21 +37,21 @@ on_ok (Err e) P Q h f = tt
 
 module _ {S : Type 0} (g : Ghosts S) where
   pub stays_same : (held : Held S) → Stays g held held
-  stays_same held = record { same = λ has. refl; holds = λ image h. h }
+  stays_same held = record { same = λ version has. refl; holds = λ version ledger h. h }
 
   pub spares_same : (held : Held S) → Spares g held held
-  spares_same held = record { kept = λ clean is_open image h. h; crash = search rules; outside = λ h. h }
+  spares_same held = record { kept = λ clean is_open version ledger h. h; crash = search rules; outside = λ h. h }
 
   pub stays_then : (old mid new : Held S) → Stays g old mid → Stays g mid new → Stays g old new
   stays_then old mid new one two =
-      record { same = λ has. two.same (ap (λ (db : Database). db.schema) (one.same has) ∙ has) ∙ one.same has; holds = λ image h. two.holds image (one.holds image h) }
+      record { same = λ version has. two.same version (ap (λ (db : Database). db.schema) (one.same version has) ∙ has) ∙ one.same version has; holds = λ version ledger h. two.holds version ledger (one.holds version ledger h) }
 
   pub spares_then : (old mid new : Held S) → (HasCleanDisk (state g mid) → Stays g old mid) → Spares g old mid → Spares g mid new → Spares g old new
   spares_then old mid new stays one two = record {
-    kept = λ clean is_open image h. two.kept clean is_open image ((stays (omega (arith, clean, two.crash.clean))).holds image h);
+    kept = λ clean is_open version ledger h. two.kept clean is_open version ledger ((stays (omega (arith, clean, two.crash.clean))).holds version ledger h);
     crash =
-        survives_then (state g old) (state g mid) (state g new) (λ _. (image : Image) → Holds (state g old).now image → ⊥) (λ _. (image : Image) → Holds (state g mid).now image → ⊥)
-        (λ _. (image : Image) → Holds (state g old).now image → ⊥) (λ clean db none. none) (λ clean db none image h. none image ((stays (omega (arith, clean, two.crash.clean))).holds image h)) one.crash two.crash;
+        survives_then (state g old) (state g mid) (state g new) (λ _. (version : Version) (ledger : Ledger) → HoldsAs version (state g old).now ledger → ⊥) (λ _. (version : Version) (ledger : Ledger) → HoldsAs version (state g mid).now ledger → ⊥)
+        (λ _. (version : Version) (ledger : Ledger) → HoldsAs version (state g old).now ledger → ⊥) (λ clean db none. none) (λ clean db none version ledger h. none version ledger ((stays (omega (arith, clean, two.crash.clean))).holds version ledger h)) one.crash two.crash;
     outside = λ h. two.outside (one.outside h);
   }
 
@@ -60,51 +60,51 @@ module _ {S : Type 0} (g : Ghosts S) where
   clean_before it clean = omega (arith, clean, it.left.crash.clean)
 
   -- A call that reads, after another that was Ok: what both find is so of the database before the first. The two are as one call, so that a third can follow.
-  pub reads_then : {A B E : Type 0} {P : Database → A → Type 0} {Q : Database → B → Type 0} {old mid new : Held S} {x : A} {r : Result B E} → Reads {E = E} g (λ db a. db.schema ≡ schema_1 → P db a) old mid (Ok x)
-      → Reads g (λ db b. db.schema ≡ schema_1 → Q db b) mid new r → Reads g (λ db b. db.schema ≡ schema_1 → P db x × Q db b) old new r
+  pub reads_then : {A B E : Type 0} {P : Version → Database → A → Type 0} {Q : Version → Database → B → Type 0} {old mid new : Held S} {x : A} {r : Result B E} → Reads {E = E} g (λ db a. (version : Version) → db.schema ≡ schema_of version → P version db a) old mid (Ok x)
+      → Reads g (λ db b. (version : Version) → db.schema ≡ schema_of version → Q version db b) mid new r → Reads g (λ db b. (version : Version) → db.schema ≡ schema_of version → P version db x × Q version db b) old new r
   reads_then {Q = Q} {old = old} {mid = mid} {new = new} {r = r} one two = record {
     finds = λ clean.
         let before = clean_before two clean in
-        if_ok r _ _ (two.finds clean) (λ b shows has.
-        let there = (one.same before).same has in (one.finds before has, subst (λ (db : Database). Q db b) there (shows (ap (λ (db : Database). db.schema) there ∙ has))));
+        if_ok r _ _ (two.finds clean) (λ b shows version has.
+        let there = (one.same before).same version has in (one.finds before version has, subst (λ (db : Database). Q version db b) there (shows version (ap (λ (db : Database). db.schema) there ∙ has))));
     same = λ clean. on_ok r _ _ (two.same clean) (stays_then old mid new (one.same (clean_before two clean)));
     left = spares_then old mid new one.same one.left two.left;
   }
 
   -- and between them the disk gives back what was written, and the tables hold what they held
   pub held_then : {A B E : Type 0} {P : Database → A → Type 0} {Q : Database → B → Type 0} {old mid new : Held S} {x : A} {r : Result B E} → Reads {E = E} g P old mid (Ok x) → Reads g Q mid new r
-      → HasCleanDisk (state g new) → (image : Image) → Holds (state g old).now image → HasCleanDisk (state g mid) × Holds (state g mid).now image
-  held_then one two clean image held = let before = clean_before two clean in (before, (one.same before).holds image held)
+      → HasCleanDisk (state g new) → (version : Version) (ledger : Ledger) → HoldsAs version (state g old).now ledger → HasCleanDisk (state g mid) × HoldsAs version (state g mid).now ledger
+  held_then one two clean version ledger held = let before = clean_before two clean in (before, (one.same before).holds version ledger held)
 
-  pub spares_in_crash : (old new : Held S) (image : Image) → Holds (state g old).now image → Spares g old new → Survives (state g old) (state g new) (λ _. ⊥)
-  spares_in_crash old new image h it = survives_weaker (state g old) (state g new) _ _ (λ clean db none. none image h) it.crash
+  pub spares_in_crash : (old new : Held S) (version : Version) (ledger : Ledger) → HoldsAs version (state g old).now ledger → Spares g old new → Survives (state g old) (state g new) (λ _. ⊥)
+  spares_in_crash old new version ledger h it = survives_weaker (state g old) (state g new) _ _ (λ clean db none. none version ledger h) it.crash
 
-  -- so it is of what a call that only reads leaves of tables that hold an image
+  -- so it is of what a call that only reads leaves of tables that hold a ledger
   pub only_reads : {T E : Type 0} {Finds : Database → T → Type 0} (old new : Held S) (r : Result T E) → Reads g Finds old new r → OnlyReads g old new r
   only_reads old new r it = record {
-    same = λ clean image held. on_ok r _ _ (it.same clean) (λ stays. stays.holds image held);
+    same = λ clean version ledger held. on_ok r _ _ (it.same clean) (λ stays. stays.holds version ledger held);
     kept = it.left.kept;
-    crash = λ image held. spares_in_crash old new image held it.left;
+    crash = λ version ledger held. spares_in_crash old new version ledger held it.left;
     clean = clean_before it;
     outside = it.left.outside;
   }
 
-  module _ (text : List ℕ) (plain : IsPlain (understood schema_1 text)) (params : Row) (old new : Held S) where
-    quiet : Survives (state g old) (state g new) (CommitsShowing text params (state g old)) → Survives (state g old) (state g new) (λ _. (image : Image) → Holds (state g old).now image → ⊥)
+  module _ (text : List ℕ) (all : (version : Version) → IsQuiet (understood (schema_of version) text)) (params : Row) (old new : Held S) where
+    quiet : Survives (state g old) (state g new) (CommitsShowing text params (state g old)) → Survives (state g old) (state g new) (λ _. (version : Version) (ledger : Ledger) → HoldsAs version (state g old).now ledger → ⊥)
     quiet =
-        survives_weaker (state g old) (state g new) (CommitsShowing text params (state g old)) (λ _. (image : Image) → Holds (state g old).now image → ⊥)
-        (λ _ db commits image held. never_commits text params (state g old) db (subst (λ s. IsPlain (understood s text)) (sym held.schema) plain) commits)
+        survives_weaker (state g old) (state g new) (CommitsShowing text params (state g old)) (λ _. (version : Version) (ledger : Ledger) → HoldsAs version (state g old).now ledger → ⊥)
+        (λ _ db commits version ledger held. commits_none text all params (state g old) (state g new) version ledger held db commits)
 
     pub stays_after : (rows : List Row) → Shown text params (state g old) (state g new) rows → Stays g old new
     stays_after rows h = record {
-      same = λ has. unchanged text params (state g old) (state g new) schema_1 has plain rows h;
-      holds = λ image held. still_holds text plain params image (state g old) (state g new) held rows h;
+      same = λ version has. still_same text all params (state g old) (state g new) version has rows h;
+      holds = λ version ledger held. still_holds text all params (state g old) (state g new) version ledger held rows h;
     }
 
     pub spares_after : (rows : List Row) → (HasCleanDisk (state g new) → Shown text params (state g old) (state g new) rows) → Survives (state g old) (state g new) (CommitsShowing text params (state g old))
         → (old.in_transaction ≡ false → new.in_transaction ≡ false) → Spares g old new
     spares_after rows h survives outside = record {
-      kept = λ clean is_open image held. still_holds text plain params image (state g old) (state g new) held rows (h clean);
+      kept = λ clean is_open version ledger held. still_holds text all params (state g old) (state g new) version ledger held rows (h clean);
       crash = quiet survives;
       outside = outside;
     }
@@ -112,7 +112,7 @@ module _ {S : Type 0} (g : Ghosts S) where
     pub spares_failing : (e : Error) → (IsTrue (state g old).is_open → (state g old).now ≡ (state g old).committed) → (HasCleanDisk (state g new) → FailsToQuery text params (state g old) (state g new) e)
         → Survives (state g old) (state g new) (CommitsShowing text params (state g old)) → (old.in_transaction ≡ false → new.in_transaction ≡ false) → Spares g old new
     spares_failing e settled h survives outside = record {
-      kept = λ clean is_open image held. fails_holding text plain params image (state g old) (state g new) held e settled (h clean) is_open;
+      kept = λ clean is_open version ledger held. fails_holding text all params (state g old) (state g new) version ledger held e settled (h clean) is_open;
       crash = quiet survives;
       outside = outside;
     }
@@ -128,11 +128,11 @@ abbrev shown_of : List Term → Row → Row
 shown_of columns r = eval_all columns ([] ∷ r ∷ [])
 
 -- a table whose key is a number
-pub rows_keyed : {X : Type 0} (tree : ℕ) (columns : List Term) (row shown : X → Row) (text : List ℕ) → ListsFrom schema_1 tree text [] columns no_limit → (xs : List X) (image : Image) (old new : State)
-    → (rows : List Row) → has_tree tree (contents image) ≡ true → rows_in tree (contents image) ≡ map row xs → ((x : X) → shown_of columns (row x) ≡ shown x) → Holds old.now image → Shown text [] old new rows → rows ≡ map shown xs
-rows_keyed tree columns row shown text lists xs image old new rows named is showed held h =
-    let at = rising tree row xs image old held named is in
-    listed tree [] columns no_limit [] schema_1 text old new held.schema lists rows at.1 h
+pub rows_keyed : {X : Type 0} (tree : ℕ) (columns : List Term) (row shown : X → Row) (text : List ℕ) → ((version : Version) → ListsFrom (schema_of version) tree text [] columns no_limit) → (xs : List X) (version : Version) (ledger : Ledger) (old new : State)
+    → (rows : List Row) → has_tree tree (contents_of version ledger.image ledger.replies) ≡ true → rows_in tree (contents_of version ledger.image ledger.replies) ≡ map row xs → ((x : X) → shown_of columns (row x) ≡ shown x) → HoldsAs version old.now ledger → Shown text [] old new rows → rows ≡ map shown xs
+rows_keyed tree columns row shown text lists xs version ledger old new rows named is showed held h =
+    let at = rising tree row xs version ledger old held named is in
+    listed tree [] columns no_limit [] (schema_of version) text old new held.schema (lists version) rows at.1 h
     ∙ listed_as tree [] columns no_limit [] row shown (λ x. true) xs old.now.trees at.0 (λ x. refl) showed
     ∙ ap (map shown) (filter_true xs)
 
@@ -142,12 +142,12 @@ shown_numbered : {X : Type 0} (columns : List Term) (values : X → Row) → ((n
 shown_numbered columns values showed n [] = refl
 shown_numbered columns values showed n (x ∷ xs) = ap₂ (λ a b. a ∷ b) (showed n x) (shown_numbered columns values showed (n + 1) xs)
 
-pub rows_numbered : {X : Type 0} (tree : ℕ) (columns : List Term) (values : X → Row) (text : List ℕ) → ListsFrom schema_1 tree text [] columns no_limit → (xs : List X) (image : Image) (old new : State)
-    → (rows : List Row) → has_tree tree (contents image) ≡ true → rows_in tree (contents image) ≡ numbered (map values xs) → ((n : ℕ) (x : X) → shown_of columns (Int (pos n) ∷ values x) ≡ values x)
-    → Holds old.now image → Shown text [] old new rows → rows ≡ map values xs
-rows_numbered tree columns values text lists xs image old new rows named is showed held h =
-    let at = matches_at old.now.trees tree (contents image) held.rows named in
-    listed tree [] columns no_limit [] schema_1 text old new held.schema lists rows (subst IsTable (sym at.0) at.1) h
+pub rows_numbered : {X : Type 0} (tree : ℕ) (columns : List Term) (values : X → Row) (text : List ℕ) → ((version : Version) → ListsFrom (schema_of version) tree text [] columns no_limit) → (xs : List X) (version : Version) (ledger : Ledger) (old new : State)
+    → (rows : List Row) → has_tree tree (contents_of version ledger.image ledger.replies) ≡ true → rows_in tree (contents_of version ledger.image ledger.replies) ≡ numbered (map values xs) → ((n : ℕ) (x : X) → shown_of columns (Int (pos n) ∷ values x) ≡ values x)
+    → HoldsAs version old.now ledger → Shown text [] old new rows → rows ≡ map values xs
+rows_numbered tree columns values text lists xs version ledger old new rows named is showed held h =
+    let at = matches_at old.now.trees tree (contents_of version ledger.image ledger.replies) held.rows named in
+    listed tree [] columns no_limit [] (schema_of version) text old new held.schema (lists version) rows (subst IsTable (sym at.0) at.1) h
     ∙ ap (λ all. map (shown_of columns) (filter (passes [] []) all)) (at.0 ∙ is)
     ∙ shown_numbered columns values showed 1 xs
 
@@ -170,10 +170,10 @@ all_told [] = tt
 all_told (x ∷ xs) = (tt, all_told xs)
 
 -- what was read of requests, of stacks and of procedures is one image
-pub joined : (db : Database) → ShowsRows (db.trees meta_tree) all_version_columns (version_shown ∷ [])
+pub joined : (of : Version) (db : Database) → ShowsRows (db.trees meta_tree) all_version_columns (version_shown of ∷ [])
     → ((a : Image) × ShowsRequests db a.requests a.moves a.tallies a.approvals × AllByRecursion IsToldRequest a.requests) → ((b : Image) × ShowsStacks db b.stacks b.stack_approvals)
-    → ((c : Image) × ShowsProcedures db c.procedures c.steps c.executions c.records × AllByRecursion IsToldStep c.steps × AllByRecursion IsToldRecord c.records) → (image : Image) × ShowsAll db image × IsTold image
-joined db version a b c =
+    → ((c : Image) × ShowsProcedures db c.procedures c.steps c.executions c.records × AllByRecursion IsToldStep c.steps × AllByRecursion IsToldRecord c.records) → AreJudged of db → (image : Image) × ShowsAll of db image × IsTold image
+joined of db version a b c judged =
     let image : Image = record {
       requests = a.0.requests;
       moves = a.0.moves;
@@ -186,6 +186,6 @@ joined db version a b c =
       executions = c.0.executions;
       records = c.0.records;
     } in
-    let shows : ShowsAll db image = record { version = version; requests = a.1; stacks = b.1; procedures = c.1 } in
+    let shows : ShowsAll of db image = record { version = version; requests = a.1; stacks = b.1; procedures = c.1; replies = judged } in
     let told : IsTold image = record { requests = a.2; steps = c.2; records = c.3 } in
     (image, shows, told)

@@ -1,5 +1,5 @@
 -- What the text of `meta` means: the row that names the version.
-use Rattle.std.proofs.Common.{◌≡◌, ℕ, pos, true, codes, [], ◌∷◌, map, Result, Ok, Err, OnOk, IfOk, refl, sym, ap, subst, ◌∙◌}
+use Rattle.std.proofs.Common.{◌≡◌, ℕ, pos, true, codes, [], ◌∷◌, map, take, Result, Ok, Err, OnOk, IfOk, refl, sym, ap, subst, ◌∙◌}
 use Rattle.sqlite_value.specs.Order.{Row}
 use Rattle.sqlite_value.specs.declared.value.Value.TheVariants.{Null, Int, Text}
 use Rattle.sqlite_trees.specs.Tree.{put_row}
@@ -30,12 +30,15 @@ use Rattle.tc_store.specs.Procedures.{procedure_tree}
 use Rattle.tc_store.specs.ProcedureSteps.{step_tree}
 use Rattle.tc_store.specs.Executions.{execution_tree}
 use Rattle.tc_store.specs.Records.{record_tree}
-use Rattle.tc_store.specs.Schema.{schema_1, create_texts, Holds}
-use Rattle.tc_store.specs.Steps.{Ran, Defined, Versioned, Step, Filled, blank_image}
-use Rattle.tc_store.proofs.SchemaLemmas.{built}
-use Rattle.tc_store.proofs.StepLemmas.{goes_same, goes_then}
+use Rattle.tc_store.specs.Replies.{reply_tree}
+use Rattle.tc_store.specs.declared.versions.Version.{Version}
+use Rattle.tc_store.specs.Ledgers.{newest}
+use Rattle.tc_store.specs.Schema.{newest_schema, schema_of, create_texts, texts_count, Holds}
+use Rattle.tc_store.specs.Steps.{Ran, Defined, Versioned, Step, Filled, blank_ledger}
+use Rattle.tc_store.proofs.SchemaLemmas.{built, built_as}
+use Rattle.tc_store.proofs.StepLemmas.{goes_then}
 
-meta_puts : PutsInto schema_1 meta_form meta_tree meta_put meta_terms
+meta_puts : PutsInto newest_schema meta_form meta_tree meta_put meta_terms
 unfolding understood everything
 meta_puts = record { at = 0; listed = refl; command = refl; plain = (refl, refl); single = refl; quiet = λ _ _. refl }
 
@@ -43,32 +46,38 @@ meta_puts = record { at = 0; listed = refl; command = refl; plain = (refl, refl)
 abbrev no_rows : Contents
 no_rows =
     (meta_tree, []) ∷ (request_tree, []) ∷ (move_tree, []) ∷ (tally_tree, []) ∷ (approval_tree, []) ∷ (stack_tree, []) ∷ (stack_approval_tree, []) ∷ (procedure_tree, []) ∷ (step_tree, [])
-    ∷ (execution_tree, []) ∷ (record_tree, []) ∷ []
+    ∷ (execution_tree, []) ∷ (record_tree, []) ∷ (reply_tree, []) ∷ []
 
 abbrev given : Row
-given = Null ∷ Text (codes "schema") ∷ Int (pos 1) ∷ []
+given = Null ∷ Text (codes "schema") ∷ Int (pos 2) ∷ []
 
-versioned_from : (old new : Database) → BuildsTo schema_1 [] old → HasPut meta_tree (with_rowid Chosen (old.trees meta_tree) given) old new → Holds new blank_image
+versioned_from : (old new : Database) → BuildsTo newest_schema [] old → HasPut meta_tree (with_rowid Chosen (old.trees meta_tree) given) old new → Holds new blank_ledger
 versioned_from old new to put =
-    let none : AllByRecursion (λ t. old.trees t.tree ≡ []) schema_1.tables = subst (λ (s : Schema). AllByRecursion (λ t. old.trees t.tree ≡ []) s.tables) to.builds to.empty in
-    let before : Matches old.trees no_rows = ((none.0, tt), ((none.1.0, tt), ((none.1.1.0, tt), ((none.1.1.1.0, tt), ((none.1.1.1.1.0, tt), ((none.1.1.1.1.1.0, tt), ((none.1.1.1.1.1.1.0, tt), ((none.1.1.1.1.1.1.1.0, tt), ((none.1.1.1.1.1.1.1.1.0, tt), ((none.1.1.1.1.1.1.1.1.1.0, tt), ((none.1.1.1.1.1.1.1.1.1.1.0, tt), tt))))))))))) in
+    let none : AllByRecursion (λ t. old.trees t.tree ≡ []) newest_schema.tables = subst (λ (s : Schema). AllByRecursion (λ t. old.trees t.tree ≡ []) s.tables) to.builds to.empty in
+    let before : Matches old.trees no_rows = ((none.0, tt), ((none.1.0, tt), ((none.1.1.0, tt), ((none.1.1.1.0, tt), ((none.1.1.1.1.0, tt), ((none.1.1.1.1.1.0, tt), ((none.1.1.1.1.1.1.0, tt), ((none.1.1.1.1.1.1.1.0, tt), ((none.1.1.1.1.1.1.1.1.0, tt), ((none.1.1.1.1.1.1.1.1.1.0, tt), ((none.1.1.1.1.1.1.1.1.1.1.0, tt), ((none.1.1.1.1.1.1.1.1.1.1.1.0, tt), tt)))))))))))) in
     let clear : are_tables old.schema no_rows ≡ true = ap (λ s. are_tables s no_rows) to.builds in
-    let row : version_row ∷ [] ≡ put_row (with_rowid Chosen (old.trees meta_tree) given) (old.trees meta_tree) = ap (λ rows. put_row (with_rowid Chosen rows given) rows) (sym none.0) in
-    record { schema = put.schema ∙ to.builds; rows = matches_put meta_tree (with_rowid Chosen (old.trees meta_tree) given) (version_row ∷ []) old new no_rows put clear row before; sound = put.sound }
+    let row : version_row newest ∷ [] ≡ put_row (with_rowid Chosen (old.trees meta_tree) given) (old.trees meta_tree) = ap (λ rows. put_row (with_rowid Chosen rows given) rows) (sym none.0) in
+    record { schema = put.schema ∙ to.builds; rows = matches_put meta_tree (with_rowid Chosen (old.trees meta_tree) given) (version_row newest ∷ []) old new no_rows put clear row before; lacks = tt; sound = put.sound }
 
 pub versioned : {S : Type 0} (g : Ghosts S) (old new : Held S) (r : Result ℕ Error) → IfOk r (λ count. Ran g meta_put [] count old new) → OnOk r (Versioned g old new)
 versioned g old new (Err e) h = tt
 versioned g old new (Ok count) h =
     record { holds = λ to. versioned_from (state g old).now (state g new).now to (inserts meta_puts [] given (state g old) (state g new) (Ok count) to.builds refl refl h.executes).put; goes = h.goes }
 
--- the texts that were run so far
-pub defined_none : {S : Type 0} (g : Ghosts S) (a : Held S) → Defined g [] a a
-defined_none g a = record { builds = λ after to. to; goes = goes_same g a }
-
 pub filled : {S : Type 0} (g : Ghosts S) (a b c d : Held S) → Defined g create_texts a b → Versioned g b c → Step g (map first_tally all_places) c d → Filled g a d
 filled g a b c d one two three = record {
   holds = λ (none : a.schema ≡ no_schema).
-      let to : BuildsTo schema_1 create_texts (state g a).now = record { builds = subst (λ s. Builds s create_texts schema_1) (sym none) built; empty = subst (λ (s : Schema). AllByRecursion (λ t. (state g a).now.trees t.tree ≡ []) s.tables) (sym none) tt } in
-      three.holds blank_image (two.holds (one.builds schema_1 to));
+      let to : BuildsTo newest_schema create_texts (state g a).now = record { builds = subst (λ s. Builds s create_texts newest_schema) (sym none) built; empty = subst (λ (s : Schema). AllByRecursion (λ t. (state g a).now.trees t.tree ≡ []) s.tables) (sym none) tt } in
+      three.holds blank_ledger (two.holds (one.builds newest_schema to));
   goes = goes_then g a b d one.goes (goes_then g b c d two.goes three.goes);
 }
+
+-- the tables of a version, where there was none
+pub made_as : {S : Type 0} (g : Ghosts S) (version : Version) (a b : Held S) → Defined g (take (texts_count version) create_texts) a b → a.schema ≡ no_schema → b.schema ≡ schema_of version
+made_as g version a b one none =
+    let texts = take (texts_count version) create_texts in
+    let to : BuildsTo (schema_of version) texts (state g a).now = record {
+      builds = subst (λ s. Builds s texts (schema_of version)) (sym none) (built_as version);
+      empty = subst (λ (s : Schema). AllByRecursion (λ t. (state g a).now.trees t.tree ≡ []) s.tables) (sym none) tt;
+    } in
+    (one.builds (schema_of version) to).builds

@@ -14,21 +14,21 @@ use Rattle.tc_sql.specs.Puts.{PutsInto}
 use Rattle.tc_sql.specs.Numbered.{numbered, IsKeyedAt, AreAlike, HasAppended}
 use Rattle.tc_sql.proofs.Appends.{appends, same_text}
 use Rattle.tc_store.specs.Procedures.{procedure_tree, procedure_places, procedure_form, procedure_put, procedure_terms, procedure_values, is_same_procedure}
-use Rattle.tc_store.specs.Schema.{schema_1}
+use Rattle.tc_store.specs.Schema.{newest_schema}
 use Rattle.tc_store.proofs.SchemaLemmas.{stepped_last}
 
-procedure_puts : PutsInto schema_1 procedure_form procedure_tree procedure_put procedure_terms
+procedure_puts : PutsInto newest_schema procedure_form procedure_tree procedure_put procedure_terms
 unfolding understood everything
 procedure_puts = record { at = 7; listed = refl; command = refl; plain = (refl, refl); single = refl; quiet = λ _ _. refl }
 
-procedure_keyed : IsKeyedAt schema_1 procedure_form procedure_tree procedure_places
+procedure_keyed : IsKeyedAt newest_schema procedure_form procedure_tree procedure_places
 procedure_keyed = record { at = 5; index = _; listed = refl; guarded = refl; columns = refl; order = refl }
 
 -- two procedures with one name have the same key
 tells : (y x : LoadedProcedure) (m n : ℕ) → is_same_procedure y x ≡ true → AreAlike procedure_places (Int (pos m) ∷ procedure_values y) (Int (pos n) ∷ procedure_values x)
 tells y x m n h = ((ap Text (same_text y.name x.name h), refl), tt)
 
-appended : (a : LoadedProcedure) (old new : State) (count : ℕ) → Executes procedure_put (procedure_values a) old new (Ok count) → (xs : List LoadedProcedure) → old.now.schema ≡ schema_1
+appended : (a : LoadedProcedure) (old new : State) (count : ℕ) → Executes procedure_put (procedure_values a) old new (Ok count) → (xs : List LoadedProcedure) → old.now.schema ≡ newest_schema
     → old.now.trees procedure_tree ≡ numbered (map procedure_values xs) → HasAppended procedure_tree procedure_values is_same_procedure a xs old.now new.now
 appended a old new count h xs has held =
     appends procedure_values is_same_procedure procedure_places tells procedure_puts procedure_keyed a xs (procedure_values a) old new (Ok count) has refl refl held h

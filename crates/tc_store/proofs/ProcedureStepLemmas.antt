@@ -15,14 +15,14 @@ use Rattle.tc_sql.specs.Puts.{PutsInto}
 use Rattle.tc_sql.specs.Numbered.{numbered, IsKeyedAt, AreAlike, HasAppended}
 use Rattle.tc_sql.proofs.Appends.{appends, same_text}
 use Rattle.tc_store.specs.ProcedureSteps.{step_tree, step_places, step_form, step_put, step_terms, step_values, is_same_step}
-use Rattle.tc_store.specs.Schema.{schema_1}
+use Rattle.tc_store.specs.Schema.{newest_schema}
 use Rattle.tc_store.proofs.SchemaLemmas.{stepped_last}
 
-step_puts : PutsInto schema_1 step_form step_tree step_put step_terms
+step_puts : PutsInto newest_schema step_form step_tree step_put step_terms
 unfolding understood everything
 step_puts = record { at = 8; listed = refl; command = refl; plain = (refl, refl); single = refl; quiet = λ _ _. refl }
 
-step_keyed : IsKeyedAt schema_1 step_form step_tree step_places
+step_keyed : IsKeyedAt newest_schema step_form step_tree step_places
 step_keyed = record { at = 6; index = _; listed = refl; guarded = refl; columns = refl; order = refl }
 
 -- two rows of one step of a procedure have the same key
@@ -32,7 +32,7 @@ tells y x m n h = (
   ((ap (λ k. Int (pos k)) (eqb-true y.step x.step (second_of_both _ _ h)), refl), tt),
 )
 
-appended : (a : ProcedureStep) (old new : State) (count : ℕ) → Executes step_put (step_values a) old new (Ok count) → (xs : List ProcedureStep) → old.now.schema ≡ schema_1
+appended : (a : ProcedureStep) (old new : State) (count : ℕ) → Executes step_put (step_values a) old new (Ok count) → (xs : List ProcedureStep) → old.now.schema ≡ newest_schema
     → old.now.trees step_tree ≡ numbered (map step_values xs) → HasAppended step_tree step_values is_same_step a xs old.now new.now
 appended a old new count h xs has held =
     appends step_values is_same_step step_places tells step_puts step_keyed a xs (step_values a) old new (Ok count) has refl refl held h

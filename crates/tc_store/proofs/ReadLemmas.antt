@@ -1,35 +1,82 @@
 -- What a text that only reads leaves, and how a table lies before it.
-use Rattle.std.proofs.Common.{◌≡◌, ℕ, List, map, true, sym, subst, ◌∙◌, Result, Ok, Err, IfOk, IsTrue}
+use Rattle.std.proofs.Common.{◌≡◌, inl, inr, ℕ, List, map, true, sym, subst, ◌∙◌, Result, Ok, Err, IfOk, OnOk, IsTrue}
 use Rattle.sqlite_value.specs.Order.{Row}
 use Rattle.sqlite_trees.specs.Tree.{IsTable}
 use Rattle.sqlite.specs.Given.{IsPlain}
 use Rattle.sqlite.specs.Listing.{understood}
-use Rattle.sqlite.specs.State.{State, Shown, FailsToQuery, Survives, CommitsShowing}
+use Rattle.sqlite_trees.specs.Tree.{Trees}
+use Rattle.sqlite_schema.specs.declared.schema.Schema.{Schema}
+use Rattle.sqlite_resolve.specs.declared.compiled.Compiled.{Compiled}
+use Rattle.sqlite_resolve.specs.declared.error.CompileError.{CompileError}
+use Rattle.sqlite.specs.State.{State, Shown, FailsToQuery, IsNotRun, CommitsShowing}
+use Rattle.sqlite.proofs.Callers.{never_commits}
 use Rattle.sqlite.specs.declared.error.Error.{Error}
-use Rattle.tc_types.specs.Tables.{Image}
+use Rattle.tc_store.specs.declared.versions.Version.{Version}
+use Rattle.tc_store.specs.Ledgers.{Ledger}
 use Rattle.tc_sql.specs.Contents.{has_tree, rows_in}
 use Rattle.tc_sql.proofs.Changes.{matches_at}
-use Rattle.tc_sql.proofs.Selects.{unchanged, fails_unchanged, commits_nothing}
-use Rattle.tc_store.specs.Schema.{schema_1, contents, Holds}
+use Rattle.tc_sql.proofs.Selects.{unchanged, fails_unchanged}
+use Rattle.tc_store.specs.Schema.{schema_of, contents_of, HoldsAs}
+use Rattle.tc_store.specs.Reads.{IsQuiet}
 
--- a table has the rows of the image, and their rowids rise
-pub rising : {X : Type 0} (tree : ℕ) (row : X → Row) (xs : List X) (image : Image) (s : State) → Holds s.now image → has_tree tree (contents image) ≡ true → rows_in tree (contents image) ≡ map row xs
+-- a table has the rows of the ledger, and their rowids rise
+pub rising : {X : Type 0} (tree : ℕ) (row : X → Row) (xs : List X) (version : Version) (ledger : Ledger) (s : State) → HoldsAs version s.now ledger → has_tree tree (contents_of version ledger.image ledger.replies) ≡ true → rows_in tree (contents_of version ledger.image ledger.replies) ≡ map row xs
     → (s.now.trees tree ≡ map row xs) × IsTable (s.now.trees tree)
-rising tree row xs image s held named is =
-    let at = matches_at s.now.trees tree (contents image) held.rows named in
+rising tree row xs version ledger s held named is =
+    let at = matches_at s.now.trees tree (contents_of version ledger.image ledger.replies) held.rows named in
     (at.0 ∙ is, subst IsTable (sym at.0) at.1)
 
-module _ (text : List ℕ) (plain : IsPlain (understood schema_1 text)) (params : Row) (image : Image) (old new : State) (held : Holds old.now image) where
-  pub still_holds : (rows : List Row) → Shown text params old new rows → Holds new.now image
-  still_holds rows h = subst (λ d. Holds d image) (sym (unchanged text params old new schema_1 held.schema plain rows h)) held
+-- ---- a text that only reads
+
+-- one that is understood, and is quiet, is plain
+plain_of : (schema : Schema) (text : List ℕ) (c : Compiled) → understood schema text ≡ Ok c → IsQuiet (understood schema text) → IsPlain (understood schema text)
+plain_of schema text c is quiet = subst IsPlain (sym is) (subst IsQuiet is quiet)
+
+-- and a plain one is quiet
+pub quiet_of : (r : Result Compiled CompileError) → IsPlain r → IsQuiet r
+quiet_of (Ok c) plain = plain
+quiet_of (Err e) plain = tt
+
+-- so a quiet text changes nothing, whether it is understood or not
+module _ (text : List ℕ) (params : Row) (schema : Schema) (quiet : IsQuiet (understood schema text)) (old new : State) (has : old.now.schema ≡ schema) where
+  same_after : (rows : List Row) → Shown text params old new rows → new.now ≡ old.now
+  unfolding Shown
+  same_after rows h = unchanged text params old new schema has (plain_of schema text h.0 (subst (λ s. understood s text ≡ Ok h.0) has h.1.is) quiet) rows h
+
+  same_failing : (e : Error) → (IsTrue old.is_open → old.now ≡ old.committed) → FailsToQuery text params old new e → IsTrue new.is_open → new.now ≡ old.now
+  unfolding FailsToQuery IsNotRun
+  same_failing e settled (inl (inl none)) stays = none.1.0.now_is
+  same_failing e settled (inl (inr fails)) stays = (fails.3.undone stays).0 ∙ sym (settled (fails.3.was_open stays))
+  same_failing e settled (inr h) stays = fails_unchanged text params old new schema has (plain_of schema text h.0 (subst (λ s. understood s text ≡ Ok h.0) has h.1.is) quiet) e settled (inr h) stays
+
+  none_committed : (db : Trees) → ¬ CommitsShowing text params old db
+  unfolding CommitsShowing
+  none_committed db h = never_commits text params old db (subst (λ s. IsPlain (understood s text)) (sym has) (plain_of schema text h.0 (subst (λ s. understood s text ≡ Ok h.0) has h.1.is) quiet)) h
+
+-- tables of each version stay
+module _ (text : List ℕ) (quiet : (version : Version) → IsQuiet (understood (schema_of version) text)) (params : Row) (old new : State) where
+  pub still_same : (version : Version) → old.now.schema ≡ schema_of version → (rows : List Row) → Shown text params old new rows → new.now ≡ old.now
+  still_same version has rows h = same_after text params (schema_of version) (quiet version) old new has rows h
+
+  pub still_holds : (version : Version) (ledger : Ledger) → HoldsAs version old.now ledger → (rows : List Row) → Shown text params old new rows → HoldsAs version new.now ledger
+  still_holds version ledger held rows h = subst (λ d. HoldsAs version d ledger) (sym (still_same version held.schema rows h)) held
 
   -- a read that fails leaves the tables too, where the connection is open and no transaction was
-  pub fails_holding : (e : Error) → (IsTrue old.is_open → old.now ≡ old.committed) → FailsToQuery text params old new e → IsTrue new.is_open → Holds new.now image
-  fails_holding e settled h stays = subst (λ d. Holds d image) (sym (fails_unchanged text params old new schema_1 held.schema plain e settled h stays)) held
+  pub fails_holding : (version : Version) (ledger : Ledger) → HoldsAs version old.now ledger → (e : Error) → (IsTrue old.is_open → old.now ≡ old.committed) → FailsToQuery text params old new e → IsTrue new.is_open
+      → HoldsAs version new.now ledger
+  fails_holding version ledger held e settled h stays = subst (λ d. HoldsAs version d ledger) (sym (same_failing text params (schema_of version) (quiet version) old new held.schema e settled h stays)) held
 
-  pub is_quiet : Survives old new (CommitsShowing text params old) → Survives old new (λ _. ⊥)
-  is_quiet = commits_nothing text params old new schema_1 held.schema plain
+  pub commits_none : (version : Version) (ledger : Ledger) → HoldsAs version old.now ledger → (db : Trees) → ¬ CommitsShowing text params old db
+  commits_none version ledger held db = none_committed text params (schema_of version) (quiet version) old new held.schema db
 
 pub if_ok : {T E : Type 0} (r : Result T E) (P Q : T → Type 0) → IfOk r P → ((x : T) → P x → Q x) → IfOk r Q
 if_ok (Ok x) P Q h f = f x h
 if_ok (Err e) P Q h f = tt
+
+pub ok_if : {T E : Type 0} (r : Result T E) (P : T → Type 0) (Q : Type 0) → IfOk r P → ((x : T) → P x → Q) → OnOk r Q
+ok_if (Ok x) P Q h f = f x h
+ok_if (Err e) P Q h f = tt
+
+pub both_ok : {T E : Type 0} (r : Result T E) (P Q R : T → Type 0) → IfOk r P → IfOk r Q → ((x : T) → P x → Q x → R x) → IfOk r R
+both_ok (Ok x) P Q R a b f = f x a b
+both_ok (Err e) P Q R a b f = tt

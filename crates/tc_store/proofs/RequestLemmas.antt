@@ -17,21 +17,21 @@ use Rattle.tc_sql.specs.Puts.{PutsInto, UpsertsIn, HasPut, HasInserted}
 use Rattle.tc_sql.proofs.Inserts.{puts}
 use Rattle.tc_sql.proofs.Upserts.{upserts}
 use Rattle.tc_store.specs.Requests.{request_tree, request_form, request_put, request_put_again, request_terms, request_again, request_given, request_row}
-use Rattle.tc_store.specs.Schema.{schema_1}
+use Rattle.tc_store.specs.Schema.{newest_schema}
 use Rattle.tc_store.proofs.SchemaLemmas.{stepped, stepped_over}
 
-request_puts : PutsInto schema_1 request_form request_tree request_put request_terms
+request_puts : PutsInto newest_schema request_form request_tree request_put request_terms
 unfolding understood everything
 request_puts = record { at = 1; listed = refl; command = refl; plain = (refl, refl); single = refl; quiet = λ _ _. refl }
 
-request_upserts : UpsertsIn schema_1 request_form request_tree request_put_again request_terms 15 request_again
+request_upserts : UpsertsIn newest_schema request_form request_tree request_put_again request_terms 15 request_again
 unfolding understood everything
 request_upserts = record { at = 1; listed = refl; command = refl; plain = (refl, refl); single = refl; quiet = λ _ _. refl; alone = λ _ _. refl }
 
-inserted : (r : PlacedRequest) (old new : State) (count : ℕ) → Executes request_put (request_given r) old new (Ok count) → old.now.schema ≡ schema_1 → HasInserted request_tree (request_row r) old.now new.now
+inserted : (r : PlacedRequest) (old new : State) (count : ℕ) → Executes request_put (request_given r) old new (Ok count) → old.now.schema ≡ newest_schema → HasInserted request_tree (request_row r) old.now new.now
 inserted r old new count h has = puts request_puts request_key request_row (λ _. refl) r (request_given r) old new (Ok count) has refl refl h
 
-put_again : (r : PlacedRequest) (old new : State) (count : ℕ) → Executes request_put_again (request_given r) old new (Ok count) → (xs : List PlacedRequest) → old.now.schema ≡ schema_1
+put_again : (r : PlacedRequest) (old new : State) (count : ℕ) → Executes request_put_again (request_given r) old new (Ok count) → (xs : List PlacedRequest) → old.now.schema ≡ newest_schema
     → old.now.trees request_tree ≡ map request_row xs → IsTable (map request_row xs) → HasPut request_tree (request_row r) old.now new.now
 put_again r old new count h xs has held table =
     upserts request_upserts request_key request_row (λ _. refl) r xs (request_given r) old new (Ok count) has held table refl refl (record { placed = λ _. refl; again = λ _ _. refl }) h

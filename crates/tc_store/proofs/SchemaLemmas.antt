@@ -1,5 +1,5 @@
--- The texts of CREATE lead to the schema, and a row that is written leads from one image to the next.
-use Rattle.std.proofs.Common.{◌≡◌, ℕ, ◌==◌, List, [], ◌∷◌, ◌++◌, map, inl, inr, Bool, true, false, refl, sym, ap, subst, ◌∙◌}
+-- The texts of CREATE lead to the schema of each version, and a row that is written leads from one ledger to the next.
+use Rattle.std.proofs.Common.{◌≡◌, ℕ, ◌==◌, List, [], ◌∷◌, ◌++◌, map, take, inl, inr, Bool, true, false, refl, sym, ap, subst, ◌∙◌}
 use Rattle.std.specs.List.{list_any}
 use Rattle.sqlite_value.specs.Order.{Row as Values}
 use Rattle.sqlite_trees.specs.Tree.{IsTable}
@@ -10,7 +10,10 @@ use Rattle.sqlite.specs.Effect.{Database, IsDatabase}
 use Rattle.sqlite_tied.specs.Compute.{everything}
 use Rattle.sqlite.specs.Listing.{understood}
 use Rattle.tc_types.specs.Tables as tables
-use Rattle.tc_types.specs.Tables.{Image, with_row}
+use Rattle.tc_store.specs.declared.versions.Version.{Version}
+use Rattle.tc_store.specs.declared.versions.Version.TheVariants.{First, Second}
+use Rattle.tc_types.specs.Tables.{Image}
+use Rattle.tc_store.specs.Ledgers.{Ledger, with_image}
 use Rattle.tc_types.specs.declared.tables.rows.Row.{Row}
 use Rattle.tc_sql.specs.Forms.{table_of}
 use Rattle.tc_sql.specs.Builds.{no_schema, Builds}
@@ -31,13 +34,15 @@ use Rattle.tc_store.specs.Procedures.{procedure_form}
 use Rattle.tc_store.specs.ProcedureSteps.{step_form}
 use Rattle.tc_store.specs.Executions.{execution_form}
 use Rattle.tc_store.specs.Records.{record_form}
-use Rattle.tc_store.specs.Schema.{create_texts, with_meta, with_request, with_move, with_index, with_tally, with_approval, with_stack, with_stack_approval, with_procedure, with_step, with_execution, schema_1, contents, Holds}
+use Rattle.tc_store.specs.Replies.{reply_form}
+use Rattle.sqlite_schema.specs.declared.schema.Schema.{Schema}
+use Rattle.tc_store.specs.Schema.{create_texts, with_meta, with_request, with_move, with_index, with_tally, with_approval, with_stack, with_stack_approval, with_procedure, with_step, with_execution, schema_1, schema_of, newest_schema, texts_count, missing_texts, contents, Holds}
 use Rattle.tc_store.specs.Steps.{Goes, IsNewIn, Step}
 use Rattle.tc_store.proofs.Rows.{same_put}
 
-pub built : Builds no_schema create_texts schema_1
+built_first : Builds no_schema (take 12 create_texts) schema_1
 unfolding understood everything
-built = (
+built_first = (
   with_meta,
   inl (record { table = table_of meta_form 0; command = refl; plain = (refl, refl); whole = refl; defined = refl; uncounted = refl; is = refl }),
   (
@@ -87,75 +92,98 @@ built = (
   ),
 )
 
+-- a chain behind another
+built_then : (before mid after : Schema) (texts more : List (List ℕ)) → Builds before texts mid → Builds mid more after → Builds before (texts ++ more) after
+built_then before mid after [] more one two = subst (λ s. Builds s more after) (sym one) two
+built_then before mid after (text ∷ texts) more one two = (one.0, one.1, built_then one.0 mid after texts more one.2 two)
+
+-- from each version to the newest
+pub built_from : (version : Version) → Builds (schema_of version) (missing_texts version) newest_schema
+unfolding understood everything
+built_from First = (
+  newest_schema,
+  inl (record { table = table_of reply_form 0; command = refl; plain = (refl, refl); whole = refl; defined = refl; uncounted = refl; is = refl }),
+  refl,
+)
+built_from Second = refl
+
+pub built : Builds no_schema create_texts newest_schema
+built = built_then no_schema schema_1 newest_schema (take 12 create_texts) (missing_texts First) built_first (built_from First)
+
+-- to each version
+pub built_as : (version : Version) → Builds no_schema (take (texts_count version) create_texts) (schema_of version)
+built_as First = built_first
+built_as Second = built
+
 -- each tree of the contents is a table's
-pub clear : (image : Image) → are_tables schema_1 (contents image) ≡ true
-clear image = refl
+pub clear : (ledger : Ledger) → are_tables newest_schema (contents ledger) ≡ true
+clear ledger = refl
 
--- where one tree changed, and the image with it
-holds_after : (old new : Database) (tree : ℕ) (rows : List Values) (image after : Image) → new.schema ≡ old.schema → IsDatabase new → Matches new.trees (with_rows tree rows (contents image))
-    → with_rows tree rows (contents image) ≡ contents after → Holds old image → Holds new after
-holds_after old new tree rows image after same sound has becomes held = record { schema = same ∙ held.schema; rows = subst (Matches new.trees) becomes has; sound = sound }
+-- where one tree changed, and the ledger with it
+pub holds_after : (old new : Database) (tree : ℕ) (rows : List Values) (ledger after : Ledger) → new.schema ≡ old.schema → IsDatabase new → Matches new.trees (with_rows tree rows (contents ledger))
+    → with_rows tree rows (contents ledger) ≡ contents after → Holds old ledger → Holds new after
+holds_after old new tree rows ledger after same sound has becomes held = record { schema = same ∙ held.schema; rows = subst (Matches new.trees) becomes has; lacks = tt; sound = sound }
 
-unindexed : (db : Database) (image : Image) → Holds db image → are_tables db.schema (contents image) ≡ true
-unindexed db image held = ap (λ s. are_tables s (contents image)) held.schema ∙ clear image
+pub unindexed : (db : Database) (ledger : Ledger) → Holds db ledger → are_tables db.schema (contents ledger) ≡ true
+unindexed db ledger held = ap (λ s. are_tables s (contents ledger)) held.schema ∙ clear ledger
 
 -- a row in a table that is keyed by a number
 module _ {S : Type 0} (g : Ghosts S) {X : Type 0} (key : X → ℕ) (row : X → Values) (keyed : IsKeyed key row) (x : X) (list : Image → List X) (tree : ℕ) (entry : Row) (old new : Held S)
-    (named : (image : Image) → has_tree tree (contents image) ≡ true) (is : (image : Image) → rows_in tree (contents image) ≡ map row (list image))
-    (becomes : (image : Image) → with_rows tree (map row (tables.put_by key x (list image))) (contents image) ≡ contents (with_row image entry)) where
+    (named : (ledger : Ledger) → has_tree tree (contents ledger) ≡ true) (is : (ledger : Ledger) → rows_in tree (contents ledger) ≡ map row (list ledger.image))
+    (becomes : (ledger : Ledger) → with_rows tree (map row (tables.put_by key x (list ledger.image))) (contents ledger) ≡ contents (with_image (entry ∷ []) ledger)) where
   abbrev before : Database
   before = (state g old).now
 
   abbrev after : Database
   after = (state g new).now
 
-  there : (image : Image) → Holds before image → (before.trees tree ≡ map row (list image)) × IsTable (map row (list image))
-  there image held =
-      let at = matches_at before.trees tree (contents image) held.rows (named image) in
-      (at.0 ∙ is image, subst IsTable (is image) at.1)
+  there : (ledger : Ledger) → Holds before ledger → (before.trees tree ≡ map row (list ledger.image)) × IsTable (map row (list ledger.image))
+  there ledger held =
+      let at = matches_at before.trees tree (contents ledger) held.rows (named ledger) in
+      (at.0 ∙ is ledger, subst IsTable (is ledger) at.1)
 
-  holds_put : (image : Image) → Holds before image → HasPut tree (row x) before after → Holds after (with_row image entry)
-  holds_put image held put =
-      holds_after before after tree (map row (tables.put_by key x (list image))) image (with_row image entry) put.schema put.sound
-      (subst (λ ys. Matches after.trees (with_rows tree (map row ys) (contents image))) (same_put key x (list image))
-      (matches_keyed key row keyed x (list image) tree before after (contents image) put (unindexed before image held) (named image) (is image) held.rows)) (becomes image) held
+  holds_put : (ledger : Ledger) → Holds before ledger → HasPut tree (row x) before after → Holds after (with_image (entry ∷ []) ledger)
+  holds_put ledger held put =
+      holds_after before after tree (map row (tables.put_by key x (list ledger.image))) ledger (with_image (entry ∷ []) ledger) put.schema put.sound
+      (subst (λ ys. Matches after.trees (with_rows tree (map row ys) (contents ledger))) (same_put key x (list ledger.image))
+      (matches_keyed key row keyed x (list ledger.image) tree before after (contents ledger) put (unindexed before ledger held) (named ledger) (is ledger) held.rows)) (becomes ledger) held
 
-  is_new : (image : Image) → Holds before image → HasInserted tree (row x) before after → list_any (λ y. key y == key x) (list image) ≡ false
-  is_new image held inserted = sym (taken_keyed key row keyed x (list image)) ∙ ap (λ rows. is_taken rows (row x)) (sym (there image held).0) ∙ inserted.fresh
+  is_new : (ledger : Ledger) → Holds before ledger → HasInserted tree (row x) before after → list_any (λ y. key y == key x) (list ledger.image) ≡ false
+  is_new ledger held inserted = sym (taken_keyed key row keyed x (list ledger.image)) ∙ ap (λ rows. is_taken rows (row x)) (sym (there ledger held).0) ∙ inserted.fresh
 
   -- a new one, where no row had its key
-  pub stepped : ((image : Image) → list_any (λ y. key y == key x) (list image) ≡ false → IsNewIn image entry) → (old.schema ≡ schema_1 → HasInserted tree (row x) before after) → Goes g old new
+  pub stepped : ((image : Image) → list_any (λ y. key y == key x) (list image) ≡ false → IsNewIn image entry) → (old.schema ≡ newest_schema → HasInserted tree (row x) before after) → Goes g old new
       → Step g (entry ∷ []) old new
   stepped alone inserted goes = record {
-    fresh = λ image held. (alone image (is_new image held (inserted held.schema)), tt);
-    holds = λ image held. holds_put image held (inserted held.schema).put;
+    fresh = λ ledger held. (alone ledger.image (is_new ledger held (inserted held.schema)), tt);
+    holds = λ ledger held. holds_put ledger held (inserted held.schema).put;
     goes = goes;
   }
 
   -- one in place of the row with its key, where there is one
   pub stepped_over : ((image : Image) → IsNewIn image entry)
-      → ((xs : List X) → old.schema ≡ schema_1 → before.trees tree ≡ map row xs → IsTable (map row xs) → HasPut tree (row x) before after) → Goes g old new → Step g (entry ∷ []) old new
+      → ((xs : List X) → old.schema ≡ newest_schema → before.trees tree ≡ map row xs → IsTable (map row xs) → HasPut tree (row x) before after) → Goes g old new → Step g (entry ∷ []) old new
   stepped_over free put goes = record {
-    fresh = λ image held. (free image, tt);
-    holds = λ image held. holds_put image held (put (list image) held.schema (there image held).0 (there image held).1);
+    fresh = λ ledger held. (free ledger.image, tt);
+    holds = λ ledger held. holds_put ledger held (put (list ledger.image) held.schema (there ledger held).0 (there ledger held).1);
     goes = goes;
   }
 
 -- the same of a table whose key is a text or several columns
 module _ {S : Type 0} (g : Ghosts S) {X : Type 0} (values : X → Values) (same : X → X → Bool) (x : X) (list : Image → List X) (tree : ℕ) (entry : Row) (old new : Held S)
-    (named : (image : Image) → has_tree tree (contents image) ≡ true) (is : (image : Image) → rows_in tree (contents image) ≡ numbered (map values (list image)))
-    (becomes : (image : Image) → with_rows tree (numbered (map values (list image ++ x ∷ []))) (contents image) ≡ contents (with_row image entry))
+    (named : (ledger : Ledger) → has_tree tree (contents ledger) ≡ true) (is : (ledger : Ledger) → rows_in tree (contents ledger) ≡ numbered (map values (list ledger.image)))
+    (becomes : (ledger : Ledger) → with_rows tree (numbered (map values (list ledger.image ++ x ∷ []))) (contents ledger) ≡ contents (with_image (entry ∷ []) ledger))
     (alone : (image : Image) → list_any (λ y. same y x) (list image) ≡ false → IsNewIn image entry)
-    (appended : (xs : List X) → old.schema ≡ schema_1 → (state g old).now.trees tree ≡ numbered (map values xs) → HasAppended tree values same x xs (state g old).now (state g new).now) where
-  has_appended : (image : Image) → Holds (state g old).now image → HasAppended tree values same x (list image) (state g old).now (state g new).now
-  has_appended image held = appended (list image) held.schema ((matches_at (state g old).now.trees tree (contents image) held.rows (named image)).0 ∙ is image)
+    (appended : (xs : List X) → old.schema ≡ newest_schema → (state g old).now.trees tree ≡ numbered (map values xs) → HasAppended tree values same x xs (state g old).now (state g new).now) where
+  has_appended : (ledger : Ledger) → Holds (state g old).now ledger → HasAppended tree values same x (list ledger.image) (state g old).now (state g new).now
+  has_appended ledger held = appended (list ledger.image) held.schema ((matches_at (state g old).now.trees tree (contents ledger) held.rows (named ledger)).0 ∙ is ledger)
 
   pub stepped_last : Goes g old new → Step g (entry ∷ []) old new
   stepped_last goes = record {
-    fresh = λ image held. (alone image (has_appended image held).alone, tt);
-    holds = λ image held. holds_after (state g old).now (state g new).now tree (numbered (map values (list image ++ x ∷ []))) image (with_row image entry)
-        (has_appended image held).put.schema (has_appended image held).put.sound
-        (matches_appended values same x (list image) tree (state g old).now (state g new).now (contents image) (has_appended image held) (unindexed (state g old).now image held) (named image) (is image) held.rows)
-        (becomes image) held;
+    fresh = λ ledger held. (alone ledger.image (has_appended ledger held).alone, tt);
+    holds = λ ledger held. holds_after (state g old).now (state g new).now tree (numbered (map values (list ledger.image ++ x ∷ []))) ledger (with_image (entry ∷ []) ledger)
+        (has_appended ledger held).put.schema (has_appended ledger held).put.sound
+        (matches_appended values same x (list ledger.image) tree (state g old).now (state g new).now (contents ledger) (has_appended ledger held) (unindexed (state g old).now ledger held) (named ledger) (is ledger) held.rows)
+        (becomes ledger) held;
     goes = goes;
   }

@@ -15,14 +15,14 @@ use Rattle.tc_sql.specs.Puts.{PutsInto}
 use Rattle.tc_sql.specs.Numbered.{numbered, IsKeyedAt, AreAlike, HasAppended}
 use Rattle.tc_sql.proofs.Appends.{appends, same_text}
 use Rattle.tc_store.specs.StackApprovals.{stack_approval_tree, stack_approval_places, stack_approval_form, stack_approval_put, stack_approval_terms, stack_approval_values, is_same_stack_approval}
-use Rattle.tc_store.specs.Schema.{schema_1}
+use Rattle.tc_store.specs.Schema.{newest_schema}
 use Rattle.tc_store.proofs.SchemaLemmas.{stepped_last}
 
-approval_puts : PutsInto schema_1 stack_approval_form stack_approval_tree stack_approval_put stack_approval_terms
+approval_puts : PutsInto newest_schema stack_approval_form stack_approval_tree stack_approval_put stack_approval_terms
 unfolding understood everything
 approval_puts = record { at = 6; listed = refl; command = refl; plain = (refl, refl); single = refl; quiet = λ _ _. refl }
 
-approval_keyed : IsKeyedAt schema_1 stack_approval_form stack_approval_tree stack_approval_places
+approval_keyed : IsKeyedAt newest_schema stack_approval_form stack_approval_tree stack_approval_places
 approval_keyed = record { at = 4; index = _; listed = refl; guarded = refl; columns = refl; order = refl }
 
 -- two approvals of one stack by one person have the same key
@@ -32,7 +32,7 @@ tells y x m n h = (
   ((ap Text (same_text y.person x.person (second_of_both _ _ h)), refl), tt),
 )
 
-appended : (a : StackApproval) (old new : State) (count : ℕ) → Executes stack_approval_put (stack_approval_values a) old new (Ok count) → (xs : List StackApproval) → old.now.schema ≡ schema_1
+appended : (a : StackApproval) (old new : State) (count : ℕ) → Executes stack_approval_put (stack_approval_values a) old new (Ok count) → (xs : List StackApproval) → old.now.schema ≡ newest_schema
     → old.now.trees stack_approval_tree ≡ numbered (map stack_approval_values xs) → HasAppended stack_approval_tree stack_approval_values is_same_stack_approval a xs old.now new.now
 appended a old new count h xs has held =
     appends stack_approval_values is_same_stack_approval stack_approval_places tells approval_puts approval_keyed a xs (stack_approval_values a) old new (Ok count) has refl refl held h

@@ -14,21 +14,21 @@ use Rattle.tc_sql.specs.Puts.{PutsInto}
 use Rattle.tc_sql.specs.Numbered.{numbered, IsKeyedAt, AreAlike, HasAppended}
 use Rattle.tc_sql.proofs.Appends.{appends, same_text}
 use Rattle.tc_store.specs.Stacks.{stack_tree, stack_places, stack_form, stack_put, stack_terms, stack_values, is_same_stack}
-use Rattle.tc_store.specs.Schema.{schema_1}
+use Rattle.tc_store.specs.Schema.{newest_schema}
 use Rattle.tc_store.proofs.SchemaLemmas.{stepped_last}
 
-stack_puts : PutsInto schema_1 stack_form stack_tree stack_put stack_terms
+stack_puts : PutsInto newest_schema stack_form stack_tree stack_put stack_terms
 unfolding understood everything
 stack_puts = record { at = 5; listed = refl; command = refl; plain = (refl, refl); single = refl; quiet = λ _ _. refl }
 
-stack_keyed : IsKeyedAt schema_1 stack_form stack_tree stack_places
+stack_keyed : IsKeyedAt newest_schema stack_form stack_tree stack_places
 stack_keyed = record { at = 3; index = _; listed = refl; guarded = refl; columns = refl; order = refl }
 
 -- two stacks with one name have the same key
 tells : (y x : LoadedStack) (m n : ℕ) → is_same_stack y x ≡ true → AreAlike stack_places (Int (pos m) ∷ stack_values y) (Int (pos n) ∷ stack_values x)
 tells y x m n h = ((ap Text (same_text y.name x.name h), refl), tt)
 
-appended : (s : LoadedStack) (old new : State) (count : ℕ) → Executes stack_put (stack_values s) old new (Ok count) → (xs : List LoadedStack) → old.now.schema ≡ schema_1
+appended : (s : LoadedStack) (old new : State) (count : ℕ) → Executes stack_put (stack_values s) old new (Ok count) → (xs : List LoadedStack) → old.now.schema ≡ newest_schema
     → old.now.trees stack_tree ≡ numbered (map stack_values xs) → HasAppended stack_tree stack_values is_same_stack s xs old.now new.now
 appended s old new count h xs has held = appends stack_values is_same_stack stack_places tells stack_puts stack_keyed s xs (stack_values s) old new (Ok count) has refl refl held h
 

@@ -1,5 +1,5 @@
 -- How the steps of a transaction follow one another.
-use Rattle.std.proofs.Common.{◌≡◌, true, inl, ℕ, ◌+◌, ◌<◌, ◌≤◌, arith, length, take, get_or, List, [], ◌∷◌, ◌++◌, Result, IfOk, refl, subst, sym, ◌∙◌, take_all}
+use Rattle.std.proofs.Common.{◌≡◌, true, ℕ, ◌+◌, ◌<◌, arith, length, take, get_or, List, [], ◌∷◌, ◌++◌, Result, IfOk, refl, subst, sym, ◌∙◌}
 use Rattle.std.specs.Borrow.{MutBor}
 use Rattle.std.proofs.lemmas.List.{take_more}
 use Rattle.std.proofs.lemmas.List.Sums.{fold_more}
@@ -10,20 +10,16 @@ use Rattle.sqlite.specs.State.{State, HasCleanDisk, KeepsCommit, Survives}
 use Rattle.sqlite.specs.Held.{Held, state}
 use Rattle.sqlite.proofs.StateLemmas.{survives_then}
 use Rattle.tc_types.specs.declared.tables.rows.Row.{Row}
+use Rattle.tc_store.specs.declared.batches.Batch.{Batch}
 use Rattle.tc_types.specs.Tables.{Image, with_row, applied}
+use Rattle.tc_store.specs.Ledgers.{with_image, from_of, kept_in, written}
 use Rattle.tc_sql.specs.Contents.{Matches}
-use Rattle.tc_store.specs.Schema.{schema_1, contents, Holds}
-use Rattle.tc_store.specs.Steps.{Goes, Does, IsNewIn, AreNew, Step, HasBatch}
-
-pub survives_same : (a : State) (P : Trees → Type 0) → Survives a a P
-survives_same a P = record { clean = omega arith; shield = λ h. h; counts = omega arith; limit = refl; closes = λ clean stays. inl stays; crash = λ clean db left. inl left }
+use Rattle.tc_store.specs.Schema.{newest_schema, contents, Holds}
+use Rattle.tc_store.specs.Steps.{Goes, Does, IsNewIn, AreNew, Step, Replied, Migrated, Wrote, HasBatch}
 
 -- two calls, neither of which commits
 pub survives_both : (a b c : State) → Survives a b (λ _. ⊥) → Survives b c (λ _. ⊥) → Survives a c (λ _. ⊥)
 survives_both a b c one two = survives_then a b c (λ _. ⊥) (λ _. ⊥) (λ _. ⊥) (λ _ db none. none) (λ _ db none. none) one two
-
-pub keeps_same : (a : State) → KeepsCommit a a
-keeps_same a = record { was_open = λ h. h; committed = λ _. refl }
 
 pub keeps_then : (a b c : State) → KeepsCommit a b → KeepsCommit b c → KeepsCommit a c
 keeps_then a b c one two = record { was_open = λ h. one.was_open (two.was_open h); committed = λ h. two.committed h ∙ one.committed (two.was_open h) }
@@ -45,31 +41,33 @@ module _ {S : Type 0} (g : Ghosts S) where
   pub goes_then : (a b c : Held S) → Goes g a b → Goes g b c → Goes g a c
   goes_then a b c one two = record { committed = two.committed ∙ one.committed; mode = two.mode ∙ one.mode; is_open = two.is_open ∙ one.is_open }
 
-  pub step_none : (a : Held S) (rows : List Row) → Step g (take 0 rows) a a
-  step_none a rows = record { fresh = λ image held. tt; holds = λ image held. held; goes = goes_same a }
-
   pub step_more : (a b c : Held S) (rows : List Row) (k : ℕ) (d : Row) → k < length rows → Step g (take k rows) a b → Step g (get_or rows k d ∷ []) b c
       → Step g (take (k + 1) rows) a c
   step_more a b c rows k d within one two = record {
-    fresh = λ image held. subst (λ (done : List Row). AreNew image done) (sym (take_more rows k d within))
-        (new_more image (take k rows) (get_or rows k d) (one.fresh image held) (two.fresh (applied (take k rows) image) (one.holds image held)).0);
-    holds = λ image held. subst (λ (it : Image). Holds (state g c).now it) (sym (fold_more with_row image rows k d within)) (two.holds (applied (take k rows) image) (one.holds image held));
+    fresh = λ ledger held. subst (λ (done : List Row). AreNew ledger.image done) (sym (take_more rows k d within))
+        (new_more ledger.image (take k rows) (get_or rows k d) (one.fresh ledger held) (two.fresh (with_image (take k rows) ledger) (one.holds ledger held)).0);
+    holds = λ ledger held. subst (λ (it : Image). Holds (state g c).now (record ledger { image = it })) (sym (fold_more with_row ledger.image rows k d within)) (two.holds (with_image (take k rows) ledger) (one.holds ledger held));
     goes = goes_then a b c one.goes two.goes;
   }
-
-  pub step_all : (a b : Held S) (rows : List Row) (k : ℕ) → length rows ≤ k → Step g (take k rows) a b → Step g rows a b
-  step_all a b rows k all one = subst (λ (done : List Row). Step g done a b) (take_all k rows all) one
 
   -- that a transaction was begun leaves nothing else
   survives_begun : (a b : Held S) (P : Trees → Type 0) → Survives (state g (record a { in_transaction = true })) (state g b) P → Survives (state g a) (state g b) P
   survives_begun a b P one = record { clean = one.clean; shield = one.shield; counts = one.counts; limit = one.limit; closes = one.closes; crash = one.crash }
 
   -- the commit of a transaction in which a batch was written leaves what stood before, or that with the whole batch
-  pub survives_commit : (a b c : Held S) (rows : List Row) → Survives (state g (record a { in_transaction = true })) (state g b) (λ _. ⊥)
-      → (HasCleanDisk (state g b) → Step g rows (record a { in_transaction = true }) b) → Survives (state g b) (state g c) (λ db. db ≡ (state g b).now.trees)
-      → Survives (state g a) (state g c) (HasBatch (state g a).now rows)
-  survives_commit a b c rows one step two = survives_then (state g a) (state g b) (state g c) (λ _. ⊥) (λ db. db ≡ (state g b).now.trees) (HasBatch (state g a).now rows) (λ _ db none. absurd none)
-      (λ clean db is image held.
-      let after = (step (omega (arith, clean, two.clean))).holds image held in
-      subst (λ (trees : Trees). Matches trees (contents (applied rows image)) × IsSound schema_1 trees) (sym is) (after.rows, subst (λ s. IsSound s (state g b).now.trees) after.schema after.sound))
+  pub survives_commit : (a b c : Held S) (batch : Batch) → Survives (state g (record a { in_transaction = true })) (state g b) (λ _. ⊥)
+      → (HasCleanDisk (state g b) → Wrote g batch (record a { in_transaction = true }) b) → Survives (state g b) (state g c) (λ db. db ≡ (state g b).now.trees)
+      → Survives (state g a) (state g c) (HasBatch (state g a).now batch)
+  survives_commit a b c batch one step two = survives_then (state g a) (state g b) (state g c) (λ _. ⊥) (λ db. db ≡ (state g b).now.trees) (HasBatch (state g a).now batch) (λ _ db none. absurd none)
+      (λ clean db is ledger held.
+      let after = (step (omega (arith, clean, two.clean))).holds ledger held in
+      subst (λ (trees : Trees). Matches trees (contents (written batch ledger)) × IsSound newest_schema trees) (sym is) (after.rows, subst (λ s. IsSound s (state g b).now.trees) after.schema after.sound))
       (survives_begun a b (λ _. ⊥) one) two
+
+  -- a batch: the tables are brought to the newest version, then come the rows, then the reply
+  pub wrote : (batch : Batch) (a b c d : Held S) → Migrated g (from_of batch) a b → Step g batch.rows.now b c → Replied g (kept_in batch) c d → Wrote g batch a d
+  wrote batch a b c d one two three = record {
+    fresh = λ ledger held. (two.fresh ledger (one.holds ledger held), three.fresh (with_image batch.rows.now ledger) (two.holds ledger (one.holds ledger held)));
+    holds = λ ledger held. three.holds (with_image batch.rows.now ledger) (two.holds ledger (one.holds ledger held));
+    goes = goes_then a b d one.goes (goes_then b c d two.goes three.goes);
+  }

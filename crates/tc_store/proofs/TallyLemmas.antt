@@ -14,22 +14,24 @@ use Rattle.sqlite.specs.Held.{Held, state}
 use Rattle.tc_types.specs.declared.history.places.Place.TheVariants as place
 use Rattle.tc_types.specs.declared.tables.rows.Row.TheVariants.{Tallied}
 use Rattle.tc_types.specs.declared.tables.rows.Tally.{Tally}
-use Rattle.tc_types.specs.Tables.{Image, tally_key}
+use Rattle.tc_types.specs.Tables.{tally_key}
+use Rattle.tc_store.specs.declared.versions.Version.{Version}
+use Rattle.tc_store.specs.Ledgers.{Ledger}
 use Rattle.tc_sql.specs.Lists.{ListsFrom, no_limit}
 use Rattle.tc_sql.specs.Puts.{ReplacesIn, HasPut}
 use Rattle.tc_sql.proofs.Replaces.{replaces}
 use Rattle.tc_sql.proofs.Selects.{listed, listed_as}
-use Rattle.tc_store.specs.Schema.{schema_1, Holds}
+use Rattle.tc_store.specs.Schema.{newest_schema, schema_of, HoldsAs}
 use Rattle.tc_store.specs.Steps.{Ran, Step}
 use Rattle.tc_store.specs.Tallies.{tally_tree, tally_form, tally_put, tally_terms, tally_given, tally_row, tally_columns, tally_shown, tallies_text}
 use Rattle.tc_store.proofs.SchemaLemmas.{stepped_over}
 use Rattle.tc_store.proofs.ReadLemmas.{rising}
 
-tally_replaces : ReplacesIn schema_1 tally_form tally_tree tally_put tally_terms
+tally_replaces : ReplacesIn newest_schema tally_form tally_tree tally_put tally_terms
 unfolding understood everything
 tally_replaces = record { at = 3; listed = refl; command = refl; plain = (refl, refl); single = refl; quiet = λ _ _. refl; alone = λ _ _. refl }
 
-replaced : (t : Tally) (old new : State) (count : ℕ) → Executes tally_put (tally_given t) old new (Ok count) → (xs : List Tally) → old.now.schema ≡ schema_1 → old.now.trees tally_tree ≡ map tally_row xs
+replaced : (t : Tally) (old new : State) (count : ℕ) → Executes tally_put (tally_given t) old new (Ok count) → (xs : List Tally) → old.now.schema ≡ newest_schema → old.now.trees tally_tree ≡ map tally_row xs
     → IsTable (map tally_row xs) → HasPut tally_tree (tally_row t) old.now new.now
 replaced t old new count h xs has held table = replaces tally_replaces tally_key tally_row (λ _. refl) t xs (tally_given t) old new (Ok count) has held table refl refl refl h
 
@@ -41,20 +43,20 @@ tallied g t old new (Ok count) h =
 
 -- ---- the amounts
 
-pub tallies_is : ListsFrom schema_1 tally_tree tallies_text [] tally_columns no_limit
+pub tallies_is : (version : Version) → ListsFrom (schema_of version) tally_tree tallies_text [] tally_columns no_limit
 unfolding understood everything
-tallies_is = record { names = _; command = refl; plain = (refl, refl); unlisted = refl }
+tallies_is version = record { names = _; command = refl; plain = (refl, refl); unlisted = refl }
 
 filter_true : {X : Type 0} (xs : List X) → filter (λ _. true) xs ≡ xs
 filter_true [] = refl
 filter_true (x ∷ xs) = ap (λ l. x ∷ l) (filter_true xs)
 
-pub rows_tallies : (image : Image) (old new : State) (rows : List Row) → Holds old.now image → Shown tallies_text [] old new rows → rows ≡ map tally_shown image.tallies
-rows_tallies image old new rows held h =
-    let at = rising tally_tree tally_row image.tallies image old held refl refl in
-    listed tally_tree [] tally_columns no_limit [] schema_1 tallies_text old new held.schema tallies_is rows at.1 h
-    ∙ listed_as tally_tree [] tally_columns no_limit [] tally_row tally_shown (λ (t : Tally). true) image.tallies old.now.trees at.0 (λ t. refl) (λ t. refl)
-    ∙ ap (map tally_shown) (filter_true image.tallies)
+pub rows_tallies : (version : Version) (ledger : Ledger) (old new : State) (rows : List Row) → HoldsAs version old.now ledger → Shown tallies_text [] old new rows → rows ≡ map tally_shown ledger.image.tallies
+rows_tallies version ledger old new rows held h =
+    let at = rising tally_tree tally_row ledger.image.tallies version ledger old held refl refl in
+    listed tally_tree [] tally_columns no_limit [] (schema_of version) tallies_text old new held.schema (tallies_is version) rows at.1 h
+    ∙ listed_as tally_tree [] tally_columns no_limit [] tally_row tally_shown (λ (t : Tally). true) ledger.image.tallies old.now.trees at.0 (λ t. refl) (λ t. refl)
+    ∙ ap (map tally_shown) (filter_true ledger.image.tallies)
 
 abbrev none : Tally
 none = record { place = place.Entered; amount = 0 }

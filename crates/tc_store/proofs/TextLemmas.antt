@@ -4,7 +4,8 @@ use Rattle.sqlite_value.specs.Order.{Row}
 use Rattle.sqlite_tied.specs.Compute.{everything}
 use Rattle.sqlite.specs.Listing.{understood}
 use Rattle.sqlite.specs.State.{State, Shown}
-use Rattle.tc_types.specs.Tables.{Image}
+use Rattle.tc_store.specs.declared.versions.Version.{Version}
+use Rattle.tc_store.specs.Ledgers.{Ledger}
 use Rattle.tc_sql.specs.Lists.{ListsFrom, no_limit}
 use Rattle.tc_store.specs.Meta.{meta_tree}
 use Rattle.tc_store.specs.Requests.{request_tree, request_row, request_given}
@@ -17,72 +18,72 @@ use Rattle.tc_store.specs.Procedures.{procedure_tree, procedure_values}
 use Rattle.tc_store.specs.ProcedureSteps.{step_tree, step_values}
 use Rattle.tc_store.specs.Records.{record_tree, record_values}
 use Rattle.tc_store.specs.Loads.{all_request_text, all_request_columns, all_tally_text, all_tally_columns, all_execution_text, all_execution_columns, all_approval_text, all_approval_columns, all_stack_text, all_stack_columns, all_stack_approval_text, all_stack_approval_columns, all_procedure_text, all_procedure_columns, all_step_text, all_step_columns, all_record_text, all_record_columns, all_version_text, all_version_columns}
-use Rattle.tc_store.specs.Schema.{schema_1, Holds}
+use Rattle.tc_store.specs.Schema.{schema_of, HoldsAs}
 use Rattle.tc_store.proofs.LoadLemmas.{rows_keyed, rows_numbered}
 
-pub all_request_is : ListsFrom schema_1 request_tree all_request_text [] all_request_columns no_limit
+pub all_request_is : (version : Version) → ListsFrom (schema_of version) request_tree all_request_text [] all_request_columns no_limit
 unfolding understood everything
-all_request_is = record { names = _; command = refl; plain = (refl, refl); unlisted = refl }
+all_request_is version = record { names = _; command = refl; plain = (refl, refl); unlisted = refl }
 
-pub all_request_shown : (image : Image) (old new : State) (rows : List Row) → Holds old.now image → Shown all_request_text [] old new rows → rows ≡ map request_given image.requests
-all_request_shown image old new rows held h = rows_keyed request_tree all_request_columns request_row request_given all_request_text all_request_is image.requests image old new rows refl refl (λ x. refl) held h
+pub all_request_shown : (version : Version) (ledger : Ledger) (old new : State) (rows : List Row) → HoldsAs version old.now ledger → Shown all_request_text [] old new rows → rows ≡ map request_given ledger.image.requests
+all_request_shown version ledger old new rows held h = rows_keyed request_tree all_request_columns request_row request_given all_request_text all_request_is ledger.image.requests version ledger old new rows refl refl (λ x. refl) held h
 
-pub all_tally_is : ListsFrom schema_1 tally_tree all_tally_text [] all_tally_columns no_limit
+pub all_tally_is : (version : Version) → ListsFrom (schema_of version) tally_tree all_tally_text [] all_tally_columns no_limit
 unfolding understood everything
-all_tally_is = record { names = _; command = refl; plain = (refl, refl); unlisted = refl }
+all_tally_is version = record { names = _; command = refl; plain = (refl, refl); unlisted = refl }
 
-pub all_tally_shown : (image : Image) (old new : State) (rows : List Row) → Holds old.now image → Shown all_tally_text [] old new rows → rows ≡ map tally_given image.tallies
-all_tally_shown image old new rows held h = rows_keyed tally_tree all_tally_columns tally_row tally_given all_tally_text all_tally_is image.tallies image old new rows refl refl (λ x. refl) held h
+pub all_tally_shown : (version : Version) (ledger : Ledger) (old new : State) (rows : List Row) → HoldsAs version old.now ledger → Shown all_tally_text [] old new rows → rows ≡ map tally_given ledger.image.tallies
+all_tally_shown version ledger old new rows held h = rows_keyed tally_tree all_tally_columns tally_row tally_given all_tally_text all_tally_is ledger.image.tallies version ledger old new rows refl refl (λ x. refl) held h
 
-pub all_execution_is : ListsFrom schema_1 execution_tree all_execution_text [] all_execution_columns no_limit
+pub all_execution_is : (version : Version) → ListsFrom (schema_of version) execution_tree all_execution_text [] all_execution_columns no_limit
 unfolding understood everything
-all_execution_is = record { names = _; command = refl; plain = (refl, refl); unlisted = refl }
+all_execution_is version = record { names = _; command = refl; plain = (refl, refl); unlisted = refl }
 
-pub all_execution_shown : (image : Image) (old new : State) (rows : List Row) → Holds old.now image → Shown all_execution_text [] old new rows → rows ≡ map execution_given image.executions
-all_execution_shown image old new rows held h = rows_keyed execution_tree all_execution_columns execution_row execution_given all_execution_text all_execution_is image.executions image old new rows refl refl (λ x. refl) held h
+pub all_execution_shown : (version : Version) (ledger : Ledger) (old new : State) (rows : List Row) → HoldsAs version old.now ledger → Shown all_execution_text [] old new rows → rows ≡ map execution_given ledger.image.executions
+all_execution_shown version ledger old new rows held h = rows_keyed execution_tree all_execution_columns execution_row execution_given all_execution_text all_execution_is ledger.image.executions version ledger old new rows refl refl (λ x. refl) held h
 
-pub all_approval_is : ListsFrom schema_1 approval_tree all_approval_text [] all_approval_columns no_limit
+pub all_approval_is : (version : Version) → ListsFrom (schema_of version) approval_tree all_approval_text [] all_approval_columns no_limit
 unfolding understood everything
-all_approval_is = record { names = _; command = refl; plain = (refl, refl); unlisted = refl }
+all_approval_is version = record { names = _; command = refl; plain = (refl, refl); unlisted = refl }
 
-pub all_approval_shown : (image : Image) (old new : State) (rows : List Row) → Holds old.now image → Shown all_approval_text [] old new rows → rows ≡ map approval_values image.approvals
-all_approval_shown image old new rows held h = rows_numbered approval_tree all_approval_columns approval_values all_approval_text all_approval_is image.approvals image old new rows refl refl (λ n x. refl) held h
+pub all_approval_shown : (version : Version) (ledger : Ledger) (old new : State) (rows : List Row) → HoldsAs version old.now ledger → Shown all_approval_text [] old new rows → rows ≡ map approval_values ledger.image.approvals
+all_approval_shown version ledger old new rows held h = rows_numbered approval_tree all_approval_columns approval_values all_approval_text all_approval_is ledger.image.approvals version ledger old new rows refl refl (λ n x. refl) held h
 
-pub all_stack_is : ListsFrom schema_1 stack_tree all_stack_text [] all_stack_columns no_limit
+pub all_stack_is : (version : Version) → ListsFrom (schema_of version) stack_tree all_stack_text [] all_stack_columns no_limit
 unfolding understood everything
-all_stack_is = record { names = _; command = refl; plain = (refl, refl); unlisted = refl }
+all_stack_is version = record { names = _; command = refl; plain = (refl, refl); unlisted = refl }
 
-pub all_stack_shown : (image : Image) (old new : State) (rows : List Row) → Holds old.now image → Shown all_stack_text [] old new rows → rows ≡ map stack_values image.stacks
-all_stack_shown image old new rows held h = rows_numbered stack_tree all_stack_columns stack_values all_stack_text all_stack_is image.stacks image old new rows refl refl (λ n x. refl) held h
+pub all_stack_shown : (version : Version) (ledger : Ledger) (old new : State) (rows : List Row) → HoldsAs version old.now ledger → Shown all_stack_text [] old new rows → rows ≡ map stack_values ledger.image.stacks
+all_stack_shown version ledger old new rows held h = rows_numbered stack_tree all_stack_columns stack_values all_stack_text all_stack_is ledger.image.stacks version ledger old new rows refl refl (λ n x. refl) held h
 
-pub all_stack_approval_is : ListsFrom schema_1 stack_approval_tree all_stack_approval_text [] all_stack_approval_columns no_limit
+pub all_stack_approval_is : (version : Version) → ListsFrom (schema_of version) stack_approval_tree all_stack_approval_text [] all_stack_approval_columns no_limit
 unfolding understood everything
-all_stack_approval_is = record { names = _; command = refl; plain = (refl, refl); unlisted = refl }
+all_stack_approval_is version = record { names = _; command = refl; plain = (refl, refl); unlisted = refl }
 
-pub all_stack_approval_shown : (image : Image) (old new : State) (rows : List Row) → Holds old.now image → Shown all_stack_approval_text [] old new rows → rows ≡ map stack_approval_values image.stack_approvals
-all_stack_approval_shown image old new rows held h = rows_numbered stack_approval_tree all_stack_approval_columns stack_approval_values all_stack_approval_text all_stack_approval_is image.stack_approvals image old new rows refl refl (λ n x. refl) held h
+pub all_stack_approval_shown : (version : Version) (ledger : Ledger) (old new : State) (rows : List Row) → HoldsAs version old.now ledger → Shown all_stack_approval_text [] old new rows → rows ≡ map stack_approval_values ledger.image.stack_approvals
+all_stack_approval_shown version ledger old new rows held h = rows_numbered stack_approval_tree all_stack_approval_columns stack_approval_values all_stack_approval_text all_stack_approval_is ledger.image.stack_approvals version ledger old new rows refl refl (λ n x. refl) held h
 
-pub all_procedure_is : ListsFrom schema_1 procedure_tree all_procedure_text [] all_procedure_columns no_limit
+pub all_procedure_is : (version : Version) → ListsFrom (schema_of version) procedure_tree all_procedure_text [] all_procedure_columns no_limit
 unfolding understood everything
-all_procedure_is = record { names = _; command = refl; plain = (refl, refl); unlisted = refl }
+all_procedure_is version = record { names = _; command = refl; plain = (refl, refl); unlisted = refl }
 
-pub all_procedure_shown : (image : Image) (old new : State) (rows : List Row) → Holds old.now image → Shown all_procedure_text [] old new rows → rows ≡ map procedure_values image.procedures
-all_procedure_shown image old new rows held h = rows_numbered procedure_tree all_procedure_columns procedure_values all_procedure_text all_procedure_is image.procedures image old new rows refl refl (λ n x. refl) held h
+pub all_procedure_shown : (version : Version) (ledger : Ledger) (old new : State) (rows : List Row) → HoldsAs version old.now ledger → Shown all_procedure_text [] old new rows → rows ≡ map procedure_values ledger.image.procedures
+all_procedure_shown version ledger old new rows held h = rows_numbered procedure_tree all_procedure_columns procedure_values all_procedure_text all_procedure_is ledger.image.procedures version ledger old new rows refl refl (λ n x. refl) held h
 
-pub all_step_is : ListsFrom schema_1 step_tree all_step_text [] all_step_columns no_limit
+pub all_step_is : (version : Version) → ListsFrom (schema_of version) step_tree all_step_text [] all_step_columns no_limit
 unfolding understood everything
-all_step_is = record { names = _; command = refl; plain = (refl, refl); unlisted = refl }
+all_step_is version = record { names = _; command = refl; plain = (refl, refl); unlisted = refl }
 
-pub all_step_shown : (image : Image) (old new : State) (rows : List Row) → Holds old.now image → Shown all_step_text [] old new rows → rows ≡ map step_values image.steps
-all_step_shown image old new rows held h = rows_numbered step_tree all_step_columns step_values all_step_text all_step_is image.steps image old new rows refl refl (λ n x. refl) held h
+pub all_step_shown : (version : Version) (ledger : Ledger) (old new : State) (rows : List Row) → HoldsAs version old.now ledger → Shown all_step_text [] old new rows → rows ≡ map step_values ledger.image.steps
+all_step_shown version ledger old new rows held h = rows_numbered step_tree all_step_columns step_values all_step_text all_step_is ledger.image.steps version ledger old new rows refl refl (λ n x. refl) held h
 
-pub all_record_is : ListsFrom schema_1 record_tree all_record_text [] all_record_columns no_limit
+pub all_record_is : (version : Version) → ListsFrom (schema_of version) record_tree all_record_text [] all_record_columns no_limit
 unfolding understood everything
-all_record_is = record { names = _; command = refl; plain = (refl, refl); unlisted = refl }
+all_record_is version = record { names = _; command = refl; plain = (refl, refl); unlisted = refl }
 
-pub all_record_shown : (image : Image) (old new : State) (rows : List Row) → Holds old.now image → Shown all_record_text [] old new rows → rows ≡ map record_values image.records
-all_record_shown image old new rows held h = rows_numbered record_tree all_record_columns record_values all_record_text all_record_is image.records image old new rows refl refl (λ n x. refl) held h
+pub all_record_shown : (version : Version) (ledger : Ledger) (old new : State) (rows : List Row) → HoldsAs version old.now ledger → Shown all_record_text [] old new rows → rows ≡ map record_values ledger.image.records
+all_record_shown version ledger old new rows held h = rows_numbered record_tree all_record_columns record_values all_record_text all_record_is ledger.image.records version ledger old new rows refl refl (λ n x. refl) held h
 
-pub all_version_is : ListsFrom schema_1 meta_tree all_version_text [] all_version_columns no_limit
+pub all_version_is : (version : Version) → ListsFrom (schema_of version) meta_tree all_version_text [] all_version_columns no_limit
 unfolding understood everything
-all_version_is = record { names = _; command = refl; plain = (refl, refl); unlisted = refl }
+all_version_is version = record { names = _; command = refl; plain = (refl, refl); unlisted = refl }

@@ -1,4 +1,6 @@
 pub mod Faults
+pub mod CallNumbers
+pub mod Ledgers
 pub mod Meta
 pub mod Requests
 pub mod Moves
@@ -10,6 +12,7 @@ pub mod Procedures
 pub mod ProcedureSteps
 pub mod Executions
 pub mod Records
+pub mod Replies
 pub mod Schema
 pub mod Steps
 pub mod Commits

@@ -1,5 +1,5 @@
 -- What the tables show: all rows of each table, as the texts that read them show the columns.
-use Rattle.std.specs.Prelude.{◌≡◌, ℕ, ℤ, pos, true, int_le, List, [], ◌∷◌, filter, map, None, IsPermutation}
+use Rattle.std.specs.Prelude.{◌≡◌, ℕ, ℤ, pos, true, int_le, List, [], ◌∷◌, filter, map, None, IsPermutation, ⊤}
 use Rattle.std.specs.List.{AllByRecursion}
 use Rattle.sqlite_value.specs.declared.value.Value.{Value}
 use Rattle.sqlite_value.specs.declared.value.Value.TheVariants.{Int, Text}
@@ -19,7 +19,10 @@ use Rattle.tc_types.specs.declared.tables.rows.ProcedureStep.{ProcedureStep}
 use Rattle.tc_types.specs.declared.tables.rows.BegunExecution.{BegunExecution}
 use Rattle.tc_types.specs.declared.tables.rows.StepRecord.{StepRecord}
 use Rattle.tc_types.specs.Grammar.{outcome_word}
+use Rattle.tc_store.specs.declared.versions.Version.{Version}
+use Rattle.tc_store.specs.declared.versions.Version.TheVariants.{First, Second}
 use Rattle.tc_types.specs.Tables.{Image}
+use Rattle.tc_store.specs.Ledgers.{KeptAnswer, IsKeptAnswer}
 use Rattle.tc_store.specs.Meta.{meta_tree, version_shown}
 use Rattle.tc_store.specs.Requests.{request_tree, request_given, ack_number, service_of, subtype_of, target_of, time_of}
 use Rattle.tc_store.specs.Moves.{move_tree, move_columns, move_shown}
@@ -31,6 +34,7 @@ use Rattle.tc_store.specs.Procedures.{procedure_tree, procedure_values}
 use Rattle.tc_store.specs.ProcedureSteps.{step_tree, step_values}
 use Rattle.tc_store.specs.Executions.{execution_tree, execution_given}
 use Rattle.tc_store.specs.Records.{record_tree, record_values}
+use Rattle.tc_store.specs.Replies.{reply_tree, reply_columns, reply_values}
 use Rattle.tc_store.specs.Loads.{all_version_columns, all_request_columns, all_tally_columns, all_approval_columns, all_stack_columns, all_stack_approval_columns, all_procedure_columns, all_step_columns, all_execution_columns, all_record_columns, first_behind}
 
 -- what columns show of a row
@@ -83,12 +87,28 @@ pub record ShowsProcedures (db : Database) (procedures : List LoadedProcedure) (
   pub executions_are : ShowsRows (db.trees execution_tree) all_execution_columns (map execution_given executions)
   pub records_are : ShowsRows (db.trees record_tree) all_record_columns (map record_values records)
 
--- the one row of `meta` names version 1, and all rows of all other tables are those of the image
-pub record ShowsAll (db : Database) (image : Image) : Type 0 where
-  pub version : ShowsRows (db.trees meta_tree) all_version_columns (version_shown ∷ [])
+-- values of a reply that a desk could have kept
+pub record AreOfReply (values : Row) : Type 0 where
+  pub kept : KeptAnswer
+  pub is : values ≡ reply_values kept
+  pub sound : IsKeptAnswer kept
+
+-- a row shows them in its columns
+abbrev pub IsReplyRow : Row → Type 0
+IsReplyRow row = AreOfReply (shown_of reply_columns row)
+
+-- So is each row of the table of replies, where the version has one. They are read page by page, so that is said of rows that stand under numbers.
+abbrev pub AreJudged : Version → Database → Type 0
+AreJudged First db = ⊤
+AreJudged Second db = AreNumbered (db.trees reply_tree) → AllByRecursion IsReplyRow (db.trees reply_tree)
+
+-- the one row of `meta` names this version, all rows of all tables of a book are those of the image, and those of replies are judged
+pub record ShowsAll (of : Version) (db : Database) (image : Image) : Type 0 where
+  pub version : ShowsRows (db.trees meta_tree) all_version_columns (version_shown of ∷ [])
   pub requests : ShowsRequests db image.requests image.moves image.tallies image.approvals
   pub stacks : ShowsStacks db image.stacks image.stack_approvals
   pub procedures : ShowsProcedures db image.procedures image.steps image.executions image.records
+  pub replies : AreJudged of db
 
 -- a row shows this number in a column
 abbrev pub ShowsNumber : Row → ℕ → ℕ → Type 0

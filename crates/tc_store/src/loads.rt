@@ -5,7 +5,9 @@ ghost use Rattle.sqlite.specs.State.{HasCleanDisk};
 ghost use Rattle.sqlite.specs.Held.{state};
 ghost use Rattle.tc_types.specs.Tables.{Image as Rows};
 ghost use Rattle.tc_types.specs.Images.{rows_in};
-ghost use Rattle.tc_store.specs.Schema.{schema_1, Holds};
+ghost use Rattle.tc_store.specs.declared.versions.Version.{Version as SomeVersion};
+ghost use Rattle.tc_store.specs.Ledgers.{Ledger};
+ghost use Rattle.tc_store.specs.Schema.{schema_of, HoldsAs};
 ghost use Rattle.tc_store.specs.Told.{IsTold, IsToldRequest, IsToldStep, IsToldRecord};
 ghost use Rattle.tc_store.specs.Shows.{ShowsRequests, ShowsStacks, ShowsProcedures, ShowsAll};
 ghost use Rattle.tc_store.specs.Reads.{Reads};
@@ -18,6 +20,7 @@ pub(crate) mod judges;
 pub(crate) mod moves;
 mod procedures;
 mod records;
+mod replies;
 mod requests;
 mod stack_approvals;
 mod stacks;
@@ -32,12 +35,14 @@ use crate::loads::executions::load_executions;
 use crate::loads::moves::load_moves;
 use crate::loads::procedures::load_procedures;
 use crate::loads::records::load_records;
+use crate::loads::replies::judge_replies;
 use crate::loads::requests::load_requests;
 use crate::loads::stack_approvals::load_stack_approvals;
 use crate::loads::stacks::load_stacks;
 use crate::loads::steps::load_steps;
 use crate::loads::tallies::load_tallies;
 use crate::loads::versions::check_version;
+use crate::versions::Version;
 use sqlite::{Alter, Connection};
 use std::alloc::Global;
 use tc_types::{
@@ -75,8 +80,8 @@ fn load_of_requests<S: Alter>(
     conn: &mut Connection<S>,
     alloc: Global,
 ) -> Result<OfRequests, ReadFault>
-    ensures rows { HasCleanDisk (state S.Store conn.new) → IfOk result (λ found. (image : Rows) → IsTold image → Holds (state S.Store conn.old).now image → (found.requests.items ≡ image.requests) × (found.moves.items ≡ image.moves) × (found.tallies.items ≡ image.tallies) × (found.approvals.items ≡ image.approvals)) }
-    ensures reads { Reads S.Store (λ db found. db.schema ≡ schema_1 → ShowsRequests db found.requests.items found.moves.items found.tallies.items found.approvals.items) conn.old conn.new result }
+    ensures rows { HasCleanDisk (state S.Store conn.new) → IfOk result (λ found. (version : SomeVersion) (ledger : Ledger) → IsTold ledger.image → HoldsAs version (state S.Store conn.old).now ledger → (found.requests.items ≡ ledger.image.requests) × (found.moves.items ≡ ledger.image.moves) × (found.tallies.items ≡ ledger.image.tallies) × (found.approvals.items ≡ ledger.image.approvals)) }
+    ensures reads { Reads S.Store (λ db found. (version : SomeVersion) → db.schema ≡ schema_of version → ShowsRequests db found.requests.items found.moves.items found.tallies.items found.approvals.items) conn.old conn.new result }
     ensures told { IfOk result (λ found. AllByRecursion IsToldRequest found.requests.items) }
 {
     let requests = load_requests(conn, alloc)?;
@@ -93,8 +98,8 @@ fn load_of_requests<S: Alter>(
 
 /// Reads what they tell of stacks.
 fn load_of_stacks<S: Alter>(conn: &mut Connection<S>, alloc: Global) -> Result<OfStacks, ReadFault>
-    ensures rows { HasCleanDisk (state S.Store conn.new) → IfOk result (λ found. (image : Rows) → IsTold image → Holds (state S.Store conn.old).now image → (found.stacks.items ≡ image.stacks) × (found.approvals.items ≡ image.stack_approvals)) }
-    ensures reads { Reads S.Store (λ db found. db.schema ≡ schema_1 → ShowsStacks db found.stacks.items found.approvals.items) conn.old conn.new result }
+    ensures rows { HasCleanDisk (state S.Store conn.new) → IfOk result (λ found. (version : SomeVersion) (ledger : Ledger) → IsTold ledger.image → HoldsAs version (state S.Store conn.old).now ledger → (found.stacks.items ≡ ledger.image.stacks) × (found.approvals.items ≡ ledger.image.stack_approvals)) }
+    ensures reads { Reads S.Store (λ db found. (version : SomeVersion) → db.schema ≡ schema_of version → ShowsStacks db found.stacks.items found.approvals.items) conn.old conn.new result }
 {
     let stacks = load_stacks(conn, alloc)?;
     let approvals = load_stack_approvals(conn, alloc)?;
@@ -106,8 +111,8 @@ fn load_of_procedures<S: Alter>(
     conn: &mut Connection<S>,
     alloc: Global,
 ) -> Result<OfProcedures, ReadFault>
-    ensures rows { HasCleanDisk (state S.Store conn.new) → IfOk result (λ found. (image : Rows) → IsTold image → Holds (state S.Store conn.old).now image → (found.procedures.items ≡ image.procedures) × (found.steps.items ≡ image.steps) × (found.executions.items ≡ image.executions) × (found.records.items ≡ image.records)) }
-    ensures reads { Reads S.Store (λ db found. db.schema ≡ schema_1 → ShowsProcedures db found.procedures.items found.steps.items found.executions.items found.records.items) conn.old conn.new result }
+    ensures rows { HasCleanDisk (state S.Store conn.new) → IfOk result (λ found. (version : SomeVersion) (ledger : Ledger) → IsTold ledger.image → HoldsAs version (state S.Store conn.old).now ledger → (found.procedures.items ≡ ledger.image.procedures) × (found.steps.items ≡ ledger.image.steps) × (found.executions.items ≡ ledger.image.executions) × (found.records.items ≡ ledger.image.records)) }
+    ensures reads { Reads S.Store (λ db found. (version : SomeVersion) → db.schema ≡ schema_of version → ShowsProcedures db found.procedures.items found.steps.items found.executions.items found.records.items) conn.old conn.new result }
     ensures told { IfOk result (λ found. AllByRecursion IsToldStep found.steps.items × AllByRecursion IsToldRecord found.records.items) }
 {
     let procedures = load_procedures(conn, alloc)?;
@@ -122,20 +127,22 @@ fn load_of_procedures<S: Alter>(
     })
 }
 
-/// All rows of all tables. `Damaged` where a row is not one that a desk writes, or the schema is of no version that it has. The tables
-/// stay, also where the read fails.
+/// All rows of all tables but those of replies, which are judged and not kept. `Damaged` where a row is not one that a desk writes, or the
+/// tables name another version than this. The tables stay, also where the read fails.
 pub(crate) fn load_tables<S: Alter>(
     conn: &mut Connection<S>,
     alloc: Global,
+    version: Version,
 ) -> Result<Image, ReadFault>
-    ensures image { HasCleanDisk (state S.Store conn.new) → IfOk result (λ loaded. (image : Rows) → IsTold image → Holds (state S.Store conn.old).now image → rows_in loaded ≡ image) }
+    ensures image { HasCleanDisk (state S.Store conn.new) → IfOk result (λ loaded. (of : SomeVersion) (ledger : Ledger) → IsTold ledger.image → HoldsAs of (state S.Store conn.old).now ledger → rows_in loaded ≡ ledger.image) }
     ensures told { IfOk result (λ loaded. IsTold (rows_in loaded)) }
-    ensures reads { Reads S.Store (λ db loaded. db.schema ≡ schema_1 → ShowsAll db (rows_in loaded)) conn.old conn.new result }
+    ensures reads { Reads S.Store (λ db loaded. db.schema ≡ schema_of version → ShowsAll version db (rows_in loaded)) conn.old conn.new result }
 {
-    check_version(conn)?;
+    check_version(conn, version)?;
     let book = load_of_requests(conn, alloc)?;
     let room = load_of_stacks(conn, alloc)?;
     let log = load_of_procedures(conn, alloc)?;
+    judge_replies(conn, version)?;
     Ok(Image {
         requests: book.requests,
         moves: book.moves,

@@ -2,7 +2,8 @@
 ghost use Rattle.std.specs.Prelude.{◌≡◌};
 ghost use Rattle.std.specs.List.{AllByRecursion};
 ghost use Rattle.tc_types.specs.Tables.{Image as Rows};
-ghost use Rattle.tc_store.specs.Schema.{schema_1};
+ghost use Rattle.tc_store.specs.declared.versions.Version.{Version as SomeVersion};
+ghost use Rattle.tc_store.specs.Schema.{schema_of};
 ghost use Rattle.tc_store.specs.Told.{IsTold, IsToldRequest, IsToldStep, IsToldRecord};
 ghost use Rattle.tc_store.specs.Shows.{ShowsRequests, ShowsStacks, ShowsProcedures, ShowsAll};
 ghost use Rattle.tc_store.specs.Reads.{Reads};
@@ -13,18 +14,20 @@ use crate::loads::executions::load_executions;
 use crate::loads::moves::judge_moves;
 use crate::loads::procedures::load_procedures;
 use crate::loads::records::load_records;
+use crate::loads::replies::judge_replies;
 use crate::loads::requests::load_requests;
 use crate::loads::stack_approvals::load_stack_approvals;
 use crate::loads::stacks::load_stacks;
 use crate::loads::steps::load_steps;
 use crate::loads::tallies::load_tallies;
 use crate::loads::versions::check_version;
+use crate::versions::Version;
 use sqlite::{Alter, Connection};
 use std::alloc::Global;
 
 /// Reads what the tables tell of requests.
 fn judge_of_requests<S: Alter>(conn: &mut Connection<S>, alloc: Global) -> Result<(), ReadFault>
-    ensures reads { Reads S.Store (λ db _. db.schema ≡ schema_1 → (image : Rows) × ShowsRequests db image.requests image.moves image.tallies image.approvals × AllByRecursion IsToldRequest image.requests) conn.old conn.new result }
+    ensures reads { Reads S.Store (λ db _. (version : SomeVersion) → db.schema ≡ schema_of version → (image : Rows) × ShowsRequests db image.requests image.moves image.tallies image.approvals × AllByRecursion IsToldRequest image.requests) conn.old conn.new result }
 {
     let _ = load_requests(conn, alloc)?;
     judge_moves(conn, alloc)?;
@@ -35,7 +38,7 @@ fn judge_of_requests<S: Alter>(conn: &mut Connection<S>, alloc: Global) -> Resul
 
 /// Reads what they tell of stacks.
 fn judge_of_stacks<S: Alter>(conn: &mut Connection<S>, alloc: Global) -> Result<(), ReadFault>
-    ensures reads { Reads S.Store (λ db _. db.schema ≡ schema_1 → (image : Rows) × ShowsStacks db image.stacks image.stack_approvals) conn.old conn.new result }
+    ensures reads { Reads S.Store (λ db _. (version : SomeVersion) → db.schema ≡ schema_of version → (image : Rows) × ShowsStacks db image.stacks image.stack_approvals) conn.old conn.new result }
 {
     let _ = load_stacks(conn, alloc)?;
     let _ = load_stack_approvals(conn, alloc)?;
@@ -44,7 +47,7 @@ fn judge_of_stacks<S: Alter>(conn: &mut Connection<S>, alloc: Global) -> Result<
 
 /// Reads what they tell of procedures.
 fn judge_of_procedures<S: Alter>(conn: &mut Connection<S>, alloc: Global) -> Result<(), ReadFault>
-    ensures reads { Reads S.Store (λ db _. db.schema ≡ schema_1 → (image : Rows) × ShowsProcedures db image.procedures image.steps image.executions image.records × AllByRecursion IsToldStep image.steps × AllByRecursion IsToldRecord image.records) conn.old conn.new result }
+    ensures reads { Reads S.Store (λ db _. (version : SomeVersion) → db.schema ≡ schema_of version → (image : Rows) × ShowsProcedures db image.procedures image.steps image.executions image.records × AllByRecursion IsToldStep image.steps × AllByRecursion IsToldRecord image.records) conn.old conn.new result }
 {
     let _ = load_procedures(conn, alloc)?;
     let _ = load_steps(conn, alloc)?;
@@ -57,11 +60,13 @@ fn judge_of_procedures<S: Alter>(conn: &mut Connection<S>, alloc: Global) -> Res
 pub(crate) fn judge_tables<S: Alter>(
     conn: &mut Connection<S>,
     alloc: Global,
+    version: Version,
 ) -> Result<(), ReadFault>
-    ensures reads { Reads S.Store (λ db _. db.schema ≡ schema_1 → (image : Rows) × ShowsAll db image × IsTold image) conn.old conn.new result }
+    ensures reads { Reads S.Store (λ db _. db.schema ≡ schema_of version → (image : Rows) × ShowsAll version db image × IsTold image) conn.old conn.new result }
 {
-    check_version(conn)?;
+    check_version(conn, version)?;
     judge_of_requests(conn, alloc)?;
     judge_of_stacks(conn, alloc)?;
-    judge_of_procedures(conn, alloc)
+    judge_of_procedures(conn, alloc)?;
+    judge_replies(conn, version)
 }

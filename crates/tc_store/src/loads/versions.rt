@@ -3,46 +3,61 @@ ghost use Rattle.std.specs.Prelude.{◌≡◌, pos, true, codes, length, [], ◌
 ghost use Rattle.std.specs.List.{AllByRecursion};
 ghost use Rattle.sqlite_value.specs.declared.value.Value.TheVariants.{Int, Text};
 ghost use Rattle.sqlite_value.specs.Order.{Row as Values, column};
-ghost use Rattle.tc_store.specs.Meta.{meta_tree, version_shown};
+ghost use Rattle.tc_store.specs.declared.versions.Version.{Version as SomeVersion};
+ghost use Rattle.tc_store.specs.Meta.{meta_tree, version_number, version_shown};
 ghost use Rattle.tc_store.specs.Loads.{all_version_columns};
-ghost use Rattle.tc_store.specs.Schema.{schema_1};
+ghost use Rattle.tc_store.specs.Schema.{schema_of};
 ghost use Rattle.tc_store.specs.Shows.{ShowsRows};
 ghost use Rattle.tc_store.specs.Reads.{Reads};
 
 use crate::cells::{number_at, text_at};
 use crate::faults::ReadFault;
 use crate::loads::table_rows::rows_of;
+use crate::versions::Version;
 use sqlite::{Alter, Connection, Row};
 
 /// The text that reads them all.
 const ALL: &str = "SELECT name, value FROM meta ORDER BY rowid";
 
-/// Whether a row names version 1 of the schema.
-fn is_version(row: &Row) -> Result<bool, ReadFault>
-    ensures told { IfOk result (λ told. told ≡ true → (column row.now 0 ≡ Text (codes "schema")) × (column row.now 1 ≡ Int (pos 1))) }
+/// By which number a version is named.
+fn version_number(version: Version) -> u32
+    ensures { result ≡ version_number version }
+{
+    match version {
+        Version::First => 1,
+        Version::Second => 2,
+    }
+}
+
+/// Whether a row names this version of the schema.
+fn is_version(row: &Row, version: Version) -> Result<bool, ReadFault>
+    ensures told { IfOk result (λ told. told ≡ true → (column row.now 0 ≡ Text (codes "schema")) × (column row.now 1 ≡ Int (pos (version_number version)))) }
 {
     let name = text_at(row, 0)?;
     let number = number_at(row, 1)?;
-    Ok(name.as_str() == "schema" && number == 1)
+    Ok(name.as_str() == "schema" && number == version_number(version))
 }
 
-/// Whether these rows are the one that names version 1 of the schema.
-fn are_version(rows: &[Row]) -> Result<bool, ReadFault>
-    ensures told { IfOk result (λ told. told ≡ true → AllByRecursion (λ (row : Values). length row ≡ 2) rows.now → rows.now ≡ version_shown ∷ []) }
+/// Whether these rows are the one that names this version of the schema.
+fn are_version(rows: &[Row], version: Version) -> Result<bool, ReadFault>
+    ensures told { IfOk result (λ told. told ≡ true → AllByRecursion (λ (row : Values). length row ≡ 2) rows.now → rows.now ≡ version_shown version ∷ []) }
 {
     let is_one = rows.len() == 1;
     if is_one {
-        return is_version(&rows[0]);
+        return is_version(&rows[0], version);
     }
     Ok(false)
 }
 
-/// Finds that the one row of `meta` names version 1 of the schema, and fails where it does not. The tables stay.
-pub(crate) fn check_version<S: Alter>(conn: &mut Connection<S>) -> Result<(), ReadFault>
-    ensures reads { Reads S.Store (λ db _. db.schema ≡ schema_1 → ShowsRows (db.trees meta_tree) all_version_columns (version_shown ∷ [])) conn.old conn.new result }
+/// Finds that the one row of `meta` names this version of the schema, and fails where it does not. The tables stay.
+pub(crate) fn check_version<S: Alter>(
+    conn: &mut Connection<S>,
+    version: Version,
+) -> Result<(), ReadFault>
+    ensures reads { Reads S.Store (λ db _. (of : SomeVersion) → db.schema ≡ schema_of of → ShowsRows (db.trees meta_tree) all_version_columns (version_shown version ∷ [])) conn.old conn.new result }
 {
     let rows = rows_of(conn, ALL, &[])?;
-    if are_version(rows.as_slice())? {
+    if are_version(rows.as_slice(), version)? {
         Ok(())
     } else {
         Err(ReadFault::Damaged)

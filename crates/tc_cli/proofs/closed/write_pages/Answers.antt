@@ -14,17 +14,17 @@ use Rattle.tc_cli.proofs.ClosedLemmas.{ends_unread, on_err, page_added, page_cut
 use Rattle.tc_cli.proofs.closed.write_pages.Goals as goal
 
 pub pages-init : goal.pages-init
-pages-init g c = (reads_same g.S.Store c.args.tables.now, leaves_same g.S.Store c.args.tables.now, (λ clean image held. ([], [], refl, none_added [], Appends-nil (g.W.Write.contents (inner_of c.args.writer.now)))), (λ none. none))
+pages-init g c = (reads_same g.S.Store c.args.tables.now, leaves_same g.S.Store c.args.tables.now, (λ clean version ledger held. ([], [], refl, none_added [], Appends-nil (g.W.Write.contents (inner_of c.args.writer.now)))), (λ none. none))
 
 pub pages-preserved : goal.pages-preserved
 pages-preserved g c =
     let reads = c.in_ok-page.ensures.page.reads in (
       reads_then g.S.Store c.args.tables.now c.pages.tables c.closed_page.new.tables c.pages.invariant.0 reads,
       leaves_then g.S.Store c.args.tables.now c.pages.tables c.closed_page.new.tables c.pages.invariant.0 c.pages.invariant.1 c.in_ok-page.ensures.page.left,
-      (λ clean image held.
-          let all : List Move = shift_rows c.args.from c.args.to image.moves in
-          let was = c.pages.invariant.2 (reads.clean clean) image held in
-          let page = c.in_ok-page.ensures.page.told clean image (c.pages.invariant.0.holds (reads.clean clean) image held) in
+      (λ clean version ledger held.
+          let all : List Move = shift_rows c.args.from c.args.to ledger.image.moves in
+          let was = c.pages.invariant.2 (reads.clean clean) version ledger held in
+          let page = c.in_ok-page.ensures.page.told clean version ledger (c.pages.invariant.0.holds (reads.clean clean) version ledger held) in
           let text : List ℕ = string_bytes c.in_ok-page.page.text in
           let put = subst (λ bytes. Appends (g.W.Write.contents (inner_of c.pages.writer)) (g.W.Write.contents (inner_of c.put.new.writer)) bytes) c.as_bytes.ensures.value c.in_ok-put.ensures.writes.written in (
             was.0 ++ page.rows,
@@ -37,11 +37,11 @@ pages-preserved g c =
     )
 
 pub returns-then-is_none-clause-told : goal.returns-then-is_none-clause-told
-returns-then-is_none-clause-told g c clean image held =
-    let all : List Move = shift_rows c.args.from c.args.to image.moves in
+returns-then-is_none-clause-told g c clean version ledger held =
+    let all : List Move = shift_rows c.args.from c.args.to ledger.image.moves in
     let reads = c.in_ok-page.ensures.page.reads in
-    let was = c.pages.invariant.2 (reads.clean clean) image held in
-    let page = c.in_ok-page.ensures.page.told clean image (c.pages.invariant.0.holds (reads.clean clean) image held) in
+    let was = c.pages.invariant.2 (reads.clean clean) version ledger held in
+    let page = c.in_ok-page.ensures.page.told clean version ledger (c.pages.invariant.0.holds (reads.clean clean) version ledger held) in
     let text : List ℕ = string_bytes c.in_ok-page.page.text in
     let put = subst (λ bytes. Appends (g.W.Write.contents (inner_of c.pages.writer)) (g.W.Write.contents (inner_of c.put.new.writer)) bytes) c.as_bytes.ensures.value c.in_ok-put.ensures.writes.written in
     let whole : was.0 ++ page.rows ≡ all =
@@ -57,9 +57,9 @@ returns-in_err-page-clause-fault g c = ends_unread _ _ c.in_err-page.ensures.kin
 -- ---- where it fails
 
 pub returns-in_err-page-clause-cut : goal.returns-in_err-page-clause-cut
-returns-in_err-page-clause-cut g c clean = on_err c.from_residual.result _ (λ image held.
-    let was = c.pages.invariant.2 (c.in_err-page.ensures.page.left.clean clean) image held in
-    (was.1, rows_written image c.args.from c.args.to was.0 _ was.1 was.2 was.3, was.4))
+returns-in_err-page-clause-cut g c clean = on_err c.from_residual.result _ (λ version ledger held.
+    let was = c.pages.invariant.2 (c.in_err-page.ensures.page.left.clean clean) version ledger held in
+    (was.1, rows_written ledger.image c.args.from c.args.to was.0 _ was.1 was.2 was.3, was.4))
 
 pub returns-in_err-page-clause-left : goal.returns-in_err-page-clause-left
 returns-in_err-page-clause-left g c = leaves_then g.S.Store c.args.tables.now c.pages.tables c.closed_page.new.tables c.pages.invariant.0 c.pages.invariant.1 c.in_err-page.ensures.page.left
@@ -74,18 +74,18 @@ pub returns-then-is_none-clause-left : goal.returns-then-is_none-clause-left
 returns-then-is_none-clause-left g c = leaves_then g.S.Store c.args.tables.now c.pages.tables c.closed_page.new.tables c.pages.invariant.0 c.pages.invariant.1 c.in_ok-page.ensures.page.left
 
 pub returns-in_err-put-clause-cut : goal.returns-in_err-put-clause-cut
-returns-in_err-put-clause-cut g c clean = on_err c.from_residual-in_err-put.result _ (λ image held.
+returns-in_err-put-clause-cut g c clean = on_err c.from_residual-in_err-put.result _ (λ version ledger held.
     let reads = c.in_ok-page.ensures.page.reads in
-    let was = c.pages.invariant.2 (reads.clean clean) image held in
-    let page = c.in_ok-page.ensures.page.told clean image (c.pages.invariant.0.holds (reads.clean clean) image held) in
+    let was = c.pages.invariant.2 (reads.clean clean) version ledger held in
+    let page = c.in_ok-page.ensures.page.told clean version ledger (c.pages.invariant.0.holds (reads.clean clean) version ledger held) in
     let text : List ℕ = string_bytes c.in_ok-page.page.text in
     let cut = c.in_err-put.ensures.writes.cut in (
       was.1 ++ cut.0,
-      page_cut image c.args.from c.args.to was.0 page.rows _ was.1 text cut.0 (page.goes_on was.0 was.2) was.3 page.added (subst (λ bytes. IsCutShort bytes cut.0) c.as_bytes.ensures.value cut.1),
+      page_cut ledger.image c.args.from c.args.to was.0 page.rows _ was.1 text cut.0 (page.goes_on was.0 was.2) was.3 page.added (subst (λ bytes. IsCutShort bytes cut.0) c.as_bytes.ensures.value cut.1),
       Appends-trans _ _ _ was.1 cut.0 was.4 cut.2,
     ))
 
 pub returns-clause-cut : goal.returns-clause-cut
-returns-clause-cut g c clean image held =
-    let was = c.pages.invariant.2 clean image held in
-    (was.1, rows_written image c.args.from c.args.to was.0 _ was.1 was.2 was.3, was.4)
+returns-clause-cut g c clean version ledger held =
+    let was = c.pages.invariant.2 clean version ledger held in
+    (was.1, rows_written ledger.image c.args.from c.args.to was.0 _ was.1 was.2 was.3, was.4)

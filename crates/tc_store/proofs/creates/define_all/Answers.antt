@@ -1,8 +1,10 @@
-use Rattle.std.proofs.Common.{IsTrue, arith, ◌∙◌}
+use Rattle.std.proofs.Common.{IsTrue, arith, ℕ, List, map, ◌∙◌}
+use Rattle.std.specs.Borrow.{Bor}
+use Rattle.std.proofs.lemmas.List.{length-map}
 use Rattle.sqlite.specs.State.{HasCleanDisk}
 use Rattle.sqlite.specs.Held.{state}
 use Rattle.tc_store.proofs.StepLemmas.{survives_both, keeps_then}
-use Rattle.tc_store.proofs.CreateLemmas.{leads_lent}
+use Rattle.tc_store.proofs.CreateLemmas.{leads_lent, leads_all}
 use Rattle.tc_store.proofs.creates.define_all.Goals as goal
 
 pub texts-preserved : goal.texts-preserved
@@ -19,3 +21,16 @@ texts-preserved g c =
       λ clean inside. keeps_then (state g.S.Store first) (state g.S.Store mid) (state g.S.Store last) (was.2 (earlier clean) inside) (made.kept clean (within clean inside)),
       survives_both (state g.S.Store first) (state g.S.Store mid) (state g.S.Store last) was.3 made.survives,
     )
+
+pub returns : goal.returns
+returns g c =
+    let first = c.args.tx.now.conn.now in
+    let last = c.texts.tx.conn.now in
+    let was = c.texts.invariant in
+    record {
+      same_reference = was.0;
+      done = λ clean inside. leads_all g.S.Store (map (λ text. text.now) c.args.texts.now) c.texts.text-index first last
+          (omega (arith, c.texts-test.false, length-map c.args.texts.now (λ (text : Bor (List ℕ)). text.now))) (was.1 clean inside);
+      kept = was.2;
+      survives = was.3;
+    }

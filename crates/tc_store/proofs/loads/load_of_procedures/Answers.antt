@@ -27,14 +27,14 @@ pub returns-clause-reads : goal.returns-clause-reads
 returns-clause-reads g c =
     let all = reads_then g.S.Store (reads_then g.S.Store (reads_then g.S.Store c.in_ok-procedures.ensures.reads c.in_ok-steps.ensures.reads) c.in_ok-executions.ensures.reads) c.in_ok-records.ensures.reads in
     record {
-      finds = λ clean has. let seen = all.finds clean has in record { procedures_are = seen.0.0.0; steps_are = seen.0.0.1; executions_are = seen.0.1; records_are = seen.1 };
+      finds = λ clean version has. let seen = all.finds clean version has in record { procedures_are = seen.0.0.0; steps_are = seen.0.0.1; executions_are = seen.0.1; records_are = seen.1 };
       same = all.same;
       left = all.left;
     }
 
 pub returns-clause-rows : goal.returns-clause-rows
-returns-clause-rows g c clean image told held =
-    let at3 = held_then g.S.Store (reads_then g.S.Store (reads_then g.S.Store c.in_ok-procedures.ensures.reads c.in_ok-steps.ensures.reads) c.in_ok-executions.ensures.reads) c.in_ok-records.ensures.reads clean image held in
-    let at2 = held_then g.S.Store (reads_then g.S.Store c.in_ok-procedures.ensures.reads c.in_ok-steps.ensures.reads) c.in_ok-executions.ensures.reads at3.0 image held in
-    let at1 = held_then g.S.Store c.in_ok-procedures.ensures.reads c.in_ok-steps.ensures.reads at2.0 image held in
-    (c.in_ok-procedures.ensures.rows at1.0 image held, c.in_ok-steps.ensures.rows at2.0 image told at1.1, c.in_ok-executions.ensures.rows at3.0 image at2.1, c.in_ok-records.ensures.rows clean image told at3.1)
+returns-clause-rows g c clean version ledger told held =
+    let at3 = held_then g.S.Store (reads_then g.S.Store (reads_then g.S.Store c.in_ok-procedures.ensures.reads c.in_ok-steps.ensures.reads) c.in_ok-executions.ensures.reads) c.in_ok-records.ensures.reads clean version ledger held in
+    let at2 = held_then g.S.Store (reads_then g.S.Store c.in_ok-procedures.ensures.reads c.in_ok-steps.ensures.reads) c.in_ok-executions.ensures.reads at3.0 version ledger held in
+    let at1 = held_then g.S.Store c.in_ok-procedures.ensures.reads c.in_ok-steps.ensures.reads at2.0 version ledger held in
+    (c.in_ok-procedures.ensures.rows at1.0 version ledger held, c.in_ok-steps.ensures.rows at2.0 version ledger told at1.1, c.in_ok-executions.ensures.rows at3.0 version ledger at2.1, c.in_ok-records.ensures.rows clean version ledger told at3.1)

@@ -13,12 +13,12 @@ pub returns-clause-reads : goal.returns-clause-reads
 returns-clause-reads g c =
     let all = reads_then g.S.Store c.in_ok-stacks.ensures.reads c.in_ok-approvals.ensures.reads in
     record {
-      finds = λ clean has. let seen = all.finds clean has in record { stacks_are = seen.0; approvals_are = seen.1 };
+      finds = λ clean version has. let seen = all.finds clean version has in record { stacks_are = seen.0; approvals_are = seen.1 };
       same = all.same;
       left = all.left;
     }
 
 pub returns-clause-rows : goal.returns-clause-rows
-returns-clause-rows g c clean image told held =
-    let at1 = held_then g.S.Store c.in_ok-stacks.ensures.reads c.in_ok-approvals.ensures.reads clean image held in
-    (c.in_ok-stacks.ensures.rows at1.0 image held, c.in_ok-approvals.ensures.rows clean image at1.1)
+returns-clause-rows g c clean version ledger told held =
+    let at1 = held_then g.S.Store c.in_ok-stacks.ensures.reads c.in_ok-approvals.ensures.reads clean version ledger held in
+    (c.in_ok-stacks.ensures.rows at1.0 version ledger held, c.in_ok-approvals.ensures.rows clean version ledger at1.1)

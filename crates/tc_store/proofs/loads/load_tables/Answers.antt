@@ -23,21 +23,29 @@ returns-in_err-log-clause-reads g c = record {
   left = (reads_then g.S.Store (reads_then g.S.Store (reads_then g.S.Store c.in_ok-check_version.ensures.reads c.in_ok-book.ensures.reads) c.in_ok-room.ensures.reads) c.load_of_procedures.ensures.reads).left;
 }
 
+pub returns-in_err-judge_replies-clause-reads : goal.returns-in_err-judge_replies-clause-reads
+returns-in_err-judge_replies-clause-reads g c = record {
+  finds = search rules;
+  same = search rules;
+  left = (reads_then g.S.Store (reads_then g.S.Store (reads_then g.S.Store (reads_then g.S.Store c.in_ok-check_version.ensures.reads c.in_ok-book.ensures.reads) c.in_ok-room.ensures.reads) c.in_ok-log.ensures.reads) c.judge_replies.ensures.reads).left;
+}
+
 pub returns-clause-reads : goal.returns-clause-reads
 returns-clause-reads g c =
-    let all = reads_then g.S.Store (reads_then g.S.Store (reads_then g.S.Store c.in_ok-check_version.ensures.reads c.in_ok-book.ensures.reads) c.in_ok-room.ensures.reads) c.in_ok-log.ensures.reads in
+    let all = reads_then g.S.Store (reads_then g.S.Store (reads_then g.S.Store (reads_then g.S.Store c.in_ok-check_version.ensures.reads c.in_ok-book.ensures.reads) c.in_ok-room.ensures.reads) c.in_ok-log.ensures.reads) c.in_ok-judge_replies.ensures.reads in
     record {
-      finds = λ clean has. let seen = all.finds clean has in record { version = seen.0.0.0; requests = seen.0.0.1; stacks = seen.0.1; procedures = seen.1 };
+      finds = λ clean has. let seen = all.finds clean c.args.version has in record { version = seen.0.0.0.0; requests = seen.0.0.0.1; stacks = seen.0.0.1; procedures = seen.0.1; replies = seen.1 refl };
       same = all.same;
       left = all.left;
     }
 
 pub returns-clause-image : goal.returns-clause-image
-returns-clause-image g c clean image told held =
-    let at3 = held_then g.S.Store (reads_then g.S.Store (reads_then g.S.Store c.in_ok-check_version.ensures.reads c.in_ok-book.ensures.reads) c.in_ok-room.ensures.reads) c.in_ok-log.ensures.reads clean image held in
-    let at2 = held_then g.S.Store (reads_then g.S.Store c.in_ok-check_version.ensures.reads c.in_ok-book.ensures.reads) c.in_ok-room.ensures.reads at3.0 image held in
-    let at1 = held_then g.S.Store c.in_ok-check_version.ensures.reads c.in_ok-book.ensures.reads at2.0 image held in
-    let book = c.in_ok-book.ensures.rows at2.0 image told at1.1 in
-    let room = c.in_ok-room.ensures.rows at3.0 image told at2.1 in
-    let log = c.in_ok-log.ensures.rows clean image told at3.1 in
+returns-clause-image g c clean of ledger told held =
+    let at4 = held_then g.S.Store (reads_then g.S.Store (reads_then g.S.Store (reads_then g.S.Store c.in_ok-check_version.ensures.reads c.in_ok-book.ensures.reads) c.in_ok-room.ensures.reads) c.in_ok-log.ensures.reads) c.in_ok-judge_replies.ensures.reads clean of ledger held in
+    let at3 = held_then g.S.Store (reads_then g.S.Store (reads_then g.S.Store c.in_ok-check_version.ensures.reads c.in_ok-book.ensures.reads) c.in_ok-room.ensures.reads) c.in_ok-log.ensures.reads at4.0 of ledger held in
+    let at2 = held_then g.S.Store (reads_then g.S.Store c.in_ok-check_version.ensures.reads c.in_ok-book.ensures.reads) c.in_ok-room.ensures.reads at3.0 of ledger held in
+    let at1 = held_then g.S.Store c.in_ok-check_version.ensures.reads c.in_ok-book.ensures.reads at2.0 of ledger held in
+    let book = c.in_ok-book.ensures.rows at2.0 of ledger told at1.1 in
+    let room = c.in_ok-room.ensures.rows at3.0 of ledger told at2.1 in
+    let log = c.in_ok-log.ensures.rows at4.0 of ledger told at3.1 in
     rw (book.0, book.1, book.2, book.3, room.0, room.1, log.0, log.1, log.2, log.3) refl

@@ -1,6 +1,7 @@
 use Rattle.std.proofs.Common.{arith, ◌≡◌, inl, inr, false, Err, refl, subst, sym, ap, ◌∙◌}
-use Rattle.tc_book.specs.Tables.{image_of}
-use Rattle.tc_room.specs.Joined.{HasImage, LinkState, Standing}
+use Rattle.tc_store.specs.Ledgers.{newest}
+use Rattle.tc_room.specs.Crash.{ledger_of}
+use Rattle.tc_room.specs.Joined.{HasLedger, LinkState, Standing}
 use Rattle.tc_room.specs.Loads.{loading_of}
 use Rattle.tc_room.proofs.LoadLemmas.{load_carried, load_refused}
 use Rattle.tc_room.proofs.StopLemmas.{load_told, stops_ok, stops_refused}
@@ -13,15 +14,15 @@ returns-in_err-loaded-clause-answered g c =
     let going : c.self.inside.stopped ≡ false = ap (λ (s : Standing _). s.stopped) c.self.view_is ∙ c.requires.going in
     let why = c.in_err-loaded.ensures.loads.answers in
     rw (gone, ← c.self.view_is)
-    (λ held clean. inl (record { desk = load_refused _ _ _ _ _ why; tables = subst (λ (at : LinkState). HasImage g.S.Store c.self.inside.tables (image_of at.book)) (sym why.same) (held going clean); opened = c.in_err-loaded.ensures.stays.opened; whole = c.in_err-loaded.ensures.whole; going = going }))
+    (λ replies held clean. inl (record { desk = load_refused _ _ _ _ _ why; tables = subst (λ (at : LinkState). HasLedger g.S.Store c.self.inside.tables (ledger_of at.book replies)) (sym why.same) (held going clean); opened = c.in_err-loaded.ensures.stays.opened; whole = c.in_err-loaded.ensures.whole; going = going }))
 
 pub returns-in-Ok-clause-answered : goal.returns-in-Ok-clause-answered
 returns-in-Ok-clause-answered g c =
     let going : c.self.inside.stopped ≡ false = ap (λ (s : Standing _). s.stopped) c.self.view_is ∙ c.requires.going in
     rw (← c.self.view_is)
-    (λ held clean. inl (record {
+    (λ replies held clean. inl (record {
       desk = load_carried _ _ _ _ _ _ _ c.in_ok-loaded.ensures.loads.answers c.in_ok-loaded.ensures.loads.made.moves;
-      tables = written g.S.Store c.self.inside.tables c.write.new.self (image_of c.self.inside.desk.parts.book) c.in_ok-loaded.loaded.batch.items _ c.in_ok-loaded.ensures.loads.made.batch c.write.ensures.crash clean (λ was. (held going was).holds) (rw c.deref.ensures.value at (c.in-Ok.ensures.written clean)) (c.in-Ok.ensures.durable clean);
+      tables = written g.S.Store c.self.inside.tables c.write_rows.new.tables (ledger_of c.self.inside.desk.parts.book replies) newest c.in_ok-loaded.loaded.batch.items _ c.in_ok-loaded.ensures.loads.made.batch c.write_rows.ensures.crash clean (λ was. (held going was).holds) (rw c.deref.ensures.value at (c.in-Ok.ensures.written clean)) (c.in-Ok.ensures.durable clean);
       opened = c.in_ok-loaded.ensures.stays.opened;
       whole = c.in_ok-loaded.ensures.whole;
       going = going;
@@ -31,12 +32,12 @@ pub returns-in-Err-clause-answered : goal.returns-in-Err-clause-answered
 returns-in-Err-clause-answered g c =
     let going : c.self.inside.stopped ≡ false = ap (λ (s : Standing _). s.stopped) c.self.view_is ∙ c.requires.going in
     rw (← c.self.view_is)
-    (λ held clean. inr (record {
+    (λ replies held clean. inr (record {
       free = c.in_ok-loaded.ensures.loads.answers.free;
       reply = refl;
       stopped = refl;
-      tables = not_written g.S.Store c.self.inside.tables c.write.new.self (image_of c.self.inside.desk.parts.book) c.write.ensures.crash clean (λ was. (held going was).holds) (c.in-Err.ensures.kept clean);
-      crash = leaves_acts g.S.Store c.self.inside.tables c.write.new.self c.self.inside.desk.parts.book _ c.in_ok-loaded.loaded.batch.items _ (rw c.deref.ensures.value at c.write.ensures.crash) clean (held going) c.in_ok-loaded.ensures.loads.made.batch
+      tables = not_written g.S.Store c.self.inside.tables c.write_rows.new.tables (ledger_of c.self.inside.desk.parts.book replies) c.write_rows.ensures.crash clean (λ was. (held going was).holds) (c.in-Err.ensures.kept clean);
+      crash = leaves_acts g.S.Store c.self.inside.tables c.write_rows.new.tables c.self.inside.desk.parts.book _ replies c.in_ok-loaded.loaded.batch.items _ (rw c.deref.ensures.value at c.write_rows.ensures.crash) clean (held going) c.in_ok-loaded.ensures.loads.made.batch
           (_, _, load_carried _ _ _ _ _ _ _ c.in_ok-loaded.ensures.loads.answers c.in_ok-loaded.ensures.loads.made.moves, refl);
       opened = c.in_ok-loaded.ensures.stays.opened;
       whole = c.in_ok-loaded.ensures.whole;

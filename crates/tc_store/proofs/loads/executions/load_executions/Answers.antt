@@ -1,5 +1,5 @@
 use Rattle.std.proofs.Common.{rules, ◌∙◌, refl}
-use Rattle.tc_store.proofs.ReadLemmas.{if_ok}
+use Rattle.tc_store.proofs.ReadLemmas.{quiet_of, if_ok}
 use Rattle.sqlite.specs.Held.{state}
 use Rattle.tc_store.proofs.LoadLemmas.{all_told}
 use Rattle.tc_store.specs.Executions.{execution_tree, execution_given}
@@ -9,11 +9,11 @@ use Rattle.tc_store.proofs.TextLemmas.{all_execution_is, all_execution_shown}
 use Rattle.tc_store.proofs.loads.executions.load_executions.Goals as goal
 
 pub rows_of-requires : goal.rows_of-requires
-rows_of-requires g c = record { plain = all_execution_is.plain }
+rows_of-requires g c = record { quiet = λ version. quiet_of _ (all_execution_is version).plain }
 
 pub returns-clause-rows : goal.returns-clause-rows
 returns-clause-rows g c clean =
-    if_ok c.read_all.result _ _ c.read_all.ensures.same (λ found shown image held. shown image.executions (all_told image.executions) (c.as_slice.ensures.value ∙ all_execution_shown image (state g.S.Store c.args.conn.now) (state g.S.Store c.rows_of.new.conn) c.in_ok-rows.rows.items held (c.in_ok-rows.ensures.rows clean)))
+    if_ok c.read_all.result _ _ c.read_all.ensures.same (λ found shown version ledger held. shown ledger.image.executions (all_told ledger.image.executions) (c.as_slice.ensures.value ∙ all_execution_shown version ledger (state g.S.Store c.args.conn.now) (state g.S.Store c.rows_of.new.conn) c.in_ok-rows.rows.items held (c.in_ok-rows.ensures.rows clean)))
 
 pub returns-clause-reads : goal.returns-clause-reads
 returns-clause-reads g c = record {

@@ -20,8 +20,8 @@ returns g c =
     let all = reads_then g.S.Store (reads_then g.S.Store (reads_then g.S.Store c.in_ok-load_requests.ensures.reads c.in_ok-judge_moves.ensures.reads) c.in_ok-load_tallies.ensures.reads) c.in_ok-load_approvals.ensures.reads in
     record {
       reads = (record {
-        finds = λ clean has.
-            let seen = all.finds clean has in
+        finds = λ clean version has.
+            let seen = all.finds clean version has in
             let image : Image = record blank_image { requests = c.in_ok-load_requests.field-0.items; moves = seen.0.0.1.0; tallies = c.in_ok-load_tallies.field-0.items; approvals = c.in_ok-load_approvals.field-0.items } in
             let shows : ShowsRequests (state g.S.Store c.args.conn.now).now image.requests image.moves image.tallies image.approvals = record { requests_are = seen.0.0.0; moves_are = seen.0.0.1.1; tallies_are = seen.0.1; approvals_are = seen.1 } in
             (image, shows, c.in_ok-load_requests.ensures.told);

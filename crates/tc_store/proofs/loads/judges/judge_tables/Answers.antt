@@ -1,3 +1,4 @@
+use Rattle.std.proofs.Common.{refl}
 use Rattle.sqlite.specs.Held.{state}
 use Rattle.tc_store.proofs.ReadLemmas.{if_ok}
 use Rattle.tc_store.proofs.LoadLemmas.{reads_then, joined}
@@ -5,10 +6,11 @@ use Rattle.tc_store.proofs.loads.judges.judge_tables.Goals as goal
 
 pub returns : goal.returns
 returns g c =
-    let all = reads_then g.S.Store (reads_then g.S.Store (reads_then g.S.Store c.in_ok-check_version.ensures.reads c.in_ok-judge_of_requests.ensures.reads) c.in_ok-judge_of_stacks.ensures.reads) c.judge_of_procedures.ensures.reads in
+    let all = reads_then g.S.Store (reads_then g.S.Store (reads_then g.S.Store (reads_then g.S.Store c.in_ok-check_version.ensures.reads c.in_ok-judge_of_requests.ensures.reads) c.in_ok-judge_of_stacks.ensures.reads) c.in_ok-judge_of_procedures.ensures.reads) c.judge_replies.ensures.reads in
     record {
       reads = (record {
-        finds = λ clean. if_ok c.judge_of_procedures.result _ _ (all.finds clean) (λ last shows has. let seen = shows has in joined (state g.S.Store c.args.conn.now).now seen.0.0.0 seen.0.0.1 seen.0.1 seen.1);
+        finds = λ clean. if_ok c.judge_replies.result _ _ (all.finds clean) (λ last shows has.
+            let seen = shows c.args.version has in joined c.args.version (state g.S.Store c.args.conn.now).now seen.0.0.0.0 seen.0.0.0.1 seen.0.0.1 seen.0.1 (seen.1 refl));
         same = all.same;
         left = all.left;
       });

@@ -1,5 +1,5 @@
 use Rattle.std.proofs.Common.{rules, ◌∙◌, refl}
-use Rattle.tc_store.proofs.ReadLemmas.{if_ok}
+use Rattle.tc_store.proofs.ReadLemmas.{quiet_of, if_ok}
 use Rattle.sqlite.specs.Held.{state}
 use Rattle.tc_store.proofs.LoadLemmas.{all_told}
 use Rattle.tc_store.specs.Procedures.{procedure_tree, procedure_values}
@@ -9,11 +9,11 @@ use Rattle.tc_store.proofs.TextLemmas.{all_procedure_is, all_procedure_shown}
 use Rattle.tc_store.proofs.loads.procedures.load_procedures.Goals as goal
 
 pub rows_of-requires : goal.rows_of-requires
-rows_of-requires g c = record { plain = all_procedure_is.plain }
+rows_of-requires g c = record { quiet = λ version. quiet_of _ (all_procedure_is version).plain }
 
 pub returns-clause-rows : goal.returns-clause-rows
 returns-clause-rows g c clean =
-    if_ok c.read_all.result _ _ c.read_all.ensures.same (λ found shown image held. shown image.procedures (all_told image.procedures) (c.as_slice.ensures.value ∙ all_procedure_shown image (state g.S.Store c.args.conn.now) (state g.S.Store c.rows_of.new.conn) c.in_ok-rows.rows.items held (c.in_ok-rows.ensures.rows clean)))
+    if_ok c.read_all.result _ _ c.read_all.ensures.same (λ found shown version ledger held. shown ledger.image.procedures (all_told ledger.image.procedures) (c.as_slice.ensures.value ∙ all_procedure_shown version ledger (state g.S.Store c.args.conn.now) (state g.S.Store c.rows_of.new.conn) c.in_ok-rows.rows.items held (c.in_ok-rows.ensures.rows clean)))
 
 pub returns-clause-reads : goal.returns-clause-reads
 returns-clause-reads g c = record {

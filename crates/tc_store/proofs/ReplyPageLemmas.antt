@@ -1,0 +1,118 @@
+-- How replies are judged in pages.
+use Rattle.std.proofs.Common.{◌≡◌, ℕ, zero, suc, ℤ, pos, ◌+◌, ◌+ℤ◌, min, arith, int_lt, int_le, List, [], ◌∷◌, ◌++◌, map, take, drop, length, slice_get, None, Some, refl, sym, ap, subst, ◌∙◌}
+use Rattle.std.proofs.lemmas.Int.{ints}
+use Rattle.std.proofs.lemmas.List.{take_all, take-map, length-map, length-take}
+use Rattle.std.specs.List.{AllByRecursion}
+use Rattle.sqlite_value.specs.declared.value.Value.TheVariants.{Int, Text}
+use Rattle.sqlite_value.specs.Order.{Row, column}
+use Rattle.sqlite_keyed.proofs.ListLemmas.{all-append}
+use Rattle.sqlite_tied.specs.Compute.{everything}
+use Rattle.sqlite.specs.Effect.{Database}
+use Rattle.sqlite.specs.Listing.{understood, listing_schema}
+use Rattle.sqlite.specs.State.{State, Shown}
+use Rattle.tc_store.specs.Ledgers.{KeptAnswer}
+use Rattle.tc_store.specs.declared.versions.Version.{Version}
+use Rattle.tc_store.specs.declared.versions.Version.TheVariants.{First, Second}
+use Rattle.tc_sql.specs.Lists.{ListsFrom, passes}
+use Rattle.tc_sql.proofs.Selects.{listed, paged}
+use Rattle.tc_store.specs.Replies.{reply_tree, reply_values, reply_page_text, reply_page_tests, reply_page_columns, reply_page_size, reply_page_limit}
+use Rattle.tc_store.specs.Loads.{first_behind}
+use Rattle.tc_store.specs.Schema.{schema_of, newest_schema}
+use Rattle.tc_store.specs.Reads.{IsQuiet}
+use Rattle.tc_store.specs.Shows.{shown_of, as_number, number_of, IsNumbered, AreNumbered, AreOfReply, IsReplyRow, rows_from}
+use Rattle.tc_store.proofs.ShowLemmas.{map_all}
+use Rattle.tc_store.proofs.NumberLemmas.{filter_on, passes_from, rest_of, all_left}
+
+reply_page_is : ListsFrom newest_schema reply_tree reply_page_text reply_page_tests reply_page_columns reply_page_limit
+unfolding understood everything
+reply_page_is = record { names = _; command = refl; plain = (refl, refl); unlisted = refl }
+
+-- a version without the table does not understand it
+pub page_quiet : (version : Version) → IsQuiet (understood (schema_of version) reply_page_text)
+unfolding understood listing_schema everything
+page_quiet First = tt
+page_quiet Second = (refl, refl)
+
+page_rows : (first : ℤ) (old new : State) (rows : List Row) → old.now.schema ≡ newest_schema → AreNumbered (old.now.trees reply_tree) → Shown reply_page_text (Int first ∷ []) old new rows
+    → rows ≡ take reply_page_size (map (shown_of reply_page_columns) (rows_from first (old.now.trees reply_tree)))
+page_rows first old new rows has numbered h =
+    let params = Int first ∷ [] in
+    listed reply_tree reply_page_tests reply_page_columns reply_page_limit params newest_schema reply_page_text old new has reply_page_is rows numbered.rise h
+    ∙ paged reply_tree reply_page_tests reply_page_columns reply_page_limit params reply_page_size _ refl
+    ∙ ap (λ l. take reply_page_size (map (shown_of reply_page_columns) l))
+    (filter_on (passes reply_page_tests params) (λ row. int_le first (number_of row)) IsNumbered (passes_from first) (old.now.trees reply_tree) numbered.whole)
+
+-- these were judged, and those from a number on are left
+pub record AreJudgedTo (rows : List Row) (first : ℤ) : Type 0 where
+  pub done : List Row
+  pub left : done ++ rows_from first rows ≡ rows
+  pub judged : AllByRecursion IsReplyRow done
+
+pub none_judged : (rows : List Row) → AreNumbered rows → AreJudgedTo rows (first_behind None)
+none_judged rows numbered = record { done = []; left = all_left rows numbered; judged = tt }
+
+-- what was judged of what columns show was judged of the rows
+rows_judged : (rows : List Row) → AllByRecursion (λ (row : Row). AreOfReply (drop 1 row)) (map (shown_of reply_page_columns) rows) → AllByRecursion IsReplyRow rows
+rows_judged [] all = tt
+rows_judged (r ∷ rows) all = (all.0, rows_judged rows all.1)
+
+four_wide : (rows : List Row) → AllByRecursion (λ (row : Row). length row ≡ 4) (map (shown_of reply_page_columns) rows)
+four_wide = map_all (shown_of reply_page_columns) (λ (row : Row). length row ≡ 4) (λ row. refl)
+
+at_of : (rows : List Row) (k : ℕ) (last : Row) → slice_get (map (shown_of reply_page_columns) rows) k ≡ Some last → (r : Row) × (slice_get rows k ≡ Some r) × (shown_of reply_page_columns r ≡ last)
+at_of [] k last got = absurd (let e = got in cc)
+at_of (r ∷ rows) zero last got = let same : shown_of reply_page_columns r ≡ last = cc in (r, refl, same)
+at_of (r ∷ rows) (suc k) last got = at_of rows k last got
+
+next_of : (m n : ℤ) → int_le (m +ℤ pos 1) n ≡ int_lt m n
+next_of m n = grind (arith, ints)
+
+module _ (first : ℤ) (was : Database) (old new : State) (page seen : List Row) (there : old.now ≡ was) (has : was.schema ≡ newest_schema) (numbered : AreNumbered (was.trees reply_tree))
+    (so_far : AreJudgedTo (was.trees reply_tree) first) (h : Shown reply_page_text (Int first ∷ []) old new page) (same : seen ≡ page)
+    (judges : AllByRecursion (λ (row : Row). length row ≡ 4) seen → AllByRecursion (λ (row : Row). AreOfReply (drop 1 row)) seen) where
+  abbrev rows : List Row
+  rows = was.trees reply_tree
+
+  abbrev taken : List Row
+  taken = take reply_page_size (rows_from first rows)
+
+  seen_is : seen ≡ map (shown_of reply_page_columns) taken
+  seen_is =
+      same ∙ page_rows first old new page (ap (λ (db : Database). db.schema) there ∙ has) (subst (λ (db : Database). AreNumbered (db.trees reply_tree)) (sym there) numbered) h
+      ∙ ap (λ (db : Database). take reply_page_size (map (shown_of reply_page_columns) (rows_from first (db.trees reply_tree)))) there ∙ take-map (shown_of reply_page_columns) reply_page_size (rows_from first rows)
+
+  taken_judged : AllByRecursion IsReplyRow taken
+  taken_judged =
+      rows_judged taken (subst (AllByRecursion (λ (row : Row). AreOfReply (drop 1 row))) seen_is (judges (subst (AllByRecursion (λ (row : Row). length row ≡ 4)) (sym seen_is) (four_wide taken))))
+
+  long : length taken ≡ length seen
+  long = sym (length-map taken (shown_of reply_page_columns)) ∙ ap length (sym seen_is)
+
+  -- behind a full page the next one begins after the number of its last row
+  pub judged_on : (k : ℕ) (last : Row) (n : ℤ) → length seen ≡ k + 1 → slice_get seen k ≡ Some last → column last 0 ≡ Int n → AreJudgedTo rows (n +ℤ pos 1)
+  judged_on k last n full got numbers =
+      let row = at_of taken k last (ap (λ l. slice_get l k) (sym seen_is) ∙ got) in
+      let number : number_of row.0 ≡ n = ap (λ r. as_number (column r 0)) row.2 ∙ ap as_number numbers in
+      record {
+        done = so_far.done ++ taken;
+        left = rest_of reply_page_size rows so_far.done numbered first (n +ℤ pos 1) k row.0 so_far.left (long ∙ full) row.1 (λ m. next_of n m ∙ ap (λ z. int_lt z m) (sym number));
+        judged = all-append IsReplyRow so_far.done taken so_far.judged taken_judged;
+      }
+
+  -- one that is not full is the last
+  pub judged_out : (length seen ≡ reply_page_size → ⊥) → AllByRecursion IsReplyRow rows
+  judged_out short =
+      let many : length seen ≡ min reply_page_size (length (rows_from first rows)) = sym long ∙ length-take reply_page_size (rows_from first rows) in
+      let whole : so_far.done ++ taken ≡ rows = ap (λ l. so_far.done ++ l) (take_all reply_page_size (rows_from first rows) (grind (arith, many, short))) ∙ so_far.left in
+      subst (AllByRecursion IsReplyRow) whole (all-append IsReplyRow so_far.done taken so_far.judged taken_judged)
+
+-- ---- one row
+
+-- a row of four values whose last three are a reply's
+pub values_of : (row : Row) (k : KeptAnswer) → length row ≡ 4 → column row 1 ≡ Text k.person → column row 2 ≡ Int (pos k.number) → column row 3 ≡ Text k.body → drop 1 row ≡ reply_values k
+values_of [] k long a b c = absurd (omega (arith, long))
+values_of (r ∷ []) k long a b c = absurd (omega (arith, long))
+values_of (r ∷ s ∷ []) k long a b c = absurd (omega (arith, long))
+values_of (r ∷ s ∷ t ∷ []) k long a b c = absurd (omega (arith, long))
+values_of (r ∷ s ∷ t ∷ u ∷ []) k long a b c = λ i. a i ∷ b i ∷ c i ∷ []
+values_of (r ∷ s ∷ t ∷ u ∷ v ∷ row) k long a b c = absurd (omega (arith, long))

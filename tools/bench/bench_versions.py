@@ -1,0 +1,100 @@
+#!/usr/bin/env python3
+"""Measures what an opening costs that brings a desk's file to the newest version of the schema: tools/bench/bench_versions.py BEFORE
+
+BEFORE is a program that knew the first version alone. A file of that version, as SQLite makes it, has 65,535 requests and 989,000 rows of the history, four of the
+requests on their way. A copy of it is opened by BEFORE, and one by the program; then the copy that is of the newest version is opened once more by the program. All
+three print the same moves and places, but that the last has nothing to be moved. Each is done --turns times, one after the other, on new copies, and the least time of
+processors counts. The files lie in memory where the system has a folder there, so that no disk is waited for; or in --folder.
+
+With --replies N a last file is of the newest version, with so many kept replies besides: what an opening pays for judging them.
+
+The status is 1 where the migrating opening takes more than 1.3 times what BEFORE takes, or where one prints something else.
+"""
+import argparse
+import os
+import shutil
+import sys
+import tempfile
+import time
+from typing import NamedTuple, Optional
+
+sys.path.insert(0, os.path.dirname(os.path.dirname(os.path.realpath(__file__))))
+from dataclasses import replace
+
+from faults.stop_full import full_tables
+from model.rows import Reply, move_line, places_line
+from model.tables import opened_moves, opened_tables
+from tests.asked import BUILT
+from tests.made_files import as_first, make_file
+from tests.plain_runs import text_of
+from tests.runs import bytes_of, quick_folder
+
+OPENED, AGAIN = 1000, 9000
+MOST = 1.3
+BODY = "ok request 1 5/0\nmove 1 100 ann 1 - Entered enter\n"
+
+
+class Took(NamedTuple):
+    """What a run took: of processors and by the clock, in seconds, and of memory, in megabytes."""
+    processor: float
+    clock: float
+    memory: float
+
+
+def run(program: str, folder: str, name: str, moment: int, wanted: str) -> Took:
+    """Opens a file, which has to print exactly this."""
+    words = [program, "run", "--db", f"{folder}/{name}", "--at", str(moment), "/dev/null"]
+    with open(f"{folder}/out", "wb") as out:
+        began = time.monotonic()
+        process = os.posix_spawn(program, words, os.environ, file_actions=[(os.POSIX_SPAWN_DUP2, out.fileno(), 1)])
+        _, status, used = os.wait4(process, 0)
+        clock = time.monotonic() - began
+    if status or bytes_of(out.name).decode() != wanted:
+        sys.exit(f"bench_versions: {program} on {name}: status {status}, or it prints something else: {bytes_of(out.name)[:200]!r}")
+    return Took(used.ru_utime + used.ru_stime, clock, used.ru_maxrss / 1024)
+
+
+def measure(before: str, program: str, folder: str, turns: int, replies: Optional[int]) -> dict[str, list[Took]]:
+    """What each opening took, in each turn."""
+    tables = as_first(full_tables())
+    opened = opened_tables(tables, OPENED)
+    printed, last = text_of([*(move_line(it) for it in opened_moves(tables, OPENED)), places_line(opened)]), text_of([places_line(opened)])
+    make_file(f"{folder}/first.db", tables)
+    if replies is not None:
+        make_file(f"{folder}/replies.db", replace(opened, reply=[Reply("ann", number, BODY) for number in range(1, replies + 1)]))
+    took: dict[str, list[Took]] = {}
+    for _ in range(turns):
+        for name in ("old", "new"):
+            shutil.copy(f"{folder}/first.db", f"{folder}/{name}.db")
+        took.setdefault("the first version, by the program before", []).append(run(before, folder, "old.db", OPENED, printed))
+        took.setdefault("the first version, brought to the newest", []).append(run(program, folder, "new.db", OPENED, printed))
+        took.setdefault("once more, of the newest", []).append(run(program, folder, "new.db", AGAIN, last))
+        if replies is not None:
+            took.setdefault(f"of the newest, with {replies:,} replies", []).append(run(program, folder, "replies.db", AGAIN, last))
+    return took
+
+
+def main() -> int:
+    """Measures, and prints a table."""
+    parser = argparse.ArgumentParser(description=__doc__, formatter_class=argparse.RawDescriptionHelpFormatter)
+    parser.add_argument("before", metavar="BEFORE", help="a program that knew the first version alone")
+    parser.add_argument("--program", default=BUILT, metavar="PATH", help="the program that is measured")
+    parser.add_argument("--turns", type=int, default=5, metavar="N", help="how often (5)")
+    parser.add_argument("--replies", type=int, metavar="N", help="with a file that has so many kept replies")
+    parser.add_argument("--folder", default=quick_folder(), metavar="PATH", help="where the files lie")
+    asked = parser.parse_args()
+    load = f"{os.getloadavg()[0]:.1f}"
+    with tempfile.TemporaryDirectory(prefix="bench-", dir=asked.folder) as folder:
+        took = measure(os.path.abspath(asked.before), os.path.abspath(asked.program), folder, asked.turns, asked.replies)
+    print(f"{time.strftime('%Y-%m-%d', time.gmtime())}, {os.cpu_count()} cores, a load of {load} before it began; the least of {asked.turns}\n")
+    print("| Opening a file of 65,535 requests and 989,000 rows | Of a processor, s | Times before | Wall s | MB |\n|---|---|---|---|---|")
+    least = {name: min(them) for name, them in took.items()}
+    old, new = (it.processor for it in [*least.values()][:2])
+    for name, it in least.items():
+        print(f"| {name} | {it.processor:.2f} | {it.processor / old:.2f} | {min(one.clock for one in took[name]):.2f} | {it.memory:.0f} |")
+    print(f"bench versions: the migrating opening takes {new / old:.2f} times what it took, wanted {MOST} at most")
+    return int(new / old > MOST)
+
+
+if __name__ == "__main__":
+    sys.exit(main())

@@ -1,0 +1,90 @@
+"""Files of desks that SQLite makes, and not the program: of any version of the schema, with any rows."""
+import os
+import shutil
+import tempfile
+from dataclasses import replace
+from typing import Optional, Union
+
+from model.facts import COLUMNS, SCHEMAS, TABLES
+from model.kept import connect, sqlite3
+from model.rows import Reply, Tables
+from tests.asked import TOOLS
+from tests.changes import Change, change_file
+from tests.runs import bytes_of, write_files
+
+# Files of the first version that a program wrote which knew no other: statements that make them, a day at each, and what is printed of that. Nothing makes
+# such files any more.
+FIRST = f"{TOOLS}/cases/schema-1"
+FIRST_NAMES = tuple(sorted(it.removesuffix(".sql") for it in os.listdir(FIRST) if it.endswith(".sql")))
+FIRST_DAY = 500  # when the day of each begins
+BEHIND_A_LOG = bytes(9)  # what a program leaves behind a log, which SQLite does not
+
+
+def bound(value: Optional[Union[int, str]]) -> Optional[Union[bytes, int]]:
+    """A value as it is bound: a text by its bytes, which need not be any text."""
+    return value.encode("latin-1") if isinstance(value, str) else value
+
+
+def mark_of(value: Optional[Union[int, str]]) -> str:
+    """The mark that stands for a value in a statement."""
+    return "CAST(? AS TEXT)" if isinstance(value, str) else "?"
+
+
+def put_rows(connection: sqlite3.Connection, tables: Tables) -> None:
+    """Writes all rows into tables that are empty, in order."""
+    for name in TABLES[tables.version]:
+        marks = ", ".join(mark_of(kind()) for kind in COLUMNS[name].values())
+        connection.executemany(f"INSERT INTO {name} VALUES ({marks})", ([bound(it) for it in row] for row in getattr(tables, name)))
+
+
+def make_file(path: str, tables: Tables, is_left_open: bool = False) -> None:
+    """Makes a file with these tables, of their version; or one that was left open, whose tables are all in the log beside it."""
+    with tempfile.TemporaryDirectory(dir=os.path.dirname(path)) as folder:
+        connection = connect(f"{folder}/made.db")
+        try:
+            connection.execute("PRAGMA synchronous = OFF")
+            if is_left_open:
+                connection.execute("PRAGMA journal_mode = WAL")
+                connection.execute("PRAGMA wal_autocheckpoint = 0")
+            connection.execute("BEGIN")
+            for statement in SCHEMAS[tables.version]:
+                connection.execute(statement)
+            put_rows(connection, tables)
+            connection.execute("COMMIT")
+            shutil.copy(f"{folder}/made.db", path)
+            if is_left_open:
+                write_files(os.path.dirname(path), {f"{os.path.basename(path)}-wal": bytes_of(f"{folder}/made.db-wal") + BEHIND_A_LOG})
+        finally:
+            connection.close()
+
+
+def as_first(tables: Tables) -> Tables:
+    """The same rows under the first version, which has no replies."""
+    return replace(tables, meta=[("schema", 1)], reply=[], version=1)
+
+
+def make_first(path: str, name: str) -> None:
+    """Makes one of the files of the first version."""
+    connection = connect(path)
+    try:
+        connection.executescript(bytes_of(f"{FIRST}/{name}.sql").decode())
+    finally:
+        connection.close()
+
+
+def first_day(name: str) -> tuple[str, str]:
+    """The lines of its day, and all that is printed of it."""
+    return bytes_of(f"{FIRST}/{name}.day2").decode(), bytes_of(f"{FIRST}/{name}.day2.stdout").decode()
+
+
+def some_replies(count: int) -> list[Reply]:
+    """So many replies to some persons, of one line and of many, under numbers up to the last that there is."""
+    persons, bodies = ("ann", "z" * 16, "7"), ("ok\n", "\n", "ok request 1 5/0\nmove 1 100 ann 1 - Entered enter\n", "history 1: 0\n" + "x\n" * 500)
+    numbers = [1, 2**32 - 1, *range(2, count)]
+    return [Reply(persons[at % 3], numbers[at], bodies[at % 4]) for at in range(count)]
+
+
+def keep_replies(path: str, count: int) -> None:
+    """Puts so many replies into the file of a desk that has none, so that the file alone holds everything."""
+    rows = [("INSERT INTO reply VALUES (?, ?, ?)", [*it]) for it in some_replies(count)]
+    change_file(path, Change(f"{count} replies", rows))
