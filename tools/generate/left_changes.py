@@ -1,4 +1,5 @@
 """Changes of the files of left_desks.py, and whether a desk could have written what they make: all written out by hand."""
+from typing import Sequence
 
 # Of the desk FIVE.
 OF_FIVE: list[tuple[str, bool]] = [
@@ -120,6 +121,11 @@ OF_NEWEST: list[tuple[tuple[str, ...], bool]] = [
     ((REPLY_TABLE.replace("reply", "another"),), False),
     (("INSERT INTO meta VALUES ('more', 2)",), False),
 ]
+
+
+def alone(changes: Sequence[tuple[str, bool]]) -> list[tuple[tuple[str, ...], bool]]:
+    """Changes of one statement each, as those of several are written."""
+    return [((statement,), is_sound) for statement, is_sound in changes]
 
 
 def kept(person: str, number: str, body: str) -> tuple[str, ...]:

@@ -25,6 +25,11 @@ def columns_of(connection: sqlite3.Connection) -> dict[str, list[str]]:
     return {name: [row[1] for row in connection.execute(f"PRAGMA table_info({name})")] for name in names}
 
 
+def statements_of(connection: sqlite3.Connection) -> list[str]:
+    """The statements that made the tables, indexes and views of the file, in order."""
+    return [it for it, in connection.execute("SELECT sql FROM sqlite_schema WHERE sql IS NOT NULL ORDER BY rowid")]
+
+
 def version_of(connection: sqlite3.Connection) -> int:
     """Of which version of the schema the tables are, by their names; the newest, where they are those of none."""
     names = tuple(columns_of(connection))

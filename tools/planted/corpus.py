@@ -10,7 +10,7 @@ from generate.book_plans import PLANS
 from generate.check_random import random_text
 from generate.check_texts import all_texts
 from generate.http_words import Case, get
-from generate.left_changes import OF_FIVE, OF_WHOLE
+from generate.left_changes import OF_FIVE, OF_REPLIES, OF_WHOLE, alone
 from generate.left_desks import EVERYWHERE, FILES, FIVE, GOING, OTHERS, RIDERS, WHOLE
 from generate.link_plans import Planner
 from generate.link_scripts import SCENES, STYLES, TOLD
@@ -22,6 +22,7 @@ from planted.recorded import Exchange, Recorded, Rows, Script, Served, Text, fil
 from tests.changes import change_file, changed_by
 from tests.full_desks import make_desks
 from tests.http_peer import Server
+from tests.made_files import FIRST_DAY, FIRST_NAMES, first_day, make_first
 from tests.test_broken import changes_of
 
 TURNS = 1000  # of a script of each style
@@ -82,8 +83,13 @@ def limit_changes(rows: Rows) -> dict[str, list[str]]:
 
 
 def record_left(program: str, work: str, made: Recorded) -> None:
-    """Desks as their first day left them, opened as they are and as statements by hand changed them."""
-    changes = {"five": OF_FIVE, "whole": OF_WHOLE}
+    """Desks as their first day left them, opened as they are and as statements by hand changed them; and files of the first version of the schema."""
+    for name in FIRST_NAMES:
+        folder = tempfile.mkdtemp(dir=work)
+        make_first(f"{folder}/first.db", name)
+        made.files.append(file_of(f"{folder}/first.db"))
+        made.openings.append(opening(program, folder, f"{folder}/first.db", f"{name}, of the first version", FIRST_DAY, first_day(name)[0].splitlines()))
+    changes = {"five": alone(OF_FIVE), "whole": [*alone(OF_WHOLE), *OF_REPLIES]}
     for left in (FIVE, WHOLE, RIDERS, OTHERS, EVERYWHERE, GOING):
         folder = tempfile.mkdtemp(dir=work)
         files = {name: text.encode() for name, text in FILES.items()}
@@ -92,20 +98,20 @@ def record_left(program: str, work: str, made: Recorded) -> None:
         shutil.copy(f"{folder}/kept.db", f"{folder}/copy.db")
         change_file(f"{folder}/copy.db", changed_by(f"UPDATE request SET author = CAST(x'ff{len(left.name):02}' AS TEXT)"))
         made.files.insert(0, file_of(f"{folder}/copy.db"))
-        for statement, _ in [("", True), *changes.get(left.name, [])]:
+        for statements, _ in [((), True), *changes.get(left.name, [])]:
             shutil.copy(f"{folder}/kept.db", f"{folder}/copy.db")
-            is_changed = not statement or change_file(f"{folder}/copy.db", changed_by(statement))
+            is_changed = not statements or change_file(f"{folder}/copy.db", changed_by(*statements))
             # (other tables and other statements are not for a reading of rows)
             if is_changed and schema_of(f"{folder}/copy.db") == made.files[-1].schema:
-                title = f"{left.name}, {statement or 'as it was left'}"
+                title = f"{left.name}, {'; '.join(statements)[:300] or 'as it was left'}"
                 made.openings.append(opening(program, folder, f"{folder}/copy.db", title, left.days[0].moment))
         shutil.copy(f"{folder}/kept.db", f"{folder}/copy.db")
         for day in left.days:
             title = f"{left.name}, its day at {day.moment}"
             made.openings.append(opening(program, folder, f"{folder}/copy.db", title, day.moment, day.lines(), files))
-        for title, statements in limit_changes(made.files[-1].rows).items() if left is WHOLE else ():
+        for title, filling in limit_changes(made.files[-1].rows).items() if left is WHOLE else ():
             shutil.copy(f"{folder}/kept.db", f"{folder}/copy.db")
-            if change_file(f"{folder}/copy.db", changed_by(*statements)):
+            if change_file(f"{folder}/copy.db", changed_by(*filling)):
                 made.openings.append(opening(program, folder, f"{folder}/copy.db", f"{left.name}, {title}", left.days[0].moment))
 
 

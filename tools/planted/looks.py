@@ -114,22 +114,24 @@ def opening_fault(it: Opening) -> str:
 
 def file_faults(recorded: Recorded) -> Iterator[str]:
     """Files as they are read, and the statements that made them."""
-    from model.facts import COLUMNS, SCHEMA
-    from model.kept import columns_of, connect, read_tables
+    from model.facts import COLUMNS, SCHEMA_VERSION, SCHEMAS, TABLES
+    from model.kept import columns_of, connect, read_tables, statements_of
     for at, it in enumerate(recorded.files):
-        yield first_other(f"the statements of file {at}", list(SCHEMA), it.schema)
+        version = next((number for number, made in SCHEMAS.items() if len(made) == len(it.schema)), SCHEMA_VERSION)
+        yield first_other(f"the statements of file {at}", SCHEMAS[version], it.schema)
         with tempfile.NamedTemporaryFile(suffix=".db") as file:
             file.write(it.data)
             file.flush()
-            yield table_fault(f"file {at}", rows_by(read_tables(file.name)), it.rows)
+            tables = read_tables(file.name)
+            yield table_fault(f"file {at}", rows_by(tables), it.rows) or ("" if tables.version == version else f"the version of file {at}")
             connection = connect(file.name, "immutable=1")
             try:
-                columns = columns_of(connection)
+                columns, statements = columns_of(connection), statements_of(connection)
             finally:
                 connection.close()
-            yield "" if columns == {name: [*those] for name, those in COLUMNS.items()} else f"the columns of file {at}"
+            yield "" if columns == {name: [*COLUMNS[name]] for name in TABLES[version]} and statements == it.schema else f"the columns of file {at}"
         classes = {name: {tuple(type(value) for value in row) for row in rows} for name, rows in it.rows.items()}
-        yield "".join(f"the classes of {name} in file {at}" for name, those in COLUMNS.items() if classes[name] - {tuple(those.values())})
+        yield "".join(f"the classes of {name} in file {at}" for name in TABLES[version] if classes[name] - {tuple(COLUMNS[name].values())})
 
 
 def served_faults(served: Served) -> Iterator[str]:

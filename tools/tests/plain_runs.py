@@ -5,7 +5,7 @@ from typing import Iterable, Optional, Sequence
 
 from model.desk import Desk, desk_by
 from model.facts import SCHEMAS
-from model.kept import connect, sqlite3, tables_of
+from model.kept import connect, sqlite3, statements_of, tables_of
 from model.lines import script_lines
 from model.rows import ROWS, Tables
 from tests.asked import TOOLS
@@ -64,7 +64,7 @@ def kept_tables(path: str, words: str = "mode=ro") -> Optional[Tables]:
     its tables are not a desk's."""
     connection = connect(path, words)
     try:
-        made = [it for it, in connection.execute("SELECT sql FROM sqlite_schema WHERE sql IS NOT NULL ORDER BY rowid")]
+        made = statements_of(connection)
         sound = connection.execute("PRAGMA integrity_check").fetchall()
         if sound != [("ok",)] or made and made not in SCHEMAS.values():
             raise sqlite3.DatabaseError(f"no desk's: {sound}, {made}")

@@ -12,7 +12,7 @@ from functools import partial
 from itertools import zip_longest
 from typing import Optional, Sequence
 
-from generate.left_changes import OF_FIRST, OF_FIRST_ROWS, OF_FIVE, OF_NEWEST, OF_REPLIES, OF_WHOLE, kept
+from generate.left_changes import OF_FIRST, OF_FIRST_ROWS, OF_FIVE, OF_NEWEST, OF_REPLIES, OF_WHOLE, alone, kept
 from generate.left_desks import EVERYWHERE, FILES, FIRST, FIVE, FULL, GOING, OTHERS, RIDERS, WHOLE, Day, Left, fill
 from model.facts import MOST_HISTORY
 from model.kept import read_tables
@@ -150,11 +150,6 @@ def change_left(program: str, work: str, left: Left, changes: Sequence[tuple[tup
     folder = made(program, work, left, told)
     if folder:
         change_each(program, work, f"{folder}/desk.db", left.days[0], changes, told)
-
-
-def alone(changes: Sequence[tuple[str, bool]]) -> list[tuple[tuple[str, ...], bool]]:
-    """Changes of one statement each."""
-    return [((statement,), is_sound) for statement, is_sound in changes]
 
 
 class Changed(Tried):

@@ -1,13 +1,21 @@
 """The plain desk itself, which the other tests stand beside the program: it has to answer the days, and to leave the rows, that persons wrote by
 hand. The program is not run.
 """
+import os
+import shutil
+import tempfile
 import unittest
 
+from generate.left_changes import OF_FIRST, OF_FIRST_ROWS, OF_FIVE, OF_NEWEST, OF_REPLIES, OF_WHOLE, alone
 from generate.left_desks import EVERYWHERE, FILES, FIVE, FULL, GOING, OTHERS, RIDERS, WHOLE, Left
 from model.desk import Desk
-from model.facts import MOST_HISTORY, Cause, Place
+from model.facts import MOST_HISTORY, SCHEMAS, Cause, Place
+from model.kept import connect, read_tables, statements_of
 from model.rows import ROWS, Move, Tables
 from model.sound import why_unsound
+from tests.changes import change_file, changed_by
+from tests.made_files import make_file, make_first
+from tests.runs import quick_folder
 from tests.test_written import CASES, NO_TALLY, Case
 from tests.test_written import FILES as WRITTEN_FILES
 
@@ -33,6 +41,15 @@ def rows_of(case: Case) -> tuple[Tables, int]:
         refused += sum(desk.line(line)[0].startswith("refused ") for line in lines.splitlines())
         tables = desk.tables()
     return tables, refused
+
+
+def has_tables(path: str) -> bool:
+    """Whether a file has the tables and indexes of a version, and no other."""
+    connection = connect(path)
+    try:
+        return statements_of(connection) in SCHEMAS.values()
+    finally:
+        connection.close()
 
 
 class PlainDesk(unittest.TestCase):
@@ -61,6 +78,28 @@ class PlainDesk(unittest.TestCase):
         if left is FULL:
             filled(tables)
         return tables
+
+    def test_changes(self) -> None:
+        """It knows of each change of a file that leaves the tables of a version whether a desk could have written what is there then."""
+        changes = [(FIVE, alone(OF_FIVE)), (WHOLE, alone(OF_WHOLE)), (WHOLE, OF_NEWEST), (WHOLE, OF_REPLIES), (None, OF_FIRST), (None, OF_FIRST_ROWS)]
+        count = 0
+        with tempfile.TemporaryDirectory(prefix="changes-", dir=quick_folder()) as work:
+            for left, some in changes:
+                if left:
+                    make_file(f"{work}/left.db", self.tables_left(left))
+                else:
+                    make_first(f"{work}/left.db", "every-table")
+                for statements, is_sound in some:
+                    shutil.copy(f"{work}/left.db", f"{work}/copy.db")
+                    change_file(f"{work}/copy.db", changed_by(*statements))
+                    if not has_tables(f"{work}/copy.db"):
+                        self.assertFalse(is_sound, statements)
+                        continue
+                    why = why_unsound(read_tables(f"{work}/copy.db"))
+                    self.assertEqual(is_sound, why is None, f"{'; '.join(statements)[:300]}: {why}")
+                    count += 1
+                os.remove(f"{work}/left.db")
+        print(f"plain desk: {count} changes of files that are judged by hand")
 
     def test_rows(self) -> None:
         """It leaves the rows that are written by hand, in the order in which they were written."""

@@ -9,7 +9,7 @@ from dataclasses import dataclass, field
 from itertools import zip_longest
 
 from model.facts import SCHEMA
-from model.kept import connect, sqlite3
+from model.kept import connect, sqlite3, statements_of
 from model.rows import ROWS
 from tests.asked import ASKED
 from tests.runs import Tried, run_kept, write_lines
@@ -369,7 +369,7 @@ def row_faults(case: Case, connection: sqlite3.Connection, name: str) -> tuple[l
 
 def schema_faults(connection: sqlite3.Connection) -> tuple[list[str], int]:
     """How the statements that made the tables differ from those that are written out; and whether all is STRICT and in order."""
-    made = [sql for sql, in connection.execute("SELECT sql FROM sqlite_schema WHERE sql IS NOT NULL ORDER BY rowid")]
+    made = statements_of(connection)
     faults = [f"made by {got}, and not by {want}" for want, got in zip_longest(SCHEMA, made) if want != got]
     if [it for it, in connection.execute("PRAGMA integrity_check")] != ["ok"]:
         faults.append("SQLite finds the file damaged")
