@@ -16,11 +16,10 @@ import shutil
 import sys
 import tempfile
 import time
+from dataclasses import replace
 from typing import NamedTuple, Optional
 
 sys.path.insert(0, os.path.dirname(os.path.dirname(os.path.realpath(__file__))))
-from dataclasses import replace
-
 from faults.stop_full import full_tables
 from model.rows import Reply, move_line, places_line
 from model.tables import opened_moves, opened_tables
