@@ -139,7 +139,7 @@ load_told stamp book given refusal why = told_by (tests_of_load stamp book given
 
 -- ---- what stops a room
 
-true_false : true ≡ false → ⊥
+pub true_false : true ≡ false → ⊥
 true_false e = cc
 
 keeps_going : {X S : Type 0} (old new : Standing S) (result : Result X Refusal) → old.stopped ≡ false → new.stopped ≡ false → (result ≡ Err Store → ⊥) → (result ≡ Err Stopped → ⊥)
