@@ -71,10 +71,10 @@ check() {
     tell "$name: status $got"
 }
 
-# free_port: prints a port that nobody listens at.
+# free_port: prints a port that no socket of this machine has. It asks by no connection: a server that counts its connections would count that one.
 free_port() {
     local port
     for ((port = 20000 + RANDOM % 9000; ; port++)); do
-        (: <>"/dev/tcp/127.0.0.1/$port") 2>/dev/null || { echo "$port"; return; }
+        grep -qi "^ *[0-9]*: [0-9a-f]*:$(printf %04x "$port") " /proc/net/tcp /proc/net/tcp6 2>/dev/null || { echo "$port"; return; }
     done
 }

@@ -4,19 +4,20 @@
 # the last, and the most memory. Of the questions there is one run, in which each is asked 2,000 times.
 #
 # Scripts of short lines go through the built program. Beside it stand the bare store, which writes the same rows in the same
-# batches in memory and in a file (tc_bench), and SQLite's own C library, which writes the rows
+# batches in memory and in a file (tc_bench), once more with the reply to each entry, and SQLite's own C library, which writes the rows
 # of entries by the same texts in memory and in a file (tools/bench/bench_sqlite.c), where its headers are installed (Debian's
 # libsqlite3-dev). Each has to tell as many requests where they stand as were entered, or withdrawn. Times are given as
 # multiples of the user time of the bare store and of that of the C library in memory.
 #
 # Less is measured where these words are set: COUNTS, how many requests are entered; HALF, how many are entered and then
-# withdrawn; STORE_ROWS, of how many moves questions are asked on the bare store.
+# withdrawn; STORE_ROWS, of how many moves questions are asked on the bare store; REPLIES, of how many kept replies.
 set -eu -o pipefail
 top=$(cd "$(dirname "$(readlink -f "$0")")/../.." && pwd)
 runs=${1:-5}
 counts=${COUNTS:-1000 10000 30000 60000}
 half=${HALF:-20000}
 store_rows=${STORE_ROWS:-1000 900000}
+replies=${REPLIES:-1000 1000000}
 began="$(date -u +%F), $(nproc) cores, a load of $(cut -d ' ' -f 1 /proc/loadavg) before it began"
 work=$(mktemp -d)
 trap 'rm -rf "$work"' EXIT
@@ -100,10 +101,10 @@ rows() {
     rm "$work/runs"
 }
 
-# Prints what was written down as a row of the second table, and forgets it.
+# Prints what was written down as a row of one of the tables of questions, and forgets it.
 read_row() {
     awk -F '\t' 'function commas(n) { return n < 1000 ? n : commas(int(n / 1000)) sprintf(",%03d", n % 1000) }
-        { printf "| %s moves, %s | %.1f | %.1f | %.1f |\n", commas($6), $7, $8 / 1000, $9 / 1000, $4 / 1024 }' "$work/runs"
+        { printf "| %s %s | %.1f | %.1f | %.1f |\n", commas($6), $7, $8 / 1000, $9 / 1000, $4 / 1024 }' "$work/runs"
     rm "$work/runs"
 }
 
@@ -115,6 +116,8 @@ zeros="0 0 0 0 0 0 0 0 0 0 0 0 0 0"
 for count in $counts; do
     timed "entries, the bare store" "$count" "$count" "$bare" "$count" store
     timed "entries, the bare store in a file" "$count" "$count" "$bare" "$count" store "$work/file"
+    timed "entries with their replies, the bare store" "$count" "$count" "$bare" "$count" store-kept
+    timed "entries with their replies, the bare store in a file" "$count" "$count" "$bare" "$count" store-kept "$work/file"
     enters "$count" >"$work/script"
     if (($(stat -c %s "$work/script") <= 1048576)); then
         timed '`enter`, a script' "$count" "places $count: $count $zeros" "$program" run "$work/script"
@@ -138,6 +141,14 @@ echo "|---|---|---|---|"
 # One run each: a question is asked 2,000 times in it.
 runs=1
 for count in $store_rows; do
-    timed "the bare store, 51 told" "$count" 51 "$bare" "$count" store-reads
+    timed "moves, the bare store, 51 told" "$count" 51 "$bare" "$count" store-reads
+    read_row
+done
+
+echo
+echo '| Asked of | a reply that is kept, microseconds | one that is not, microseconds | MB |'
+echo "|---|---|---|---|"
+for count in $replies; do
+    timed "kept replies, the bare store" "$count" "2000 0" "$bare" "$count" store-replies
     read_row
 done

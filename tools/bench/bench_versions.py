@@ -17,40 +17,29 @@ import sys
 import tempfile
 import time
 from dataclasses import replace
-from typing import NamedTuple, Optional
+from typing import Optional
 
 sys.path.insert(0, os.path.dirname(os.path.dirname(os.path.realpath(__file__))))
+from bench.spent import Took, spent
 from faults.stop_full import full_tables
 from model.rows import Reply, move_line, places_line
 from model.tables import opened_moves, opened_tables
 from tests.asked import BUILT
 from tests.made_files import as_first, make_file
 from tests.plain_runs import text_of
-from tests.runs import bytes_of, quick_folder
+from tests.runs import quick_folder
 
 OPENED, AGAIN = 1000, 9000
 MOST = 1.3
 BODY = "ok request 1 5/0\nmove 1 100 ann 1 - Entered enter\n"
 
 
-class Took(NamedTuple):
-    """What a run took: of processors and by the clock, in seconds, and of memory, in megabytes."""
-    processor: float
-    clock: float
-    memory: float
-
-
 def run(program: str, folder: str, name: str, moment: int, wanted: str) -> Took:
     """Opens a file, which has to print exactly this."""
-    words = [program, "run", "--db", f"{folder}/{name}", "--at", str(moment), "/dev/null"]
-    with open(f"{folder}/out", "wb") as out:
-        began = time.monotonic()
-        process = os.posix_spawn(program, words, os.environ, file_actions=[(os.POSIX_SPAWN_DUP2, out.fileno(), 1)])
-        _, status, used = os.wait4(process, 0)
-        clock = time.monotonic() - began
-    if status or bytes_of(out.name).decode() != wanted:
-        sys.exit(f"bench_versions: {program} on {name}: status {status}, or it prints something else: {bytes_of(out.name)[:200]!r}")
-    return Took(used.ru_utime + used.ru_stime, clock, used.ru_maxrss / 1024)
+    ended = spent(folder, [program, "run", "--db", f"{folder}/{name}", "--at", str(moment), "/dev/null"])
+    if ended.status or ended.out != wanted:
+        sys.exit(f"bench_versions: {program} on {name}: status {ended.status}, or it prints something else: {ended.out[:200]!r} {ended.err!r}")
+    return ended.took
 
 
 def measure(before: str, program: str, folder: str, turns: int, replies: Optional[int]) -> dict[str, list[Took]]:

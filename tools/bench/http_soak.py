@@ -1,9 +1,10 @@
 """Ten good clients beside peers that stall, drip, reset, end half, speak TLS and flood with connects, on one server: `tools/run.py --only soak`, by hand.
 All is on this machine, and ends by itself, after five minutes or so many as --count says.
 
-A peer of each of three kinds is there at any time. Each good client enters requests and asks for the places, a second after its last answer. A line a
-minute tells what was answered, the longest wait so far, and the server's memory and handles. In the end the file has to tell exactly the requests that were
-acknowledged. It fails where a good request was not answered, waited more than 40 s, or was lost.
+A peer of each of three kinds is there at any time. Each good client enters requests, each under a number of its own, of which it sends some again, and asks
+for the places, a second after its last answer. A line a minute tells what was answered, the longest wait so far, and the server's memory and handles. In
+the end the file has to tell exactly the requests that were acknowledged, each once. It fails where a good request was not answered, waited more than 40 s, was
+lost, or was answered otherwise as it was sent again.
 """
 import os
 import random
@@ -38,20 +39,24 @@ class Soak:
 
     def good(self, number: int) -> None:
         """One good client."""
-        dice = random.Random(f"{self.seed} {number}")
+        dice, told = random.Random(f"{self.seed} {number}"), dict[bytes, bytes]()
         while self.goes_on:
-            enters = dice.random() < 0.5
+            enters, repeats = dice.random() < 0.5, bool(told) and dice.random() < 0.2
+            entry = act(f"enter {dice.randrange(2048)} a--c no 8 1 - - ok", f"p{number}", number=len(told) + 1)
+            raw = dice.choice(list(told)) if repeats else entry if enters else PLACES
             began = time.monotonic()
             with self.server.connect() as peer:
                 peer.settimeout(2 * MOST_WAIT)
-                send(peer, act(f"enter {dice.randrange(2048)} a--c no 8 1 - - ok") if enters else PLACES)
+                send(peer, raw)
                 got = received(peer)
             took = time.monotonic() - began
             with self.lock:
                 self.answered, self.longest = self.answered + 1, max(self.longest, took)
-                self.entered += enters and b'"refusal":0}' in got
-                if not got.startswith(b"HTTP/1.1 200") or took > MOST_WAIT:
+                self.entered += raw == entry and b'"refusal":0}' in got
+                if not got.startswith(b"HTTP/1.1 200") or took > MOST_WAIT or told.get(raw, got) != got:
                     self.bad.append((round(took, 1), got[:80]))
+            if raw == entry:
+                told[raw] = got
             time.sleep(1)
 
     def rude(self, kinds: Sequence[Callable[["Soak", random.Random], None]]) -> None:

@@ -2,10 +2,11 @@
 
 By fail_io.c the read of each number of a connection fails: nothing is written, no act is made, and 33 is told on standard error; the write of each
 number fails, or takes nothing: a front of the response went out, the act stands once, and 34 is told; all come in short pieces: the response is the
-same. By fail_malloc.c each request for memory from the first connection on is refused, one a run: the response is right, or tells that there was
-no memory (30, or 31 where the database had none), or is not there; an act that was answered stands, one that was refused 30 does not, and none
-stands twice. Where a request was told 30 it is sent again, and answered as it would have been. By a limit on the size of files the database fails:
-31, and from then on 32. After each run the file is opened and asked. There is a line for each run that failed.
+same. By fail_malloc.c each request for memory from the first connection on is refused, one a run, of a post, of a question behind it and of the post
+again: each response is right, or tells that there was no memory (30, and nothing has changed; or 31 where the database had none, and then 32), or is not
+there; an act that was answered stands, one that was refused 30 does not. By a limit on the size of files the database fails: 31, and from then on 32.
+After each run the same is sent again under its number, to a server that lacks nothing: it is answered as it would have been, and was done once in all.
+There is a line for each run that failed.
 """
 import os
 import resource
@@ -19,9 +20,10 @@ from typing import Callable, NamedTuple, Optional, Sequence, Union
 
 from generate import http_posts as posts, http_requests as requests
 from generate.http_words import BODY, ENTRY, PLACES, Case, Want, act, get, load, post
-from model.http import LARGE, NO_PATH, OTHER_METHOD, reply_response
+from model.http import LARGE, NO_PATH, OTHER_METHOD, Refused, answer_to, reply_response
 from tests.asked import ASKED
 from tests.http_peer import PATIENCE, SLOW, Ended, Expected, Fault, Server, parted, run
+from tests.plain_runs import kept_tables
 from tests.runs import made_shim, quick_folder
 
 MOST_BAD = 10
@@ -43,6 +45,7 @@ class Runs:
         for name in ("fail_io", "fail_malloc"):
             made_shim(name, folder)
         run(program, folder, [], "--db", "left.db")
+        self.left = "left.db"
 
     def bad(self, name: str, *what: object) -> None:
         """Tells of a run that was bad."""
@@ -57,7 +60,7 @@ class Runs:
         for end in ("", "-wal"):
             if os.path.exists(f"{self.folder}/kept.db{end}"):
                 os.remove(f"{self.folder}/kept.db{end}")
-        shutil.copy(f"{self.folder}/left.db", f"{self.folder}/kept.db")
+        shutil.copy(f"{self.folder}/{self.left}", f"{self.folder}/kept.db")
         env = {**{it: str(value) for it, value in (settings or {}).items()}, **({"LD_PRELOAD": f"{self.folder}/{library}.so"} if library else {})}
         return Server(self.program, self.folder, "kept.db", connections, words, env=env, told=f"{self.folder}/told", first=first)
 
@@ -69,6 +72,13 @@ class Runs:
     def entered(self) -> int:
         """How many requests the file tells, which has to be a desk's."""
         return int(run(self.program, self.folder, [], "--db", "kept.db").split(":")[0].removeprefix("places "))
+
+    def again(self, raws: Sequence[bytes]) -> list[bytes]:
+        """What these are answered by a server of the same file that lacks nothing."""
+        with Server(self.program, self.folder, "kept.db", len(raws)) as server:
+            got = [server.exchange(it) for it in raws]
+            ended = server.end()
+        return got if ended == Ended(0, "", server.says) else [*got, repr(ended).encode()]
 
 
 # ---- streams
@@ -103,16 +113,18 @@ def stream(runs: Runs, name: str, raws: Sequence[bytes], wanted: Wanted, within:
 
 
 def each_fails(runs: Runs, request: bytes, entered: int, step: int) -> None:
-    """Of a request that enters so many, and of the question behind it: each read, or each stepth, fails, each write fails, or takes nothing."""
-    right = Expected(runs.folder, [Case("", request), Case("", PLACES)]).responses
+    """Of a request that enters so many, of the question behind it, and of the request again: each read of the first, or each stepth, fails, each write
+    fails, or takes nothing."""
+    raws, name = [request, PLACES, request], repr(request[:12])
+    right = Expected(runs.folder, [Case("", it) for it in raws]).responses
     before = Expected(runs.folder, [Case("", PLACES)]).responses[0]
-    raws, name = [request, PLACES], repr(request[:12])
     for at in range(1, len(request) + 1, step):
-        stream(runs, f"a read of {name}", raws, Wanted([b"", before], (at + len(PLACES), 1), 0, READ_FAULT), READ_MOST=1, READ_FAIL_AT=at)
+        wanted = Wanted([b"", before, right[2]], (at + len(PLACES) + len(request), 2), entered, READ_FAULT)
+        stream(runs, f"a read of {name}", raws, wanted, READ_MOST=1, READ_FAIL_AT=at)
     for how in ("WRITE_FAIL_AT", "WRITE_NOTHING_AT"):
-        stream(runs, f"the write of {name}", raws, Wanted([b"", right[1]], (None, 2), entered, WRITE_FAULT), **{how: 1})
+        stream(runs, f"the write of {name}", raws, Wanted([b"", *right[1:]], (None, 3), entered, WRITE_FAULT), **{how: 1})
         for at in range(1, len(right[0]) + 1, step):
-            wanted = Wanted([right[0][:at - 1], right[1]], (None, at + len(right[1])), entered, WRITE_FAULT)
+            wanted = Wanted([right[0][:at - 1], *right[1:]], (None, at + len(right[1]) + len(right[2])), entered, WRITE_FAULT)
             stream(runs, f"a write of {name}", raws, wanted, WRITE_MOST=1, **{how: at})
     for most in (1, 2, 3, 7, 100, 4096):
         stream(runs, f"short pieces of {name}", raws, Wanted(right, (None, None), entered), READ_MOST=most, WRITE_MOST=most)
@@ -135,83 +147,105 @@ def streams(runs: Runs) -> None:
 # ---- memory
 
 class Exchange:
-    """A request, the right response, the right responses to /places before and after it, and how many requests it enters."""
+    """A request, the right response, that to the request again, and those to /places before and after it; how many requests stand then, and which
+    replies are kept. On a desk that was called so before it is a repeat, and enters nothing more."""
 
-    def __init__(self, runs: Runs, raw: bytes) -> None:
-        self.raw = raw
-        self.right, self.after = Expected(runs.folder, [Case("", raw), Case("", PLACES)]).responses
-        self.before = Expected(runs.folder, [Case("", PLACES)]).responses[0]
-        self.enters = int(self.after.split(b"places ")[1].split(b":")[0])
+    def __init__(self, runs: Runs, raw: bytes, is_called: bool = False) -> None:
+        made = Expected(runs.folder, [Case("", it) for it in (raw, PLACES, raw)])
+        self.raw, (self.right, self.after, self.again) = raw, made.responses
+        self.before = self.after if is_called else Expected(runs.folder, [Case("", PLACES)]).responses[0]
+        self.enters, self.keeps = int(self.after.split(b"places ")[1].split(b":")[0]), made.calls.desk.tables().reply
+        self.left = "called.db" if is_called else "left.db"
+        self.stopped = self.right if isinstance(answer_to(raw), Refused) else STOPPED
 
+    def ways(self) -> list[list[bytes]]:
+        """What the request, the question behind it and the request again may be answered, where one request for memory is refused to one of them, or
+        to none. What asks nothing of the desk is answered by a stopped one as ever."""
+        right, after, again = self.right, self.after, self.again
+        return [[right, after, again],
+                [MEMORY, self.before, right], [STORE, STOPPED, STOPPED], [b"", self.before, right], [b"", after, again],
+                [right, MEMORY, again], [right, STORE, self.stopped], [right, b"", again],
+                [right, after, MEMORY], [right, after, STORE], [right, after, b""]]
 
-def why_bad(it: Exchange, got: Sequence[bytes], stands: int) -> Optional[tuple[Sequence[bytes], int]]:
-    """What is wrong of these three responses, to the request, to the places, and to the request again where it was undone, else to nothing; and of
-    how many requests stand then; none where nothing is."""
-    first, second, third = got
-    if first == it.right:
-        is_right = second in (it.after, MEMORY, STORE, b"") and (third, stands) == (b"", it.enters)
-    elif first == MEMORY:
-        is_right = (second, third, stands) == (it.before, it.right, it.enters)
-    elif first == STORE:
-        is_right = (second, third) == (STOPPED, b"") and stands in (0, it.enters)
-    else:
-        is_right = first == b"" and (second, third, stands) in ((it.before, it.right, it.enters), (it.after, b"", it.enters))
-    return None if is_right else (got, stands)
+    def untold(self, at: int, got: Sequence[bytes]) -> set[str]:
+        """What may be told of the connection at this place, which was not answered: 34 where an act stands that it asked, 30 where it changed nothing."""
+        if at == 1 or not self.keeps or at == 0 and got[1] == self.before != self.after:
+            return {NO_MEMORY}
+        return {WRITE_FAULT} if at == 0 and got[1] == self.after != self.before else {NO_MEMORY, WRITE_FAULT}
 
 
 def kind_of(it: Exchange, response: bytes) -> str:
     """What a response is called where the runs are counted."""
-    return {it.right: "right", it.after: "right", MEMORY: "refused 30", STORE: "refused 31", b"": "not answered"}.get(response, "another")
+    return {it.right: "right", it.before: "right", it.after: "right", it.again: "right", MEMORY: "refused 30", STORE: "refused 31", STOPPED: "refused 32",
+            b"": "not answered"}.get(response, "another")
 
 
-def look_at_ends(runs: Runs, got: Sequence[bytes], ends: Sequence[str]) -> None:
+def look_at_ends(runs: Runs, it: Exchange, got: Sequence[bytes], ends: Sequence[str]) -> None:
     """Whether of each connection is told that it was answered, or why not."""
-    for response, end in zip(got, ends):
+    for at, (response, end) in enumerate(zip(got, ends)):
         runs.seen[f"told {end}"] += 1
-        if (response != b"") != (end == "answered") or end not in ("answered", NO_MEMORY, WRITE_FAULT):
-            runs.bad("how a connection ended", end, response)
+        if end not in ({"answered"} if response else it.untold(at, got)):
+            runs.bad("how a connection ended", at, end, response)
 
 
 def refused(runs: Runs, it: Exchange, at: int) -> bool:
     """One run with the request for memory of this number refused. False where it was not made."""
     got: list[bytes] = []
-    ends: list[str] = []
     ended: Union[Ended, Fault]
     with runs.server(3, "fail_malloc", ("--verbose",), settings={"FAIL_AT": at, "FAIL_BEHIND_ACCEPT": 1}) as server:
         try:
-            for raw in (it.raw, PLACES):
+            for raw in (it.raw, PLACES, it.raw):
                 got.append(server.exchange(raw))
-            is_undone = got[0] == MEMORY or got[0] == b"" and got[1] == it.before
-            got.append(server.exchange(it.raw if is_undone else b"", shuts=not is_undone))
-            runs.seen["sent again"] += is_undone
             ended, ends = parted(server.end())
+            look_at_ends(runs, it, got, ends)
         except Fault as fault:
             ended = fault
     if not runs.told():
         return False
     runs.counts["memory"] += 1
-    runs.seen[kind_of(it, got[0]) if got else "not accepted"] += 1
-    look_at_ends(runs, got[:2], ends)
-    why: object = why_bad(it, got, runs.entered()) if len(got) == 3 else got
+    runs.seen.update(kind_of(it, response) for response in got)
     # Where all were answered the memory was wanted as the desk was closed.
     closings = [Ended(0, "", server.says)]
     closings += [Ended(2, "", f"{server.says}tcdesk: cannot use {what}\n") for what in ("memory", "kept.db") if b"" not in got]
-    if why or ended not in closings:
-        runs.bad(f"request {at} for memory of {it.raw[:20]!r}", why, ended)
+    if got not in it.ways() or ended not in closings:
+        runs.bad(f"request {at} for memory of {it.raw[:20]!r}", got, ended)
+    once(runs, it, f"request {at} for memory of {it.raw[:20]!r}, and again")
     return True
 
 
+def once(runs: Runs, it: Exchange, name: str) -> None:
+    """Sends the request again to a server that lacks nothing: it was done once in all."""
+    got, kept = runs.again([it.raw, PLACES]), kept_tables(f"{runs.folder}/kept.db", "mode=ro&immutable=1")
+    if got not in ([it.right, it.after], [it.again, it.after]) or kept is None or (len(kept.request), kept.reply) != (it.enters, it.keeps):
+        runs.bad(name, got, kept and kept.reply)
+
+
+def called(runs: Runs, raw: bytes) -> None:
+    """A desk that was called so before, to be left for runs of repeats."""
+    runs.left = "left.db"
+    with runs.server(1) as server:
+        server.exchange(raw)
+        server.end()
+    shutil.copy(f"{runs.folder}/kept.db", f"{runs.folder}/called.db")
+
+
 def memory(runs: Runs) -> None:
-    """Each request for memory of an exchange, or each of some steps, is refused in turn."""
-    for raw, step in ((act(ENTRY), 1), (load("stack", "s1", posts.rows(3)), 5), (act("report 0 9"), 1), (get("/history/1/0"), 2),
-                      (b"GET /none HTTP/1.1\n\n", 1), (requests.padded(8193), 1), (act("x" * 201), 1), (post("/acts", "{"), 1)):
-        it, at = Exchange(runs, raw), 1
+    """Each request for memory of an exchange and of its repeats, or each of some steps, is refused in turn."""
+    entry, stack = act(ENTRY), load("stack", "s1", posts.rows(3))
+    others: list[tuple[bytes, int]] = [(act("tick"), 3), (act("report 0 9"), 1), (get("/history/1/0"), 2), (b"GET /none HTTP/1.1\n\n", 2),
+                                       (requests.padded(8193), 2), (act("x" * 201), 1), (post("/acts", "{"), 2)]
+    for raw, step, is_called in ((entry, 1, False), (entry, 1, True), (stack, 5, False), (stack, 5, True), *((*it, False) for it in others)):
+        if is_called:
+            called(runs, raw)
+        it, at = Exchange(runs, raw, is_called), 1
+        runs.left = it.left
         while refused(runs, it, at):
             at += step
         if at == 1:
             runs.bad(f"{raw[:20]!r}: no request for memory was counted")
-    if not all(runs.seen[it] for it in ("right", "refused 30", f"told {NO_MEMORY}", "sent again")):
-        runs.bad("no run was right, or none was refused 30, or told so, or sent again", dict(runs.seen))
+    runs.left = "left.db"
+    if not all(runs.seen[it] for it in ("right", "refused 30", "refused 31", "refused 32", f"told {NO_MEMORY}", f"told {WRITE_FAULT}")):
+        runs.bad("no run was right, or none was refused 30, 31 or 32, or told so", dict(runs.seen))
 
 
 # ---- the disk
@@ -224,33 +258,40 @@ def small_files(size: int) -> Callable[[], None]:
     return limit
 
 
+def full_disk() -> list[Case]:
+    """Cases of a desk whose database cannot be written: an act finds it so, and from then on all that reaches the desk is refused for that, whatever its text,
+    its moment and its name are."""
+    return [Case("a question", PLACES, 0), Case("an act", act(ENTRY), 31), Case("a question behind it", PLACES, 32),
+            Case("the act again", act(ENTRY), 32), Case("an act behind it", act(ENTRY, number=8), 32), Case("a history", get("/history/1/0"), 32),
+            Case("a posted question", act("link", number=9), 32), Case("a report", get("/report/0/9"), 32),
+            Case("a stack", load("stack", "s1", posts.rows(3)), 32), Case("a procedure", load("procedure", "p1", posts.steps(3)), 32),
+            Case("an act that is none", act("x"), 32), Case("an act that is too long", act("x" * 201), 32),
+            Case("an act at no moment", act(ENTRY, moment=-1), 32), Case("a stack of a bad name", load("stack", "No", posts.rows(1)), 32),
+            Case("a long stack of a bad name", load("stack", "No", posts.rows(201)), 32),
+            Case("a bad person", act(ENTRY, "desk"), 1), Case("a bad number", act(ENTRY, number=0), 1), Case("no number", act(ENTRY, number=None), 1),
+            Case("a bad number of a long act", act("x" * 201, number=0), 1), Case("no JSON", post("/acts", "{"), 1),
+            Case("a number out of form", get("/requests/x"), 1), Case("no path", get("/none"), NO_PATH), Case("another method", get("/acts"), OTHER_METHOD),
+            Case("a long body", post("/acts", "", length=65537), LARGE), Case("a question in the end", PLACES, 32)]
+
+
 def disk(runs: Runs) -> None:
-    """The database cannot be written: 31, and then 32 of all that reaches the desk."""
-    told = [Case("a question", PLACES, 0), Case("an act", act(ENTRY), 31), Case("a question behind it", PLACES, 32),
-            Case("an act behind it", act(ENTRY), 32), Case("a history", get("/history/1/0"), 32), Case("a posted question", act("link"), 32),
-            Case("a report", get("/report/0/9"), 32), Case("a stack", load("stack", "s1", posts.rows(3)), 32),
-            Case("a procedure", load("procedure", "p1", posts.steps(3)), 32), Case("an act that is none", act("x"), 1),
-            Case("an act that is too long", act("x" * 201), 17), Case("a bad person", act(ENTRY, "desk"), 1), Case("no JSON", post("/acts", "{"), 1),
-            Case("a number out of form", get("/requests/x"), 1), Case("a stack of a bad name", load("stack", "No", posts.rows(1)), 1),
-            Case("a long stack of a bad name", load("stack", "No", posts.rows(201)), 17), Case("no path", get("/none"), NO_PATH),
-            Case("another method", get("/acts"), OTHER_METHOD), Case("a long body", post("/acts", "", length=65537), LARGE),
-            Case("a question in the end", PLACES, 32)]
+    """The database cannot be written: 31, and then 32 of all that reaches the desk. The same number is done once, where there is room again."""
+    told, it = full_disk(), Exchange(runs, act(ENTRY))
     right = Expected(runs.folder, told)
     ends: dict[Want, bytes] = {31: STORE, 32: STOPPED}
     wanted = [ends.get(case.want, response) for case, response in zip(told, right.responses)]
     # with fewer bytes than some hundred the file cannot be opened
     for size in (1000, 4151, 4152, 5000):
         with runs.server(len(told), first=small_files(size)) as server:
-            got = [server.exchange(it.raw) for it in told]
+            got = [server.exchange(case.raw) for case in told]
             ended = server.end()
         runs.counts["disk"] += 1
-        says = (ended.status, ended.err) in ((0, server.says), (2, f"{server.says}tcdesk: cannot use kept.db\n"))
-        stands = runs.entered()
-        for case, it, found in zip(told, wanted, got):
-            if it != found:
-                runs.bad(f"files of {size} bytes: {case.name}", found, it)
-        if not says or stands > 1:
-            runs.bad(f"files of {size} bytes", ended, stands)
+        for case, response, found in zip(told, wanted, got):
+            if response != found:
+                runs.bad(f"files of {size} bytes: {case.name}", found, response)
+        if (ended.status, ended.err) not in ((0, server.says), (2, f"{server.says}tcdesk: cannot use kept.db\n")):
+            runs.bad(f"files of {size} bytes", ended)
+        once(runs, it, f"files of {size} bytes, and then longer ones")
 
 
 class HttpFaults(unittest.TestCase):

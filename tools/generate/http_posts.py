@@ -4,7 +4,7 @@ response.
 import json
 from typing import Any, Callable, Iterator
 
-from generate.http_words import BODY, ENTRY, Case, act, entry, get, load, post
+from generate.http_words import BODY, ENTRY, OWN, Case, act, entry, get, load, post
 from model.facts import MOST_ROWS, MOST_STEPS, PROCEDURE_HEADER, STACK_HEADER
 from model.http import NO_PATH
 
@@ -27,8 +27,8 @@ def shapes() -> Iterator[Case]:
     for name, body, want in [
             ("spaces between all tokens", BODY.replace(",", " , ").replace('":', '" : ').replace("{", " { ").replace("}", " } "), 0),
             ("line ends and tabs between tokens", "\r\n\t" + BODY.replace(",", ",\r\n\t") + "\n", 0),
-            ("keys in another order", '{"moment":100,"by":"ann","act":"places"}', 0),
-            ("other keys", '{"number":7,"x":[1,{"act":null}],"":"",' + tail, 0),
+            ("keys in another order", f'{{"moment":100,"number":{OWN},"by":"ann","act":"places"}}', 0),
+            ("other keys", '{"numbers":7,"x":[1,{"act":null}],"":"",' + tail, 0),
             ("an escaped key", BODY.replace('"act"', '"\\u0061c\\u0074"'), 0), ("an escaped person", BODY.replace('"ann"', '"\\u0061nn"'), 0),
             ("an escaped act", BODY.replace("- ok", "\\u002D o\\u006b"), 0),
             ("an escaped slash", entry(act="enter 5 a--c no 8 1 - - ok/3").replace("ok/3", "ok\\/3"), 0),
@@ -38,13 +38,13 @@ def shapes() -> Iterator[Case]:
             ("NUL behind it", BODY + "\x00", 1), ("a comma before the end", BODY[:-1] + ",}", 1), ("a comma at the front", "{," + tail, 1),
             ("two commas", BODY.replace(",", ",,", 1), 1),
             ("no comma", BODY.replace(',"by"', ' "by"'), 1), ("no colon", BODY.replace(":", " ", 1), 1), ("single quotes", BODY.replace('"', "'"), 1),
-            ("keys without quotes", '{act:"places",by:"ann",moment:100}', 1), ("a comment", "/* x */" + BODY, 1),
+            ("keys without quotes", '{act:"places",by:"ann",moment:100,number:7}', 1), ("a comment", "/* x */" + BODY, 1),
             ("a comment behind it", BODY + "// x", 1),
             ("a mark at the front", "\ufeff" + BODY, 1), ("a vertical tab", "\v" + BODY, 1), ("a form feed", "\f" + BODY, 1),
             ("a hard space", "\xa0" + BODY, 1),
             ("an array", f"[{BODY}]", 1), ("an empty array", "[]", 1), ("a text", json.dumps(BODY), 1), ("a number", "100", 1), ("null", "null", 1),
             ("true", "true", 1),
-            ("a word", "nul", 1), ("NaN", "NaN", 1), ("a form", "act=places&by=ann&moment=100", 1), ("the act alone", ENTRY, 1),
+            ("a word", "nul", 1), ("NaN", "NaN", 1), ("a form", "act=places&by=ann&moment=100&number=7", 1), ("the act alone", ENTRY, 1),
             ("an object in an object", '{"body":' + BODY + "}", 1), ("keys in capitals", BODY.replace("act", "Act").replace('"by', '"By'), 1)]:
         yield Case(f"a body: {name}", post("/acts", body), want)
     yield from other_values()
@@ -99,14 +99,15 @@ def keys() -> Iterator[Case]:
     """Keys that lack, come twice, or are of another kind, for all three kinds of a post."""
     csv, plan = rows(1, apid=8), steps(1)
     posts: dict[str, dict[str, Any]] = {
-             "/acts": {"act": ENTRY, "by": "ann", "moment": 100}, "/stacks": {"by": "ann", "csv": csv, "moment": 100, "name": "k1"},
-             "/procedures": {"by": "ann", "csv": plan, "moment": 100, "name": "k1"}}
+             "/acts": {"act": ENTRY, "by": "ann", "moment": 100, "number": OWN},
+             "/stacks": {"by": "ann", "csv": csv, "moment": 100, "name": "k1", "number": OWN},
+             "/procedures": {"by": "ann", "csv": plan, "moment": 100, "name": "k1", "number": OWN}}
     others: dict[str, Any] = {"null": None, "true": True, "a list": ["ann"], "an object": {"a": 1}, "an empty list": []}
     for path, values in posts.items():
         for key in values:
             lacking = {it: value for it, value in values.items() if it != key}
             yield Case(f"{path} lacks {key}", post(path, json.dumps(lacking)), 1)
-            wrong: dict[str, Any] = {**others, "a text": "100"} if key == "moment" else {**others, "a number": 5}
+            wrong: dict[str, Any] = {**others, "a text": "100"} if key in ("moment", "number") else {**others, "a number": 5}
             for name, value in wrong.items():
                 yield Case(f"{path}: {key} is {name}", post(path, json.dumps({**values, key: value})), 1)
                 yield Case(f"{path}: {key} comes twice, the last {name}", post(path, json.dumps(values)[:-1] + f',"{key}":{json.dumps(value)}}}'), 1)
@@ -114,11 +115,12 @@ def keys() -> Iterator[Case]:
     for path, other in (("/stacks", "/acts"), ("/procedures", "/acts"), ("/acts", "/stacks"), ("/acts", "/procedures")):
         yield Case(f"{path} is given what belongs to {other}", post(path, json.dumps(posts[other])), 1)
     for first, want in (('"act":5', 0), ('"by":null', 0), ('"moment":"x"', 0), ('"by":"desk"', 0), ('"by":"bob"', 0), ('"moment":-1', 0),
-                        ('"moment":4102444800', 0),
+                        ('"moment":4102444800', 0), ('"number":0', 0), ('"number":null', 0), ('"number":7', 0),
                         ('"act":"withdraw 1"', 0), (f'"act":"{"x" * 300}"', 0), ('"by":[]', 0)):
         yield Case(f"named twice, first {first[:20]}", post("/acts", "{" + first + "," + BODY[1:]), want)
     for last, want in (('"by":"desk"', 1), ('"by":"bob"', 0), ('"moment":-1', 1), ('"moment":101', 0), ('"act":"withdraw 0"', 2),
-                       (f'"act":"{"x" * 300}"', 17), ('"b\\u0079":"eve"', 0)):
+                       (f'"act":"{"x" * 300}"', 17), ('"b\\u0079":"eve"', 0), ('"number":0', 1), ('"number":7', 0),
+                       ('"n\\u0075mber":4294967296', 1)):
         yield Case(f"named twice, last {last[:20]}", post("/acts", BODY[:-1] + "," + last + "}"), want)
 
 
@@ -141,7 +143,7 @@ def moments() -> Iterator[Case]:
             ("-9223372036854775809", 1), ("1e308", 1)]:
         yield Case(f"the moment {number[:30]}", post("/acts", BODY.replace("100", number)), want)
         yield Case(f"the moment {number[:30]} and a long act", post("/acts", entry(act=LONG).replace("100", number)), 17)
-        stack = json.dumps({"by": "ann", "csv": rows(201), "moment": 1, "name": "m"}).replace('"moment": 1', f'"moment": {number}')
+        stack = json.dumps({"by": "ann", "csv": rows(201), "moment": 1, "name": "m", "number": OWN}).replace('"moment": 1', f'"moment": {number}')
         yield Case(f"the moment {number[:30]} of a stack of 201 rows", post("/stacks", stack), 17)
     for number in ("1e400", "01", "+1", "NaN", "1.", '"1"', "null", ""):
         yield Case(f"no number for a moment, and a long act: {number}", post("/acts", entry(act=LONG).replace("100", number)), 1)
@@ -191,7 +193,7 @@ BESIDES: list[tuple[str, dict[str, Any], int]] = [
     ("a late moment", {"moment": 4102444800}, 17), ("half a moment", {"moment": 0.5}, 17),
     ("both bad", {"moment": -1, "name": "No"}, 17), ("a bad person", {"by": "No"}, 1),
     ("the desk", {"by": "desk"}, 1), ("a name of another kind", {"name": 5}, 1), ("a moment of another kind", {"moment": "5"}, 1),
-    ("a name that lacks", {"name": None}, 1)]
+    ("a name that lacks", {"name": None}, 1), ("a bad number", {"number": 0}, 1), ("a number that lacks", {"number": None}, 1)]
 
 
 def long_loads(kind: str, make: Callable[[int], str], most: int) -> Iterator[Case]:
@@ -224,7 +226,7 @@ def spelled_loads(kind: str, text: str) -> Iterator[Case]:
             ("letters of other tongues", text.replace("1,", "é,", 1), 1), ("NUL", text + "\x00", 1), ("many spaces", text + " " * 50000, 1),
             ("many empty lines", text + "\n" * 20000, 0)]:
         yield Case(f"a {kind} with {name}", load(kind, f"{kind[0]}{name.replace(' ', '')[:12].lower()}", csv), want)
-    yield Case(f"a {kind}, its act beside it", load(kind, f"{kind[0]}act", text, act="withdraw 1", number=9), 0)
+    yield Case(f"a {kind}, its act beside it", load(kind, f"{kind[0]}act", text, act="withdraw 1"), 0)
     spare = 65536 - len(load(kind, "large", text, x="").split(b"\r\n\r\n", 1)[1])
     yield Case(f"a {kind} in a body of 65,536 bytes", load(kind, "large", text, x="x" * spare), 0)
     yield Case(f"a {kind} in a body of 65,537 bytes", load(kind, "larger", text, x="x" * (spare + 1)), 17)

@@ -27,16 +27,18 @@ class Asks(NamedTuple):
 
 
 class Acts(NamedTuple):
-    """An act, or a question, that a person posts."""
+    """An act, or a question, that a person posts under a number of the person's own; the moment is none where it is out of form."""
     by: str
-    moment: int
+    number: int
+    moment: Optional[int]
     act: str
 
 
 class Loads(NamedTuple):
-    """A stack or a procedure that a person posts."""
+    """A stack or a procedure that a person posts so; neither its name nor its text was looked at yet."""
     by: str
-    moment: int
+    number: int
+    moment: Optional[int]
     kind: str
     name: str
     csv: str
@@ -48,7 +50,8 @@ class Post(NamedTuple):
     size: int
 
 
-Asked = Union[Refused, Asks, Acts, Loads]
+Called = Union[Acts, Loads]
+Asked = Union[Refused, Asks, Called]
 Headers = Sequence[tuple[bytes, bytes]]
 BAD, LARGE = (Refused(status_of(it), it) for it in (Refusal.BAD_TEXT, Refusal.TOO_LONG))
 NO_PATH, OTHER_METHOD = (Refused(it, Refusal.BAD_TEXT) for it in (NO_PATH_STATUS, OTHER_METHOD_STATUS))
@@ -184,9 +187,9 @@ def is_name(text: str) -> bool:
     return NAME.fullmatch(text) is not None
 
 
-def is_moment(number: str) -> bool:
-    """Whether a number of JSON is a moment: whole, spelled without a fraction, an exponent or a sign, and in range."""
-    return re.fullmatch("[0-9]+", number) is not None and len(number) <= len(str(LAST_MOMENT)) and int(number) <= LAST_MOMENT
+def whole_in(number: str, least: int, most: int) -> Optional[int]:
+    """What a number of JSON tells: whole, spelled without a fraction, an exponent or a sign, and between these two; none where it is no such number."""
+    return int(number) if re.fullmatch("[0-9]+", number) and least <= int(number) <= most else None
 
 
 def is_too_long(kind: str, text: str) -> bool:
@@ -196,20 +199,22 @@ def is_too_long(kind: str, text: str) -> bool:
 
 
 def posted(kind: str, body: bytes) -> Asked:
-    """What a whole body posts, in the order of the tests."""
-    keys = object_in(body)
-    texts = ("act", "by") if kind == "act" else ("by", "csv", "name")
-    if keys is None or type(keys.get("moment")) is not Number or not all(type(keys.get(it)) is str for it in texts):
+    """What a whole body posts, in the order of the tests that stand before the kept replies."""
+    keys, texts = object_in(body), ("act", "by") if kind == "act" else ("by", "csv", "name")
+    wanted: dict[str, type] = {**dict.fromkeys(texts, str), "moment": Number, "number": Number}
+    if keys is None or any(type(keys.get(key)) is not form for key, form in wanted.items()):
         return BAD
-    if not is_name(keys["by"]) or keys["by"] == THE_DESK:
+    by, number, moment = keys["by"], whole_in(keys["number"], 1, LAST_NUMBER), whole_in(keys["moment"], 0, LAST_MOMENT)
+    if not is_name(by) or by == THE_DESK or number is None:
         return BAD
-    if len(keys["act"].encode("utf-8")) > LONGEST_ACT if kind == "act" else is_too_long(kind, keys["csv"]):
-        return LARGE
-    if not is_moment(keys["moment"]) or kind != "act" and not is_name(keys["name"]):
-        return BAD
-    if kind == "act":
-        return Acts(keys["by"], int(keys["moment"]), keys["act"])
-    return Loads(keys["by"], int(keys["moment"]), kind, keys["name"], keys["csv"])
+    return Acts(by, number, moment, keys["act"]) if kind == "act" else Loads(by, number, moment, kind, keys["name"], keys["csv"])
+
+
+def fault_of(called: Called) -> Optional[Refusal]:
+    """What refuses a call for its text, its moment or its name, before the desk reads it; none where nothing does."""
+    if len(called.act.encode("utf-8")) > LONGEST_ACT if isinstance(called, Acts) else is_too_long(called.kind, called.csv):
+        return Refusal.TOO_LONG
+    return Refusal.BAD_TEXT if called.moment is None or isinstance(called, Loads) and not is_name(called.name) else None
 
 
 # ---- a response

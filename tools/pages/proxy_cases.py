@@ -22,7 +22,7 @@ from tests.http_peer import HERE, Fault, Server, free_port
 
 POSTS, AT_ONCE = 300, 60
 PLACES = '{{"lines":["places {0}: {0} 0 0 0 0 0 0 0 0 0 0 0 0 0 0"],"more":0,"refusal":0}}'
-BODY = '{{"by":"ann","moment":0,"act":"enter {} a--c no 8 1 - - ok"}}'
+BODY = '{{"by":"ann","moment":0,"number":{},"act":"enter {} a--c no 8 1 - - ok"}}'
 CONFIGURATION = """daemon off;
 pid {folder}/nginx.pid;
 error_log {folder}/error.log;
@@ -94,11 +94,13 @@ def look(cases: Cases, proxy: Proxy) -> None:
     cases.tell("no login", 401, proxy.ask("GET", "/places", login=None)[0])
     cases.tell("a wrong word", 401, proxy.ask("GET", "/places", login="ann:wrong")[0])
     cases.tell("the places", (200, PLACES.format(0)), proxy.ask("GET", "/places"))
-    cases.tell("an act", 200, proxy.ask("POST", "/acts", BODY.format(1))[0])
+    first = proxy.ask("POST", "/acts", BODY.format(1, 1))
+    cases.tell("an act", 200, first[0])
+    cases.tell("the act again", first, proxy.ask("POST", "/acts", BODY.format(1, 1)))
     cases.tell("no path of the desk's", 404, proxy.ask("GET", "/none")[0])
     cases.tell("a body that is too long", 413, proxy.ask("POST", "/acts", "x" * 65537)[0])
     with ThreadPoolExecutor(AT_ONCE) as pool:
-        got = list(pool.map(lambda at: proxy.ask("POST", "/acts", BODY.format(at % 2048))[0], range(POSTS)))
+        got = list(pool.map(lambda at: proxy.ask("POST", "/acts", BODY.format(at + 2, at % 2048))[0], range(POSTS)))
     cases.tell(f"{POSTS} posts, {AT_ONCE} at a time", {200: POSTS}, {it: got.count(it) for it in set(got)})
     cases.tell("and they stand", (200, PLACES.format(POSTS + 1)), proxy.ask("GET", "/places"))
     with socket.create_connection((HERE, proxy.port)):

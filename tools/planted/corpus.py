@@ -5,11 +5,11 @@ import shutil
 import tempfile
 from dataclasses import replace
 
-from generate import http_posts, http_requests, link_scenes
+from generate import http_calls, http_posts, http_requests, link_scenes
 from generate.book_plans import PLANS
 from generate.check_random import random_text
 from generate.check_texts import all_texts
-from generate.http_words import Case, get
+from generate.http_words import Case, get, numbered
 from generate.left_changes import OF_FIVE, OF_REPLIES, OF_WHOLE, alone
 from generate.left_desks import EVERYWHERE, FILES, FIVE, GOING, OTHERS, RIDERS, WHOLE
 from generate.link_plans import Planner
@@ -18,7 +18,7 @@ from generate.link_writers import Writer
 from generate.scripts import Written, book_script
 from model.facts import MOST_EXECUTIONS, MOST_PROCEDURES, MOST_STEPS
 from model.http import answer_to
-from planted.recorded import Exchange, Recorded, Rows, Script, Served, Text, file_of, opening, record, run_in, schema_of
+from planted.recorded import Exchange, Recorded, Rows, Script, Served, Text, file_of, opening, record, rows_of, run_in, schema_of
 from tests.changes import change_file, changed_by
 from tests.full_desks import make_desks
 from tests.http_peer import Server
@@ -128,12 +128,14 @@ def record_broken(program: str, work: str, seed: int, made: Recorded) -> None:
 def record_served(program: str, work: str, made: Recorded) -> None:
     """Lists of requests: what a server answers to each, with the places behind each that may have made an act."""
     lists = [http_requests.sizes, http_requests.heads, http_requests.bytes_at_each_place, http_requests.routes, http_requests.lengths,
-             http_requests.behind, http_posts.shapes, http_posts.keys, http_posts.values, http_posts.loads, http_posts.acts, http_posts.fly]
+             http_requests.behind, http_posts.shapes, http_posts.keys, http_posts.values, http_posts.loads, http_posts.acts, http_posts.fly,
+             http_calls.forms, http_calls.repeats, http_calls.loads_again, http_calls.longer]
     for cases in lists:
-        folder, sent = tempfile.mkdtemp(dir=work), [*cases(), Case("the places", get("/places"))]
+        folder, sent = tempfile.mkdtemp(dir=work), numbered([*cases(), Case("the places", get("/places"))])
         with Server(program, folder, "desk.db", len(sent)) as server:
             exchanges = [Exchange(it.raw, server.exchange(it.raw, shuts=answer_to(it.raw) is None)) for it in sent]
-        made.served.append(Served(f"requests, {cases.__name__}", [], {}, exchanges))
+            server.end()
+        made.served.append(Served(f"requests, {cases.__name__}", [], {}, exchanges, rows_of(f"{folder}/desk.db")))
 
 
 def recorded_by(program: str, seed: int) -> Recorded:

@@ -13,6 +13,7 @@ from planted.recorded import Opening, Recorded, Rows, Script, Served
 # Scripts that fill a desk, which take seconds: they are for the file of the limits and the one of the book.
 FULL = ("book identities run out", "book a desk that stacks fill")
 ORDERED = ("request", "move", "tally", "execution")
+OF_SERVED = ("model/calls.py", "model/http.py")  # what a desk alone that is served asks
 TOOLS = os.path.dirname(os.path.dirname(os.path.realpath(__file__)))
 
 
@@ -135,41 +136,39 @@ def file_faults(recorded: Recorded) -> Iterator[str]:
 
 
 def served_faults(served: Served) -> Iterator[str]:
-    """What a peer is answered."""
+    """What a peer is answered, and what is left of all."""
+    from model.calls import Calls
     from model.desk import Desk
-    from model.http import Acts, Asks, Loads, Refused, answer_to, refused_response, reply_response
+    from model.http import Refused, answer_to, refused_response, reply_response
     desk = Desk(files=served.files)
     for line in served.before:
         desk.line(line)
+    calls = Calls(desk)
     for at, it in enumerate(served.exchanges, 1):
         asked = answer_to(it.raw)
         if asked is None:
             response = b""
         elif isinstance(asked, Refused):
             response = refused_response(asked)
-        elif isinstance(asked, Asks):
-            response = reply_response(desk.line(f"0 zed {asked.act}"))
-        elif isinstance(asked, Acts):
-            response = reply_response(desk.acts(asked.by, asked.moment, asked.act))
         else:
-            assert isinstance(asked, Loads)
-            response = reply_response(desk.loads(asked.by, asked.moment, asked.kind, asked.name, asked.csv.encode()))
+            response = reply_response(calls.reply(asked))
         if response != it.response:
             yield f"{served.title}, {at}, {it.raw!r:.80}: {response!r:.120}, and not {it.response!r:.120}"
+    yield table_fault(served.title, rows_by(desk.tables()), served.tables)
 
 
 # ---- all of it
 
 def differences(file: str, recorded: Recorded) -> Iterator[str]:
     """What differs, and what does not (nothing), where this file is changed; of no file, all."""
-    if file not in ("model/check.py", "model/http.py"):
+    if file not in ("model/check.py", *OF_SERVED):
         yield from case_faults()
-    if file != "model/http.py":
+    if file not in OF_SERVED:
         yield from text_faults(recorded)
     if file != "model/check.py":
         for served in recorded.served:
             yield from served_faults(served)
-    if file in ("model/check.py", "model/http.py"):
+    if file in ("model/check.py", *OF_SERVED):
         return
     yield from file_faults(recorded)
     if file == "model/kept.py":

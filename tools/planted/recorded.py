@@ -58,11 +58,12 @@ class Exchange(NamedTuple):
 
 
 class Served(NamedTuple):
-    """Exchanges, one after the other, on a desk that answered these lines before, which may load these files."""
+    """Exchanges, one after the other, on a desk that answered these lines before, which may load these files; and the tables that it left."""
     title: str
     before: list[str]
     files: dict[str, bytes]
     exchanges: list[Exchange]
+    tables: Rows
 
 
 @dataclass

@@ -3,13 +3,16 @@ import os
 import shutil
 import tempfile
 import unittest
+from dataclasses import replace
 from itertools import count
 from typing import Any, Iterable, Optional, Sequence
 
-from generate.http_words import PLACES, Case, act, get
+from generate.http_words import PLACES, Case, act, get, numbered
 from model.desk import Desk
+from model.rows import Tables
 from tests.asked import ASKED
 from tests.http_peer import Ended, Expected, Fault, Server, run
+from tests.plain_runs import kept_tables, unlike
 from tests.runs import quick_folder, write_files
 
 MOST_FAULTS = 20
@@ -58,39 +61,49 @@ class Cases:
         return made
 
     def play(self, name: str, cases: Iterable[Case], before: Sequence[str] = (), files: Optional[dict[str, str]] = None, looks: bool = True) -> None:
-        """Sends these cases to a new desk, or to one that answered the lines before, which may load these files, with questions behind them, and
-        looks at the file in the end."""
+        """Sends these cases, each under a number of its own if it names no other, to a new desk, or to one that answered the lines before, which may load these
+        files, with questions behind them, and looks at the file in the end."""
         folder = self.folder()
         told: list[Case] = []
-        data = {file: text.encode() for file, text in (files or {}).items()}
-        write_files(folder, data)
         for case in cases:
             told += [case, Case(f"the places after {case.name}", PLACES, 0)] if looks else [case]
-        if before:
-            run(self.program, folder, before, "--db", "desk.db")
-            shutil.copy(f"{folder}/desk.db", f"{folder}/plain.db")
-        desk = Desk(files=data)
-        for line in before:
-            desk.line(line)
-        desk = Desk.opened(desk.tables(), 0)
+        told = numbered(told)
+        desk = self.desk_behind(folder, before, {file: text.encode() for file, text in (files or {}).items()})
         made = self.expected(folder, told, desk)
         numbers = range(1, 2 + min(MOST_ASKED, sum(" Entered enter" in it for it in made.told)))
         behind = [Case(f"{path} at the end", get(path)) for it in numbers for path in (f"/requests/{it}", f"/history/{it}/0")]
-        behind += [Case(f"{it} at the end", act(it, "zed", 0), 0) for it in LAST_QUESTIONS]
+        behind = numbered(behind + [Case(f"{it} at the end", act(it, "zed", 0), 0) for it in LAST_QUESTIONS], len(told))
         asked = self.expected(folder, behind, desk)
         with self.server(folder, len(told) + len(behind)) as server:
             for case, response in zip(told + behind, made.responses + asked.responses):
                 self.tell(f"{name}: {case.name}: {case.raw!r:.300}", response, server.exchange(case.raw, shuts=not response))
             self.ended(name, server)
         run(self.program, folder, made.lines, "--db", "plain.db")
+        self.has_tables(f"{name}: the file that was served", f"{folder}/desk.db", desk.tables())
+        self.has_tables(f"{name}: the file of the script", f"{folder}/plain.db", replace(desk.tables(), reply=[]))
         self.same_file(name, folder, numbers)
 
+    def desk_behind(self, folder: str, lines: Sequence[str], files: dict[str, bytes]) -> Desk:
+        """The plain desk behind these lines, once it was opened again; a file of the same desk is made, where there is a line, and a second one."""
+        write_files(folder, files)
+        if lines:
+            run(self.program, folder, lines, "--db", "desk.db")
+            shutil.copy(f"{folder}/desk.db", f"{folder}/plain.db")
+        desk = Desk(files=files)
+        for line in lines:
+            desk.line(line)
+        return Desk.opened(desk.tables(), 0)
+
+    def has_tables(self, name: str, path: str, wanted: Tables) -> None:
+        """Looks whether a file alone holds these tables: the kept replies, and all others."""
+        self.tell(f"{name}: its tables", "", unlike(kept_tables(path, "mode=ro&immutable=1"), wanted))
+
     def same_file(self, name: str, folder: str, numbers: range) -> None:
-        """Looks whether the file that was served is that of the acts as a script."""
+        """Looks whether the file that was served tells what that of the acts as a script tells."""
         lines = [f"0 zed {it} {at}" for at in numbers for it in ("request", "history")]
         lines = [f"{it} 0" if " history " in it else it for it in lines] + [f"0 zed {it}" for it in LAST_QUESTIONS] + ["0 zed log 1"]
         left, plain = (run(self.program, folder, lines, "--db", it, "--at", "4102444799") for it in ("desk.db", "plain.db"))
-        self.tell(f"{name}: the file that was served", plain, left)
+        self.tell(f"{name}: what the file that was served tells", plain, left)
 
 
 class Served(unittest.TestCase):

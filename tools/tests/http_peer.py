@@ -11,9 +11,10 @@ import time
 from typing import Callable, Iterable, Optional, Sequence, Union
 
 from generate.http_words import NOTHING, Case
+from model.calls import Calls
 from model.desk import Desk
 from model.facts import status_of
-from model.http import Acts, Asks, Loads, Refused, answer_to, refused_response, reply_response
+from model.http import Asks, Called, Loads, Refused, answer_to, fault_of, refused_response, reply_response
 from tests.new_desks import said_first, said_then
 from tests.runs import Ended
 
@@ -89,7 +90,7 @@ class Server:
         return f"{self.listens}tcdesk: ended after {self.count} connections\n"
 
     def connect(self) -> socket.socket:
-        """A connection to it. Before it listens a connection is refused, so that none is counted."""
+        """A connection to it. Before it listens a connection is refused, so that none is counted; one that is reset comes to a server that just ended."""
         end = time.monotonic() + PATIENCE
         while True:
             peer = socket.socket()
@@ -98,7 +99,7 @@ class Server:
             try:
                 peer.connect((HERE, self.port))
                 return peer
-            except ConnectionRefusedError:
+            except (ConnectionRefusedError, ConnectionResetError):
                 peer.close()
                 if self.process.poll() is not None:
                     raise Fault(f"the server has ended: {self.said()}") from None
@@ -183,19 +184,12 @@ def run(program: str, folder: str, lines: Iterable[str], *words: str) -> str:
     return ended.out
 
 
-def reply_of(desk: Desk, asked: Union[Asks, Acts, Loads]) -> list[str]:
-    """What the plain desk replies to what is asked."""
-    if isinstance(asked, Asks):
-        return desk.acts("zed", 0, asked.act)
-    if isinstance(asked, Loads):
-        return desk.loads(asked.by, asked.moment, asked.kind, asked.name, asked.csv.encode("utf-8"))
-    return desk.acts(asked.by, asked.moment, asked.act)
-
-
-def line_of(asked: Union[Asks, Acts, Loads], folder: str, number: int) -> Optional[str]:
+def line_of(asked: Union[Asks, Called], folder: str, number: int) -> Optional[str]:
     """The script's line that asks the same of the desk; none where no line can, and the desk cannot read the act."""
     if isinstance(asked, Asks):
         return f"0 zed {asked.act}"
+    if fault_of(asked):
+        return None
     if isinstance(asked, Loads):
         with open(f"{folder}/load{number}.csv", "w", encoding="utf-8", newline="") as file:
             file.write(asked.csv)
@@ -213,11 +207,11 @@ def wanted(want: Union[int, Refused]) -> tuple[str, int]:
 
 class Expected:
     """The responses that a list of cases has to be given, one after the other, by a new desk or by this one, which goes on; the lines of a script
-    that asks the same, whose files are written to a folder; and what the writer of a case and the plain reading dispute."""
+    that asks the same, without what a kept reply answers, whose files are written to a folder; and what the writer of a case and the plain reading dispute."""
 
     def __init__(self, folder: str, cases: Sequence[Case], desk: Optional[Desk] = None) -> None:
         """Asks the plain desk."""
-        desk = desk or Desk()
+        self.calls = Calls(desk or Desk())
         self.lines: list[str] = []
         self.told: list[str] = []
         self.responses: list[bytes] = []
@@ -225,13 +219,15 @@ class Expected:
         self.disputed: list[tuple[Case, object]] = []
         for at, case in enumerate(cases):
             asked = answer_to(case.raw)
-            self.add(case, b"" if asked is None else refused_response(asked) if isinstance(asked, Refused) else self.answer(desk, asked, folder, at))
+            self.add(case, b"" if asked is None else refused_response(asked) if isinstance(asked, Refused) else self.answer(asked, folder, at))
 
-    def answer(self, desk: Desk, asked: Union[Asks, Acts, Loads], folder: str, at: int) -> bytes:
+    def answer(self, asked: Union[Asks, Called], folder: str, at: int) -> bytes:
         """The response of the desk."""
-        line, reply = line_of(asked, folder, at), reply_of(desk, asked)
+        kept = None if isinstance(asked, Asks) else self.calls.kept_for(asked)
+        line = None if kept else line_of(asked, folder, at)
+        reply = self.calls.reply(asked)
         self.lines += [line] if line else []
-        self.told += reply
+        self.told += [] if kept else reply
         return reply_response(reply)
 
     def add(self, case: Case, response: bytes) -> None:

@@ -1,7 +1,7 @@
 #!/bin/bash
 # Runs the built program on desks that are kept in a file: what is said of one that is made, a shift that is continued, what opening makes of what was left,
-# a copy of the file alone, also while it is open, files that are no desk's, two programs at once, and a program that is killed. Ends with how many passed;
-# status 1 where one failed.
+# a copy of the file alone, also while it is open, files that are no desk's, two programs at once, a program that is killed, and acts that come again. Ends
+# with how many passed; status 1 where one failed.
 set -u
 top=$(cd "$(dirname "${BASH_SOURCE[0]}")/../.." && pwd) || exit 1
 program=${1:-$top/crates/tc_cli/out/tc_cli}
@@ -250,18 +250,40 @@ entered=$(sed -n 's/^places \([0-9]*\): .*/\1/p' out)
 tell "what was answered before the program was killed stands: $acknowledged, $entered"
 check "the file of a program that was killed, once more" 0 "places $entered: $entered 0 0 0 0 0 0 0 0 0 0 0 0 0 0"$'\n' "" run --db killed.db input
 
+# send NUMBER: sends the server an act of ann under this number.
+send() {
+    local body='{"act":"enter 7 ---- no 8 1 - - ok","by":"ann","moment":7,"number":'$1'}'
+    ask "POST /acts HTTP/1.1"$'\r\n'"Content-Length: ${#body}"$'\r\n\r\n'"$body"
+}
 serve served.db 3
-body='{"by":"ann","moment":7,"act":"enter 7 ---- no 8 1 - - ok"}'
 for ((n = 1; n < 3; n++)); do
-    ask "POST /acts HTTP/1.1"$'\r\n'"Content-Length: ${#body}"$'\r\n\r\n'"$body" >answer
-    [[ $(tail -n 1 answer) == '{"lines":["ok request '$n' 7/'$((n - 1))'",'* ]]
-    tell "act $n of a served desk"
+    send "$n" >"answer$n"
+    same "act $n of a served desk" '{"lines":["ok request '$n' 7/'$((n - 1))'","move '$n' 7 ann '$n' - Entered enter"],"more":0,"refusal":0}' "$(tail -n 1 "answer$n")"
     alone "a copy of the file alone of a new desk that is served" served.db $n
 done
 ask "$places" >answer
 ended
 same "what was said as the desk was served" "0 tcdesk: served.db is a new desk" "$? $(<err)"
 check "the file that was served" 0 $'places 2: 2 0 0 0 0 0 0 0 0 0 0 0 0 0 0\n' "" run --db served.db input
+# what is kept stays kept, also where the server is killed, or an opening moves what was done
+serve served.db 100
+for ((n = 1; n < 3; n++)); do
+    send "$n" >answer
+    cmp -s "answer$n" answer
+    tell "act $n sent again to the next server"
+done
+send 3 >answer3
+kill -9 "$server"
+wait "$server" 2>/dev/null
+serve served.db 4
+for ((n = 1; n < 4; n++)); do
+    send "$n" >answer
+    cmp -s "answer$n" answer
+    tell "act $n sent again behind a server that was killed"
+done
+ask "$places" >answer
+ended
+same "a desk of acts that came again and again" '0  {"lines":["places 3: 3 0 0 0 0 0 0 0 0 0 0 0 0 0 0"],"more":0,"refusal":0}' "$? $(<err) $(tail -n 1 answer)"
 
 echo "kept cases: $passed passed, $failed failed"
 [[ $failed == 0 ]]

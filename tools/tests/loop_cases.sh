@@ -1,7 +1,8 @@
 #!/bin/bash
 # Runs `tcdesk loop`, which sends a script over HTTP to a desk that it serves itself: for each script of tools/cases and of examples that loads
 # nothing it has to print what `tcdesk run` prints on another new file, with the same status, and to leave the same desk. Then what a loop alone meets:
-# its words, files and faults, lines that load, that are no lines, and that are too long. Ends with how many passed; status 1 where one failed.
+# its words, files and faults, lines that load, that are no lines, and that are too long; and the numbers of its lines, by which a second loop on one file
+# prints what the first did. Ends with how many passed; status 1 where one failed. Wants python3.
 set -u
 export LC_ALL=C
 top=$(cd "$(dirname "${BASH_SOURCE[0]}")/../.." && pwd) || exit 1
@@ -79,10 +80,90 @@ tell "a shift"
 [[ $(head -n 1 out) == "move 10 86400 desk 1 Sent Doubtful open" && ! -s err ]] && cmp -s want out
 tell "the next shift, with the moves of its opening"
 
+# ---- lines that come again
+
+# kept FILE: the kept replies of a desk: whose, under which number, and the lines.
+kept() {
+    python3 -c 'import sqlite3, sys
+for row in sqlite3.connect(sys.argv[1]).execute("SELECT person, number, body FROM reply ORDER BY rowid"): print(*row)' "$1"
+}
+
+cat >lines <<'SCRIPT'
+# comments and empty lines have no number
+100 ann enter 5 a--c no 8 1 - - ok
+
+110 bob enter 5 a--c no 8 2 - - ok
+# the next is line 3
+120 ann withdraw 1
+130 bob approve 3
+140 ann places
+150 ann tick
+SCRIPT
+entries=$'ok request 1 5/0\nmove 1 100 ann 1 - Entered enter\nok request 2 5/1\nmove 2 110 bob 2 - Entered enter\n'
+withdrawn=$'ok\nmove 3 120 ann 1 Entered Withdrawn withdraw\n'
+two=$'places 2: 1 0 0 0 0 0 0 0 0 0 0 0 1 0 0\n'
+first=$entries$withdrawn$'refused 2 UnknownRequest\n'$two$'ok\n'$two
+kept_first=$'ann 1 ok request 1 5/0\nmove 1 100 ann 1 - Entered enter\n\nbob 2 ok request 2 5/1\nmove 2 110 bob 2 - Entered enter\n
+ann 3 ok\nmove 3 120 ann 1 Entered Withdrawn withdraw\n\nann 6 ok'
+check "a loop" 1 "$first" "" loop twice.db lines
+same "what a loop keeps: of what was accepted, and no question" "$kept_first" "$(kept twice.db)"
+"$program" report twice.db 0 4102444799 >want 2>err
+for again in "" "--first 1" "--first=1"; do
+    # shellcheck disable=SC2086
+    check "a second loop with the same numbers ($again)" 1 "$first" "" loop twice.db lines $again
+done
+"$program" report twice.db 0 4102444799 >out 2>err
+[[ -s want && ! -s err ]] && cmp -s want out
+tell "a second loop with the same numbers does nothing"
+same "a second loop with the same numbers keeps nothing" "$kept_first" "$(kept twice.db)"
+
+# what was refused and what is a question is asked anew: now there is a request 3
+echo '160 cid enter 5 a--c no 8 3 - - ok' >other
+check "a script between two loops" 0 $'ok request 3 5/2\nmove 4 160 cid 3 - Entered enter\nplaces 3: 2 0 0 0 0 0 0 0 0 0 0 0 1 0 0\n' "" run --db twice.db other
+same "a script keeps nothing" "$kept_first" "$(kept twice.db)"
+three=$'places 3: 1 1 0 0 0 0 0 0 0 0 0 0 1 0 0\n'
+approved=$entries$withdrawn$'ok approvals 1 of 1\nmove 5 130 bob 3 Entered Approved approve\n'$three$'ok\n'$three
+check "a loop whose refused line is done now" 0 "$approved" "" loop twice.db lines
+check "the same loop again" 0 "$approved" "" loop twice.db lines
+same "the reply to the line that was refused first" "$kept_first"$'\n\nbob 4 ok approvals 1 of 1\nmove 5 130 bob 3 Entered Approved approve' "$(kept twice.db)"
+
+five=$'places 5: 3 1 0 0 0 0 0 0 0 0 0 0 1 0 0\n'
+wrong=$'refused 3 WrongPlace\n'
+more=$'ok request 4 5/3\nmove 6 100 ann 4 - Entered enter\nok request 5 5/4\nmove 7 110 bob 5 - Entered enter\n'$wrong$wrong$five$'ok\n'$five
+check "a loop that goes on behind the numbers of the first" 1 "$more" "" loop twice.db lines --first 7
+check "a second loop of these numbers" 1 "$more" "" loop twice.db lines --first=7
+printf '0 ann withdraw 2\n0 bob withdraw 2\n' >other
+check "other lines under numbers that were used" 0 "$entries$five" "" loop twice.db other
+
+# a script that was cut, and is given again
+head -n 4 lines >other
+check "the front of a script" 0 "$entries"$'places 2: 2 0 0 0 0 0 0 0 0 0 0 0 0 0 0\n' "" loop cut.db other
+check "the whole of it" 1 "$first" "" loop cut.db lines
+same "what is kept of both" "$kept_first" "$(kept cut.db)"
+check "a loop with numbers of its own, on a new file" 1 "$first" "" loop own.db lines --first 4294967290
+same "the greatest of them" "ann 4294967295 ok" "$(kept own.db | tail -n 2 | head -n 1)"
+
+refused=$'refused 1 BadText\n'
+printf '7 ann enter 5 a--c no 8 1 - - ok\n7 ann places\n7 bob withdraw 1\n' >other
+entry=$'ok request 1 5/0\nmove 1 7 ann 1 - Entered enter\n'
+one=$'places 1: 1 0 0 0 0 0 0 0 0 0 0 0 0 0 0\n'
+for turn in 1 2; do
+    check "numbers past the last, $turn" 1 "$entry$refused$refused$one" "" loop last.db other --first 4294967295
+done
+for number in 0 4294967296 -1 1.0 x ''; do
+    check "a first number of '$number'" 2 "" "invalid value '$number' for '--first <N>'" loop none.db lines --first="$number"
+done
+check "a first number past the last, and the limits" 2 "" "for '--first <N>': 4294967296 is not in 1..=4294967295" loop none.db lines --first 4294967296
+check "a first number of nothing" 2 "" "a value is required for '--first <N>' but none was supplied" loop none.db lines --first
+check "a first number twice" 2 "" "'--first <N>' cannot be used multiple times" loop none.db lines --first 1 --first 2
+check "a first number of a server" 2 "" "unexpected argument '--first'" serve --first 1 none.db 8080 1
+check "a first number of a run" 2 "" "unexpected argument '--first'" run --first 1 --db none.db lines
+[[ ! -e none.db ]]
+tell "words that are refused make no file"
+
 # ---- what a loop refuses
 
 none=$'places 0: 0 0 0 0 0 0 0 0 0 0 0 0 0 0 0\n'
-refused=$'refused 1 BadText\n'
 printf '0 ann stack s1 two.csv\n0 ann procedure p1 steps.csv\n' >lines
 check "lines that load" 1 "$refused$refused$none" "" loop new.db lines
 printf '0 desk %sx\n' "$act" >lines

@@ -2,8 +2,9 @@
 
 What has to be answered is computed by a plain reading of the requirements; what the desk replies to an act is what a run
 of the same acts prints. Sent are requests by lists, an act's bytes cut after each byte, in pieces of many sizes and a byte at a time, and what
-rude peers send; each costs its own connection alone. After each act the places are asked for, after each list all histories, and the file that
-was served is opened and asked again. Then come words, files and ports that cannot be used. There is a line for each case that failed.
+rude peers send; each costs its own connection alone. After each act the places are asked for, after each list all histories; the file that was
+served has to hold the plain desk's tables, the kept replies among them, and is opened and asked again. Then come words, files and ports that cannot
+be used. There is a line for each case that failed.
 """
 import os
 import random
@@ -14,8 +15,8 @@ import subprocess
 import time
 from typing import Callable, Sequence
 
-from generate import http_posts as posts, http_requests as requests
-from generate.http_words import BODY, ENTRY, PLACES, Case, act, entry, get, load, post
+from generate import http_calls as calls, http_posts as posts, http_requests as requests
+from generate.http_words import BODY, ENTRY, PLACES, Case, act, entry, get, load, numbered, post
 from model.http import decided
 from tests.http_cases import Cases, Served
 from tests.http_peer import PATIENCE, SLOW, Ended, Server, free_port, parted, received, reset, run, send
@@ -71,10 +72,10 @@ class Pieces(Served):
                         told.append((Case(f"{raw[:20]!r} in pieces of {size}, {pause} s between them", raw), size, pause))
         for _ in range(60):
             told.append((Case("an act in random pieces", act(ENTRY)), dice.randrange(1, 150), dice.choice([0.0, 0.0005, 0.002])))
-        folder = cases.folder()
-        made = cases.expected(folder, [it for it, _, _ in told])
+        folder, sent = cases.folder(), numbered(it for it, _, _ in told)
+        made = cases.expected(folder, sent)
         with cases.server(folder, len(told)) as server:
-            for (case, size, pause), response in zip(told, made.responses):
+            for (_, size, pause), case, response in zip(told, sent, made.responses):
                 cases.tell(case.name, response, server.exchange(case.raw, size, pause))
             cases.ended("pieces", server)
 
@@ -89,6 +90,7 @@ class Pieces(Served):
                 Case("a head of 64 lines and a body", post("/acts", BODY + " " * 30000, *["a: b"] * 61), 0),
                 Case("8,193 line ends", b"\r\n" * 4096 + b"\n", 17),
                 Case("a longest head and a longest body", requests.sized(8192, BODY + "\n" * (65536 - size)), 0)]
+        told = numbered(told)
         folder = cases.folder()
         made = cases.expected(folder, told)
         with cases.server(folder, len(told)) as server:
@@ -160,7 +162,8 @@ class RudePeers(Served):
             cases.ended("peers that stay", server)
 
     def test_lost_answers(self) -> None:
-        """Acts whose peers go away before the answer: each is made once or not at all, those that were answered were made, and the file has them."""
+        """Acts whose peers go away before the answer: each is made once or not at all, those that were answered were made, and the file has them. As they
+        are sent again each is made once in all."""
         cases = self.cases
         folder, acts = cases.folder(), 60
         with cases.server(folder, 3 * acts + 2) as server:
@@ -178,6 +181,18 @@ class RudePeers(Served):
         cases.tell("acts that were made twice", len(authors), len(set(authors)))
         cases.tell("acts that were answered and do not stand", set(), {f"a{at}" for at in range(acts)} - set(authors))
         cases.tell("what the file tells", entered, len(authors))
+        self.sent_again(folder, [act(ENTRY, f"{kind}{at}") for at in range(acts) for kind in "rca"])
+
+    def sent_again(self, folder: str, raws: list[bytes]) -> None:
+        """Sends entries again of which some stand, and all once more: each stands once."""
+        cases = self.cases
+        with cases.server(folder, 2 * len(raws) + 1) as server:
+            told = [server.exchange(it) for it in raws]
+            cases.tell("acts that are sent again", {b"HTTP/1.1 200"}, {it[:12] for it in told})
+            cases.tell("the requests that they entered", len(raws), len({found(rb"ok request (\d+) ", it)[1] for it in told}))
+            cases.tell("acts that are sent once more", told, [server.exchange(it) for it in raws])
+            cases.tell("requests in all", b"places %d: %d 0" % (len(raws), len(raws)), found(rb"places \d+: \d+ 0", server.exchange(PLACES))[0])
+            cases.ended("acts that are sent again", server)
 
     def test_order(self) -> None:
         """Two peers at once: the first to connect is served first, and the other meanwhile waits."""
@@ -231,18 +246,20 @@ class RudePeers(Served):
         told = [*3 * [("clcw", b'["ok"]')], ("link", b"link up 0 down 2 premise kept"), ("set k 4", b"refused 12 BadDirective"),
                 ("set k 3", b'["ok"]'), ("link", b" k 3 t1 ")]
         with cases.server(cases.folder(), len(told), "--ring", "2", "--w", "6") as server:
-            for text, want in told:
-                cases.tell(f"{text} over a ring of 2", True, want in server.exchange(act(text)))
+            for at, (text, want) in enumerate(told, 1):
+                cases.tell(f"{text} over a ring of 2", True, want in server.exchange(act(text, number=at)))
             cases.ended("a server over a ring", server)
 
     def test_killed(self) -> None:
-        """A server that is killed: what was answered stands."""
+        """A server that is killed: what was answered stands, and is answered again."""
         cases = self.cases
-        folder = cases.folder()
+        folder, answered = cases.folder(), dict[bytes, bytes]()
         for round_ in range(3):
             with cases.server(folder, 1000) as server:
-                answered = [server.exchange(act(ENTRY, f"k{round_}n{at}")) for at in range(10 + round_)]
-                cases.tell("acts before the server is killed", set(), {it for it in answered if not it.startswith(b"HTTP/1.1 200 OK\r\n")})
+                cases.tell("acts of before the server was killed", answered, {it: server.exchange(it) for it in answered})
+                raws = [act(ENTRY, f"k{round_}n{at}") for at in range(10 + round_)]
+                answered |= {it: server.exchange(it) for it in raws}
+                cases.tell("acts before the server is killed", {b"HTTP/1.1 200 OK"}, {answered[it].split(b"\r\n")[0] for it in raws})
                 server.process.kill()
             told = run(cases.program, folder, ["0 zed report 0 4102444799"], "--db", "desk.db")
             wanted = [f"k{it}n{at}" for it in range(round_ + 1) for at in range(10 + it)]
@@ -335,7 +352,8 @@ class WordsAndFiles(Served):
 
 
 LISTS = {"sizes": requests.sizes, "heads": requests.heads, "lengths": requests.lengths, "behind": requests.behind, "shapes": posts.shapes,
-         "keys": posts.keys, "values": posts.values, "loads": posts.loads, "acts": posts.acts, "a flight": posts.fly}
+         "keys": posts.keys, "values": posts.values, "loads": posts.loads, "acts": posts.acts, "a flight": posts.fly,
+         "numbers": calls.forms, "repeats": calls.repeats, "loads again": calls.loads_again, "longer replies": calls.longer}
 
 
 class Lists(Served):

@@ -132,15 +132,18 @@ def own_address() -> str:
 
 
 def lost(cases: Cases) -> None:
-    """A peer that resets before its answer: the write fails, and the act stands."""
+    """A peer that resets before its answer: the write fails, and the act stands. As it is sent again it is answered, and stands once."""
     folder = cases.folder()
-    with cases.server(folder, 3, "--verbose") as server, server.connect() as first:
+    right = cases.expected(folder, [Case("", act(ENTRY), 0)]).responses[0]
+    with cases.server(folder, 5, "--verbose") as server, server.connect() as first:
         peer = server.connect()
         send(peer, act(ENTRY))
         reset(peer)
         send(first, PLACES)
         received(first)
         cases.tell("the act whose answer was lost", True, b"places 1: 1 0" in server.exchange(PLACES))
+        cases.tell("the act again", right, server.exchange(act(ENTRY)))
+        cases.tell("the act that was sent twice", True, b"places 1: 1 0" in server.exchange(PLACES))
         told = server.end().err
         cases.tell("how a connection ended that was reset", True, "tcdesk: connection 2: 34 WriteFault\n" in told)
 

@@ -2,114 +2,160 @@
 use Rattle.std.proofs.Common.{◌≡◌, ◌∙◌, ◌⊎◌, inl, inr, ap, subst, refl, sym, ℕ, Bool, true, false, MatchBool, List, [], ◌∷◌, Option, Some, None, Result, Ok, Err}
 use Rattle.std.proofs.lemmas.Bool.{false≢true}
 use Rattle.sqlite_trees.specs.declared.store.Store.{Ghosts}
-use Rattle.sqlite.specs.Held.{state}
-use Rattle.sqlite.specs.State.{HasCleanDisk}
 use Rattle.tc_types.specs.declared.acts.Act.{Act}
 use Rattle.tc_types.specs.declared.acts.Act.TheVariants as act
-use Rattle.tc_types.specs.declared.acts.Line.{Line}
 use Rattle.tc_types.specs.declared.loads.LoadKind.{LoadKind}
 use Rattle.tc_types.specs.declared.loads.LoadKind.TheVariants as load_kind
 use Rattle.tc_types.specs.declared.refusals.Refusal.{Refusal}
-use Rattle.tc_types.specs.declared.refusals.Refusal.TheVariants.{Stopped}
 use Rattle.tc_routes.specs.declared.paths.Post.{Post}
 use Rattle.tc_routes.specs.declared.paths.Post.TheVariants as paths
 use Rattle.tc_store.specs.Ledgers.{KeptAnswer}
 use Rattle.tc_front.specs.Front.{Asked, asks, posts, refuses}
 use Rattle.tc_book.specs.declared.stamps.Stamp.{Stamp}
+use Rattle.tc_desk.specs.Acts.{is_question}
 use Rattle.tc_desk.specs.Headline.{TellsTrue}
 use Rattle.tc_desk.specs.Machine.{stamp_of}
-use Rattle.tc_desk.specs.Replies.{Reply, refusal_reply}
+use Rattle.tc_desk.specs.Replies.{Reply}
+use Rattle.tc_room.specs.declared.callers.Caller.{Caller}
+use Rattle.tc_room.specs.Calls.{ActsAnew, AnswersActCall, AnswersCall, AnswersLoadCall, FailsOnce, KeepsAll, LoadsAnew, MakesNothing, Makes, MakesOnce, Making, StaysSo, a_load, a_look, an_act, kept_after, kept_for}
 use Rattle.tc_room.specs.Crash.{ledger_of}
 use Rattle.tc_room.specs.Joined.{HasLedger, HoldsBook, Standing}
-use Rattle.tc_room.specs.Loads.{LoadsText, RoomLoad}
+use Rattle.tc_room.specs.Replies.{ended, is_refused}
 use Rattle.tc_room.specs.Room.{FailsStore, RoomStep, StepsDesk}
+use Rattle.tc_room.proofs.CallLemmas.{act_call_held, keeps_after, load_call_held}
+use Rattle.tc_api.specs.Acts.{ActCall}
 use Rattle.tc_api.specs.Kept.{FailedAt, FailsTables, KeepsPromise, KeepsTables, ServesAll, ServesRead}
-use Rattle.tc_api.specs.Loads.{Load}
-use Rattle.tc_api.specs.Serving.{Outcome, Serves, ServesAct, ServesLine, ServesLoad, ServesPost, ServesText}
+use Rattle.tc_api.specs.Loads.{LoadCall}
+use Rattle.tc_api.specs.Serving.{Outcome, Serves, ServesActCall, ServesBody, ServesLoadCall, ServesPost, ServesText}
+
+pub all_same : (replies : List KeptAnswer) → KeepsAll replies replies
+all_same replies caller body kept = kept
+
+pub all_more : (first mid last : List KeptAnswer) → KeepsAll first mid → KeepsAll mid last → KeepsAll first last
+all_more first mid last then later caller body kept = later caller body (then caller body kept)
+
+pub by_flag : (b : Bool) (A B P : Type 0) → MatchBool b A B → (b ≡ true → A → P) → (b ≡ false → B → P) → P
+by_flag true A B P m on off = on refl m
+by_flag false A B P m on off = off refl m
+
+pub not_both : {P : Type 0} (b : Bool) → b ≡ true → b ≡ false → P
+not_both b is off = absurd (false≢true (sym off ∙ is))
+
+flag_same : {S : Type 0} (old new : Standing S) → new ≡ old → new.stopped ≡ old.stopped
+flag_same {S} old new same = ap (λ (s : Standing S). s.stopped) same
 
 -- a room that is as it was keeps its tables
 same_keeps : {S : Type 0} (g : Ghosts S) (old new : Standing S) → new ≡ old → KeepsTables g old new
 same_keeps {S} g old new same = record {
-  held = λ replies held. subst (λ (s : Standing S). HoldsBook g s replies) (sym same) held;
-  failed = λ replies held clean was now. absurd (false≢true (sym was ∙ (ap (λ (s : Standing S). s.stopped) (sym same) ∙ now)));
+  held = λ replies held. (replies, all_same replies, subst (λ (s : Standing S). HoldsBook g s replies) (sym same) held);
+  failed = λ replies held clean was now. not_both new.stopped now (flag_same old new same ∙ was);
   stays = λ clean was. same;
 }
 
--- what a room that went on comes to: it is as it was, its tables hold its book and the replies, or the database failed
-abbrev Comes : {S : Type 0} → Ghosts S → List KeptAnswer → Standing S → Standing S → Type 0
-Comes g replies old new =
-    (new ≡ old) ⊎ ((HasLedger g new.tables (ledger_of new.desk.book replies) × (new.stopped ≡ false)) ⊎ ((new.stopped ≡ true) × FailsTables g replies old new))
+-- ---- a question
 
-module _ {S : Type 0} (g : Ghosts S) (old new : Standing S) where
-  held_by : (replies : List KeptAnswer) (b : Bool) → MatchBool b (new ≡ old) (Comes g replies old new) → HoldsBook g old replies → HoldsBook g new replies
-  held_by replies true same held = subst (λ (s : Standing S). HoldsBook g s replies) (sym same) held
-  held_by replies false (inl same) held = subst (λ (s : Standing S). HoldsBook g s replies) (sym same) held
-  held_by replies false (inr (inl ledger)) held = λ going clean. ledger.0
-  held_by replies false (inr (inr fails)) held = λ going clean. absurd (false≢true (sym going ∙ fails.0))
+module _ {S : Type 0} (g : Ghosts S) (old new : Standing S) (stamp : Stamp) (given : Act) (reply : Reply) where
+  abbrev Steps : List KeptAnswer → Type 0
+  Steps replies = StepsDesk g replies old stamp given reply new ⊎ FailsStore g replies old stamp given reply new
 
-  failed_by : (replies : List KeptAnswer) (b : Bool) → b ≡ false → old.stopped ≡ false → MatchBool b (new ≡ old) (Comes g replies old new) → new.stopped ≡ true → FailsTables g replies old new
-  failed_by replies true flag was m now = absurd (false≢true (sym flag))
-  failed_by replies false flag was (inl same) now = absurd (false≢true (sym was ∙ (ap (λ (s : Standing S). s.stopped) (sym same) ∙ now)))
-  failed_by replies false flag was (inr (inl ledger)) now = absurd (false≢true (sym ledger.1 ∙ now))
-  failed_by replies false flag was (inr (inr fails)) now = fails.1
+  step_held : (replies : List KeptAnswer) → RoomStep g old stamp given reply new → HoldsBook g old replies → HoldsBook g new replies
+  step_held replies step held going clean = by_flag old.stopped _ (Steps replies) _ (step replies held clean)
+      (λ was told. not_both new.stopped (flag_same old new told.1 ∙ was) going)
+      (λ was came. came_held came)
+    where
+      came_held : Steps replies → HasLedger g new.tables (ledger_of new.desk.book replies)
+      came_held (inl steps) = steps.tables
+      came_held (inr fails) = not_both new.stopped fails.stopped going
 
-  stays_by : (b : Bool) → b ≡ true → MatchBool b (new ≡ old) (Comes g [] old new) → new ≡ old
-  stays_by true flag same = same
-  stays_by false flag m = absurd (false≢true flag)
+  step_failed : (replies : List KeptAnswer) → old.stopped ≡ false → new.stopped ≡ true → Steps replies → FailsTables g replies old new
+  step_failed replies was now (inl steps) = not_both new.stopped now steps.going
+  step_failed replies was now (inr fails) = inl (stamp, given, reply, fails)
 
-  keeps_by : ((replies : List KeptAnswer) → HoldsBook g old replies → HasCleanDisk (state g new.tables) → MatchBool old.stopped (new ≡ old) (Comes g replies old new)) → KeepsTables g old new
-  keeps_by comes = record {
-    held = λ replies held going clean. held_by replies old.stopped (comes replies held clean) held going clean;
-    failed = λ replies held clean was now. failed_by replies old.stopped was was (comes replies held clean) now;
-    stays = λ clean was. stays_by old.stopped was (comes [] (λ going _. absurd (false≢true (sym going ∙ was))) clean);
+  step_keeps : RoomStep g old stamp given reply new → KeepsTables g old new
+  step_keeps step = record {
+    held = λ replies held. (replies, all_same replies, step_held replies step held);
+    failed = λ replies held clean was now. by_flag old.stopped _ (Steps replies) _ (step replies held clean) (λ is told. not_both old.stopped is was) (λ _ came. step_failed replies was now came);
+    stays = λ clean was. by_flag old.stopped _ (Steps []) _ (step [] (λ going _. not_both old.stopped was going) clean) (λ _ told. told.1) (λ off came. not_both old.stopped was off);
   }
 
--- by a flag, each side says so much
-weaker_by : (b : Bool) (A B C D : Type 0) → (A → C) → (B → D) → MatchBool b A B → MatchBool b C D
-weaker_by true A B C D first second m = first m
-weaker_by false A B C D first second m = second m
+-- ---- a call
 
--- ---- one step
+module _ {S : Type 0} (g : Ghosts S) (caller : Caller) (old new : Standing S) (asks_act : Bool) (reply : Reply) where
+  -- where the database fails at what is asked anew
+  abbrev Fails : List KeptAnswer → Type 0
+  Fails replies = new.stopped ≡ true → FailsTables g replies old new
 
-step_keeps : {S : Type 0} (g : Ghosts S) (old new : Standing S) (stamp : Stamp) (given : Act) (reply : Reply) → RoomStep g old stamp given reply new → KeepsTables g old new
-step_keeps g old new stamp given reply step =
-    keeps_by g old new (λ replies held clean. weaker_by old.stopped ((reply ≡ refusal_reply Stopped) × (new ≡ old)) (StepsDesk g replies old stamp given reply new ⊎ FailsStore g replies old stamp given reply new) (new ≡ old)
-    (Comes g replies old new) (λ told. told.1) (came replies) (step replies held clean))
-  where
-    came : (replies : List KeptAnswer) → StepsDesk g replies old stamp given reply new ⊎ FailsStore g replies old stamp given reply new → Comes g replies old new
-    came replies (inl steps) = inr (inl (steps.tables, steps.going))
-    came replies (inr fails) = inr (inr (fails.stopped, inl (stamp, given, reply, fails)))
+  stays_fails : (replies : List KeptAnswer) → StaysSo g replies old new → Fails replies
+  stays_fails replies stays now = not_both new.stopped now stays.going
 
-load_keeps : {S : Type 0} (g : Ghosts S) (old new : Standing S) (stamp : Stamp) (kind : LoadKind) (name text : List ℕ) (reply : Reply) → RoomLoad g old stamp kind name text reply new → KeepsTables g old new
-load_keeps g old new stamp kind name text reply load =
-    keeps_by g old new (λ replies held clean. weaker_by old.stopped ((reply ≡ refusal_reply Stopped) × (new ≡ old)) (LoadsText g replies old stamp kind name text reply new) (new ≡ old) (Comes g replies old new)
-    (λ told. told.1) (came replies) (load replies held clean))
-  where
-    came : (replies : List KeptAnswer) → LoadsText g replies old stamp kind name text reply new → Comes g replies old new
-    came replies (inl (_, _, _, same)) = inl same
-    came replies (inr (given, _, inl steps)) = inr (inl (steps.tables, steps.going))
-    came replies (inr (given, _, inr fails)) = inr (inr (fails.stopped, inr (stamp, given, reply, fails)))
+  makes_fails : (replies : List KeptAnswer) (making : Making) {Free : Type 0} → MakesOnce g replies caller (Makes old.desk making) Free old reply new → Fails replies
+  makes_fails replies making (inl does) now = not_both new.stopped now does.going
+  makes_fails replies making (inr (free, fails)) now = inr (caller, making, reply, fails)
+
+  act_fails : (replies : List KeptAnswer) (moment : Option ℕ) (text : List ℕ) → ActsAnew g moment text replies caller old asks_act reply new → Fails replies
+  act_fails replies moment text (inl (refusal, judged, is, stays)) now = stays_fails replies stays now
+  act_fails replies moment text (inr (line, judged, (is, answers))) now = by_flag (is_question line.act) _ _ _ answers
+      (λ _ came. step_fails came)
+      (λ _ made. makes_fails replies (an_act (stamp_of line) line.act) made now)
+    where
+      step_fails : StepsDesk g replies old (stamp_of line) line.act reply new ⊎ FailsStore g replies old (stamp_of line) line.act reply new → FailsTables g replies old new
+      step_fails (inl steps) = not_both new.stopped now steps.going
+      step_fails (inr fails) = inl (stamp_of line, line.act, reply, fails)
+
+  load_fails : (replies : List KeptAnswer) (kind : LoadKind) (moment : Option ℕ) (name csv : List ℕ) → LoadsAnew g kind moment name csv replies caller old asks_act reply new → Fails replies
+  load_fails replies kind moment name csv (is, inl (refusal, why, which, told, stays)) = stays_fails replies stays
+  load_fails replies kind moment name csv (is, inr (at, some, named, inl (refusal, unread, told, stays))) = stays_fails replies stays
+  load_fails replies kind moment name csv (is, inr (at, some, named, inr (given, spells, makes))) = makes_fails replies (a_load (record { by = caller.by; moment = at }) given) makes
+
+  -- what a call in a room that goes on is answered
+  abbrev Answered : List KeptAnswer → Type 0 → Type 0
+  Answered replies Anew = FailsOnce g replies caller MakesNothing old reply new
+      ⊎ ((kept_for replies caller ≡ Some (ended reply)) × (is_refused reply ≡ false) × (asks_act ≡ true) × StaysSo g replies old new)
+      ⊎ ((kept_for replies caller ≡ None) × Anew)
+
+  answered_fails : (replies : List KeptAnswer) (Anew : Type 0) → (Anew → Fails replies) → Answered replies Anew → Fails replies
+  answered_fails replies Anew anew (inl fails) now = inr (caller, a_look, reply, fails)
+  answered_fails replies Anew anew (inr (inl (kept, granted, is, stays))) now = not_both new.stopped now stays.going
+  answered_fails replies Anew anew (inr (inr (none, made))) now = anew made now
+
+  call_keeps : (Anew : List KeptAnswer → Bool → Reply → Standing S → Type 0) → ((replies : List KeptAnswer) → Anew replies asks_act reply new → Fails replies)
+      → ((replies : List KeptAnswer) → HoldsBook g old replies → HoldsBook g new (kept_after replies caller asks_act reply)) → AnswersCall g Anew caller old asks_act reply new → KeepsTables g old new
+  call_keeps Anew fails held answers = record {
+    held = λ replies was. (kept_after replies caller asks_act reply, keeps_after replies caller asks_act reply, held replies was);
+    failed = λ replies held clean was now. by_flag old.stopped _ (Answered replies (Anew replies asks_act reply new)) _ (answers replies held clean)
+        (λ is told. not_both old.stopped is was)
+        (λ _ came. answered_fails replies (Anew replies asks_act reply new) (fails replies) came now);
+    stays = λ clean was. by_flag old.stopped _ (Answered [] (Anew [] asks_act reply new)) _ (answers [] (λ going _. not_both old.stopped was going) clean) (λ _ told. told.1) (λ off came. not_both old.stopped was off);
+  }
+
+  act_call_keeps : (moment : Option ℕ) (text : List ℕ) → AnswersActCall g caller moment text old asks_act reply new → KeepsTables g old new
+  act_call_keeps moment text answers = call_keeps (λ replies acts reply new. ActsAnew g moment text replies caller old acts reply new) (λ replies made. act_fails replies moment text made)
+      (λ replies held. act_call_held g replies caller old asks_act reply new moment text answers held) answers
+
+  load_call_keeps : (kind : LoadKind) (moment : Option ℕ) (name csv : List ℕ) → AnswersLoadCall g caller kind moment name csv old asks_act reply new → KeepsTables g old new
+  load_call_keeps kind moment name csv answers = call_keeps (λ replies acts reply new. LoadsAnew g kind moment name csv replies caller old acts reply new) (λ replies made. load_fails replies kind moment name csv made)
+      (λ replies held. load_call_held g replies caller old asks_act reply new kind moment name csv answers held) answers
 
 -- ---- what is served
 
-line_keeps : {S : Type 0} (g : Ghosts S) (old new : Standing S) (given : Result Line Refusal) (outcome : Outcome) → ServesLine g old given outcome new → KeepsTables g old new
-line_keeps g old new (Ok line) outcome (step, _) = step_keeps g old new (stamp_of line) line.act outcome.reply step
-line_keeps g old new (Err refusal) outcome (_, same) = same_keeps g old new same
+acts_keep : {S : Type 0} (g : Ghosts S) (old new : Standing S) (given : Result ActCall Refusal) (outcome : Outcome) → ServesActCall g old given outcome new → KeepsTables g old new
+acts_keep g old new (Ok call) outcome (asks_act, answers, ends) = act_call_keeps g call.caller old new asks_act outcome.reply call.moment call.text answers
+acts_keep g old new (Err refusal) outcome (_, same) = same_keeps g old new same
 
-loads_keep : {S : Type 0} (g : Ghosts S) (old new : Standing S) (kind : LoadKind) (given : Result Load Refusal) (outcome : Outcome) → ServesLoad g old kind given outcome new → KeepsTables g old new
-loads_keep g old new kind (Ok load) outcome (loads, _) = load_keeps g old new (record { by = load.by; moment = load.moment }) kind load.name load.csv outcome.reply loads
+loads_keep : {S : Type 0} (g : Ghosts S) (old new : Standing S) (kind : LoadKind) (given : Result LoadCall Refusal) (outcome : Outcome) → ServesLoadCall g old kind given outcome new → KeepsTables g old new
+loads_keep g old new kind (Ok call) outcome (asks_act, answers, ends) = load_call_keeps g call.caller old new asks_act outcome.reply kind call.moment call.name call.csv answers
 loads_keep g old new kind (Err refusal) outcome (_, same) = same_keeps g old new same
 
-act_keeps : {S : Type 0} (g : Ghosts S) (old new : Standing S) (body : List ℕ) (outcome : Outcome) → ServesAct g old body outcome new → KeepsTables g old new
-act_keeps g old new body outcome serves = elim serves.served [ inl none ↦ same_keeps g old new none.1 | inr given ↦ line_keeps g old new given.0 outcome given.2 ]
-
 text_keeps : {S : Type 0} (g : Ghosts S) (old new : Standing S) (kind : LoadKind) (body : List ℕ) (outcome : Outcome) → ServesText g old kind body outcome new → KeepsTables g old new
-text_keeps g old new kind body outcome serves = elim serves.served [ inl none ↦ same_keeps g old new none.1 | inr given ↦ loads_keep g old new kind given.0 outcome given.2 ]
+text_keeps g old new kind body outcome (given, judged, serves) = loads_keep g old new kind given outcome serves
+
+body_keeps : {S : Type 0} (g : Ghosts S) (old new : Standing S) (post : Post) (body : List ℕ) (outcome : Outcome) → ServesBody g old post body outcome new → KeepsTables g old new
+body_keeps g old new paths.Acts body outcome (given, judged, serves) = acts_keep g old new given outcome serves
+body_keeps g old new paths.Stacks body outcome serves = text_keeps g old new load_kind.Stack body outcome serves
+body_keeps g old new paths.Procedures body outcome serves = text_keeps g old new load_kind.Procedure body outcome serves
 
 post_keeps : {S : Type 0} (g : Ghosts S) (old new : Standing S) (post : Post) (body : List ℕ) (outcome : Outcome) → ServesPost g old post body outcome new → KeepsTables g old new
-post_keeps g old new paths.Acts body outcome serves = act_keeps g old new body outcome serves
-post_keeps g old new paths.Stacks body outcome serves = text_keeps g old new load_kind.Stack body outcome serves
-post_keeps g old new paths.Procedures body outcome serves = text_keeps g old new load_kind.Procedure body outcome serves
+post_keeps g old new post body outcome serves = elim serves.served [ inl none ↦ same_keeps g old new none.1 | inr given ↦ body_keeps g old new post body outcome given ]
 
 abbrev nobody : Stamp
 nobody = record { by = []; moment = 0 }
@@ -134,10 +180,14 @@ all_told : {S : Type 0} (g : Ghosts S) (start end : Standing S) (read : List (Op
 all_told {S} g start end [] told same = subst (λ (s : Standing S). TellsTrue s.opened s.desk) (sym same) told
 all_told g start end (read ∷ others) told (next, one, later) = all_told g next end others one.told later
 
-all_held : {S : Type 0} (g : Ghosts S) (start end : Standing S) (read : List (Option Asked)) (replies : List KeptAnswer) → ServesAll g start read end → HoldsBook g start replies → HoldsBook g end replies
-all_held {S} g start end [] replies same held = subst (λ (s : Standing S). HoldsBook g s replies) (sym same) held
+all_held : {S : Type 0} (g : Ghosts S) (start end : Standing S) (read : List (Option Asked)) (replies : List KeptAnswer) → ServesAll g start read end → HoldsBook g start replies
+    → (after : List KeptAnswer) × KeepsAll replies after × HoldsBook g end after
+all_held {S} g start end [] replies same held = (replies, all_same replies, subst (λ (s : Standing S). HoldsBook g s replies) (sym same) held)
 all_held g start end (read ∷ others) replies (next, one, later) held =
-    let keeps : KeepsTables g start next = read_keeps g start next read one.served in all_held g next end others replies later (keeps.held replies held)
+    let keeps : KeepsTables g start next = read_keeps g start next read one.served in
+    let mid = keeps.held replies held in
+    let last = all_held g next end others mid.0 later mid.2 in
+    (last.0, all_more replies mid.0 last.0 mid.1 last.1, last.2)
 
 -- told of another count of rows that is the same
 told_at : {S : Type 0} (n m : ℕ) (at : Standing S) → n ≡ m → TellsTrue n at.desk → TellsTrue m at.desk
@@ -149,6 +199,8 @@ failed_at : {S : Type 0} (g : Ghosts S) (replies : List KeptAnswer) (start next 
 failed_at g replies start next told held going stopped keeps = record {
   last = start;
   next = next;
+  held = replies;
+  keeps = all_same replies;
   opened = refl;
   told = told;
   going = going;
@@ -156,10 +208,12 @@ failed_at g replies start next told held going stopped keeps = record {
   failed = λ clean. keeps.failed replies held clean going stopped;
 }
 
-failed_later : {S : Type 0} (g : Ghosts S) (replies : List KeptAnswer) (start next : Standing S) → next.opened ≡ start.opened → FailedAt g replies next → FailedAt g replies start
-failed_later g replies start next same at = record {
+failed_later : {S : Type 0} (g : Ghosts S) (replies mid : List KeptAnswer) (start next : Standing S) → KeepsAll replies mid → next.opened ≡ start.opened → FailedAt g mid next → FailedAt g replies start
+failed_later g replies mid start next keeps same at = record {
   last = at.last;
   next = at.next;
+  held = at.held;
+  keeps = all_more replies mid at.held keeps at.keeps;
   opened = at.opened ∙ same;
   told = told_at next.opened start.opened at.last same at.told;
   going = at.going;
@@ -177,7 +231,8 @@ all_failed {S} g start end [] replies told same held going stopped = absurd (fal
 all_failed g start end (read ∷ others) replies told (next, one, later) held going stopped =
     let keeps : KeepsTables g start next = read_keeps g start next read one.served in
     at_flag next.stopped (FailedAt g replies start) (λ is. failed_at g replies start next told held going is keeps)
-    (λ is. failed_later g replies start next one.opened (all_failed g next end others replies one.told later (keeps.held replies held) is stopped))
+    (λ is.
+    let mid = keeps.held replies held in failed_later g replies mid.0 start next mid.1 one.opened (all_failed g next end others mid.0 one.told later mid.2 is stopped))
 
 -- The promise is kept after any exchanges.
 pub all_keep : {S : Type 0} (g : Ghosts S) (start end : Standing S) (read : List (Option Asked)) → TellsTrue start.opened start.desk → ServesAll g start read end → KeepsPromise g start end

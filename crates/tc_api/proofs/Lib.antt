@@ -1,7 +1,7 @@
-mod ActLemmas
 mod ExchangeLemmas
 mod KeptLemmas
 mod LineLemmas
+mod OnceLemmas
 mod OneLemmas
 mod ResponseLemmas
 mod ServingLemmas

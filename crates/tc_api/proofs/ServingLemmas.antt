@@ -1,12 +1,11 @@
 -- What is served.
-use Rattle.std.proofs.Common.{Bor, ◌≡◌, ◌∙◌, ◌⊎◌, inl, inr, ap, subst, refl, ℕ, Bool, true, List, Option, Some, None, Result, Ok, Err, String, Global}
+use Rattle.std.proofs.Common.{Bor, ◌≡◌, ◌∙◌, ◌⊎◌, inl, inr, ap, subst, refl, ℕ, Bool, List, Option, Some, None, Result, Ok, Err, String, Global}
 use Rattle.std.specs.Prelude.{◌&&◌, IfSome}
 use Rattle.std.specs.Str.{IsUtf8}
 use Rattle.std.specs.String.{string_bytes}
 use Rattle.serde_json.specs.Data.{Data}
 use Rattle.serde_json.specs.Read.{read}
 use Rattle.sqlite_trees.specs.declared.store.Store.{Ghosts}
-use Rattle.tc_types.specs.declared.acts.Line.{Line}
 use Rattle.tc_types.specs.declared.loads.LoadKind.{LoadKind}
 use Rattle.tc_types.specs.declared.refusals.Refusal.{Refusal}
 use Rattle.tc_types.specs.declared.refusals.Refusal.TheVariants.{BadText, Memory}
@@ -19,72 +18,85 @@ use Rattle.tc_routes.specs.declared.paths.Post.{Post}
 use Rattle.tc_routes.specs.declared.paths.Post.TheVariants as paths
 use Rattle.tc_front.specs.Front.{asked_of}
 use Rattle.tc_desk.specs.Replies.{Reply}
+use Rattle.tc_room.specs.Calls.{AnswersActCall, AnswersLoadCall}
 use Rattle.tc_room.specs.Joined.{Standing}
-use Rattle.tc_room.specs.Loads.{RoomLoad}
 use Rattle.tc_room.specs.Replies.{AreLines, ended}
 use Rattle.tc_api.specs.declared.endings.Ending.{Ending}
 use Rattle.tc_api.specs.declared.serving.Served.{Served}
-use Rattle.tc_api.specs.Acts.{JudgesActPost}
+use Rattle.tc_api.specs.Acts.{ActCall, ActKeys, JudgesActKeys, JudgesActPost}
 use Rattle.tc_api.specs.Endings.{is_done}
-use Rattle.tc_api.specs.Loads.{JudgesLoadKeys, JudgesLoadPost, Load, LoadKeys, load_keys}
-use Rattle.tc_api.specs.Serving.{EndsWith, HasText, IsOutcome, Outcome, Serves, ServesAct, ServesKeys, ServesLine, ServesPost, ServesQuery, ServesText, outcome_of, refused_front, refused_with}
+use Rattle.tc_api.specs.Loads.{JudgesLoadKeys, JudgesLoadPost, LoadCall, LoadKeys, load_keys}
+use Rattle.tc_api.specs.Serving.{EndsWith, HasText, IsOutcome, Outcome, Serves, ServesActCall, ServesBody, ServesKeys, ServesPost, ServesQuery, ServesValue, outcome_of, refused_front, refused_with}
 
 pub outcome_made : (acts : Bool) (reply : Reply) (ending : Ending) (text : Option (String Global)) (served : Served) → served ≡ record { ending = ending; stands = acts && is_done ending; text = text }
     → EndsWith reply ending → IfSome text (λ t. (string_bytes t ≡ ended reply) × AreLines reply) → IsOutcome acts (outcome_of reply served) × HasText reply served
 outcome_made acts reply ending text served made ends has = rw made (record { ends = ends; stands = refl }, has)
 
--- ---- posts to /acts
+-- ---- calls
 
-pub act_served : {S : Type 0} (g : Ghosts S) (old new : Standing S) (body : List ℕ) (line : Line) (given : Result Line Refusal) (outcome : Outcome) → given ≡ Ok line
-    → (given ≡ Err Memory) ⊎ JudgesActPost body given → ServesLine g old (Ok line) outcome new → ServesAct g old body outcome new
-act_served g old new body line given outcome is (inl none) step = absurd cc
-act_served g old new body line given outcome is (inr judged) step = record { served = inr (Ok line, subst (λ (r : Result Line Refusal). JudgesActPost body r) is judged, step) }
+pub act_called : {S : Type 0} (g : Ghosts S) (old new : Standing S) (keys : Option ActKeys) (call : ActCall) (given : Result ActCall Refusal) (asks_act : Bool) (text : List ℕ) (outcome : Outcome) → given ≡ Ok call
+    → JudgesActKeys keys given → text ≡ call.text → AnswersActCall g call.caller call.moment text old asks_act outcome.reply new → IsOutcome asks_act outcome
+    → (read : Result ActCall Refusal) × JudgesActKeys keys read × ServesActCall g old read outcome new
+act_called g old new keys call given asks_act text outcome is judged same answers ends =
+    (Ok call, subst (λ (r : Result ActCall Refusal). JudgesActKeys keys r) is judged, (asks_act, subst (λ (t : List ℕ). AnswersActCall g call.caller call.moment t old asks_act outcome.reply new) same answers, ends))
 
-pub act_refused : {S : Type 0} (g : Ghosts S) (old : Standing S) (body : List ℕ) (refusal : Refusal) (given : Result Line Refusal) (outcome : Outcome) → given ≡ Err refusal
-    → (given ≡ Err Memory) ⊎ JudgesActPost body given → outcome ≡ refused_with refusal → ServesAct g old body outcome old
-act_refused g old body refusal given outcome is (inl none) so = let e : refusal ≡ Memory = cc in record { served = inl (so ∙ ap refused_with e, refl) }
-act_refused g old body refusal given outcome is (inr judged) so = record { served = inr (Err refusal, subst (λ (r : Result Line Refusal). JudgesActPost body r) is judged, (so, refl)) }
+pub act_refused : {S : Type 0} (g : Ghosts S) (old : Standing S) (keys : Option ActKeys) (refusal : Refusal) (given : Result ActCall Refusal) (outcome : Outcome) → given ≡ Err refusal
+    → JudgesActKeys keys given → outcome ≡ refused_with refusal → (read : Result ActCall Refusal) × JudgesActKeys keys read × ServesActCall g old read outcome old
+act_refused g old keys refusal given outcome is judged so = (Err refusal, subst (λ (r : Result ActCall Refusal). JudgesActKeys keys r) is judged, (so, refl))
 
--- ---- posts that load
+pub load_called : {S : Type 0} (g : Ghosts S) (old new : Standing S) (kind : LoadKind) (keys : Option LoadKeys) (call : LoadCall) (given : Result LoadCall Refusal) (asks_act : Bool) (name csv : List ℕ) (outcome : Outcome)
+    → given ≡ Ok call → JudgesLoadKeys keys given → name ≡ call.name → csv ≡ call.csv → AnswersLoadCall g call.caller kind call.moment name csv old asks_act outcome.reply new → IsOutcome asks_act outcome
+    → ServesKeys g old kind keys outcome new
+load_called g old new kind keys call given asks_act name csv outcome is judged named same answers ends = (
+  Ok call,
+  subst (λ (r : Result LoadCall Refusal). JudgesLoadKeys keys r) is judged,
+  (
+    asks_act,
+    subst (λ (t : List ℕ). AnswersLoadCall g call.caller kind call.moment call.name t old asks_act outcome.reply new) same
+        (subst (λ (n : List ℕ). AnswersLoadCall g call.caller kind call.moment n csv old asks_act outcome.reply new) named answers),
+    ends,
+  ),
+)
 
-pub load_served : {S : Type 0} (g : Ghosts S) (old new : Standing S) (kind : LoadKind) (keys : Option LoadKeys) (load : Load) (given : Result Load Refusal) (text : List ℕ) (outcome : Outcome) → given ≡ Ok load
-    → (given ≡ Err Memory) ⊎ JudgesLoadKeys kind keys given → text ≡ load.csv → RoomLoad g old (record { by = load.by; moment = load.moment }) kind load.name text outcome.reply new → IsOutcome true outcome → ServesKeys g old kind keys outcome new
-load_served g old new kind keys load given text outcome is (inl none) same step ends = absurd cc
-load_served g old new kind keys load given text outcome is (inr judged) same step ends = record {
-  served = inr (
-    Ok load,
-    subst (λ (r : Result Load Refusal). JudgesLoadKeys kind keys r) is judged,
-    (subst (λ (t : List ℕ). RoomLoad g old (record { by = load.by; moment = load.moment }) kind load.name t outcome.reply new) same step, ends),
-  );
-}
+pub load_refused : {S : Type 0} (g : Ghosts S) (old : Standing S) (kind : LoadKind) (keys : Option LoadKeys) (refusal : Refusal) (given : Result LoadCall Refusal) (outcome : Outcome) → given ≡ Err refusal
+    → JudgesLoadKeys keys given → outcome ≡ refused_with refusal → ServesKeys g old kind keys outcome old
+load_refused g old kind keys refusal given outcome is judged so = (Err refusal, subst (λ (r : Result LoadCall Refusal). JudgesLoadKeys keys r) is judged, (so, refl))
 
-pub load_refused : {S : Type 0} (g : Ghosts S) (old : Standing S) (kind : LoadKind) (keys : Option LoadKeys) (refusal : Refusal) (given : Result Load Refusal) (outcome : Outcome) → given ≡ Err refusal
-    → (given ≡ Err Memory) ⊎ JudgesLoadKeys kind keys given → outcome ≡ refused_with refusal → ServesKeys g old kind keys outcome old
-load_refused g old kind keys refusal given outcome is (inl none) so = let e : refusal ≡ Memory = cc in record { served = inl (so ∙ ap refused_with e, refl) }
-load_refused g old kind keys refusal given outcome is (inr judged) so = record { served = inr (Err refusal, subst (λ (r : Result Load Refusal). JudgesLoadKeys kind keys r) is judged, (so, refl)) }
+-- ---- posts
 
-pub text_served : {S : Type 0} (g : Ghosts S) (old new : Standing S) (kind : LoadKind) (body : List ℕ) (value : Data) (outcome : Outcome) → IsUtf8 body × (read body ≡ Some value)
-    → ServesKeys g old kind (load_keys value) outcome new → ServesText g old kind body outcome new
-unfolding JudgesLoadPost
-text_served g old new kind body value outcome json h =
-    elim h.served [ inl none ↦ record { served = inl none } | inr given ↦ record { served = inr (given.0, (Some value, json, given.1), given.2) } ]
+pub posts_acts : {S : Type 0} (g : Ghosts S) (old new : Standing S) (post : Post) (value : Data) (outcome : Outcome) → post ≡ paths.Acts → ServesValue g old paths.Acts value outcome new → ServesValue g old post value outcome new
+posts_acts g old new post value outcome is h = rw is h
 
-pub text_unread : {S : Type 0} (g : Ghosts S) (old : Standing S) (kind : LoadKind) (body : List ℕ) (refusal : Refusal) (outcome : Outcome)
-    → (refusal ≡ Memory) ⊎ ((refusal ≡ BadText) × (IsUtf8 body → read body ≡ None)) → outcome ≡ refused_with refusal → ServesText g old kind body outcome old
-unfolding JudgesLoadPost
-text_unread g old kind body refusal outcome (inl none) so = record { served = inl (so ∙ ap refused_with none, refl) }
-text_unread g old kind body refusal outcome (inr bad) so = record { served = inr (Err BadText, (None, bad.1, refl), (so ∙ ap refused_with bad.0, refl)) }
+pub posts_stack : {S : Type 0} (g : Ghosts S) (old new : Standing S) (post : Post) (value : Data) (outcome : Outcome) → post ≡ paths.Stacks → ServesKeys g old load_kind.Stack (load_keys value) outcome new → ServesValue g old post value outcome new
+posts_stack g old new post value outcome is h = rw is h
+
+pub posts_procedure : {S : Type 0} (g : Ghosts S) (old new : Standing S) (post : Post) (value : Data) (outcome : Outcome) → post ≡ paths.Procedures → ServesKeys g old load_kind.Procedure (load_keys value) outcome new
+    → ServesValue g old post value outcome new
+posts_procedure g old new post value outcome is h = rw is h
+
+-- what stands in a body that is JSON
+value_served : {S : Type 0} (g : Ghosts S) (old new : Standing S) (post : Post) (body : List ℕ) (value : Data) (outcome : Outcome) → IsUtf8 body × (read body ≡ Some value) → ServesValue g old post value outcome new → ServesBody g old post body outcome new
+unfolding JudgesActPost JudgesLoadPost
+value_served g old new paths.Acts body value outcome json (given, judged, serves) = (given, (Some value, json, judged), serves)
+value_served g old new paths.Stacks body value outcome json (given, judged, serves) = (given, (Some value, json, judged), serves)
+value_served g old new paths.Procedures body value outcome json (given, judged, serves) = (given, (Some value, json, judged), serves)
+
+pub body_served : {S : Type 0} (g : Ghosts S) (old new : Standing S) (post : Post) (body : List ℕ) (value : Data) (outcome : Outcome) → IsUtf8 body × (read body ≡ Some value) → ServesValue g old post value outcome new → ServesPost g old post body outcome new
+body_served g old new post body value outcome json serves = record { served = inr (value_served g old new post body value outcome json serves) }
+
+-- a body that is none
+bad_served : {S : Type 0} (g : Ghosts S) (old : Standing S) (post : Post) (body : List ℕ) (outcome : Outcome) → (IsUtf8 body → read body ≡ None) → outcome ≡ refused_with BadText → ServesBody g old post body outcome old
+unfolding JudgesActPost JudgesLoadPost
+bad_served g old paths.Acts body outcome none so = (Err BadText, (None, none, refl), (so, refl))
+bad_served g old paths.Stacks body outcome none so = (Err BadText, (None, none, refl), (so, refl))
+bad_served g old paths.Procedures body outcome none so = (Err BadText, (None, none, refl), (so, refl))
+
+pub body_unread : {S : Type 0} (g : Ghosts S) (old : Standing S) (post : Post) (body : List ℕ) (refusal : Refusal) (outcome : Outcome)
+    → (refusal ≡ Memory) ⊎ ((refusal ≡ BadText) × (IsUtf8 body → read body ≡ None)) → outcome ≡ refused_with refusal → ServesPost g old post body outcome old
+body_unread g old post body refusal outcome (inl none) so = record { served = inl (so ∙ ap refused_with none, refl) }
+body_unread g old post body refusal outcome (inr bad) so = record { served = inr (bad_served g old post body outcome bad.1 (so ∙ ap refused_with bad.0)) }
 
 -- ---- what is asked
-
-pub posts_act : {S : Type 0} (g : Ghosts S) (old new : Standing S) (post : Post) (body : List ℕ) (outcome : Outcome) → post ≡ paths.Acts → ServesAct g old body outcome new → ServesPost g old post body outcome new
-posts_act g old new post body outcome is h = rw is h
-
-pub posts_stack : {S : Type 0} (g : Ghosts S) (old new : Standing S) (post : Post) (body : List ℕ) (outcome : Outcome) → post ≡ paths.Stacks → ServesText g old load_kind.Stack body outcome new → ServesPost g old post body outcome new
-posts_stack g old new post body outcome is h = rw is h
-
-pub posts_procedure : {S : Type 0} (g : Ghosts S) (old new : Standing S) (post : Post) (body : List ℕ) (outcome : Outcome) → post ≡ paths.Procedures → ServesText g old load_kind.Procedure body outcome new → ServesPost g old post body outcome new
-posts_procedure g old new post body outcome is h = rw is h
 
 pub asks_nothing : {S : Type 0} (g : Ghosts S) (old : Standing S) (given : Decision) (why : Refused) (outcome : Outcome) → given ≡ decision.Refused why → outcome ≡ refused_front why → Serves g old (asked_of given) outcome old
 asks_nothing g old given why outcome is so = rw is (so, refl)

@@ -1,61 +1,56 @@
--- What a body posts to /acts: the keys of its JSON object, and the tests in their order.
-use Rattle.std.specs.Prelude.{◌≡◌, ℕ, ◌≤◌, Option, Some, None, Result, Ok, Err, IfOk, List, codes, length, option_and_then}
+-- What a body posts to /acts: the keys of its JSON object, and who calls.
+use Rattle.std.specs.Prelude.{◌≡◌, ℕ, Option, Some, None, Result, Ok, Err, List, codes, option_and_then}
 use Rattle.serde_json.specs.Data.{Data, Num}
 use Rattle.serde_json.specs.Find.{as_u64}
-use Rattle.tc_types.specs.declared.acts.Act.{Act}
-use Rattle.tc_types.specs.declared.acts.Line.{Line}
 use Rattle.tc_types.specs.declared.refusals.Refusal.{Refusal}
-use Rattle.tc_types.specs.declared.refusals.Refusal.TheVariants.{BadText, TooLong}
-use Rattle.tc_types.specs.ActGrammar.{SpellsAct}
-use Rattle.tc_types.specs.Names.{IsPerson}
-use Rattle.tc_api.specs.declared.acts.ActKeys as code
-use Rattle.tc_api.specs.Bodies.{IsJson, Needs, moment_in, number_at, text_at}
+use Rattle.tc_types.specs.declared.refusals.Refusal.TheVariants.{BadText}
+use Rattle.tc_room.specs.declared.callers.Caller.{Caller}
+use Rattle.tc_api.specs.declared.acts.ActKeys as code_keys
+use Rattle.tc_api.specs.declared.acts.ActPost as code_post
+use Rattle.tc_api.specs.Bodies.{IsJson, JudgesCaller, moment_in, number_at, text_at}
 
--- what stands at the keys of an act: its text, who, and when, if that number is whole
+-- what stands at the keys of an act: its text, who, when, and under which number, if these numbers are whole
 pub record ActKeys : Type 0 where
   pub act : List ℕ
   pub by : List ℕ
   pub moment : Option ℕ
+  pub number : Option ℕ
 
 -- the keys, where each is there and of its kind
-abbrev pub act_keys_of : Option (List ℕ) → Option (List ℕ) → Option Num → Option ActKeys
-act_keys_of None by moment = None
-act_keys_of (Some act) None moment = None
-act_keys_of (Some act) (Some by) None = None
-act_keys_of (Some act) (Some by) (Some moment) = Some (record { act = act; by = by; moment = as_u64 moment })
+abbrev pub act_keys_of : Option (List ℕ) → Option (List ℕ) → Option Num → Option Num → Option ActKeys
+act_keys_of None by moment number = None
+act_keys_of (Some act) None moment number = None
+act_keys_of (Some act) (Some by) None number = None
+act_keys_of (Some act) (Some by) (Some moment) None = None
+act_keys_of (Some act) (Some by) (Some moment) (Some number) = Some (record { act = act; by = by; moment = as_u64 moment; number = as_u64 number })
 
 -- of an object; other keys are ignored
 abbrev pub act_keys : Data → Option ActKeys
-act_keys value = act_keys_of (text_at (codes "act") value) (text_at (codes "by") value) (number_at (codes "moment") value)
+act_keys value = act_keys_of (text_at (codes "act") value) (text_at (codes "by") value) (number_at (codes "moment") value) (number_at (codes "number") value)
 
--- the act that this text spells, by that person, at that moment
-abbrev pub JudgesAct : List ℕ → List ℕ → ℕ → Result Line Refusal → Type 0
-JudgesAct text by moment (Ok line) = SpellsAct text line.act × (line.by ≡ by) × (line.moment ≡ moment)
-JudgesAct text by moment (Err refusal) = ((act : Act) → ¬ (SpellsAct text act)) × (refusal ≡ BadText)
+-- a call of an act or a question: who, when, where that is a moment, and the text
+pub record ActCall : Type 0 where
+  pub caller : Caller
+  pub moment : Option ℕ
+  pub text : List ℕ
 
-abbrev pub JudgesActMoment : List ℕ → List ℕ → Option ℕ → Result Line Refusal → Type 0
-JudgesActMoment text by None outcome = outcome ≡ Err BadText
-JudgesActMoment text by (Some moment) outcome = JudgesAct text by moment outcome
-
--- The tests in their order: each key is there and of its kind, the person may act, the act's text is no longer than 200 bytes, the moment is
--- one, the text spells an act.
-abbrev pub JudgesActKeys : Option ActKeys → Result Line Refusal → Type 0
+-- The tests of a body, in their order: each key is there and of its kind, the person may act, the number is one. The moment and the text are tested as the room is asked.
+abbrev pub JudgesActKeys : Option ActKeys → Result ActCall Refusal → Type 0
 JudgesActKeys None outcome = outcome ≡ Err BadText
-JudgesActKeys (Some keys) outcome =
-    Needs (IsPerson keys.by) BadText
-    (Needs (length keys.act ≤ 200) TooLong
-    (JudgesActMoment keys.act keys.by (moment_in keys.moment)))
-    outcome
+JudgesActKeys (Some keys) outcome = JudgesCaller keys.by keys.number (λ caller. record { caller = caller; moment = moment_in keys.moment; text = keys.act }) outcome
 
 -- what a body posts to /acts, or why it is refused
-unfoldable pub JudgesActPost : List ℕ → Result Line Refusal → Type 0
+unfoldable pub JudgesActPost : List ℕ → Result ActCall Refusal → Type 0
 JudgesActPost body outcome = (value : Option Data) × IsJson body value × JudgesActKeys (option_and_then act_keys value) outcome
 
--- the keys as the code holds them
-abbrev pub act_keys_seen : code.ActKeys → ActKeys
-act_keys_seen keys = record { act = keys.act.now; by = keys.by.now; moment = keys.moment }
+-- ---- as the code holds them
 
--- What was read of an act's text: it spells that, and what it spells is read.
-pub record IsReadAs (text : List ℕ) (read : Result Act Refusal) : Type 0 where
-  pub found : IfOk read (λ act. SpellsAct text act)
-  pub only : (act : Act) → SpellsAct text act → length text ≤ 200 → read ≡ Ok act
+abbrev pub act_keys_seen : code_keys.ActKeys → ActKeys
+act_keys_seen keys = record { act = keys.act.now; by = keys.by.now; moment = keys.moment; number = keys.number }
+
+abbrev pub act_seen : code_post.ActPost → ActCall
+act_seen post = record { caller = post.caller; moment = post.moment; text = post.text.now }
+
+abbrev pub act_outcome : Result code_post.ActPost Refusal → Result ActCall Refusal
+act_outcome (Ok post) = Ok (act_seen post)
+act_outcome (Err refusal) = Err refusal

@@ -1,31 +1,39 @@
 -- What exchanges leave of a room, one after the other.
-use Rattle.std.specs.Prelude.{◌≡◌, ◌⊎◌, true, false, Option, Some, None, List, [], ◌∷◌}
+use Rattle.std.specs.Prelude.{◌≡◌, ◌⊎◌, ℕ, true, false, Option, Some, None, Ok, List, [], ◌∷◌}
 use Rattle.sqlite_trees.specs.declared.store.Store.{Ghosts}
 use Rattle.sqlite.specs.Held.{state}
 use Rattle.sqlite.specs.State.{HasCleanDisk}
 use Rattle.tc_types.specs.declared.acts.Act.{Act}
+use Rattle.tc_types.specs.declared.history.moves.Move.{Move}
+use Rattle.tc_types.specs.declared.refusals.Refusal.TheVariants.{Store, Stopped}
 use Rattle.tc_book.specs.declared.stamps.Stamp.{Stamp}
 use Rattle.tc_desk.specs.Headline.{TellsTrue}
-use Rattle.tc_desk.specs.Loads.{Loading}
-use Rattle.tc_desk.specs.Replies.{Reply}
-use Rattle.tc_store.specs.Ledgers.{KeptAnswer}
-use Rattle.tc_front.specs.Front.{Asked}
+use Rattle.tc_desk.specs.Replies.{Reply, refusal_reply}
+use Rattle.tc_desk.specs.declared.configs.Config.{Config}
+use Rattle.tc_store.specs.Ledgers.{KeptAnswer, Ledger}
+use Rattle.tc_routes.specs.declared.paths.Post.TheVariants as paths
+use Rattle.tc_front.specs.Front.{Asked, asks, posts, refuses}
+use Rattle.tc_room.specs.Calls.{FailsOnce, KeepsAll, Makes, Making}
 use Rattle.tc_room.specs.Joined.{HoldsBook, Standing}
-use Rattle.tc_room.specs.Loads.{FailsLoad}
+use Rattle.tc_room.specs.Opening.{OpensLeft}
 use Rattle.tc_room.specs.Room.{FailsStore}
-use Rattle.tc_api.specs.Serving.{Outcome, Serves}
+use Rattle.tc_room.specs.declared.callers.Caller.{Caller}
+use Rattle.tc_api.specs.Acts.{ActCall, JudgesActPost}
+use Rattle.tc_api.specs.Exchange.{response_to}
+use Rattle.tc_api.specs.Loads.{JudgesLoadPost, LoadCall}
+use Rattle.tc_api.specs.Serving.{FindsNoMemory, Outcome, Serves}
 
--- The database failed at what was asked, be it an act, a question or a load: the tables hold the book as it was before, where the database is still
--- open, and after a crash they hold that, or what was asked is there as a whole. The replies that are kept stay.
+-- The database failed at what was asked, be it a question or what was called: the tables hold the book and the replies as they were before, where the database is
+-- still open, and after a crash they hold that, or what was called is there as a whole with its reply.
 abbrev pub FailsTables : {S : Type 0} → Ghosts S → List KeptAnswer → Standing S → Standing S → Type 0
 FailsTables g replies old new =
     ((stamp : Stamp) × (given : Act) × (reply : Reply) × FailsStore g replies old stamp given reply new)
-    ⊎ ((stamp : Stamp) × (given : Loading) × (reply : Reply) × FailsLoad g replies old stamp given reply new)
+    ⊎ ((caller : Caller) × (making : Making) × (reply : Reply) × FailsOnce g replies caller (Makes old.desk making) old reply new)
 
--- What an exchange leaves of the tables of a room: those that held its book hold it, with the replies that were kept, or the database failed; and a
+-- What an exchange leaves of the tables of a room: those that held its book hold it, and each reply that was kept is kept still, or the database failed; and a
 -- room that had stopped is as it was.
 pub record KeepsTables {S : Type 0} (g : Ghosts S) (old new : Standing S) : Type 0 where
-  pub held : (replies : List KeptAnswer) → HoldsBook g old replies → HoldsBook g new replies
+  pub held : (replies : List KeptAnswer) → HoldsBook g old replies → (after : List KeptAnswer) × KeepsAll replies after × HoldsBook g new after
   pub failed : (replies : List KeptAnswer) → HoldsBook g old replies → HasCleanDisk (state g new.tables) → old.stopped ≡ false → new.stopped ≡ true → FailsTables g replies old new
   pub stays : HasCleanDisk (state g new.tables) → old.stopped ≡ true → new ≡ old
 
@@ -50,16 +58,70 @@ ServesAll {S} g old (read ∷ others) new = (next : Standing S) × ServesOne g o
 pub record FailedAt {S : Type 0} (g : Ghosts S) (replies : List KeptAnswer) (start : Standing S) : Type 0 where
   pub last : Standing S
   pub next : Standing S
+  pub held : List KeptAnswer
+  pub keeps : KeepsAll replies held
   pub opened : last.opened ≡ start.opened
   pub told : TellsTrue start.opened last.desk
   pub going : last.stopped ≡ false
   pub stopped : next.stopped ≡ true
-  pub failed : HasCleanDisk (state g next.tables) → FailsTables g replies last next
+  pub failed : HasCleanDisk (state g next.tables) → FailsTables g held last next
 
 -- What is promised after any exchanges since a room was opened: what the rows since then tell of the link is true, and while every start was good the
--- FARM is not in Lockout; and tables that held the book and some replies hold them, until the database failed.
+-- FARM is not in Lockout; and tables that held the book hold it, with each reply that was kept, until the database failed.
 pub record KeepsPromise {S : Type 0} (g : Ghosts S) (start end : Standing S) : Type 0 where
   pub opened : end.opened ≡ start.opened
   pub told : TellsTrue start.opened end.desk
-  pub held : (replies : List KeptAnswer) → HoldsBook g start replies → HoldsBook g end replies
+  pub held : (replies : List KeptAnswer) → HoldsBook g start replies → (after : List KeptAnswer) × KeepsAll replies after × HoldsBook g end after
   pub failed : (replies : List KeptAnswer) → HoldsBook g start replies → start.stopped ≡ false → end.stopped ≡ true → FailedAt g replies start
+
+-- ---- a call that comes twice
+
+-- what was posted was called by this caller: an act or a question, or a load
+abbrev pub IsCallOf : Caller → Asked → Type 0
+IsCallOf caller (refuses why) = ⊥
+IsCallOf caller (asks query) = ⊥
+IsCallOf caller (posts paths.Acts body) = (call : ActCall) × JudgesActPost body (Ok call) × (call.caller ≡ caller)
+IsCallOf caller (posts paths.Stacks body) = (call : LoadCall) × JudgesLoadPost body (Ok call) × (call.caller ≡ caller)
+IsCallOf caller (posts paths.Procedures body) = (call : LoadCall) × JudgesLoadPost body (Ok call) × (call.caller ≡ caller)
+
+-- an exchange that called so, over a disk that gave back what was written
+pub record Called {S : Type 0} (g : Ghosts S) (caller : Caller) (old : Standing S) (outcome : Outcome) (new : Standing S) : Type 0 where
+  pub asked : Asked
+  pub serves : Serves g old asked outcome new
+  pub calls : IsCallOf caller asked
+  pub clean : HasCleanDisk (state g new.tables)
+
+-- what comes between: exchanges, and openings of the next room over what the one before left
+pub data Stage : Type 0 where
+  exchange : Option Asked → Stage
+  opening : Stage
+
+-- The next room was opened over tables that hold each reply that was kept.
+pub record OpensNext {S : Type 0} (g : Ghosts S) (replies : List KeptAnswer) (next : Standing S) : Type 0 where
+  pub config : Config
+  pub moment : ℕ
+  pub ledger : Ledger
+  pub moves : List Move
+  pub opened : OpensLeft g config moment ledger moves next
+  pub keeps : KeepsAll replies ledger.replies
+
+-- From a room whose tables hold its book and these replies, one stage after the other, to another: of an exchange they are the replies that it leaves.
+abbrev pub GoesThrough : {S : Type 0} → Ghosts S → Standing S → List KeptAnswer → List Stage → Standing S → List KeptAnswer → Type 0
+GoesThrough g start replies [] end after = (end ≡ start) × (after ≡ replies)
+GoesThrough {S} g start replies (exchange read ∷ others) end after =
+    (next : Standing S) × (mid : List KeptAnswer) × ServesRead g start read next × KeepsAll replies mid × HoldsBook g next mid × GoesThrough g next mid others end after
+GoesThrough {S} g start replies (opening ∷ others) end after = (next : Standing S) × (opens : OpensNext g replies next) × GoesThrough g next opens.ledger.replies others end after
+
+-- The answer to a call that came again is the response of the first, byte for byte, and nothing was done. Or the room has stopped, or stops here, and says so; or there was no
+-- memory to read what was posted, and nothing was done.
+abbrev pub IsTheSame : {S : Type 0} → Outcome → Standing S → Outcome → Standing S → Type 0
+IsTheSame first old again new =
+    ((response_to again ≡ response_to first) × (new.desk ≡ old.desk))
+    ⊎ (((again.reply ≡ refusal_reply Stopped) × (new ≡ old)) ⊎ (((again.reply ≡ refusal_reply Store) × (new.stopped ≡ true)) ⊎ FindsNoMemory old again new))
+
+-- A call was accepted, and its reply is kept: whatever comes then, if it comes again it is not done again.
+pub record IsDoneOnce {S : Type 0} (g : Ghosts S) (caller : Caller) (first : Outcome) (next : Standing S) : Type 0 where
+  pub replies : List KeptAnswer
+  pub holds : HoldsBook g next replies
+  pub again : (stages : List Stage) (last : Standing S) (after : List KeptAnswer) → GoesThrough g next replies stages last after
+      → (again : Outcome) (end : Standing S) → Called g caller last again end → IsTheSame first last again end

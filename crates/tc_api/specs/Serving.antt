@@ -1,8 +1,8 @@
 -- What a request makes of the room, and how it ends.
-use Rattle.std.specs.Prelude.{◌≡◌, ◌⊎◌, ◌&&◌, ℕ, Bool, true, false, not, Option, Result, Ok, Err, List, IfSome}
+use Rattle.std.specs.Prelude.{◌≡◌, ◌⊎◌, ◌&&◌, ℕ, Bool, false, Option, Result, Ok, Err, List, IfSome}
 use Rattle.std.specs.String.{string_bytes}
+use Rattle.serde_json.specs.Data.{Data}
 use Rattle.sqlite_trees.specs.declared.store.Store.{Ghosts}
-use Rattle.tc_types.specs.declared.acts.Line.{Line}
 use Rattle.tc_types.specs.declared.acts.Query.{Query}
 use Rattle.tc_types.specs.declared.acts.Act.TheVariants as act
 use Rattle.tc_types.specs.declared.loads.LoadKind.{LoadKind}
@@ -15,19 +15,17 @@ use Rattle.tc_routes.specs.declared.paths.Post.{Post}
 use Rattle.tc_routes.specs.declared.paths.Post.TheVariants as paths
 use Rattle.tc_front.specs.Front.{Asked, asks, posts, refuses}
 use Rattle.tc_book.specs.declared.stamps.Stamp.{Stamp}
-use Rattle.tc_desk.specs.Acts.{is_question}
-use Rattle.tc_desk.specs.Machine.{stamp_of}
 use Rattle.tc_desk.specs.Replies.{Reply, refusal_reply}
+use Rattle.tc_room.specs.Calls.{AnswersActCall, AnswersLoadCall}
 use Rattle.tc_room.specs.Joined.{Standing}
-use Rattle.tc_room.specs.Loads.{RoomLoad}
 use Rattle.tc_room.specs.Replies.{AreLines, ended, is_refused}
 use Rattle.tc_room.specs.Room.{RoomStep}
 use Rattle.tc_api.specs.declared.endings.Ending.{Ending}
 use Rattle.tc_api.specs.declared.endings.Ending.TheVariants as ending
 use Rattle.tc_api.specs.declared.serving.Served.{Served}
-use Rattle.tc_api.specs.Acts.{JudgesActPost}
+use Rattle.tc_api.specs.Acts.{ActCall, JudgesActKeys, JudgesActPost, act_keys}
 use Rattle.tc_api.specs.Endings.{is_done}
-use Rattle.tc_api.specs.Loads.{JudgesLoadKeys, JudgesLoadPost, Load, LoadKeys}
+use Rattle.tc_api.specs.Loads.{JudgesLoadKeys, JudgesLoadPost, LoadCall, LoadKeys, load_keys}
 
 -- what a request ends with: the reply, how the exchange ends, and whether an act was done, which stands
 pub record Outcome : Type 0 where
@@ -58,34 +56,33 @@ refused_with refusal = refused_so (ending.Refused refusal) refusal
 abbrev pub ServesQuery : {S : Type 0} → Ghosts S → Standing S → Query → Outcome → Standing S → Type 0
 ServesQuery g old query outcome new = ((stamp : Stamp) → RoomStep g old stamp (act.Ask query) outcome.reply new) × IsOutcome false outcome
 
--- An act or a question that was posted makes its step; a post that is refused makes none.
-abbrev pub ServesLine : {S : Type 0} → Ghosts S → Standing S → Result Line Refusal → Outcome → Standing S → Type 0
-ServesLine g old (Ok line) outcome new = RoomStep g old (stamp_of line) line.act outcome.reply new × IsOutcome (not (is_question line.act)) outcome
-ServesLine g old (Err refusal) outcome new = (outcome ≡ refused_with refusal) × (new ≡ old)
+-- An act or a question is called; a post that is refused makes nothing.
+abbrev pub ServesActCall : {S : Type 0} → Ghosts S → Standing S → Result ActCall Refusal → Outcome → Standing S → Type 0
+ServesActCall g old (Ok call) outcome new = (acts : Bool) × AnswersActCall g call.caller call.moment call.text old acts outcome.reply new × IsOutcome acts outcome
+ServesActCall g old (Err refusal) outcome new = (outcome ≡ refused_with refusal) × (new ≡ old)
 
--- So does a load.
-abbrev pub ServesLoad : {S : Type 0} → Ghosts S → Standing S → LoadKind → Result Load Refusal → Outcome → Standing S → Type 0
-ServesLoad g old kind (Ok load) outcome new =
-    RoomLoad g old (record { by = load.by; moment = load.moment }) kind load.name load.csv outcome.reply new × IsOutcome true outcome
-ServesLoad g old kind (Err refusal) outcome new = (outcome ≡ refused_with refusal) × (new ≡ old)
+-- So is a load.
+abbrev pub ServesLoadCall : {S : Type 0} → Ghosts S → Standing S → LoadKind → Result LoadCall Refusal → Outcome → Standing S → Type 0
+ServesLoadCall g old kind (Ok call) outcome new =
+    (acts : Bool) × AnswersLoadCall g call.caller kind call.moment call.name call.csv old acts outcome.reply new × IsOutcome acts outcome
+ServesLoadCall g old kind (Err refusal) outcome new = (outcome ≡ refused_with refusal) × (new ≡ old)
 
 -- Memory was refused as a body was read.
 abbrev pub FindsNoMemory : {S : Type 0} → Standing S → Outcome → Standing S → Type 0
 FindsNoMemory old outcome new = (outcome ≡ refused_with Memory) × (new ≡ old)
 
--- a body posted to /acts
-pub record ServesAct {S : Type 0} (g : Ghosts S) (old : Standing S) (body : List ℕ) (outcome : Outcome) (new : Standing S) : Type 0 where
-  pub served : FindsNoMemory old outcome new ⊎ ((given : Result Line Refusal) × JudgesActPost body given × ServesLine g old given outcome new)
-
--- a body posted to be loaded
-pub record ServesText {S : Type 0} (g : Ghosts S) (old : Standing S) (kind : LoadKind) (body : List ℕ) (outcome : Outcome) (new : Standing S) : Type 0 where
-  pub served : FindsNoMemory old outcome new ⊎ ((given : Result Load Refusal) × JudgesLoadPost kind body given × ServesLoad g old kind given outcome new)
+-- what a body posts to be loaded as this kind is called
+abbrev pub ServesText : {S : Type 0} → Ghosts S → Standing S → LoadKind → List ℕ → Outcome → Standing S → Type 0
+ServesText g old kind body outcome new = (given : Result LoadCall Refusal) × JudgesLoadPost body given × ServesLoadCall g old kind given outcome new
 
 -- a body posted to each route
-abbrev pub ServesPost : {S : Type 0} → Ghosts S → Standing S → Post → List ℕ → Outcome → Standing S → Type 0
-ServesPost g old paths.Acts body outcome new = ServesAct g old body outcome new
-ServesPost g old paths.Stacks body outcome new = ServesText g old load_kind.Stack body outcome new
-ServesPost g old paths.Procedures body outcome new = ServesText g old load_kind.Procedure body outcome new
+abbrev pub ServesBody : {S : Type 0} → Ghosts S → Standing S → Post → List ℕ → Outcome → Standing S → Type 0
+ServesBody g old paths.Acts body outcome new = (given : Result ActCall Refusal) × JudgesActPost body given × ServesActCall g old given outcome new
+ServesBody g old paths.Stacks body outcome new = ServesText g old load_kind.Stack body outcome new
+ServesBody g old paths.Procedures body outcome new = ServesText g old load_kind.Procedure body outcome new
+
+pub record ServesPost {S : Type 0} (g : Ghosts S) (old : Standing S) (post : Post) (body : List ℕ) (outcome : Outcome) (new : Standing S) : Type 0 where
+  pub served : FindsNoMemory old outcome new ⊎ ServesBody g old post body outcome new
 
 -- how an exchange ends whose head is refused
 abbrev pub front_ending : Refused → Ending
@@ -120,9 +117,15 @@ outcome_of reply served = record { reply = reply; ending = served.ending; stands
 abbrev pub HasText : Reply → Served → Type 0
 HasText reply served = IfSome served.text (λ text. (string_bytes text ≡ ended reply) × AreLines reply)
 
--- what stands at the keys of a load
-pub record ServesKeys {S : Type 0} (g : Ghosts S) (old : Standing S) (kind : LoadKind) (keys : Option LoadKeys) (outcome : Outcome) (new : Standing S) : Type 0 where
-  pub served : FindsNoMemory old outcome new ⊎ ((given : Result Load Refusal) × JudgesLoadKeys kind keys given × ServesLoad g old kind given outcome new)
+-- what stands at the keys of a load is called
+abbrev pub ServesKeys : {S : Type 0} → Ghosts S → Standing S → LoadKind → Option LoadKeys → Outcome → Standing S → Type 0
+ServesKeys g old kind keys outcome new = (given : Result LoadCall Refusal) × JudgesLoadKeys keys given × ServesLoadCall g old kind given outcome new
+
+-- what stands in a body that is JSON is called
+abbrev pub ServesValue : {S : Type 0} → Ghosts S → Standing S → Post → Data → Outcome → Standing S → Type 0
+ServesValue g old paths.Acts value outcome new = (given : Result ActCall Refusal) × JudgesActKeys (act_keys value) given × ServesActCall g old given outcome new
+ServesValue g old paths.Stacks value outcome new = ServesKeys g old load_kind.Stack (load_keys value) outcome new
+ServesValue g old paths.Procedures value outcome new = ServesKeys g old load_kind.Procedure (load_keys value) outcome new
 
 -- What was served: an outcome of this kind, whose reply its text is; and as many rows of the history stood once the room was opened.
 pub record IsServedBy {S : Type 0} (Makes : Outcome → Standing S → Type 0) (old : Standing S) (served : Served) (new : Standing S) : Type 0 where

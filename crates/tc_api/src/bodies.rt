@@ -4,11 +4,13 @@ ghost use Rattle.std.specs.Str.{IsUtf8};
 ghost use Rattle.serde_json.specs.Read.{read};
 ghost use Rattle.serde_json.specs.View.{number_view, view};
 ghost use Rattle.tc_types.specs.declared.refusals.Refusal.TheVariants.{BadText, Memory};
-ghost use Rattle.tc_api.specs.Bodies.{moment_in, number_at, text_at};
+ghost use Rattle.tc_api.specs.Bodies.{JudgesCaller, call_number_in, moment_in, number_at, text_at};
 
 use serde_json::{Number, Value};
 use std::alloc::Global;
-use tc_types::{Moment, Refusal};
+use tc_room::Caller;
+use tc_store::CallNumber;
+use tc_types::{Moment, Person, Refusal};
 
 /// The JSON value that a body is. It is refused with `BadText` where it is none, and with `Memory` where that was refused.
 pub(crate) fn value_of(alloc: Global, body: &[u8]) -> Result<Value, Refusal>
@@ -49,4 +51,23 @@ pub(crate) fn moment_in(whole: Option<u64>) -> Option<Moment>
         Ok(seconds) => Moment::new(seconds),
         Err(_) => None,
     }
+}
+
+/// A number as that of a call; `None` where it is not whole, or out of range.
+fn call_number_in(whole: Option<u64>) -> Option<CallNumber>
+    ensures { result ≡ call_number_in whole }
+{
+    match u32::try_from(whole?) {
+        Ok(number) => CallNumber::new(number),
+        Err(_) => None,
+    }
+}
+
+/// Who calls, by the texts of the keys: a person who may act, and a number.
+pub(crate) fn caller_of(by: &str, number: Option<u64>) -> Result<Caller, Refusal>
+    ensures { JudgesCaller by.now number (λ caller. caller) result }
+{
+    let by = Person::read(by.as_bytes()).ok_or(Refusal::BadText)?;
+    let number = call_number_in(number).ok_or(Refusal::BadText)?;
+    Ok(Caller { by, number })
 }

@@ -1,26 +1,25 @@
 //! What a request makes of the room, and how it ends.
-ghost use Rattle.std.specs.Prelude.{◌≡◌, ◌&&◌, Ok};
+ghost use Rattle.std.specs.Prelude.{◌≡◌, ◌&&◌};
 ghost use Rattle.serde_json.specs.View.{view};
-ghost use Rattle.tc_desk.specs.Acts.{is_question};
 ghost use Rattle.tc_desk.specs.Replies.{Reply, refusal_reply};
+ghost use Rattle.tc_routes.specs.declared.paths.Post.TheVariants as paths;
 ghost use Rattle.tc_front.specs.Front.{asked_of};
 ghost use Rattle.tc_room.specs.Answers.{RefusesWith, Says};
 ghost use Rattle.tc_api.specs.Endings.{is_done};
 ghost use Rattle.tc_api.specs.Loads.{load_keys};
-ghost use Rattle.tc_api.specs.Serving.{EndsWith, HasText, IsOutcome, IsServedBy, Serves, ServesAct, ServesKeys, ServesLine, ServesPost, ServesQuery, ServesText, front_ending, front_refusal, outcome_of, refused_front, refused_so};
+ghost use Rattle.tc_api.specs.Serving.{EndsWith, HasText, IsOutcome, IsServedBy, Serves, ServesKeys, ServesPost, ServesQuery, ServesValue, front_ending, front_refusal, outcome_of, refused_front, refused_so};
 
-use crate::acts::read_act_post;
+use crate::acts::judge_act;
 use crate::bodies::value_of;
 use crate::endings::Ending;
-use crate::loads::judge_load_value;
+use crate::loads::judge_load;
 use serde_json::Value;
 use sqlite::Alter;
 use std::alloc::Global;
-use tc_book::Stamp;
 use tc_front::{Decision, Refused};
-use tc_room::{Answer, Room, Untold, answer_loading, answer_query, answer_read, refusal_answer};
+use tc_room::{Answer, Room, Untold, answer_query, refusal_answer};
 use tc_routes::Post;
-use tc_types::{Act, Line, LoadKind, Query, Refusal};
+use tc_types::{LoadKind, Query, Refusal};
 
 /// What was served.
 #[derive(Drop)]
@@ -86,36 +85,22 @@ fn serve_query<S: Alter + Drop>(alloc: Global, room: &mut Room<S>, query: Query)
     answer_served(answer_query(alloc, room, query), false)
 }
 
-/// Whether this is a question.
-fn is_question(act: Act) -> bool
-    ensures { result ≡ is_question act }
+/// Serves an act or a question that is called.
+fn serve_act<S: Alter + Drop>(alloc: Global, room: &mut Room<S>, value: &Value) -> Served
+    ensures { IsServedBy (ServesValue S.Store room.old paths.Acts (view value.now)) room.old result room.new }
 {
-    match act {
-        Act::Ask(_) => true,
-        Act::Book(_) | Act::Link(_) | Act::Step(_) => false,
-    }
-}
-
-/// Asks an act or a question of the room, as it was posted.
-fn serve_line<S: Alter + Drop>(alloc: Global, room: &mut Room<S>, line: Line) -> Served
-    ensures { IsServedBy (ServesLine S.Store room.old (Ok line)) room.old result room.new }
-{
-    let acts = !is_question(line.act);
-    answer_served(answer_read(alloc, room, line), acts)
-}
-
-/// Serves a body that is posted to `/acts`.
-fn serve_act<S: Alter + Drop>(alloc: Global, room: &mut Room<S>, body: &[u8]) -> Served
-    ensures { IsServedBy (ServesAct S.Store room.old body.now) room.old result room.new }
-{
-    match read_act_post(alloc, body) {
-        Ok(line) => serve_line(alloc, room, line),
+    match judge_act(value) {
+        Ok(post) => {
+            let text = post.text.as_bytes();
+            let called = room.act_once(alloc, post.caller, post.moment, text);
+            answer_served(called.answer, called.acts)
+        }
         Err(refusal) => refused(alloc, Ending::Refused(refusal), refusal),
     }
 }
 
-/// Loads what a body posts, once it is JSON.
-fn serve_value<S: Alter + Drop>(
+/// Serves a load of this kind that is called.
+fn serve_load<S: Alter + Drop>(
     alloc: Global,
     room: &mut Room<S>,
     kind: LoadKind,
@@ -123,34 +108,29 @@ fn serve_value<S: Alter + Drop>(
 ) -> Served
     ensures { IsServedBy (ServesKeys S.Store room.old kind (load_keys (view value.now))) room.old result room.new }
 {
-    match judge_load_value(alloc, kind, value) {
+    match judge_load(value) {
         Ok(post) => {
-            let stamp = Stamp {
-                by: post.by,
-                moment: post.moment,
-            };
-            let text = post.csv.as_bytes();
-            answer_served(
-                answer_loading(alloc, room, stamp, kind, post.name, text),
-                true,
-            )
+            let (name, csv) = (post.name.as_bytes(), post.csv.as_bytes());
+            let called = room.load_once(alloc, post.caller, post.moment, kind, name, csv);
+            answer_served(called.answer, called.acts)
         }
         Err(refusal) => refused(alloc, Ending::Refused(refusal), refusal),
     }
 }
 
-/// Serves a body that is posted to be loaded as this kind.
-fn serve_load<S: Alter + Drop>(
+/// Serves what stands in a body that is JSON.
+fn serve_value<S: Alter + Drop>(
     alloc: Global,
     room: &mut Room<S>,
-    kind: LoadKind,
-    body: &[u8],
+    post: Post,
+    value: &Value,
 ) -> Served
-    ensures { IsServedBy (ServesText S.Store room.old kind body.now) room.old result room.new }
+    ensures { IsServedBy (ServesValue S.Store room.old post (view value.now)) room.old result room.new }
 {
-    match value_of(alloc, body) {
-        Ok(value) => serve_value(alloc, room, kind, &value),
-        Err(refusal) => refused(alloc, Ending::Refused(refusal), refusal),
+    match post {
+        Post::Acts => serve_act(alloc, room, value),
+        Post::Stacks => serve_load(alloc, room, LoadKind::Stack, value),
+        Post::Procedures => serve_load(alloc, room, LoadKind::Procedure, value),
     }
 }
 
@@ -158,10 +138,9 @@ fn serve_load<S: Alter + Drop>(
 fn serve_post<S: Alter + Drop>(alloc: Global, room: &mut Room<S>, post: Post, body: &[u8]) -> Served
     ensures { IsServedBy (ServesPost S.Store room.old post body.now) room.old result room.new }
 {
-    match post {
-        Post::Acts => serve_act(alloc, room, body),
-        Post::Stacks => serve_load(alloc, room, LoadKind::Stack, body),
-        Post::Procedures => serve_load(alloc, room, LoadKind::Procedure, body),
+    match value_of(alloc, body) {
+        Ok(value) => serve_value(alloc, room, post, &value),
+        Err(refusal) => refused(alloc, Ending::Refused(refusal), refusal),
     }
 }
 

@@ -1,5 +1,6 @@
 //! Acts in turn, and how many of them there were a second in the first tenth and in the last.
 use crate::clocks::a_second;
+use crate::replies::enter_and_keep;
 use crate::stores::{enter, withdraw};
 use sqlite::Alter;
 use std::alloc::Global;
@@ -9,17 +10,25 @@ use tc_store::Tables;
 
 /// What is written of each request of the list.
 #[derive(Clone, Copy, Debug, PartialEq, Eq)]
-enum Acts {
+pub enum Acts {
     /// It is entered.
     Enter,
+    /// It is entered, and the reply is kept.
+    EnterAndKeep,
     /// It is withdrawn, where so many were entered.
     Withdraw { count: u32 },
 }
 
 /// Writes what becomes of the request at this place of the list.
-fn act_on<S: Alter + Drop>(tables: &mut Tables<S>, acts: Acts, place: u32) -> Option<()> {
+fn act_on<S: Alter + Drop>(
+    alloc: Global,
+    tables: &mut Tables<S>,
+    acts: Acts,
+    place: u32,
+) -> Option<()> {
     match acts {
         Acts::Enter => enter(tables, place),
+        Acts::EnterAndKeep => enter_and_keep(alloc, tables, place),
         Acts::Withdraw { count } => withdraw(tables, place, count),
     }
 }
@@ -27,6 +36,7 @@ fn act_on<S: Alter + Drop>(tables: &mut Tables<S>, acts: Acts, place: u32) -> Op
 /// What becomes of the requests from one place of the list to another: how long that took.
 fn took<R: Clock, S: Alter + Drop>(
     rt: &R,
+    alloc: Global,
     tables: &mut Tables<S>,
     acts: Acts,
     from: u32,
@@ -34,7 +44,7 @@ fn took<R: Clock, S: Alter + Drop>(
 ) -> Option<Duration> {
     let start = Instant::now(rt).ok()?;
     for place in from..to {
-        act_on(tables, acts, place)?;
+        act_on(alloc, tables, acts, place)?;
     }
     start.elapsed(rt).ok()
 }
@@ -49,22 +59,23 @@ fn rates_text<R: Clock, S: Alter + Drop>(
 ) -> Option<String> {
     let tenth = count / 10;
     let last = count.checked_sub(tenth)?;
-    let at_first = took(rt, tables, acts, 0, tenth)?;
-    took(rt, tables, acts, tenth, last)?;
-    let at_last = took(rt, tables, acts, last, count)?;
+    let at_first = took(rt, alloc, tables, acts, 0, tenth)?;
+    took(rt, alloc, tables, acts, tenth, last)?;
+    let at_last = took(rt, alloc, tables, acts, last, count)?;
     let first = a_second(tenth, at_first);
     let last = a_second(tenth, at_last);
     format!(in alloc; "rates {first} {last}\n").ok()
 }
 
-/// So many requests are entered. Tells the rates, and how many then stand at Entered.
+/// So many requests are entered by these acts. Tells the rates, and how many then stand at Entered.
 pub fn entries_text<R: Clock, S: Alter + Drop>(
     rt: &R,
     alloc: Global,
     tables: &mut Tables<S>,
+    acts: Acts,
     count: u32,
 ) -> Option<String> {
-    let rates = rates_text(rt, alloc, tables, Acts::Enter, count)?;
+    let rates = rates_text(rt, alloc, tables, acts, count)?;
     let [entered, ..] = tables.counts().ok()?;
     format!(in alloc; "{rates}{entered}\n").ok()
 }

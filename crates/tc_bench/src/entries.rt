@@ -1,7 +1,9 @@
 //! What is entered, and the rows that the desk writes for it: those of the batches of `tc_book`, in their order.
+use std::alloc::Global;
 use tc_types::{
-    Ack, Apid, Body, Cause, Command, Form, Identity, Moment, Move, Name, Outcome, Place,
+    Ack, Apid, Body, Cause, Command, Form, Identity, Moment, Move, Name, Outcome, Person, Place,
     PlacedRequest, Request, RequestNumber, Row, SequenceCount, Service, Subtype, Tally,
+    entered_text,
 };
 
 /// How many application processes there are, in turn.
@@ -19,10 +21,18 @@ pub type EntryRows = [Row; 3];
 /// The rows of a withdrawal: the request where it stands then, its move, two tallies.
 pub type WithdrawalRows = [Row; 4];
 
-/// What is written down of the request at this place of the list, from 0.
-fn form_of(place: u32) -> Option<Form> {
-    Some(Form {
+/// The identity of the request at this place of the list, from 0.
+fn identity_of(place: u32) -> Option<Identity> {
+    Some(Identity {
         apid: Apid::new((place % PROCESSES) as u16)?,
+        count: SequenceCount::new((place / PROCESSES % 16_384) as u16)?,
+    })
+}
+
+/// What is written down of that request.
+fn form_of(identity: Identity) -> Option<Form> {
+    Some(Form {
+        apid: identity.apid,
         ack: Ack {
             acceptance: false,
             start: false,
@@ -40,15 +50,12 @@ fn form_of(place: u32) -> Option<Form> {
 
 /// That request.
 fn request_of(place: u32) -> Option<Request> {
-    let form = form_of(place)?;
-    let count = SequenceCount::new((place / PROCESSES % 16_384) as u16)?;
+    let identity = identity_of(place)?;
+    let form = form_of(identity)?;
     Some(Request {
         number: RequestNumber::new(place.checked_add(1)?)?,
         body: Body {
-            identity: Identity {
-                apid: form.apid,
-                count,
-            },
+            identity,
             ack: form.ack,
             command: form.command,
             outcome: form.outcome,
@@ -64,24 +71,44 @@ fn tally(place: Place, amount: u32) -> Row {
     Row::Tallied(Tally { place, amount })
 }
 
-/// The rows of the entry at this place of the list, from 0.
-pub fn entry_rows(place: u32) -> Option<EntryRows> {
-    let request = request_of(place)?;
+/// The move that enters it.
+fn entering(place: u32) -> Option<Move> {
     let seq = place.checked_add(1)?;
-    let row = Move {
+    Some(Move {
         seq,
-        request: request.number,
+        request: RequestNumber::new(seq)?,
         from: None,
         to: Place::Entered,
         cause: Cause::Enter,
-        by: request.author,
+        by: Name::read(AUTHOR)?,
         moment: Moment::new(0)?,
-    };
+    })
+}
+
+/// The rows of the entry at this place of the list, from 0.
+pub fn entry_rows(place: u32) -> Option<EntryRows> {
+    let request = request_of(place)?;
+    let row = entering(place)?;
+    let seq = row.seq;
     Some([
         Row::Entered(request),
         Row::Moved(row),
         tally(Place::Entered, seq),
     ])
+}
+
+/// Who is answered.
+pub fn caller() -> Option<Person> {
+    Person::read(AUTHOR)
+}
+
+/// The lines that answer the entry at this place of the list, each ended by LF.
+pub fn reply_text(alloc: Global, place: u32) -> Option<String> {
+    let row = entering(place)?;
+    let identity = identity_of(place)?;
+    let first = entered_text(alloc, row.seq, identity).ok()?;
+    let moved = row.text(alloc).ok()?;
+    format!(in alloc; "{first}\n{moved}\n").ok()
 }
 
 /// The rows of its withdrawal, where so many were entered in all, and those before it were withdrawn.

@@ -9,7 +9,7 @@ use std::time::{Duration, Instant};
 use tc_store::Tables;
 
 /// How often each question is asked.
-const CALLS: u32 = 2_000;
+pub const CALLS: u32 = 2_000;
 
 /// The most requests that there are on the bare store.
 const MOST_REQUESTS: u32 = 60_000;

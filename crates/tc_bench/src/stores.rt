@@ -35,6 +35,15 @@ pub fn in_file(rt: &HostRuntime, file: &str) -> Option<Tables<InFile>> {
     }
 }
 
+/// The tables of a desk, which stand in a file.
+pub fn left_in_file(rt: &HostRuntime, file: &str) -> Option<Tables<InFile>> {
+    let conn = Connection::open_from(rt, file, false, Wary).ok()?;
+    match Tables::open(rt.alloc(), conn) {
+        Ok((tables, _)) => Some(tables),
+        Err(_) => None,
+    }
+}
+
 /// Closes the database of a file.
 pub fn closed(tables: Tables<InFile>) -> Option<()> {
     tables.into_connection().close().ok()

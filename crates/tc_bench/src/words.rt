@@ -10,10 +10,14 @@ pub enum Kind {
     History,
     /// So many requests are entered on the bare store.
     Store,
+    /// So many requests are entered there, and the reply to each is kept.
+    StoreKept,
     /// So many requests are entered on the bare store, and then withdrawn.
     StoreMoves,
     /// Questions are asked of the bare store with so many moves.
     StoreReads,
+    /// The bare store is asked for replies, of which it keeps so many.
+    StoreReplies,
 }
 
 /// How much is done of what.
@@ -23,7 +27,7 @@ pub struct Asked<'a> {
     pub count: u32,
     /// Of what.
     pub kind: Kind,
-    /// The new file that gets it, where one is named.
+    /// The file that gets it or has it, where one is named.
     pub file: Option<&'a str>,
 }
 
@@ -32,13 +36,15 @@ fn read_kind(word: &str) -> Option<Kind> {
     match word {
         "history" => Some(Kind::History),
         "store" => Some(Kind::Store),
+        "store-kept" => Some(Kind::StoreKept),
         "store-moves" => Some(Kind::StoreMoves),
         "store-reads" => Some(Kind::StoreReads),
+        "store-replies" => Some(Kind::StoreReplies),
         _ => None,
     }
 }
 
-/// What these words ask for, of which the first is the program's name: a count and a kind, a count with `store` and a file, or nothing.
+/// What these words ask for, of which the first is the program's name: a count and a kind, with a file or without, or nothing.
 pub fn read_words(words: &[String]) -> Option<Asked<'_>> {
     match words {
         [] | [_] => Some(Asked {
@@ -51,9 +57,9 @@ pub fn read_words(words: &[String]) -> Option<Asked<'_>> {
             kind: read_kind(kind.as_str())?,
             file: None,
         }),
-        [_, count, kind, file] if kind.as_str() == "store" => Some(Asked {
+        [_, count, kind, file] => Some(Asked {
             count: count.as_str().parse::<u32>().ok()?,
-            kind: Kind::Store,
+            kind: read_kind(kind.as_str())?,
             file: Some(file.as_str()),
         }),
         _ => None,

@@ -18,10 +18,14 @@ use Rattle.tc_store.specs.declared.versions.Version.{Version}
 use Rattle.tc_store.specs.Ledgers.{KeptAnswer, Ledger, newest}
 use Rattle.tc_store.specs.Schema.{schema_of, HoldsAs}
 use Rattle.tc_store.specs.Told.{IsTold}
+use Rattle.tc_desk.specs.Replies.{Reply}
+use Rattle.tc_room.specs.declared.callers.Caller.{Caller}
+use Rattle.tc_room.specs.Calls.{IsMadeOnce, KeepsAll}
 use Rattle.tc_room.specs.Crash.{Leaves, LeavesActs, ledger_of}
-use Rattle.tc_room.specs.Joined.{IsKept, Standing}
+use Rattle.tc_room.specs.Joined.{IsKept, LinkState, Standing}
 use Rattle.tc_room.specs.Opening.{LeavesOpening, OpensAs, OpensLeft}
-use Rattle.tc_cli.specs.Crash.{HasLedgerAs, HasRowsAs, HoldsSome, IsEither, IsReopened, LeavesSome, OfNewest, OpensBook, OpensEither}
+use Rattle.tc_room.proofs.CallLemmas.{keeps_with}
+use Rattle.tc_cli.specs.Crash.{HasLedgerAs, HasRowsAs, HoldsSome, IsEither, IsReopened, LeavesSome, OfNewest, OpensBook, OpensEither, OpensKeeping}
 
 -- a sound database whose trees are the tables of a version has the schema of that version
 desk_rows : (version : Version) (db : Database) (ledger : Ledger) → IsDatabase db → HasRowsAs version db.trees ledger → HoldsAs version db ledger
@@ -97,3 +101,25 @@ pub opening_opened : {D E : Type 0} {g : disk.Ghosts D} {h : disk.Ghosts E} (las
 opening_opened last store found version chosen at old replies config moment moves room numbered again kept keeps has leaves =
     opened_either last found (λ _ ledger. IsEither old (OpensBook chosen at old) replies ledger) old (OpensBook chosen at old) replies config moment moves room (λ _ ledger may. may) numbered again kept keeps
     (opening_leaves version store last chosen at old replies kept.told has leaves)
+
+-- each reply that was kept is kept still, whether what was called was made or not
+call_keeps : (before : Book) (replies : List KeptAnswer) (caller : Caller) (Makes : Reply → LinkState → Type 0) (ledger : Ledger) → IsMadeOnce before replies caller Makes ledger → KeepsAll replies ledger.replies
+call_keeps before replies caller Makes ledger (inl same) = subst (λ (l : Ledger). KeepsAll replies l.replies) (sym same) (λ caller body is. is)
+call_keeps before replies caller Makes ledger (inr made) = subst (λ (l : Ledger). KeepsAll replies l.replies) (sym made.3) (keeps_with replies caller made.0)
+
+call_told : (before : Book) (replies : List KeptAnswer) (caller : Caller) (Makes : Reply → LinkState → Type 0) → IsKept before → ((reply : Reply) (desk : LinkState) → Makes reply desk → IsKept desk.book)
+    → (ledger : Ledger) → IsMadeOnce before replies caller Makes ledger → IsTold ledger.image
+call_told before replies caller Makes kept keeps ledger (inl same) = subst (λ (l : Ledger). IsTold l.image) (sym same) kept.told
+call_told before replies caller Makes kept keeps ledger (inr made) = subst (λ (l : Ledger). IsTold l.image) (sym made.3) (keeps made.0 made.1 made.2).told
+
+-- what a crash in a call leaves is opened so
+pub call_opened : {D E : Type 0} {g : disk.Ghosts D} {h : disk.Ghosts E} (last : Held (FileStore D g)) (found : Held (FileStore E h)) (before : Book) (replies : List KeptAnswer) (caller : Caller) (Makes : Reply → LinkState → Type 0)
+    (config : Config) (moment : ℕ) (moves : List Move) (room : Standing (FileStore E h)) → IsTrue (view last.store).is_numbered → IsReopened last found → IsKept before → ((reply : Reply) (desk : LinkState) → Makes reply desk → IsKept desk.book)
+    → Leaves over_files last (IsMadeOnce before replies caller Makes) → OpensAs over_files config moment found moves room → HasCleanDisk (file_state room.tables)
+    → OpensKeeping over_files (IsMadeOnce before replies caller Makes) replies config moment moves room
+call_opened last found before replies caller Makes config moment moves room numbered again kept keeps leaves opens clean =
+    ∥∥₁_map (opened_again last found (OfNewest (IsMadeOnce before replies caller Makes)) config moment moves room numbered again (of_newest last (IsMadeOnce before replies caller Makes) leaves)
+    (λ version ledger may. call_told before replies caller Makes kept keeps ledger may.1) opens clean)
+    (λ some.
+    let r : (ledger : Ledger) × IsMadeOnce before replies caller Makes ledger × KeepsAll replies ledger.replies × OpensLeft over_files config moment ledger moves room =
+    (some.1, some.2.1, call_keeps before replies caller Makes some.1 some.2.1, some.3) in r)

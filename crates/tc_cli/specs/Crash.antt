@@ -19,6 +19,7 @@ use Rattle.tc_sql.specs.Contents.{Matches}
 use Rattle.tc_store.specs.declared.versions.Version.{Version}
 use Rattle.tc_store.specs.Ledgers.{KeptAnswer, Ledger, newest}
 use Rattle.tc_store.specs.Schema.{schema_of, contents_of, HoldsAs, Lacks}
+use Rattle.tc_room.specs.Calls.{KeepsAll}
 use Rattle.tc_room.specs.Crash.{ledger_of}
 use Rattle.tc_room.specs.Joined.{LinkState, Standing}
 use Rattle.tc_room.specs.Opening as opening
@@ -64,3 +65,8 @@ IsEither old Makes replies ledger = (ledger ≡ ledger_of old replies) ⊎ ((aft
 abbrev pub OpensEither : {S : Type 0} → Ghosts S → Book → (Book → Type 0) → List KeptAnswer → Config → ℕ → List Move → Standing S → Type 0
 OpensEither g old Makes replies config moment moves room =
     ∥ ((book : Book) × ((book ≡ old) ⊎ Makes book) × OpensLeft g config moment (ledger_of book replies) moves room) ∥₁
+
+-- a room that was opened over such tables, in which each reply that was kept is kept still (what the next room of `tc_api::laws::a_call_is_done_once` has to be)
+abbrev pub OpensKeeping : {S : Type 0} → Ghosts S → (Ledger → Type 0) → List KeptAnswer → Config → ℕ → List Move → Standing S → Type 0
+OpensKeeping g May replies config moment moves room =
+    ∥ ((ledger : Ledger) × May ledger × KeepsAll replies ledger.replies × OpensLeft g config moment ledger moves room) ∥₁

@@ -3,6 +3,7 @@ pub mod Closed
 pub mod Crash
 pub mod Files
 pub mod Kept
+pub mod Numbered
 pub mod Run
 pub mod Script
 pub mod Stops

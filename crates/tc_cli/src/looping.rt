@@ -3,11 +3,11 @@
 //! at most 201 bytes of an act.
 
 use crate::files::{open_desk, text_at};
+use crate::numbered::{NumberedLine, numbered_lines};
 use crate::opened::{Opening, open_told};
-use crate::run::{is_skipped, put, status_of};
+use crate::run::{put, status_of};
 use crate::script::ScriptFault;
 use crate::serving::{ServiceFault, closed};
-use bstr::ByteSlice;
 use sqlite::Alter;
 use std::alloc::{AllocError, Global};
 use std::io::{self, Read, Write};
@@ -130,53 +130,54 @@ fn send<S: Alter + Drop, W: Write>(
     Ok(told.refusal != 0)
 }
 
-/// Sends each line that is not skipped, and says whether any was refused.
+/// Sends each of these lines under its number, and says whether any was refused.
 fn send_lines<S: Alter + Drop, W: Write>(
     rt: &HostRuntime,
     server: &Server,
     room: &mut Room<S>,
-    text: &[u8],
+    lines: &[NumberedLine<'_>],
     writer: &mut Counted<W>,
 ) -> Result<bool, ServiceFault> {
     let mut refused = false;
-    for line in text.lines() {
-        if !is_skipped(line) {
-            let request = post_request(rt.alloc(), server.port, line)?;
-            refused |= send(rt, server, room, request.as_bytes(), writer)?;
-        }
+    for sent in lines {
+        let request = post_request(rt.alloc(), server.port, sent.line, sent.number)?;
+        refused |= send(rt, server, room, request.as_bytes(), writer)?;
     }
     Ok(refused)
 }
 
-/// Sends the lines, and at the end the question how many requests stand where.
+/// Sends the lines, and at the end the question how many requests stand where, which has no number.
 fn send_script<S: Alter + Drop, W: Write>(
     rt: &HostRuntime,
     room: &mut Room<S>,
-    text: &[u8],
+    lines: &[NumberedLine<'_>],
     writer: &mut Counted<W>,
 ) -> Result<u8, ServiceFault> {
     let server = listen(rt)?;
-    let refused = send_lines(rt, &server, room, text, writer)?;
+    let refused = send_lines(rt, &server, room, lines, writer)?;
     let request = places_request(rt.alloc(), server.port)?;
     let last = send(rt, &server, room, request.as_bytes(), writer)?;
     Ok(status_of(refused | last))
 }
 
 /// Sends the lines of a script to the desk that a file keeps, opened at a moment, over HTTP: writes the moves that the opening made, the lines
-/// of each response, and at the end those of the places. Gives the exit status: 1 where anything was refused, else 0. The script is read whole before the
-/// file is opened; the file is closed at the end, so that it alone holds everything.
+/// of each response, and at the end those of the places. The first line that is sent has this number, and each behind it the next, whatever the desk
+/// answers. Gives the exit status: 1 where anything was refused, else 0. The script is read whole before the file is opened; the file is closed at
+/// the end, so that it alone holds everything.
 pub fn send_to_file(
     rt: &HostRuntime,
     script: &str,
     file: &str,
     opening: &Opening,
+    first: u32,
 ) -> Result<u8, ServiceFault> {
     let text = text_at(rt, script)?;
+    let lines = numbered_lines(rt.alloc(), &text, first)?;
     let store = open_desk(rt, file)?;
     let mut writer = Counted::new(io::writer(rt));
     match open_told(rt.alloc(), store, opening, &mut writer) {
         Ok(mut room) => {
-            let ended = send_script(rt, &mut room, &text, &mut writer);
+            let ended = send_script(rt, &mut room, &lines, &mut writer);
             closed(room.into_connection(), ended)
         }
         Err(left) => closed(left.store, Err(ServiceFault::Desk(left.fault))),

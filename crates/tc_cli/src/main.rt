@@ -18,6 +18,7 @@ mod files;
 mod kept;
 mod laws;
 mod looping;
+mod numbered;
 mod opened;
 mod paths;
 mod patience;
@@ -127,8 +128,9 @@ fn run_line(rt: &HostRuntime, line: CommandLine<'_>) -> u8 {
             script,
             config,
             moment,
+            first,
         } => {
-            let ended = send_to_file(rt, script, database, &Opening { config, moment });
+            let ended = send_to_file(rt, script, database, &Opening { config, moment }, first);
             service_status(rt, ended, script, database)
         }
     }

@@ -52,12 +52,15 @@ moment_data (Number n) = number (unsigned n)
 moment_data NoNumber = number (negative (negsuc 0))
 moment_data Nothing = null
 
--- the JSON of a post (RFC 8259), whose keys are in order
-abbrev pub post_data : List ℕ → List ℕ → Data → Data
-post_data act by moment = object (member (codes "act") (string act) (member (codes "by") (string by) (member (codes "moment") moment no_members)))
+-- the JSON of a post (RFC 8259), whose keys are in order; the last is the number of the call
+abbrev pub post_data : List ℕ → List ℕ → Data → ℕ → Data
+post_data act by moment call =
+    object (member (codes "act") (string act) (member (codes "by") (string by) (member (codes "moment") moment
+    (member (codes "number") (number (unsigned call)) no_members))))
 
-abbrev pub body_of : Posting → List ℕ
-body_of post = compact_text (post_data (string_bytes post.act) (string_bytes post.by) (moment_data post.moment))
+-- the body that posts this as the call of a number
+abbrev pub body_of : Posting → ℕ → List ℕ
+body_of post call = compact_text (post_data (string_bytes post.act) (string_bytes post.by) (moment_data post.moment) call)
 
 -- the line of the host, which is this machine at a port
 abbrev pub host_line : ℕ → List ℕ
@@ -69,9 +72,9 @@ post_head port size =
     (codes "POST /acts HTTP/1.1" ++ line_end) ++ host_line port ++ (line_end ++ codes "Content-Type: application/json" ++ line_end)
     ++ length_line size ++ (line_end ++ line_end)
 
--- the request that posts this, at this port
-abbrev pub post_bytes : ℕ → Posting → List ℕ
-post_bytes port post = post_head port (length (body_of post)) ++ body_of post
+-- the request that posts this as the call of a number, at this port
+abbrev pub post_bytes : ℕ → Posting → ℕ → List ℕ
+post_bytes port post call = post_head port (length (body_of post call)) ++ body_of post call
 
 -- the request that asks for the places
 abbrev pub places_bytes : ℕ → List ℕ

@@ -119,21 +119,28 @@ fn moment_value(moment: PostedMoment) -> Value
 }
 
 /// The JSON of a post.
-fn post_value(alloc: Global, act: &str, by: &str, moment: Value) -> Result<Value, AllocError>
-    ensures { IfOk result (λ value. view value ≡ post_data act.now by.now (view moment)) }
+fn post_value(
+    alloc: Global,
+    act: &str,
+    by: &str,
+    moment: Value,
+    number: u64,
+) -> Result<Value, AllocError>
+    ensures { IfOk result (λ value. view value ≡ post_data act.now by.now (view moment) number) }
 {
-    json!(in alloc; {"act": act, "by": by, "moment": moment})
+    json!(in alloc; {"act": act, "by": by, "moment": moment, "number": number})
 }
 
-/// The body that posts this.
-fn body_of(alloc: Global, post: &Posting) -> Result<String, AllocError>
-    ensures { IfOk result (λ body. string_bytes body ≡ body_of post.now) }
+/// The body that posts this under a number.
+fn body_of(alloc: Global, post: &Posting, number: u64) -> Result<String, AllocError>
+    ensures { IfOk result (λ body. string_bytes body ≡ body_of post.now number) }
 {
     post_value(
         alloc,
         post.act.as_str(),
         post.by.as_str(),
         moment_value(post.moment),
+        number,
     )?
     .to_string(alloc)
 }
@@ -157,23 +164,29 @@ fn post_head(alloc: Global, port: u16, size: usize) -> Result<String, AllocError
     Ok(head)
 }
 
-/// The request that posts this.
-fn request_of(alloc: Global, port: u16, post: &Posting) -> Result<String, AllocError>
-    ensures { IfOk result (λ request. string_bytes request ≡ post_bytes port post.now) }
+/// The request that posts this under a number.
+fn request_of(alloc: Global, port: u16, post: &Posting, number: u64) -> Result<String, AllocError>
+    ensures { IfOk result (λ request. string_bytes request ≡ post_bytes port post.now number) }
 {
-    let body = body_of(alloc, post)?;
+    let body = body_of(alloc, post, number)?;
     let mut request = post_head(alloc, port, body.len())?;
     request.push_str(body.as_str())?;
     Ok(request)
 }
 
-/// The request that posts a line of a script to a server of this machine at a port. Of an act no more than 201 bytes are sent and of a name
-/// no more than 17, so that one that is too long stays so. Fails where memory is refused.
-pub fn post_request(alloc: Global, port: u16, line: &[u8]) -> Result<String, AllocError>
-    ensures { IfOk result (λ request. (post : Posting) × Posts line.now post × (string_bytes request ≡ post_bytes port post)) }
+/// The request that posts a line of a script under this number to a server of this machine at a port. Of an act no more than 201 bytes are
+/// sent and of a name no more than 17, so that one that is too long stays so. A number that no call may have is sent as it is, for the desk
+/// to refuse. Fails where memory is refused.
+pub fn post_request(
+    alloc: Global,
+    port: u16,
+    line: &[u8],
+    number: u64,
+) -> Result<String, AllocError>
+    ensures { IfOk result (λ request. (post : Posting) × Posts line.now post × (string_bytes request ≡ post_bytes port post number)) }
 {
     let post = post_of(alloc, line)?;
-    request_of(alloc, port, &post)
+    request_of(alloc, port, &post, number)
 }
 
 /// The request that asks a server of this machine at a port for the places. Fails where memory is refused.

@@ -7,3 +7,5 @@ mod ReplyLemmas
 mod LogLemmas
 mod StopLemmas
 pub mod ReportLemmas
+pub mod CallLemmas
+mod OnceLemmas

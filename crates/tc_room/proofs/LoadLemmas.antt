@@ -17,7 +17,7 @@ use Rattle.tc_store.specs.Ledgers.{KeptAnswer}
 use Rattle.tc_room.specs.Joined.{HoldsBook, LinkState, Standing}
 use Rattle.tc_room.specs.Loads.{SpellsLoading, IsNotRead, LoadsRead, LoadsText, RoomLoad, AnswersRead, AnswersLoad}
 
-on_false : (b : Bool) (A B : Type 0) → b ≡ false → B → MatchBool b A B
+pub on_false : (b : Bool) (A B : Type 0) → b ≡ false → B → MatchBool b A B
 on_false false A B is h = h
 on_false true A B is h = absurd (let e : true ≡ false = is in cc)
 

@@ -1,19 +1,25 @@
 -- When a room stops: with an answer 31 alone. No test gives that, and none gives 32.
-use Rattle.std.proofs.Common.{◌≡◌, ◌⊎◌, inl, inr, ℕ, nat_lt, Bool, true, false, ◌&&◌, if◌then◌else◌, Option, Some, None, Result, Ok, Err, List, [], ◌∷◌, ◌++◌, refl, sym, ◌∙◌, subst}
+use Rattle.std.proofs.Common.{◌≡◌, ◌⊎◌, inl, inr, ℕ, nat_lt, Bool, true, false, ◌&&◌, if◌then◌else◌, Option, Some, None, Result, Ok, Err, List, [], ◌∷◌, ◌++◌, refl, sym, ◌∙◌, subst, ap}
+use Rattle.std.specs.Prelude.{⊤}
 use Rattle.tc_types.specs.Lines.{refusal_number}
 use Rattle.tc_types.specs.Tests.{first_refusal}
 use Rattle.tc_types.specs.declared.refusals.Refusal.{Refusal}
-use Rattle.tc_types.specs.declared.refusals.Refusal.TheVariants.{DeskFull, Memory, Store, Stopped}
+use Rattle.tc_types.specs.declared.refusals.Refusal.TheVariants.{BadText, DeskFull, Memory, Store, Stopped, TooLong}
 use Rattle.tc_types.specs.declared.acts.Act.{Act}
 use Rattle.tc_types.specs.declared.acts.Act.TheVariants as act
 use Rattle.tc_types.specs.declared.acts.BookAct.{BookAct}
 use Rattle.tc_types.specs.declared.acts.BookAct.TheVariants as book_act
 use Rattle.tc_types.specs.declared.acts.LinkAct.{LinkAct}
 use Rattle.tc_types.specs.declared.acts.LinkAct.TheVariants as link_act
+use Rattle.tc_types.specs.declared.acts.Line.{Line}
 use Rattle.tc_types.specs.declared.acts.Query.{Query}
 use Rattle.tc_types.specs.declared.acts.Query.TheVariants as query
 use Rattle.tc_types.specs.declared.tables.rows.BegunExecution.{BegunExecution}
 use Rattle.tc_types.specs.declared.tables.rows.StepRecord.{StepRecord}
+use Rattle.tc_types.specs.declared.loads.LoadKind.{LoadKind}
+use Rattle.tc_csv.specs.declared.faults.Rule.{Rule}
+use Rattle.tc_csv.specs.declared.faults.Rule.TheVariants as rule
+use Rattle.tc_csv.specs.Faults.{rule_refusal}
 use Rattle.tc_stack.specs.Approvals.{ApprovalState}
 use Rattle.tc_proc.specs.Logs.{LogState, execution_at, tests_at}
 use Rattle.tc_fop.specs.declared.views.FopView.{FopView}
@@ -26,7 +32,9 @@ use Rattle.tc_fop.specs.Views.{view_of}
 use Rattle.tc_desk.specs.State.{widest_k}
 use Rattle.tc_desk.specs.Acts.{link_tests, refusal_of, tests_behind, tests_of}
 use Rattle.tc_desk.specs.Loads.{Loading, Stack, Procedure, tests_of_load}
+use Rattle.tc_room.specs.Calls.{IsUnfit, JudgesActMoment, JudgesActText}
 use Rattle.tc_room.specs.Joined.{LinkState, Standing}
+use Rattle.tc_room.specs.Loads.{IsNotRead}
 use Rattle.tc_room.specs.Room.{Stops}
 
 -- ---- which refusals a test gives
@@ -139,7 +147,7 @@ load_told stamp book given refusal why = told_by (tests_of_load stamp book given
 
 -- ---- what stops a room
 
-true_false : true ≡ false → ⊥
+pub true_false : true ≡ false → ⊥
 true_false e = cc
 
 keeps_going : {X S : Type 0} (old new : Standing S) (result : Result X Refusal) → old.stopped ≡ false → new.stopped ≡ false → (result ≡ Err Store → ⊥) → (result ≡ Err Stopped → ⊥)
@@ -178,3 +186,96 @@ stops_failed {X} old new result gone now = record { stopped = ((λ is. inr gone)
   where
     not_stopped : Store ≡ Stopped → ⊥
     not_stopped is = cc
+
+-- ---- what is called
+
+module _ {X S : Type 0} (old new : Standing S) (told : Result ⊤ Refusal) where
+  -- what is told of a result stops a room as the result does
+  pub stops_granted : (x : X) → told ≡ Ok tt → Stops old (let e : Result X Refusal = Ok x in e) new → Stops old told new
+  stops_granted x is stops = record {
+    stopped = ((λ now. cause (stops.stopped.0 now)), after);
+    same = λ says. absurd (ok_err tt Stopped (sym is ∙ says));
+  }
+    where
+      cause : (old.stopped ≡ true) ⊎ ((let e : Result X Refusal = Ok x in e) ≡ Err Store) → (old.stopped ≡ true) ⊎ (told ≡ Err Store)
+      cause (inl was) = inl was
+      cause (inr failed) = absurd (ok_err x Store failed)
+
+      after : (old.stopped ≡ true) ⊎ (told ≡ Err Store) → new.stopped ≡ true
+      after (inl was) = stops.stopped.1 (inl was)
+      after (inr failed) = absurd (ok_err tt Store (sym is ∙ failed))
+
+  pub stops_told : (refusal : Refusal) → told ≡ Err refusal → Stops old (let e : Result X Refusal = Err refusal in e) new → Stops old told new
+  stops_told refusal is stops = record {
+    stopped = ((λ now. cause (stops.stopped.0 now)), after);
+    same = λ says. stops.same (ap err_of (err_same {X = ⊤} refusal Stopped (sym is ∙ says)));
+  }
+    where
+      err_of : Refusal → Result X Refusal
+      err_of why = Err why
+
+      cause : (old.stopped ≡ true) ⊎ (err_of refusal ≡ Err Store) → (old.stopped ≡ true) ⊎ (told ≡ Err Store)
+      cause (inl was) = inl was
+      cause (inr failed) = inr (is ∙ ap (λ (why : Refusal). let e : Result ⊤ Refusal = Err why in e) (err_same {X = X} refusal Store failed))
+
+      after : (old.stopped ≡ true) ⊎ (told ≡ Err Store) → new.stopped ≡ true
+      after (inl was) = stops.stopped.1 (inl was)
+      after (inr failed) = stops.stopped.1 (inr (ap err_of (err_same {X = ⊤} refusal Store (sym is ∙ failed))))
+
+-- a room that looked and went on stops as it does then
+pub stops_over : {X Y S : Type 0} (old mid new : Standing S) (x : X) (result : Result Y Refusal) → Stops old (let e : Result X Refusal = Ok x in e) mid → mid.stopped ≡ false → Stops mid result new → Stops old result new
+stops_over {X} old mid new x result looks going stops = record {
+  stopped = ((λ now. cause (stops.stopped.0 now)), after);
+  same = λ told. absurd (true_false (sym (stops.same told).0 ∙ going));
+}
+  where
+    cause : (mid.stopped ≡ true) ⊎ (result ≡ Err Store) → (old.stopped ≡ true) ⊎ (result ≡ Err Store)
+    cause (inl was) = absurd (true_false (sym was ∙ going))
+    cause (inr failed) = inr failed
+
+    after : (old.stopped ≡ true) ⊎ (result ≡ Err Store) → new.stopped ≡ true
+    after (inl was) = stops.stopped.1 (inl (looks.stopped.1 (inl was)))
+    after (inr failed) = stops.stopped.1 (inr failed)
+
+-- no test of a text gives 31 or 32
+low_of : (refusal given : Refusal) → is_before_31 given ≡ true → refusal ≡ given → is_before_31 refusal ≡ true
+low_of refusal given low is = subst (λ (r : Refusal). is_before_31 r ≡ true) (sym is) low
+
+judged_low : (by text : List ℕ) (moment : Option ℕ) (refusal : Refusal) → JudgesActMoment text by moment (Err refusal) → is_before_31 refusal ≡ true
+judged_low by text None refusal is = low_of refusal BadText refl (err_same {X = Line} refusal BadText is)
+judged_low by text (Some at) refusal is = low_of refusal BadText refl is.1
+
+pub act_text_low : (by text : List ℕ) (moment : Option ℕ) (refusal : Refusal) → JudgesActText text by moment (Err refusal) → is_before_31 refusal ≡ true
+act_text_low by text moment refusal (inl long) = low_of refusal TooLong refl (err_same {X = Line} refusal TooLong long.1)
+act_text_low by text moment refusal (inr short) = judged_low by text moment refusal short.1
+
+pub unfit_low : (kind : LoadKind) (csv : List ℕ) (refusal : Refusal) → (refusal ≡ Memory) ⊎ IsUnfit kind csv refusal → is_before_31 refusal ≡ true
+unfit_low kind csv refusal (inl is) = is_memory refusal is
+unfit_low kind csv refusal (inr (inl long)) = low_of refusal TooLong refl long.1
+unfit_low kind csv refusal (inr (inr bad)) = low_of refusal BadText refl bad.1
+
+rule_low : (rule : Rule) → is_before_31 (rule_refusal rule) ≡ true
+rule_low rule.TextLength = refl
+rule_low rule.RowCount = refl
+rule_low rule.Header = refl
+rule_low rule.SomeRow = refl
+rule_low rule.FieldCount = refl
+rule_low rule.Line = refl
+rule_low rule.Apid = refl
+rule_low rule.Service = refl
+rule_low rule.Subtype = refl
+rule_low rule.Target = refl
+rule_low rule.Time = refl
+rule_low rule.Ack = refl
+rule_low rule.Critical = refl
+rule_low rule.After = refl
+rule_low rule.Outcome = refl
+rule_low rule.TargetRow = refl
+rule_low rule.StepNumber = refl
+rule_low rule.StepText = refl
+rule_low rule.Second = refl
+rule_low rule.StepRequest = refl
+
+pub unread_low : (kind : LoadKind) (csv : List ℕ) (refusal : Refusal) → IsNotRead kind csv refusal → is_before_31 refusal ≡ true
+unread_low kind csv refusal (inl is) = is_memory refusal is
+unread_low kind csv refusal (inr (fault, is, why)) = low_of refusal (rule_refusal fault.rule) (rule_low fault.rule) why

@@ -28,11 +28,11 @@ pub only_ledger : {S : Type 0} (g : Ghosts S) (tables : Held S) (ledger : Ledger
 only_ledger g tables ledger held only = record { holds = held; leaves = λ trees may. (ledger, refl, has_rows _ ledger trees held (only trees may)) }
 
 -- what a crash left, or what the call would have committed
-made_or : {A B C : Type 0} → A ⊎ B → (B → C) → A ⊎ C
+pub made_or : {A B C : Type 0} → A ⊎ B → (B → C) → A ⊎ C
 made_or (inl a) make = inl a
 made_or (inr b) make = inr (make b)
 
-left_by : {A B : Type 0} → A ⊎ B → (A → B) → B
+pub left_by : {A B : Type 0} → A ⊎ B → (A → B) → B
 left_by (inl a) left = left a
 left_by (inr b) left = b
 

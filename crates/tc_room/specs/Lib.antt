@@ -5,4 +5,5 @@ pub mod Opening
 pub mod Replies
 pub mod Room
 pub mod Loads
+pub mod Calls
 pub mod Closed

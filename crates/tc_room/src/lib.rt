@@ -3,6 +3,8 @@
 #![tactic(auto)]
 
 mod answers;
+mod callers;
+mod calls;
 mod closed;
 mod counts;
 mod desks;
@@ -13,12 +15,12 @@ mod rooms;
 mod writes;
 
 pub use answers::{
-    Answer, Untold, answer_line, answer_load, answer_loading, answer_places, answer_query,
-    answer_read, refusal_answer,
+    Answer, Untold, answer_line, answer_load, answer_places, answer_query, refusal_answer,
 };
+pub use callers::Caller;
+pub use calls::Called;
 pub use closed::{closed_head, closed_page};
 pub use desks::reopen_desk;
-pub use loadings::is_too_long;
 pub use opening::OpenedRoom;
 pub use replies::opening_reply;
 pub use rooms::Room;

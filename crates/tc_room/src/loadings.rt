@@ -50,7 +50,7 @@ fn why_unread(alloc: Global, kind: LoadKind, text: &[u8]) -> Result<Option<Fault
 
 /// Whether a text of this kind is refused with `TooLong`: it has more than 65,536 bytes, or more rows than its kind may have, 200 of a stack and
 /// 100 of a procedure, and that is the first rule that it breaks. It is refused itself for want of memory alone.
-pub fn is_too_long(alloc: Global, kind: LoadKind, text: &[u8]) -> Result<bool, AllocError>
+pub(crate) fn is_too_long(alloc: Global, kind: LoadKind, text: &[u8]) -> Result<bool, AllocError>
     ensures { IfOk result (λ told. IsTrue told ↔ IsTooLong kind text.now) }
 {
     let why = why_unread(alloc, kind, text)?;

@@ -45,6 +45,7 @@ fn open_left<S: Alter + Drop>(
     requires fit { IsConfig config }
     ensures left { IfOk result (λ opened. HasCleanDisk (state S.Store opened.room.tables) → (ledger : Ledger) → IsTold ledger.image → HoldsAs version (state S.Store tables).now ledger → OpensLeft S.Store config moment ledger opened.moves.items opened.room) }
     ensures going { IfOk result (λ opened. opened.room.stopped ≡ false) }
+    ensures shown { IfOk result (λ opened. HasCleanDisk (state S.Store opened.room.tables) → (state S.Store tables).now.schema ≡ schema_of version → ShowsDesk version (state S.Store tables).now) }
     ensures kept { IfErr result (λ e. HasCleanDisk (state S.Store e.1) → IsTrue (state S.Store e.1).is_open → (of : SomeVersion) (ledger : Ledger) → HoldsAs of (state S.Store tables).now ledger → HoldsAs of (state S.Store e.1).now ledger) }
     ensures crash { IfErr result (λ e. HasCleanDisk (state S.Store e.1) → (ledger : Ledger) → HoldsAs version (state S.Store tables).now ledger → LeavesOr S.Store tables e.1 (OpensTo config moment ledger)) }
     ensures kind { IfErr result (λ e. (e.0 ≡ Memory) ⊎ (e.0 ≡ Store)) }
@@ -112,6 +113,8 @@ impl<S: Alter + Drop> Room<S> {
         ensures opened { IfOk result (λ opened. OpensAs S.Store config moment store opened.moves.items opened.room) }
         ensures going { IfOk result (λ opened. opened.room.stopped ≡ false) }
         ensures ours { OnOk result (((state S.Store store).now.schema ≡ no_schema) ⊎ ((version : SomeVersion) × ((state S.Store store).now.schema ≡ schema_of version))) }
+        // tables that were opened showed rows as a desk writes them, and told their own version
+        ensures shown { IfOk result (λ opened. HasCleanDisk (state S.Store opened.room.tables) → (version : SomeVersion) → (state S.Store store).now.schema ≡ schema_of version → ShowsDesk version (state S.Store store).now) }
         ensures config { OnOk result (IsConfig config) }
         ensures refused { IfErr result (λ e. (e.0 ≡ BadDirective) ↔ (¬ IsConfig config)) }
         ensures kind { IfErr result (λ e. (e.0 ≡ BadDirective) ⊎ (e.0 ≡ Memory) ⊎ (e.0 ≡ Store)) }

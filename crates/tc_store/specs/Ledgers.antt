@@ -1,5 +1,6 @@
 -- What is kept of acts and loads that were accepted, each under the number that its caller gave it; and a ledger, which is all that the tables hold.
-use Rattle.std.specs.Prelude.{◌≡◌, ℕ, ◌==◌, Bool, ◌&&◌, List, [], ◌∷◌, ◌++◌, find, Option, None, Some, option_map}
+use Rattle.std.specs.Prelude.{◌≡◌, ℕ, ◌==◌, Bool, false, ◌&&◌, List, [], ◌∷◌, ◌++◌, find, Option, None, Some, option_map, nat_eq, codes}
+use Rattle.std.specs.List.{starts_with}
 use Rattle.std.specs.Option.{option_to_list}
 use Rattle.std.specs.Str.{bytes_eq, IsUtf8}
 use Rattle.tc_types.specs.declared.tables.rows.Row.{Row}
@@ -55,12 +56,17 @@ empty_ledger = record { image = empty_image; replies = [] }
 abbrev pub EndsLine : List ℕ → Type 0
 EndsLine body = (front : List ℕ) × (body ≡ front ++ 10 ∷ [])
 
--- a row that a desk could have written: of a person, under a number, and the text ends with its last line
+-- the lines of an act or a load that was accepted
+pub record IsKeptText (body : List ℕ) : Type 0 where
+  pub ended : EndsLine body
+  pub accepted : starts_with nat_eq body (codes "refused") ≡ false
+
+-- a row that a desk could have written: of a person, under a number, and the text is that of lines that refuse nothing
 pub record IsKeptAnswer (k : KeptAnswer) : Type 0 where
   pub person : IsPerson k.person
   pub number : IsCallNumber k.number
   pub text : IsUtf8 k.body
-  pub ended : EndsLine k.body
+  pub lines : IsKeptText k.body
 
 -- the version of which new tables are, and to which an opening brings those of an earlier one
 abbrev pub newest : Version

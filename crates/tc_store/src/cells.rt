@@ -1,5 +1,5 @@
 //! The values of a row that is read. Each function fails where the value is not one that the desk writes.
-ghost use Rattle.std.specs.Prelude.{◌≡◌, ◌≢◌, ℕ, pos, if◌then◌else◌, Bool, List, [], string_bytes, Option, Some, IfOk};
+ghost use Rattle.std.specs.Prelude.{◌≡◌, ◌≢◌, ℕ, pos, true, if◌then◌else◌, Bool, List, [], string_bytes, Option, Some, IfOk};
 ghost use Rattle.sqlite_value.specs.declared.value.Value.TheVariants.{Int, Text};
 ghost use Rattle.sqlite_value.specs.Order.{column};
 ghost use Rattle.tc_types.specs.declared.history.places.Place.{Place as SomePlace};
@@ -7,6 +7,8 @@ ghost use Rattle.tc_types.specs.declared.history.causes.Cause.{Cause as SomeCaus
 ghost use Rattle.tc_types.specs.Lawful.{place_number, cause_number};
 ghost use Rattle.tc_types.specs.declared.verdicts.Verdict.{Verdict as SomeVerdict};
 ghost use Rattle.tc_types.specs.Verdicts.{verdict_number};
+ghost use Rattle.std.specs.Str.{IsUtf8};
+ghost use Rattle.tc_store.specs.Ledgers.{EndsLine, IsKeptText};
 ghost use Rattle.tc_store.specs.Moves.{from_number};
 ghost use Rattle.tc_store.specs.ProcedureSteps.{released_number};
 ghost use Rattle.tc_store.specs.Records.{second_text};
@@ -141,6 +143,34 @@ pub(crate) fn text_at(row: &Row, at: usize) -> Result<String, ReadFault>
     ensures reads { IfOk result (λ text. column row.now at ≡ Text (string_bytes text)) }
 {
     Ok(row.get(at)?)
+}
+
+/// Whether the last line of a text is ended by LF.
+fn ends_line(text: &str) -> bool
+    ensures { result ≡ true → EndsLine text.now }
+{
+    matches!(text.as_bytes().last(), Some(10))
+}
+
+/// Whether a text is that of lines that refuse nothing: the last one is ended by LF, and the first does not begin `refused`.
+fn is_kept_text(text: &str) -> bool
+    ensures { result ≡ true → IsKeptText text.now }
+{
+    ends_line(text) && !text.starts_with("refused")
+}
+
+/// The text of a reply that is kept.
+pub(crate) fn kept_text_at(row: &Row, at: usize) -> Result<String, ReadFault>
+    ensures reads { IfOk result (λ text. column row.now at ≡ Text (string_bytes text)) }
+    ensures told { IfOk result (λ text. IsKeptText (string_bytes text)) }
+    ensures utf8 { IfOk result (λ text. IsUtf8 (string_bytes text)) }
+{
+    let text = text_at(row, at)?;
+    if is_kept_text(text.as_str()) {
+        Ok(text)
+    } else {
+        Err(ReadFault::Damaged)
+    }
 }
 
 /// A name, or none by an empty text.

@@ -2,14 +2,14 @@
 ghost use Rattle.std.specs.Prelude.{◌≡◌, ℕ, [], Some, None, get_or, option_map, string_bytes, IfOk, IfSome};
 ghost use Rattle.sqlite_value.specs.declared.value.Value.TheVariants.{Text};
 ghost use Rattle.sqlite_value.specs.Order.{column};
-ghost use Rattle.tc_store.specs.Ledgers.{Ledger, answer_of, kept_in, reply_at};
+ghost use Rattle.tc_store.specs.Ledgers.{IsKeptText, Ledger, answer_of, kept_in, reply_at};
 ghost use Rattle.tc_store.specs.Schema.{Holds};
 ghost use Rattle.tc_store.specs.Steps.{Does, Replied};
 ghost use Rattle.tc_store.specs.Reads.{Reads};
 
 use crate::batches::{Batch, KeptReply};
 use crate::call_numbers::CallNumber;
-use crate::cells::text_at;
+use crate::cells::kept_text_at;
 use crate::faults::ReadFault;
 use crate::loads::table_rows::rows_of;
 use crate::steps::run;
@@ -49,9 +49,10 @@ pub(crate) fn keep<S: Alter>(tx: &mut Transaction<'_, S>, batch: &Batch<'_>) -> 
 fn first_text(rows: &[Row]) -> Result<Option<String>, ReadFault>
     ensures none { IfOk result (λ found. found ≡ None → rows.now ≡ []) }
     ensures some { IfOk result (λ found. IfSome found (λ text. column (get_or rows.now 0 []) 0 ≡ Text (string_bytes text))) }
+    ensures told { IfOk result (λ found. IfSome found (λ text. IsKeptText (string_bytes text))) }
 {
     match rows.first() {
-        Some(row) => Ok(Some(text_at(row, 0)?)),
+        Some(row) => Ok(Some(kept_text_at(row, 0)?)),
         None => Ok(None),
     }
 }
@@ -63,6 +64,7 @@ pub(crate) fn reply_of<S: Alter>(
     number: CallNumber,
 ) -> Result<Option<String>, ReadFault>
     ensures reads { Reads S.Store (λ db found. (ledger : Ledger) → Holds db ledger → option_map string_bytes found ≡ reply_at ledger.replies person number) conn.old conn.new result }
+    ensures told { IfOk result (λ found. IfSome found (λ text. IsKeptText (string_bytes text))) }
 {
     let name = person.name();
     let number = number.get();

@@ -10,15 +10,16 @@ use Rattle.tc_types.specs.Numbers.{IsMoment}
 use Rattle.tc_stack.specs.StackTexts.{IsInstant}
 
 -- A command with what it was given. Where a desk is made or opened, its window, its channel and how many items the rings of its links hold,
--- where they are rings; where it is kept in a file, that file, and where it is opened there the moment of the opening. A run has a script; a report what stands for FROM and TO; a server its port, how many
--- connections it serves and whether it says how each ended; a loop a script; a check what stands for KIND, and a file.
+-- where they are rings; where it is kept in a file, that file, and where it is opened there the moment of the opening. A run has a script; a report
+-- what stands for FROM and TO; a server its port, how many connections it serves and whether it says how each ended; a loop a script, and the number of
+-- the first line that it sends; a check what stands for KIND, and a file.
 pub data Asked : Type 0 where
   run : (script : Text) (window channel : ℕ) (ring : Option ℕ) → Asked
   run_kept : (script : Text) (window channel : ℕ) (ring : Option ℕ) (database : Text) (moment : ℕ) → Asked
   report : (database begins ends : Text) → Asked
   check : (kind file : Text) → Asked
   serve : (database : Text) (port count window channel : ℕ) (ring : Option ℕ) (moment : ℕ) (verbose : Bool) → Asked
-  loop : (database script : Text) (window channel : ℕ) (ring : Option ℕ) (moment : ℕ) → Asked
+  loop : (database script : Text) (window channel : ℕ) (ring : Option ℕ) (moment first : ℕ) → Asked
 
 -- ---- what the arguments were given
 
@@ -61,6 +62,10 @@ given_port rows = number_in 1 65535 1 (one_of (codes "PORT") rows)
 abbrev pub given_count : List Row → ℕ
 given_count rows = number_in 1 1000000 1000000 (one_of (codes "COUNT") rows)
 
+-- the number of the first line that is sent, as it was given, or stands in the rows by default
+abbrev pub given_first : List Row → ℕ
+given_first rows = number_in 1 4294967295 1 (one_of (codes "first") rows)
+
 -- whether it is to be said how each connection ended
 abbrev pub given_verbose : List Row → Bool
 given_verbose rows = nat_lt 0 (count_of (codes "verbose") rows)
@@ -94,6 +99,7 @@ asked_serve rows = serve (given (codes "DB") rows) (given_port rows) (given_coun
 abbrev pub asked_loop : List Row → Asked
 asked_loop rows =
     loop (given (codes "DB") rows) (given (codes "SCRIPT") rows) (given_window rows) (given_channel rows) (given_ring rows) (given_moment rows)
+    (given_first rows)
 
 -- what the command of this name was given
 abbrev pub asked_of : Text → List Row → Asked

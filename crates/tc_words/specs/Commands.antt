@@ -94,6 +94,15 @@ moment_rule = record (new_rule (codes "at")) {
   parser = Some (parser.Unsigned 0 4102444799);
 }
 
+-- --first N: the number of the first line that is sent, 1 to 4,294,967,295, and 1 where it is not given
+abbrev pub first_rule : Rule
+first_rule = record (new_rule (codes "first")) {
+  long = Some (codes "first");
+  value_names = 1;
+  defaults = codes "1" ∷ [];
+  parser = Some (parser.Unsigned 1 4294967295);
+}
+
 -- ---- the commands, each of whose options stands at most once
 
 -- .. [--w N] [--vc N] [--ring N]
@@ -131,9 +140,9 @@ bare_serve_app = with_rule (with_rule (with_rule (new_app (codes "serve")) file_
 abbrev pub serve_app : App
 serve_app = with_rule (with_desk bare_serve_app) verbose_rule
 
--- loop DB SCRIPT [--w N] [--vc N] [--ring N] [--at MOMENT]
+-- loop DB SCRIPT [--w N] [--vc N] [--ring N] [--at MOMENT] [--first N]
 abbrev pub loop_app : App
-loop_app = with_desk (with_rule (with_rule (new_app (codes "loop")) file_rule) script_rule)
+loop_app = with_rule (with_desk (with_rule (with_rule (new_app (codes "loop")) file_rule) script_rule)) first_rule
 
 -- the program's name, without its commands; one of them has to be named, and it has a version
 abbrev pub bare_app : App

@@ -1,5 +1,5 @@
 -- What a line of the program is of what its words ask for, and why they ask for nothing.
-use Rattle.std.specs.Prelude.{◌%◌, ◌≡◌, ◌⊎◌, ◌↔◌, ⊤, List, [], IfSome, Option, None, Some}
+use Rattle.std.specs.Prelude.{◌%◌, ◌≡◌, ◌⊎◌, ◌↔◌, ⊤, [], IfSome, Option, None, Some}
 use Rattle.clap.specs.Words.{IsAmong, Kinds, Text, kind_of}
 use Rattle.clap.specs.declared.error.Error.{Error}
 use Rattle.clap.specs.declared.error.kind.ErrorKind.TheVariants.{OutOfMemory}
@@ -23,8 +23,8 @@ AsksFor (Report database from to) asked =
 AsksFor (Check kind file) asked = asked ≡ check (kind_word kind) file.now
 AsksFor (Serve database port count config moment verbose) asked =
     asked ≡ serve database.now port count config.window config.channel config.ring moment verbose
-AsksFor (Loop database script config moment) asked =
-    asked ≡ loop database.now script.now config.window config.channel config.ring moment
+AsksFor (Loop database script config moment first) asked =
+    asked ≡ loop database.now script.now config.window config.channel config.ring moment first
 
 -- what the desk of a line is made or opened with
 abbrev pub config_of : CommandLine → Option Config
@@ -33,7 +33,7 @@ config_of (RunKept script config database moment) = Some config
 config_of (Report database from to) = None
 config_of (Check kind file) = None
 config_of (Serve database port count config moment verbose) = Some config
-config_of (Loop database script config moment) = Some config
+config_of (Loop database script config moment first) = Some config
 
 -- a line asks for this, and what its desk is made or opened with may be chosen
 pub record IsLineFor (line : CommandLine) (asked : Asked) : Type 0 where
@@ -47,7 +47,7 @@ AsksOddWindow (run_kept script window channel ring database moment) = window % 2
 AsksOddWindow (report database begins ends) = ⊥
 AsksOddWindow (check kind file) = ⊥
 AsksOddWindow (serve database port count window channel ring moment verbose) = window % 2 ≡ 1
-AsksOddWindow (loop database script window channel ring moment) = window % 2 ≡ 1
+AsksOddWindow (loop database script window channel ring moment first) = window % 2 ≡ 1
 
 -- a report is asked for, whose FROM or TO is this word, which spells no moment
 abbrev pub AsksNoMoment : Asked → Text → Type 0

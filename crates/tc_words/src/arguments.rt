@@ -1,7 +1,7 @@
 //! The arguments of the commands: which have to be given, which values pass, and what stands where none is given.
 ghost use Rattle.std.specs.Prelude.{◌≡◌};
-ghost use Rattle.tc_words.specs.Commands.{channel_rule, checked_rule, count_rule, database_rule, file_rule, from_rule, kind_rule, moment_rule, port_rule, required_rule, ring_rule};
-ghost use Rattle.tc_words.specs.Commands.{script_rule, to_rule, verbose_rule, window_rule};
+ghost use Rattle.tc_words.specs.Commands.{channel_rule, checked_rule, count_rule, database_rule, file_rule, first_rule, from_rule, kind_rule, moment_rule, port_rule};
+ghost use Rattle.tc_words.specs.Commands.{required_rule, ring_rule, script_rule, to_rule, verbose_rule, window_rule};
 
 use clap::builder::ValueParser;
 use clap::{Arg, ArgAction};
@@ -60,7 +60,19 @@ pub(crate) fn checked_arg<'a>(alloc: Global) -> Argument<'a>
     )
 }
 
+/// DB of a command that opens the desk.
 pub(crate) fn file_arg<'a>(alloc: Global) -> Argument<'a>
+    ensures { result ≡ file_rule }
+{
+    required_arg(
+        alloc,
+        "DB",
+        "The database file that keeps the desk; a new desk is made where there is none",
+    )
+}
+
+/// DB of a command that only reads it.
+pub(crate) fn read_file_arg<'a>(alloc: Global) -> Argument<'a>
     ensures { result ≡ file_rule }
 {
     required_arg(alloc, "DB", "The database file that keeps the desk")
@@ -166,7 +178,7 @@ pub(crate) fn database_arg<'a>(alloc: Global) -> Argument<'a>
 {
     Argument {
         arg: Arg::new(alloc, "db").long("db").value_name("FILE").help(
-            "The database file that keeps the desk, made where there is none [default: the desk is in memory]",
+            "The database file that keeps the desk; a new desk is made where there is none [default: the desk is in memory]",
         ),
     }
 }
@@ -182,6 +194,21 @@ pub(crate) fn moment_arg<'a>(alloc: Global) -> Argument<'a>
             .default_value("0")
             .help(
                 "The moment at which the desk in the file is opened: Unix seconds, 0 to 4102444799",
+            ),
+    }
+}
+
+pub(crate) fn first_arg<'a>(alloc: Global) -> Argument<'a>
+    ensures { result ≡ first_rule }
+{
+    Argument {
+        arg: Arg::new(alloc, "first")
+            .long("first")
+            .value_name("N")
+            .value_parser(ValueParser::Unsigned(1, 4_294_967_295))
+            .default_value("1")
+            .help(
+                "The number of the first line that is sent, and each line behind it has the next: 1 to 4294967295",
             ),
     }
 }

@@ -5,8 +5,9 @@ ghost use Rattle.tc_words.specs.Commands.{bare_app, bare_serve_app, check_app, d
 ghost use Rattle.tc_words.specs.Commands.{with_check, with_desk, with_http, with_link};
 
 use crate::arguments::{
-    Argument, channel_arg, checked_arg, count_arg, database_arg, file_arg, from_arg, kind_arg,
-    moment_arg, port_arg, ring_arg, script_arg, to_arg, verbose_arg, window_arg,
+    Argument, channel_arg, checked_arg, count_arg, database_arg, file_arg, first_arg, from_arg,
+    kind_arg, moment_arg, port_arg, read_file_arg, ring_arg, script_arg, to_arg, verbose_arg,
+    window_arg,
 };
 use clap::error::ErrorKind;
 use clap::{ArgMatches, Command};
@@ -170,7 +171,7 @@ fn report_command<'a>(alloc: Global) -> Result<Tree<'a>, AllocError>
         "report",
         "Print the shift report of a desk that is kept in a file",
     )
-    .arg(file_arg(alloc))?
+    .arg(read_file_arg(alloc))?
     .arg(from_arg(alloc))?
     .arg(to_arg(alloc))
 }
@@ -216,5 +217,5 @@ fn loop_command<'a>(alloc: Global) -> Result<Tree<'a>, AllocError>
     )
     .arg(file_arg(alloc))?
     .arg(script_arg(alloc))?;
-    with_desk(alloc, sending)
+    with_desk(alloc, sending)?.arg(first_arg(alloc))
 }

@@ -5,7 +5,7 @@ ghost use Rattle.tc_types.specs.Loads.{kind_word};
 ghost use Rattle.tc_types.specs.Numbers.{IsMoment};
 ghost use Rattle.tc_types.specs.declared.loads.LoadKind.{LoadKind as SomeKind};
 ghost use Rattle.tc_desk.specs.State.{IsConfig, IsRing};
-ghost use Rattle.tc_words.specs.Asked.{SpellsMoment, SpellsNoMoment, given, given_channel, given_count, given_moment, given_port, given_ring, given_verbose, given_window, number_in, number_within};
+ghost use Rattle.tc_words.specs.Asked.{SpellsMoment, SpellsNoMoment, given, given_channel, given_count, given_first, given_moment, given_port, given_ring, given_verbose, given_window, number_in, number_within};
 
 use crate::lines::UsageFault;
 use clap::ArgMatches;
@@ -116,6 +116,13 @@ pub(crate) fn count_of(matches: &ArgMatches<'_>) -> u32
     ensures { result ≡ given_count (rows_of (found_of matches.now)) }
 {
     number_of(matches, "COUNT", 1, 1_000_000, 1_000_000)
+}
+
+/// The number of the first line that is sent.
+pub(crate) fn first_number(matches: &ArgMatches<'_>) -> u32
+    ensures { result ≡ given_first (rows_of (found_of matches.now)) }
+{
+    number_of(matches, "first", 1, 4_294_967_295, 1)
 }
 
 /// Whether it is to be said how each connection ended.

@@ -42,12 +42,13 @@ pub enum CommandLine<'a> {
         verbose: bool,
     },
     /// Send the lines of the script at this path, or of the standard input where it is `-`, over HTTP to the desk that a database file keeps,
-    /// opened at a moment.
+    /// opened at a moment. The first that is sent has this number, 1 to 4,294,967,295, and each behind it the next.
     Loop {
         database: &'a str,
         script: &'a str,
         config: Config,
         moment: Moment,
+        first: u32,
     },
 }
 

@@ -7,8 +7,8 @@ ghost use Rattle.tc_words.specs.Lines.{IsFaultOf, IsLineFor, IsTold};
 
 use crate::commands::matches;
 use crate::given::{
-    config_of, count_of, is_verbose, moment_of, path_of, port_of, spelled_kind, spelled_moment,
-    text_of,
+    config_of, count_of, first_number, is_verbose, moment_of, path_of, port_of, spelled_kind,
+    spelled_moment, text_of,
 };
 use crate::lines::{CommandLine, UsageFault};
 use clap::ArgMatches;
@@ -140,5 +140,6 @@ fn loop_line_of<'a>(matches: &ArgMatches<'a>) -> Result<CommandLine<'a>, UsageFa
         script: text_of(matches, "SCRIPT"),
         config,
         moment: moment_of(matches),
+        first: first_number(matches),
     })
 }

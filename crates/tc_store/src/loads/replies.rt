@@ -1,12 +1,10 @@
 //! The table `reply`, judged in pages, of which none is kept.
-ghost use Rattle.std.specs.Prelude.{◌≡◌, drop, length, string_bytes, IfOk, OnOk};
+ghost use Rattle.std.specs.Prelude.{◌≡◌, drop, length, IfOk, OnOk};
 ghost use Rattle.std.specs.List.{AllByRecursion};
-ghost use Rattle.std.specs.Str.{IsUtf8};
 ghost use Rattle.sqlite_value.specs.declared.value.Value.TheVariants.{Text};
 ghost use Rattle.sqlite_value.specs.Order.{Row as Values, column};
 ghost use Rattle.tc_store.specs.declared.versions.Version.{Version as SomeVersion};
 ghost use Rattle.tc_store.specs.declared.versions.Version.TheVariants.{Second};
-ghost use Rattle.tc_store.specs.Ledgers.{EndsLine};
 ghost use Rattle.tc_types.specs.Names.{IsPerson};
 ghost use Rattle.tc_store.specs.CallNumbers.{IsCallNumber};
 ghost use Rattle.tc_store.specs.Schema.{schema_of};
@@ -14,7 +12,7 @@ ghost use Rattle.tc_store.specs.Shows.{ShowsNumber, AreOfReply, AreJudged};
 ghost use Rattle.tc_store.specs.Reads.{Reads};
 
 use crate::call_numbers::CallNumber;
-use crate::cells::{name_at, number_at, signed_at, text_at};
+use crate::cells::{kept_text_at, name_at, number_at, signed_at};
 use crate::faults::ReadFault;
 use crate::loads::table_rows::rows_of;
 use crate::versions::Version;
@@ -46,26 +44,13 @@ fn call_at(row: &Row, at: usize) -> Result<CallNumber, ReadFault>
     CallNumber::new(number).ok_or(ReadFault::Damaged)
 }
 
-/// A text whose last line is ended.
-fn lines_at(row: &Row, at: usize) -> Result<String, ReadFault>
-    ensures reads { IfOk result (λ text. column row.now at ≡ Text (string_bytes text)) }
-    ensures told { IfOk result (λ text. EndsLine (string_bytes text)) }
-    ensures utf8 { IfOk result (λ text. IsUtf8 (string_bytes text)) }
-{
-    let text = text_at(row, at)?;
-    match text.as_str().as_bytes().last() {
-        Some(10) => Ok(text),
-        _ => Err(ReadFault::Damaged),
-    }
-}
-
 /// Finds that a row is one that a desk could have kept.
 fn judge_reply(row: &Row) -> Result<(), ReadFault>
     ensures { OnOk result (length row.now ≡ 4 → AreOfReply (drop 1 row.now)) }
 {
     let _ = person_at(row, 1)?;
     let _ = call_at(row, 2)?;
-    let _ = lines_at(row, 3)?;
+    let _ = kept_text_at(row, 3)?;
     Ok(())
 }
 

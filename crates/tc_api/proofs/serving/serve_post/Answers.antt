@@ -1,14 +1,12 @@
-use Rattle.tc_api.proofs.ServingLemmas.{posts_act, posts_procedure, posts_stack}
+use Rattle.std.proofs.Common.{refl}
+use Rattle.tc_desk.specs.Replies.{refusal_reply}
+use Rattle.tc_api.proofs.ServingLemmas.{body_served, body_unread}
 use Rattle.tc_api.proofs.serving.serve_post.Goals as goal
 
-pub returns-in-Acts : goal.returns-in-Acts
-returns-in-Acts g c =
-    let made = c.serve_act.ensures in record { reply = made.reply; makes = posts_act g.S.Store _ _ _ _ _ c.in-Acts.is made.makes; text = made.text; opened = made.opened }
+pub returns-in-Ok : goal.returns-in-Ok
+returns-in-Ok g c =
+    let made = c.serve_value.ensures in record { reply = made.reply; makes = body_served g.S.Store _ _ _ _ _ _ c.in-Ok.ensures.read made.makes; text = made.text; opened = made.opened }
 
-pub returns-in-Stacks : goal.returns-in-Stacks
-returns-in-Stacks g c =
-    let made = c.serve_load.ensures in record { reply = made.reply; makes = posts_stack g.S.Store _ _ _ _ _ c.in-Stacks.is made.makes; text = made.text; opened = made.opened }
-
-pub returns-in-Procedures : goal.returns-in-Procedures
-returns-in-Procedures g c =
-    let made = c.serve_load-in-Procedures.ensures in record { reply = made.reply; makes = posts_procedure g.S.Store _ _ _ _ _ c.in-Procedures.is made.makes; text = made.text; opened = made.opened }
+pub returns-in-Err : goal.returns-in-Err
+returns-in-Err g c =
+    record { reply = refusal_reply c.in-Err.refusal; makes = body_unread g.S.Store _ _ _ _ _ c.in-Err.ensures.refused c.refused.ensures.0; text = c.refused.ensures.1; opened = refl }

@@ -1,15 +1,16 @@
-use Rattle.std.proofs.Common.{ap, refl}
-use Rattle.tc_desk.specs.Replies.{refusal_reply}
-use Rattle.tc_api.specs.Loads.{load_outcome, load_seen}
-use Rattle.tc_api.proofs.ServingLemmas.{load_refused, load_served}
+use Rattle.serde_json.specs.View.{view}
+use Rattle.tc_api.specs.Serving.{outcome_of}
+use Rattle.tc_api.proofs.ServingLemmas.{posts_acts, posts_procedure, posts_stack}
 use Rattle.tc_api.proofs.serving.serve_value.Goals as goal
 
-pub returns-in-Ok : goal.returns-in-Ok
-returns-in-Ok g c =
-    let told = c.answer_loading.ensures.replied in
-    let made = c.answer_served.ensures told.reply told.says in
-    record { reply = told.reply; makes = load_served g.S.Store _ _ _ _ (load_seen c.in-Ok.post) _ _ _ (ap load_outcome c.in-Ok.is) c.judge_load_value.ensures c.as_bytes-text.ensures.value told.made made.0; text = made.1; opened = told.opened }
+pub returns-in-Acts : goal.returns-in-Acts
+returns-in-Acts g c =
+    let made = c.serve_act.ensures in record { reply = made.reply; makes = posts_acts g.S.Store c.args.room.now c.serve_act.new.room _ (view c.args.value.now) (outcome_of made.reply c.serve_act.result) c.in-Acts.is made.makes; text = made.text; opened = made.opened }
 
-pub returns-in-Err : goal.returns-in-Err
-returns-in-Err g c =
-    record { reply = refusal_reply c.in-Err.refusal; makes = load_refused g.S.Store _ _ _ _ _ _ (ap load_outcome c.in-Err.is) c.judge_load_value.ensures c.refused.ensures.0; text = c.refused.ensures.1; opened = refl }
+pub returns-in-Stacks : goal.returns-in-Stacks
+returns-in-Stacks g c =
+    let made = c.serve_load.ensures in record { reply = made.reply; makes = posts_stack g.S.Store c.args.room.now c.serve_load.new.room _ (view c.args.value.now) (outcome_of made.reply c.serve_load.result) c.in-Stacks.is made.makes; text = made.text; opened = made.opened }
+
+pub returns-in-Procedures : goal.returns-in-Procedures
+returns-in-Procedures g c =
+    let made = c.serve_load-in-Procedures.ensures in record { reply = made.reply; makes = posts_procedure g.S.Store c.args.room.now c.serve_load-in-Procedures.new.room _ (view c.args.value.now) (outcome_of made.reply c.serve_load-in-Procedures.result) c.in-Procedures.is made.makes; text = made.text; opened = made.opened }

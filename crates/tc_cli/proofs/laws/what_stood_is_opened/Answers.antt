@@ -4,13 +4,14 @@ use Rattle.std.proofs.Math.Logic.{∥∥₁_map}
 use Rattle.std.proofs.lemmas.Result.{IfOk-weaker}
 use Rattle.sqlite.specs.Files.{over_files}
 use Rattle.tc_store.specs.Ledgers.{Ledger}
+use Rattle.tc_room.specs.Calls.{Makes}
 use Rattle.tc_room.specs.Crash.{ledger_of}
 use Rattle.tc_room.specs.Opening.{OpensLeft}
 use Rattle.tc_room.specs.Loads.{LoadsBook}
 use Rattle.tc_room.specs.Room.{MakesBook}
 use Rattle.tc_store.specs.Told.{IsTold}
 use Rattle.tc_cli.specs.Crash.{OfNewest}
-use Rattle.tc_cli.proofs.CrashLemmas.{act_opened, of_newest, opened_again, opening_opened}
+use Rattle.tc_cli.proofs.CrashLemmas.{act_opened, call_opened, of_newest, opened_again, opening_opened}
 use Rattle.tc_cli.proofs.laws.what_stood_is_opened.Goals as goal
 
 pub returns-clause-kept : goal.returns-clause-kept
@@ -38,3 +39,9 @@ returns-clause-opening g c clean again store version chosen at old replies kept 
     IfOk-weaker c.open-opened.result _ _ (λ opened opens disk.
     opening_opened c.args.last store c.args.found version chosen at old replies c.args.config c.args.moment opened.moves.items opened.room
     (sym (c.into_store-last.ensures.undone.kept clean).numbered ∙ c.into_store-last.ensures.numbered clean) again kept keeps has leaves opens disk) c.open-opened.ensures.opened
+
+pub returns-clause-call : goal.returns-clause-call
+returns-clause-call g c clean again old caller making replies kept keeps leaves =
+    IfOk-weaker c.open-opened.result _ _ (λ opened opens disk.
+    call_opened c.args.last c.args.found old.book replies caller (Makes old making) c.args.config c.args.moment opened.moves.items opened.room
+    (sym (c.into_store-last.ensures.undone.kept clean).numbered ∙ c.into_store-last.ensures.numbered clean) again kept keeps leaves opens disk) c.open-opened.ensures.opened

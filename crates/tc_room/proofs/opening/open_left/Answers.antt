@@ -55,3 +55,8 @@ returns-clause-kept g c = rw c.into_connection-in-Err-write_rows.ensures (λ cle
 
 pub returns-in-Err-reopen_desk-clause-memory : goal.returns-in-Err-reopen_desk-clause-memory
 returns-in-Err-reopen_desk-clause-memory g c = rw c.into_connection-in-Err-reopen_desk.ensures (λ memory clean ours. (rows_in c.in-Ok.image, c.in-Ok.ensures.told, c.in-Ok.ensures.shown clean ours))
+
+pub returns-in-Ok-write_rows-clause-shown : goal.returns-in-Ok-write_rows-clause-shown
+returns-in-Ok-write_rows-clause-shown g c = rw c.over.ensures (λ clean ours.
+    let before : HasCleanDisk (state g.S.Store c.load.new.self) = omega (arith, clean, c.write_rows.ensures.crash.clean) in
+    (rows_in c.in-Ok.image, c.in-Ok.ensures.told, c.in-Ok.ensures.shown before ours))

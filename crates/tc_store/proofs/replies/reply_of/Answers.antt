@@ -18,4 +18,5 @@ returns g c = record {
     same = search rules;
     left = search rules;
   });
+  told = c.first_text.ensures.told;
 }

@@ -64,3 +64,13 @@ pub returns-in-Err-Foreign-default-clause-memory : goal.returns-in-Err-Foreign-d
 returns-in-Err-Foreign-default-clause-memory g c = IfErr-weaker c.open_new.result _ _
     (λ e kind memory clean version ours. absurd (c.in-Err-Foreign-default.ensures.foreign c.in-Err-Foreign-default.field-0-0-is version ours))
     c.open_new.ensures.kind
+
+pub returns-in-Ok-clause-shown : goal.returns-in-Ok-clause-shown
+returns-in-Ok-clause-shown g c = IfOk-weaker c.open_left.result _ _
+    (λ opened shows clean version is. found_shown g.S.Store c.in-Ok.tables c.args.store c.in-Ok.version c.in-Ok.ensures.same c.in-Ok.ensures.ours version is (shows clean))
+    c.open_left.ensures.shown
+
+pub returns-in-Err-Foreign-default-clause-shown : goal.returns-in-Err-Foreign-default-clause-shown
+returns-in-Err-Foreign-default-clause-shown g c = IfOk-weaker c.open_new.result _ _
+    (λ opened none clean version ours. absurd (c.in-Err-Foreign-default.ensures.foreign c.in-Err-Foreign-default.field-0-0-is version ours))
+    c.open_new.ensures.none

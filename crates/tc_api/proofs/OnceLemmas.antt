@@ -1,0 +1,178 @@
+-- A call that comes twice is done once.
+use Rattle.std.proofs.Common.{◌≡◌, ◌∙◌, ◌⊎◌, inl, inr, ap, subst, refl, sym, ℕ, Bool, true, false, MatchBool, ◌&&◌, List, [], ◌∷◌, Option, Some, None, Result, Ok}
+use Rattle.sqlite_trees.specs.declared.store.Store.{Ghosts}
+use Rattle.sqlite.specs.Held.{state}
+use Rattle.sqlite.specs.State.{HasCleanDisk}
+use Rattle.tc_types.specs.declared.loads.LoadKind.{LoadKind}
+use Rattle.tc_types.specs.declared.loads.LoadKind.TheVariants as load_kind
+use Rattle.tc_types.specs.declared.refusals.Refusal.{Refusal}
+use Rattle.tc_types.specs.declared.refusals.Refusal.TheVariants.{Stopped}
+use Rattle.tc_routes.specs.declared.paths.Post.TheVariants as paths
+use Rattle.tc_store.specs.Ledgers.{KeptAnswer}
+use Rattle.tc_front.specs.Front.{Asked, asks, posts, refuses}
+use Rattle.tc_desk.specs.Replies.{Reply, refusal_reply}
+use Rattle.tc_room.specs.declared.callers.Caller.{Caller}
+use Rattle.tc_room.specs.Calls.{ActsAnew, AnswersActCall, AnswersLoadCall, FailsOnce, KeepsAll, LoadsAnew, MakesNothing, StaysSo, kept_after, kept_for}
+use Rattle.tc_room.specs.Joined.{HoldsBook, Standing}
+use Rattle.tc_room.specs.Replies.{ended, is_refused}
+use Rattle.tc_room.proofs.CallLemmas.{act_call_held, call_kept, load_call_held, refuses as are_refused}
+use Rattle.tc_api.specs.declared.endings.Ending.{Ending}
+use Rattle.tc_api.specs.declared.endings.Ending.TheVariants as ending
+use Rattle.tc_api.specs.Acts.{ActCall}
+use Rattle.tc_api.specs.Endings.{is_done}
+use Rattle.tc_api.specs.Exchange.{response_to}
+use Rattle.tc_api.specs.Kept.{Called, GoesThrough, IsCallOf, IsDoneOnce, IsTheSame, Stage, exchange, opening}
+use Rattle.tc_api.specs.Loads.{JudgesLoadPost, LoadCall}
+use Rattle.tc_api.specs.Responses.{response_bytes}
+use Rattle.tc_api.specs.Serving.{EndsWith, FindsNoMemory, IsOutcome, Outcome, Serves, ServesActCall, ServesLoadCall, ServesText}
+use Rattle.tc_api.proofs.KeptLemmas.{all_more, all_same, by_flag, not_both}
+use Rattle.tc_api.proofs.OneLemmas.{act_post_one, load_post_one}
+
+-- what is known of a call that was answered
+record Seen {S : Type 0} (g : Ghosts S) (caller : Caller) (old : Standing S) (outcome : Outcome) (new : Standing S) : Type 0 where
+  asks_act : Bool
+  ends : IsOutcome asks_act outcome
+  -- a room that has stopped says so; else the kept replies could not be read, or what is kept is the answer and nothing is done, or nothing was kept
+  answers : (replies : List KeptAnswer) → HoldsBook g old replies → HasCleanDisk (state g new.tables) → MatchBool old.stopped
+      ((outcome.reply ≡ refusal_reply Stopped) × (new ≡ old))
+      (FailsOnce g replies caller MakesNothing old outcome.reply new
+      ⊎ ((kept_for replies caller ≡ Some (ended outcome.reply)) × (is_refused outcome.reply ≡ false) × (asks_act ≡ true) × StaysSo g replies old new)
+      ⊎ (kept_for replies caller ≡ None))
+  held : (replies : List KeptAnswer) → HoldsBook g old replies → HoldsBook g new (kept_after replies caller asks_act outcome.reply)
+  kept : (replies : List KeptAnswer) → HoldsBook g old replies → HasCleanDisk (state g new.tables) → asks_act ≡ true → is_refused outcome.reply ≡ false
+      → kept_for (kept_after replies caller asks_act outcome.reply) caller ≡ Some (ended outcome.reply)
+
+weaker : (b : Bool) (A B C : Type 0) → (B → C) → MatchBool b A B → MatchBool b A C
+weaker true A B C make m = m
+weaker false A B C make m = make m
+
+forget : {S : Type 0} (g : Ghosts S) (replies : List KeptAnswer) (caller : Caller) (old new : Standing S) (asks_act : Bool) (reply : Reply) (Anew : Type 0)
+    → FailsOnce g replies caller MakesNothing old reply new ⊎ ((kept_for replies caller ≡ Some (ended reply)) × (is_refused reply ≡ false) × (asks_act ≡ true) × StaysSo g replies old new) ⊎ ((kept_for replies caller ≡ None) × Anew)
+    → FailsOnce g replies caller MakesNothing old reply new ⊎ ((kept_for replies caller ≡ Some (ended reply)) × (is_refused reply ≡ false) × (asks_act ≡ true) × StaysSo g replies old new) ⊎ (kept_for replies caller ≡ None)
+forget g replies caller old new asks_act reply Anew (inl fails) = inl fails
+forget g replies caller old new asks_act reply Anew (inr (inl repeats)) = inr (inl repeats)
+forget g replies caller old new asks_act reply Anew (inr (inr anew)) = inr (inr anew.0)
+
+-- there was no memory to read what was posted, or it was called
+abbrev Came : {S : Type 0} → Ghosts S → Caller → Standing S → Outcome → Standing S → Type 0
+Came g caller old outcome new = FindsNoMemory old outcome new ⊎ Seen g caller old outcome new
+
+module _ {S : Type 0} (g : Ghosts S) (caller : Caller) (old : Standing S) (outcome : Outcome) (new : Standing S) where
+  act_seen : (call : ActCall) (given : Result ActCall Refusal) → given ≡ Ok call → call.caller ≡ caller → ServesActCall g old given outcome new → Seen g caller old outcome new
+  act_seen call given is by serves =
+      let served : ServesActCall g old (Ok call) outcome new = subst (λ (r : Result ActCall Refusal). ServesActCall g old r outcome new) is serves in
+      let answers : AnswersActCall g caller call.moment call.text old served.0 outcome.reply new = subst (λ (c : Caller). AnswersActCall g c call.moment call.text old served.0 outcome.reply new) by served.1 in
+      record {
+        asks_act = served.0;
+        ends = served.2;
+        answers = λ replies held clean. weaker old.stopped _ _ _ (forget g replies caller old new served.0 outcome.reply _) (answers replies held clean);
+        kept = λ replies held clean is granted. call_kept g replies caller old served.0 outcome.reply new (λ replies acts reply new. ActsAnew g call.moment call.text replies caller old acts reply new) answers held clean is granted;
+        held = λ replies held. act_call_held g replies caller old served.0 outcome.reply new call.moment call.text answers held;
+      }
+
+  load_seen : (kind : LoadKind) (call : LoadCall) (given : Result LoadCall Refusal) → given ≡ Ok call → call.caller ≡ caller → ServesLoadCall g old kind given outcome new → Seen g caller old outcome new
+  load_seen kind call given is by serves =
+      let served : ServesLoadCall g old kind (Ok call) outcome new = subst (λ (r : Result LoadCall Refusal). ServesLoadCall g old kind r outcome new) is serves in
+      let answers : AnswersLoadCall g caller kind call.moment call.name call.csv old served.0 outcome.reply new =
+      subst (λ (c : Caller). AnswersLoadCall g c kind call.moment call.name call.csv old served.0 outcome.reply new) by served.1 in
+      record {
+        asks_act = served.0;
+        ends = served.2;
+        answers = λ replies held clean. weaker old.stopped _ _ _ (forget g replies caller old new served.0 outcome.reply _) (answers replies held clean);
+        kept = λ replies held clean is granted. call_kept g replies caller old served.0 outcome.reply new (λ replies acts reply new. LoadsAnew g kind call.moment call.name call.csv replies caller old acts reply new) answers held clean is granted;
+        held = λ replies held. load_call_held g replies caller old served.0 outcome.reply new kind call.moment call.name call.csv answers held;
+      }
+
+  text_seen : (kind : LoadKind) (body : List ℕ) → (call : LoadCall) × JudgesLoadPost body (Ok call) × (call.caller ≡ caller) → ServesText g old kind body outcome new → Seen g caller old outcome new
+  text_seen kind body (call, judged, by) (given, judges, serves) = load_seen kind call given (load_post_one body given (Ok call) judges judged) by serves
+
+  came : (asked : Asked) → Serves g old asked outcome new → IsCallOf caller asked → Came g caller old outcome new
+  came (refuses why) serves calls = absurd calls
+  came (asks query) serves calls = absurd calls
+  came (posts paths.Acts body) serves (call, judged, by) = elim serves.served [
+    | inl none ↦ inl none
+    | inr given ↦ inr (act_seen call given.0 (act_post_one body given.0 (Ok call) given.1 judged) by given.2)
+  ]
+  came (posts paths.Stacks body) serves calls = elim serves.served [ inl none ↦ inl none | inr given ↦ inr (text_seen load_kind.Stack body calls given) ]
+  came (posts paths.Procedures body) serves calls = elim serves.served [ inl none ↦ inl none | inr given ↦ inr (text_seen load_kind.Procedure body calls given) ]
+
+-- ---- what is done
+
+-- an act that stands is done, and its reply is no refusal
+stands_acts : (a b : Bool) → (a && b) ≡ true → (a ≡ true) × (b ≡ true)
+stands_acts true b is = (refl, is)
+stands_acts false b is = absurd cc
+
+done_is : (e : Ending) → is_done e ≡ true → e ≡ ending.Done
+done_is ending.Done is = refl
+done_is (ending.Refused refusal) is = absurd cc
+done_is ending.NoPath is = absurd cc
+done_is ending.OtherMethod is = absurd cc
+
+grants : (reply : Reply) (e : Ending) → EndsWith reply e → e ≡ ending.Done → is_refused reply ≡ false
+grants reply e ends is = subst (λ (given : Ending). EndsWith reply given) is ends
+
+-- a reply that refuses nothing ends with Done
+ends_done : (reply : Reply) (e : Ending) → EndsWith reply e → is_refused reply ≡ false → e ≡ ending.Done
+ends_done reply ending.Done ends granted = refl
+ends_done reply (ending.Refused refusal) ends granted = not_both (is_refused reply) (ap is_refused ends ∙ are_refused refusal) granted
+ends_done reply ending.NoPath ends granted = absurd ends
+ends_done reply ending.OtherMethod ends granted = absurd ends
+
+-- outcomes that end so, with one text, have one response
+one_response : (first again : Outcome) → first.ending ≡ ending.Done → again.ending ≡ ending.Done → ended again.reply ≡ ended first.reply → response_to again ≡ response_to first
+one_response first again was is same =
+    ap (λ (e : Ending). response_bytes e (ended again.reply)) (is ∙ sym was) ∙ ap (λ (text : List ℕ). response_bytes first.ending text) same
+
+-- ---- what comes between
+
+through : {S : Type 0} (g : Ghosts S) (stages : List Stage) (start end : Standing S) (replies after : List KeptAnswer) → GoesThrough g start replies stages end after → HoldsBook g start replies
+    → KeepsAll replies after × HoldsBook g end after
+through {S} g [] start end replies after (same, is) held = (
+  subst (λ (kept : List KeptAnswer). KeepsAll replies kept) (sym is) (all_same replies),
+  subst (λ (kept : List KeptAnswer). HoldsBook g end kept) (sym is) (subst (λ (s : Standing S). HoldsBook g s replies) (sym same) held),
+)
+through g (exchange read ∷ others) start end replies after (next, mid, serves, keeps, holds, later) held =
+    let last = through g others next end mid after later holds in (all_more replies mid after keeps last.0, last.1)
+through g (opening ∷ others) start end replies after (next, opens, later) held =
+    let last = through g others next end opens.ledger.replies after later (λ going clean. opens.opened.tables) in (all_more replies opens.ledger.replies after opens.keeps last.0, last.1)
+
+-- ---- a call that comes again
+
+module _ {S : Type 0} (g : Ghosts S) (caller : Caller) (first again : Outcome) (last end : Standing S) (replies : List KeptAnswer) where
+  same_again : first.ending ≡ ending.Done → kept_for replies caller ≡ Some (ended first.reply) → HoldsBook g last replies → HasCleanDisk (state g end.tables) → Seen g caller last again end → IsTheSame first last again end
+  same_again done kept held clean seen = by_flag last.stopped _ _ _ (seen.answers replies held clean)
+      (λ _ told. inr (inl told))
+      (λ _ answered. elim answered [
+        | inl fails ↦ inr (inr (inl (fails.reply, fails.stopped)))
+        | inr (inl repeats) ↦
+            let same : ended again.reply ≡ ended first.reply = (let e : (let some : Option (List ℕ) = Some (ended again.reply) in some) ≡ Some (ended first.reply) = sym repeats.0 ∙ kept in cc) in
+            inl (one_response first again done (ends_done again.reply again.ending seen.ends.ends repeats.1) same, repeats.3.desk)
+        | inr (inr none) ↦ absurd (let e : (let some : Option (List ℕ) = Some (ended first.reply) in some) ≡ None = sym kept ∙ none in cc)
+      ])
+
+  came_again : first.ending ≡ ending.Done → kept_for replies caller ≡ Some (ended first.reply) → HoldsBook g last replies → HasCleanDisk (state g end.tables) → Came g caller last again end → IsTheSame first last again end
+  came_again done kept held clean (inl none) = inr (inr (inr none))
+  came_again done kept held clean (inr seen) = same_again done kept held clean seen
+
+module _ {S : Type 0} (g : Ghosts S) (caller : Caller) (start : Standing S) (replies : List KeptAnswer) (first : Outcome) (next : Standing S) where
+  seen_once : HoldsBook g start replies → HasCleanDisk (state g next.tables) → first.stands ≡ true → Seen g caller start first next → IsDoneOnce g caller first next
+  seen_once held clean stands seen =
+      let both = stands_acts seen.asks_act (is_done first.ending) (sym seen.ends.stands ∙ stands) in
+      let done : first.ending ≡ ending.Done = done_is first.ending both.1 in
+      let after : List KeptAnswer = kept_after replies caller seen.asks_act first.reply in
+      let kept = seen.kept replies held clean both.0 (grants first.reply first.ending seen.ends.ends done) in
+      record {
+        replies = after;
+        holds = seen.held replies held;
+        again = λ stages last later goes again end called.
+            let comes = through g stages next last after later goes (seen.held replies held) in
+            came_again g caller first again last end later done (comes.0 caller (ended first.reply) kept) comes.1 called.clean (came g caller last again end called.asked called.serves called.calls);
+      }
+
+  -- an act or a load that was called, and that stands, is done once
+  pub done_once : HoldsBook g start replies → Called g caller start first next → first.stands ≡ true → IsDoneOnce g caller first next
+  done_once held called stands = elim (came g caller start first next called.asked called.serves called.calls) [
+    | inl none ↦ absurd (let e : (let no : Bool = false in no) ≡ true = sym (ap (λ (o : Outcome). o.stands) none.0) ∙ stands in cc)
+    | inr seen ↦ seen_once held called.clean stands seen
+  ]

@@ -1,0 +1,8 @@
+use Rattle.std.proofs.Common.{◌≡◌, ◌+◌, ◌++◌, length, map}
+use Rattle.tc_cli.specs.Numbered.{numbered, shown}
+use Rattle.tc_cli.specs.Run.{script_lines}
+use Rattle.tc_cli.proofs.numbered.numbered_lines.Given as goal
+
+abbrev pub invariant-loop-line : goal.invariant-loop-line
+invariant-loop-line l =
+    map shown l.lines.items ++ numbered (l.fn.first + length l.lines.items) l.line-iterator ≡ numbered l.fn.first (script_lines l.fn.text)

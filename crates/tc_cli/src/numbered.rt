@@ -1,0 +1,34 @@
+//! The lines of a script that are sent over HTTP, and their numbers.
+ghost use Rattle.std.specs.Prelude.{◌≡◌, IfOk, map};
+ghost use Rattle.tc_cli.specs.Numbered.{numbered, shown};
+ghost use Rattle.tc_cli.specs.Run.{script_lines};
+
+use crate::run::is_skipped;
+use bstr::ByteSlice;
+use std::alloc::{AllocError, Global};
+
+/// A line that is sent, and the number of its call.
+#[derive(Clone, Copy)]
+pub(crate) struct NumberedLine<'a> {
+    pub(crate) line: &'a [u8],
+    pub(crate) number: u64,
+}
+
+/// The lines of a script that are sent: the first has this number, and each behind it the next. A line that is skipped is not sent, and takes
+/// none.
+pub(crate) fn numbered_lines<'a>(
+    alloc: Global,
+    text: &'a [u8],
+    first: u32,
+) -> Result<Vec<NumberedLine<'a>>, AllocError>
+    ensures { IfOk result (λ lines. map shown lines.items ≡ numbered first (script_lines text.entry.now)) }
+{
+    let mut lines = Vec::new(alloc);
+    for line in text.lines() {
+        if !is_skipped(line) {
+            let number = u64::from(first) + lines.len() as u64;
+            lines.push(NumberedLine { line, number })?;
+        }
+    }
+    Ok(lines)
+}

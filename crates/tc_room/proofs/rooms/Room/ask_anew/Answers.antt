@@ -1,0 +1,33 @@
+use Rattle.std.proofs.Common.{inl, inr, refl}
+use Rattle.tc_desk.specs.Replies.{refusal_reply}
+use Rattle.tc_room.proofs.OnceLemmas.{calls_true, judged_spells, says_refused, stays_so}
+use Rattle.tc_room.proofs.StopLemmas.{act_text_low, stops_refused}
+use Rattle.tc_room.proofs.rooms.Room.ask_anew.Goals as goal
+
+pub returns-in-Ok-clause-called : goal.returns-in-Ok-clause-called
+returns-in-Ok-clause-called g c =
+    let is = c.ask_once.ensures.called in
+    record { reply = is.reply; made = λ replies held clean. inr (c.in-Ok.line, c.in-Ok.ensures.judged, is.made replies held clean); says = is.says; opened = is.opened }
+
+pub returns-in-Err-clause-called : goal.returns-in-Err-clause-called
+returns-in-Err-clause-called g c =
+    record {
+      reply = refusal_reply c.in-Err.refusal;
+      made = λ replies held clean. inl (c.in-Err.refusal, c.in-Err.ensures.judged, refl, stays_so g.S.Store replies _ c.requires.going held clean);
+      says = c.refused.ensures.says;
+      opened = refl;
+    }
+
+pub returns-in-Ok-clause-acted : goal.returns-in-Ok-clause-acted
+returns-in-Ok-clause-acted g c =
+    calls_true _ _ c.args.text.now c.ask_once.result c.in-Ok.line.act (judged_spells c.args.text.now c.args.caller.by c.args.moment c.in-Ok.line c.in-Ok.ensures.judged) c.ask_once.ensures.acted
+
+pub returns-in-Err-clause-acted : goal.returns-in-Err-clause-acted
+returns-in-Err-clause-acted g c = says_refused c.in-Err.refusal c.refused.result.answer _ c.refused.ensures.says
+
+pub returns-in-Ok-clause-stops : goal.returns-in-Ok-clause-stops
+returns-in-Ok-clause-stops g c = c.ask_once.ensures.stops
+
+pub returns-in-Err-clause-stops : goal.returns-in-Err-clause-stops
+returns-in-Err-clause-stops g c = λ acts.
+    stops_refused _ _ _ c.in-Err.refusal c.refused.ensures.told c.requires.going c.requires.going (act_text_low c.args.caller.by c.args.text.now c.args.moment c.in-Err.refusal c.in-Err.ensures.judged)

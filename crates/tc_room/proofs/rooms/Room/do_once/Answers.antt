@@ -1,0 +1,35 @@
+use Rattle.tc_desk.specs.Replies.{refusal_reply}
+use Rattle.tc_room.proofs.OnceLemmas.{says_refused, says_same}
+use Rattle.tc_room.proofs.StopLemmas.{stops_granted, stops_told}
+use Rattle.tc_room.proofs.rooms.Room.do_once.Goals as goal
+
+pub returns-in-Ok-clause-called : goal.returns-in-Ok-clause-called
+returns-in-Ok-clause-called g c =
+    let made = c.in-Ok.ensures.answered in
+    record {
+      reply = made.0;
+      made = λ replies held clean. (c.granted.ensures.acts, made.4 replies held clean);
+      says = c.granted.ensures.says made.0 made.1 made.2 made.3;
+      opened = c.act_kept.ensures.opened;
+    }
+
+pub returns-in-Err-clause-called : goal.returns-in-Err-clause-called
+returns-in-Err-clause-called g c =
+    record {
+      reply = refusal_reply c.in-Err.refusal;
+      made = λ replies held clean. (c.refused.ensures.acts, c.in-Err.ensures.answered replies held clean);
+      says = c.refused.ensures.says;
+      opened = c.act_kept.ensures.opened;
+    }
+
+pub returns-in-Ok-clause-acted : goal.returns-in-Ok-clause-acted
+returns-in-Ok-clause-acted g c = says_same c.granted.result.answer _ c.in-Ok.ensures.acted
+
+pub returns-in-Err-clause-acted : goal.returns-in-Err-clause-acted
+returns-in-Err-clause-acted g c = says_refused c.in-Err.refusal c.refused.result.answer _ c.refused.ensures.says
+
+pub returns-in-Ok-clause-stops : goal.returns-in-Ok-clause-stops
+returns-in-Ok-clause-stops g c = λ acts. stops_granted _ _ _ _ c.granted.ensures.told c.in-Ok.ensures.stops
+
+pub returns-in-Err-clause-stops : goal.returns-in-Err-clause-stops
+returns-in-Err-clause-stops g c = λ acts. stops_told _ _ _ _ c.refused.ensures.told c.in-Err.ensures.stops

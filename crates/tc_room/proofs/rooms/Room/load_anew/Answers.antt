@@ -1,0 +1,35 @@
+use Rattle.std.proofs.Common.{inl, inr, refl}
+use Rattle.tc_desk.specs.Replies.{refusal_reply}
+use Rattle.tc_room.proofs.OnceLemmas.{stays_so}
+use Rattle.tc_room.proofs.StopLemmas.{stops_refused, unfit_low}
+use Rattle.tc_room.proofs.rooms.Room.load_anew.Goals as goal
+
+pub returns-in-Some-clause-called : goal.returns-in-Some-clause-called
+returns-in-Some-clause-called g c =
+    let is = c.load_text.ensures.called in
+    let known = c.in-Some.ensures in
+    record {
+      reply = is.reply;
+      made = λ replies held clean. let made = is.made replies held clean in (
+        made.0,
+        inr (c.in-Some.known.0, known.0, known.2, rw known.1 at made.1),
+      );
+      says = is.says;
+      opened = is.opened;
+    }
+
+pub returns-in-None-clause-called : goal.returns-in-None-clause-called
+returns-in-None-clause-called g c =
+    record {
+      reply = refusal_reply c.unfit.result;
+      made = λ replies held clean. (c.refused.ensures.acts, inl (c.unfit.result, c.in-None.ensures, c.unfit.ensures, refl, stays_so g.S.Store replies _ c.requires.going held clean));
+      says = c.refused.ensures.says;
+      opened = refl;
+    }
+
+pub returns-in-Some-clause-stops : goal.returns-in-Some-clause-stops
+returns-in-Some-clause-stops g c = c.load_text.ensures.stops
+
+pub returns-in-None-clause-stops : goal.returns-in-None-clause-stops
+returns-in-None-clause-stops g c = λ acts.
+    stops_refused _ _ _ c.unfit.result c.refused.ensures.told c.requires.going c.requires.going (unfit_low c.args.kind c.args.csv.now c.unfit.result c.unfit.ensures)
