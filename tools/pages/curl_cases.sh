@@ -142,7 +142,7 @@ for word in 504 close cut; do
     wait "$proxy"
 done
 posted "what it gave up, by the same line again" 6 '"ok request 5 5/4","move 5 300 eve 5 - Entered enter"' pass
-curl -s "http://127.0.0.1:$port/places" >"$work/out" 2>"$work/err"
+curl -sS "http://127.0.0.1:$port/places" >"$work/out" 2>"$work/err"
 [[ $(<"$work/out") == '{"lines":["places 5: 5 0 0 0 0 0 0 0 0 0 0 0 0 0 0"],"more":0,"refusal":0}' ]]
 tell "each was done once"
 ended "a server whose answers were lost"
@@ -160,7 +160,7 @@ wait "$poster"
 tell "a server that is killed before its answer is heard: $(<"$work/post.out")"
 wait "$proxy"
 proxy=
-curl -s "http://127.0.0.1:$port/places" >"$work/out" 2>"$work/err"
+curl -sS "http://127.0.0.1:$port/places" >"$work/out" 2>"$work/err"
 [[ $(<"$work/out") == '{"lines":["places 6: 6 0 0 0 0 0 0 0 0 0 0 0 0 0 0"],"more":0,"refusal":0}' ]]
 tell "it was done once"
 ended "the next server"
@@ -253,7 +253,7 @@ tell "a port that is taken, and a desk"
 "$program" serve "$work/first.db" "$(free_port)" 1 >"$work/out" 2>"$work/err"
 [[ $? == 2 && ! -s $work/out && $(<"$work/err") == "tcdesk: cannot use $work/first.db" ]]
 tell "a desk that is served already"
-curl -s "http://127.0.0.1:$port/places" >"$work/out" 2>"$work/err"
+curl -sS "http://127.0.0.1:$port/places" >"$work/out" 2>"$work/err"
 [[ $(<"$work/out") == '{"lines":["places 0: '* ]]
 tell "the server that was there first"
 ended "that server"
