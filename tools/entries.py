@@ -43,7 +43,7 @@ ENTRIES = (
     Entry("plain-link", "the link: each printed line beside the plain desk; each cell of FOP-1 and FARM-1; the promise by what is printed",
           modules=("tests.test_plain_link",), takes_seed=True),
     Entry("written", "what lies in each column of each table, written out by hand", modules=("tests.test_written",)),
-    Entry("versions", "files of the first version of the schema: worked, opened again and reported beside the same desks of the newest",
+    Entry("versions", "files of each earlier version of the schema: worked, opened again and reported beside the same desks of the newest, and their kept replies",
           modules=("tests.test_versions",)),
     Entry("changed", "files that were left and changed, with what each opening answers written by hand", modules=("tests.test_changed",)),
     Entry("broken", "a file of which one value or row was changed: what no desk could have written is refused", modules=("tests.test_broken",),

@@ -28,6 +28,10 @@ CREATE TEMP VIEW moves AS
 CREATE TEMP VIEW counts AS
     SELECT place_name.name AS place, amount FROM tally JOIN place_name USING (place) ORDER BY tally.place;
 
--- each reply that is kept, by its first line; a file of the first version has none, and no table of them
+-- each activity that an insert names behind its first; a file of an earlier version has no table of them
+CREATE TEMP VIEW cargoes AS
+    SELECT request, position, target, datetime(at_time, 'unixepoch') AS at_time FROM cargo ORDER BY request, position;
+
+-- each reply that is kept, by its first line; a file of the first version has no table of them
 CREATE TEMP VIEW replies AS
     SELECT person, number, substr(body, 1, instr(body, char(10)) - 1) AS line FROM reply ORDER BY rowid;

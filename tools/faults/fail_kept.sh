@@ -3,7 +3,7 @@
 # one a run, on a desk that is kept in a file: the opening of what examples/monday.tc left, and the lines of examples/tuesday.tc. Each run may end as
 # a run in memory does, or with `cannot use` the file or memory; and then the file is opened again, where all that was left and all that was printed
 # stands. So it is of a desk that is made: the next run finds none and makes it, or an empty one, and that where it was told as new. And so of a
-# report of the file, and of one of the first version of the schema, of which a front is printed, or all where memory was not wanted after all; the file stays
+# report of the file, and of one of each earlier version of the schema, of which a front is printed, or all where memory was not wanted after all; the file stays
 # as it is, and no log comes beside it. Status 1 where that is not so.
 set -u
 
@@ -116,10 +116,15 @@ while try_made "$at"; do
 done
 ((makings * step > 200)) || { bad=$((bad + 1)); echo "fail_kept: few desks that are made" >&2; }
 
-python3 -c 'import sqlite3, sys; sqlite3.connect("first.db").executescript(open(sys.argv[1]).read())' "$top/tools/cases/schema-1/every-table.sql" || exit 1
+files=(left.db)
+for version in "$top"/tools/cases/schema-*; do
+    file=${version##*/}.db
+    python3 -c 'import sqlite3, sys; sqlite3.connect(sys.argv[1]).executescript(open(sys.argv[2]).read())' "$file" "$version/every-table.sql" || exit 1
+    files+=("$file")
+done
 reports=0
-for file in left.db first.db; do
-    [[ $file == left.db ]] || step=$((3 * step))
+for file in "${files[@]}"; do
+    [[ $file != "${files[1]}" ]] || step=$((3 * step))
     "$program" report $file 0 4102444799 >report || exit 1
     before=$reports
     at=1

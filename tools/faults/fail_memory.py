@@ -8,7 +8,7 @@ A run of a script with one request refused (tools/faults/fail_malloc.c) may end 
 Where a line was refused 30, the script is run once more with that line written twice, and the same request refused: the first is refused 30, and the
 second and all behind it are answered as in a run that is not disturbed. The text has the same length both times, by line ends behind it, so that it
 takes the same memory. What is right is the plain desk's. Of a desk that is kept in a file the tables are read too: those of the acts that were
-answered, or, where a run was stopped, these and the whole of the act in progress. An opening of a file of the first version of the schema that is stopped leaves
+answered, or, where a run was stopped, these and the whole of the act in progress. An opening of a file of an earlier version of the schema that is stopped leaves
 it as it was, of that version, or has brought it to the newest whole.
 
 The number of the refused request goes up until a run asks for less memory than that. Where each was refused, each act of the script has to have been
@@ -28,12 +28,12 @@ from model.kept import read_tables, sqlite3
 from model.lines import act_of
 from model.rows import Tables
 from tests.asked import ASKED
-from tests.made_files import FIRST_DAY, FIRST_NAMES, first_day, make_first
+from tests.made_files import OLD_DAY, OLDER, Older, make_older
 from tests.new_desks import new_desk
 from tests.plain_runs import Plain, case_files, case_lines, kept_tables, text_of, unlike
 from tests.runs import Ended, Tried, made_shim, quick_folder, write_files
 
-SPARE, MOST_BAD = 512, 10  # bytes behind a script; runs that are bad, until a share ends
+SPARE, MOST_BAD, ENDING = 512, 10, 64  # bytes behind a script; runs that are bad, until a share ends; requests that a run makes behind its last line, at most
 MEMORY, STORE, STOPPED = "refused 30 Memory\n", "refused 31 Store\n", "refused 32 Stopped\n"
 
 
@@ -45,8 +45,8 @@ class Script(NamedTuple):
     step: int = 1
     has_opening: bool = False
     is_kept: bool = False
-    # The file of the first version that is opened; none, where a desk is made.
-    first: str = ""
+    # The file of an earlier version that is opened; none, where a desk is made.
+    older: Optional[Older] = None
 
 
 def over_the_end() -> list[str]:
@@ -62,9 +62,9 @@ def over_the_end() -> list[str]:
     return lines
 
 
-# Scripts of which each request is refused, in memory; and each how manyth of those of a desk that is kept, and of one of the first version.
+# Scripts of which each request is refused, in memory; and each how manyth of those of a desk that is kept, and of one of an earlier version.
 EACH = ("one-lost-frame", "limit-alert", "insert-too-early", "insert", "stack-approval", "interlock", "procedure")
-KEPT_STEP, FIRST_STEP = 5, 13
+KEPT_STEP, OLDER_STEP = 5, 13
 
 
 def scripts() -> list[Script]:
@@ -74,8 +74,7 @@ def scripts() -> list[Script]:
             Script("over the end of the numbers", over_the_end(), ("--w", "254"), 997)]
     made += [Script(name, case_lines(name)) for name in EACH]
     made += [Script(f"{name}, kept", case_lines(name), step=KEPT_STEP, is_kept=True) for name in (*EACH, "each-load")]
-    return made + [Script(f"{name}, of the first version", first_day(name)[0].splitlines(), step=FIRST_STEP, has_opening=True, is_kept=True, first=name)
-                   for name in FIRST_NAMES]
+    return made + [Script(f"{it}", it.lines.splitlines(), step=OLDER_STEP, has_opening=True, is_kept=True, older=it) for it in OLDER]
 
 
 class Found(NamedTuple):
@@ -91,33 +90,33 @@ class Trial:
     def __init__(self, program: str, shim: str, folder: str, script: Script) -> None:
         self.program, self.shim, self.script, self.folder = program, shim, script, folder
         self.files = case_files()
-        self.before = self.make_first() if script.first else None
+        self.before = self.make_older(script.older) if script.older else None
         self.right = self.plain(script.lines)
         self.size = len(text_of(script.lines)) + SPARE
         self.cuts = ["memory", "kept.db"] if script.is_kept else ["memory", "tables"]
         write_files(folder, self.files)
 
-    def make_first(self) -> Tables:
-        """Makes the file of the first version that the runs begin with, and gives its tables."""
-        make_first(f"{self.folder}/first.db", self.script.first)
-        return read_tables(f"{self.folder}/first.db")
+    def make_older(self, older: Older) -> Tables:
+        """Makes the file of an earlier version that the runs begin with, and gives its tables."""
+        make_older(f"{self.folder}/older.db", older)
+        return read_tables(f"{self.folder}/older.db")
 
     def plain(self, lines: list[str]) -> Plain:
         """What the plain desk makes of these lines."""
-        return Plain(lines, self.files, self.script.options, left=self.before, moment=FIRST_DAY, is_kept=self.script.is_kept)
+        return Plain(lines, self.files, self.script.options, left=self.before, moment=OLD_DAY, is_kept=self.script.is_kept)
 
     def run(self, lines: list[str], at: int) -> Optional[Ended]:
-        """Runs these lines with one request for memory refused, on a new desk, or on that of the first version. The text is as long for any lines. None where it
+        """Runs these lines with one request for memory refused, on a new desk, or on that of an earlier version. The text is as long for any lines. None where it
         was not made."""
         for name in ("kept.db", "kept.db-wal", "kept.db-shm"):
             if os.path.exists(f"{self.folder}/{name}"):
                 os.remove(f"{self.folder}/{name}")
         if self.before:
-            shutil.copy(f"{self.folder}/first.db", f"{self.folder}/kept.db")
+            shutil.copy(f"{self.folder}/older.db", f"{self.folder}/kept.db")
         with open(f"{self.folder}/script", "w", encoding="latin-1", newline="") as file:
             file.write(text_of(lines).ljust(self.size, "\n"))
         words = [self.program, "run", *self.script.options, *(["--db", "kept.db"] if self.script.is_kept else []),
-                 *(["--at", str(FIRST_DAY)] if self.before else []), "script"]
+                 *(["--at", str(OLD_DAY)] if self.before else []), "script"]
         with open(f"{self.folder}/mark", "wb") as mark:
             told = mark.fileno()
             ran = subprocess.run(words, cwd=self.folder, stdin=subprocess.DEVNULL, capture_output=True, pass_fds=[told], timeout=600, check=False,
@@ -135,15 +134,15 @@ class Trial:
         return err.removeprefix(line) if err.startswith(line) else f"{err}[and not that it is a new desk]"
 
     def first(self) -> int:
-        """The first request behind the opening, or one a little before it: a run whose request is refused before that prints nothing."""
+        """The first request behind the opening, or some before it: a run whose request is refused there prints nothing. (So does one that has no memory for its
+        first answer; so what is looked for is how many requests a script without a line makes.)"""
         if self.script.has_opening:
             return 1
         low, high = 1, 1 << 20
         while low < high:
             middle = (low + high) // 2
-            ran = self.run(self.script.lines, middle)
-            low, high = (middle + 1, high) if ran and ran.status == 2 and not ran.out else (low, middle)
-        return low
+            low, high = (middle + 1, high) if self.run([], middle) else (low, middle)
+        return max(1, low - ENDING)
 
     def how(self, ran: Ended) -> Found:
         """How a run with a request refused ended, by what it printed."""
@@ -259,6 +258,6 @@ class Memory(Tried):
             hows = Counter(it.how for it in found)
             bad = [it.bad for it in found if it.bad] + never_refused(script, found)
             print(f"memory: {script.name}: {len(found)} requests: {', '.join(f'{hows[it]} {it}' for it in sorted(hows))}; {len(bad)} bad", flush=True)
-            wanted = "left" if script.first else "refused 30"
+            wanted = "left" if script.older else "refused 30"
             faults += bad + ([] if hows[wanted] else [f"{script.name}: no run was {wanted}"])
         self.no_faults(faults)

@@ -5,18 +5,20 @@ import os
 import shutil
 import subprocess
 import tempfile
+from dataclasses import replace
 from typing import NamedTuple, Optional, Sequence
 
-from model.facts import MOST_ROWS, MOST_STEPS, PROCEDURE_HEADER, STACK_HEADER
+from model.facts import MOST_ROWS, MOST_STEPS, PROCEDURE_HEADER, SCHEMA_VERSION, STACK_HEADER
 from model.kept import sqlite3
 from model.rows import Tables, empty_tables
-from tests.made_files import as_first, make_file
+from tests.made_files import EARLIER, as_version, make_file, some_replies
 from tests.new_desks import holds_no_table, new_desk
 from tests.plain_runs import Plain, case_lines, kept_tables, text_of, unlike
 from tests.runs import made_shim, write_files
 
 # When the desk is left, when the run opens it that is stopped or fails, and when it is opened again.
 LEFT, OPENED, AGAIN = 100, 1000, 9000
+REPLIES = 120  # of a desk of an earlier version: more than a page of 100, in which an opening reads them
 
 
 class Run(NamedTuple):
@@ -28,8 +30,13 @@ class Run(NamedTuple):
     requests: int = 0
     # Whether the desk before it was stopped too, with all its rows in the log.
     is_left_open: bool = False
-    # Whether the desk before it is of the first version of the schema, as SQLite makes it.
-    is_first: bool = False
+    # Of which version of the schema the desk before it is: one of an earlier version is made by SQLite, with replies where that has a table of them.
+    version: int = SCHEMA_VERSION
+
+    @property
+    def is_older(self) -> bool:
+        """Whether the desk before it is of an earlier version."""
+        return self.version in EARLIER
 
 
 # Requests that were never on their way: 1 and 2 are approved, 3 is not.
@@ -99,9 +106,10 @@ RUNS = (
     Run("a desk that is made", (), ()),
     Run("the opening of a desk with requests on their way", ON_THE_WAY, (), 6),
     Run("the opening of one that was stopped", ON_THE_WAY, (), 6, is_left_open=True),
-    Run("the opening of one of the first version", ON_THE_WAY, ("ann close 1", "bob withdraw 2"), 6, is_first=True),
-    Run("the opening of one of the first version that moves nothing", QUIET, (), 3, is_first=True),
-    Run("the opening of one of the first version that was stopped", ON_THE_WAY, (), 6, is_left_open=True, is_first=True),
+    *(run for version in EARLIER for run in (
+        Run(f"the opening of one of version {version}", ON_THE_WAY, ("ann close 1", "bob withdraw 2"), 6, version=version),
+        Run(f"the opening of one of version {version} that moves nothing", QUIET, (), 3, version=version),
+        Run(f"the opening of one of version {version} that was stopped", ON_THE_WAY, (), 6, is_left_open=True, version=version))),
     Run("a script of several acts", QUIET, ACTS, 3),
     Run("an insert", (), of_case("insert")),
     Run("an insert that comes too early", (), of_case("insert-too-early")),
@@ -204,7 +212,7 @@ class Trial:
     def plain_left(self) -> Optional[Tables]:
         """The tables of the desk that the run begins with; none where there is none."""
         left = Plain(with_moment(LEFT, self.run.left), FILES, is_kept=True).states[-1] if self.run.left else None
-        return as_first(left) if left and self.run.is_first else left
+        return as_version(replace(left, reply=some_replies(REPLIES)), self.run.version) if left and self.run.is_older else left
 
     def right_of(self, state: int) -> Seen:
         """What has to be seen of a desk that was left in this state, or in the last, and is opened again."""
@@ -227,7 +235,7 @@ class Trial:
         folder = self.empty()
         if not self.run.left:
             return folder
-        if self.run.is_first:
+        if self.run.is_older:
             make_file(f"{folder}/desk.db", self.states[0], self.run.is_left_open)
             return folder
         script = self.script_of("before", with_moment(LEFT, self.run.left))

@@ -5,7 +5,7 @@ log, until a run ends that has no such call. Each stop is tried in four ways: be
 that was written, as where the program is killed, or with all lost of each file that was written since its last sync, as where the power fails.
 
 What is left is read by SQLite, as it lies in the file and its log: it has to be the plain desk's tables, after the acts of which the stopped run printed an answer,
-or after these and the one act in progress: no answered act is missing, and none is there by half. A desk of the first version of the schema is of that version
+or after these and the one act in progress: no answered act is missing, and none is there by half. A desk of an earlier version of the schema is of that version
 still, or of the newest. Then it is opened by the program, which has to end with status 0, and SQLite reads all tables from the file alone: those that the plain
 desk's opening makes of them. What the program itself tells of them has to be the plain desk's too.
 

@@ -54,7 +54,8 @@ OF_WHOLE: list[tuple[str, bool]] = [
     ("UPDATE execution SET num = 2", False),
     ("UPDATE meta SET value = 0", False),
     ("UPDATE meta SET value = 1", False),
-    ("UPDATE meta SET value = 3", False),
+    ("UPDATE meta SET value = 2", False),
+    ("UPDATE meta SET value = 4", False),
     ("DELETE FROM meta", False),
     ("CREATE INDEX by_author ON request (author)", False),
     ("CREATE VIEW counts AS SELECT amount FROM tally", False),
@@ -63,67 +64,154 @@ OF_WHOLE: list[tuple[str, bool]] = [
     ("DROP TABLE request_approval", False),
 ]
 
-# ---- changes of several statements: of the version, and of replies
+# ---- changes of several statements: of the version, and of what later versions brought
 
 REPLY_TABLE = "CREATE TABLE reply (person TEXT NOT NULL, number INTEGER NOT NULL, body TEXT NOT NULL, PRIMARY KEY (person, number)) STRICT"
-FIRST, SECOND = "UPDATE meta SET value = 1", "UPDATE meta SET value = 2"
-# Of files of the first version.
-OF_FIRST: list[tuple[tuple[str, ...], bool]] = [
-    ((SECOND,), False),
+CARGO_TABLE = ("CREATE TABLE cargo (request INTEGER NOT NULL, position INTEGER NOT NULL, target INTEGER NOT NULL, at_time INTEGER NOT NULL,"
+               " PRIMARY KEY (request, position)) STRICT")
+FIRST, SECOND, THIRD = (f"UPDATE meta SET value = {version}" for version in (1, 2, 3))
+# Tables that are nearly those of replies, or of what an insert names behind its first activity.
+NO_REPLY_TABLES = [
+    REPLY_TABLE.replace(" STRICT", ""),
+    REPLY_TABLE.replace(", PRIMARY KEY (person, number)", ""),
+    REPLY_TABLE.replace("(person, number)", "(number, person)"),
+    REPLY_TABLE.replace("body TEXT", "body BLOB"),
+    REPLY_TABLE.replace("body TEXT NOT NULL", "body TEXT"),
+    REPLY_TABLE.replace("body TEXT NOT NULL", "body TEXT NOT NULL, moment INTEGER NOT NULL"),
+    REPLY_TABLE.replace("reply", "replies"),
+]
+NO_CARGO_TABLES = [
+    CARGO_TABLE.replace(" STRICT", ""),
+    CARGO_TABLE.replace(", PRIMARY KEY (request, position)", ""),
+    CARGO_TABLE.replace("(request, position)", "(position, request)"),
+    CARGO_TABLE.replace("(request, position)", "(request)"),
+    CARGO_TABLE.replace("at_time INTEGER", "at_time TEXT"),
+    CARGO_TABLE.replace("at_time INTEGER NOT NULL", "at_time INTEGER"),
+    CARGO_TABLE.replace("at_time INTEGER NOT NULL", "at_time INTEGER NOT NULL, apid INTEGER NOT NULL"),
+    CARGO_TABLE.replace("target INTEGER NOT NULL, ", ""),
+    CARGO_TABLE.replace("position INTEGER NOT NULL, target INTEGER NOT NULL", "target INTEGER NOT NULL, position INTEGER NOT NULL"),
+    CARGO_TABLE.replace("cargo", "cargoes"),
+]
+Changes = list[tuple[tuple[str, ...], bool]]
+# Of files of any earlier version.
+OF_OLDER: Changes = [
     (("UPDATE meta SET value = 0",), False),
-    (("UPDATE meta SET value = 3",), False),
+    ((THIRD,), False),
+    (("UPDATE meta SET value = 4",), False),
     (("UPDATE meta SET value = -1",), False),
     (("UPDATE meta SET name = 'version'",), False),
     (("DELETE FROM meta",), False),
     (("INSERT INTO meta VALUES ('more', 1)",), False),
     (("INSERT INTO meta VALUES ('more', 2)",), False),
-    ((REPLY_TABLE,), False),
-    ((REPLY_TABLE, SECOND), True),
-    ((REPLY_TABLE, SECOND, "INSERT INTO reply VALUES ('ann', 1, char(10))"), True),
-    ((REPLY_TABLE, SECOND, "INSERT INTO reply VALUES ('ann', 0, char(10))"), False),
-    ((REPLY_TABLE, "UPDATE meta SET value = 3"), False),
-    ((REPLY_TABLE, "DROP TABLE reply"), True),
-    ((REPLY_TABLE.replace(" STRICT", ""), SECOND), False),
-    ((REPLY_TABLE.replace(", PRIMARY KEY (person, number)", ""), SECOND), False),
-    ((REPLY_TABLE.replace("(person, number)", "(number, person)"), SECOND), False),
-    ((REPLY_TABLE.replace("body TEXT", "body BLOB"), SECOND), False),
-    ((REPLY_TABLE.replace("body TEXT NOT NULL", "body TEXT"), SECOND), False),
-    ((REPLY_TABLE.replace("body TEXT NOT NULL", "body TEXT NOT NULL, moment INTEGER NOT NULL"), SECOND), False),
-    ((REPLY_TABLE.replace("reply", "replies"), SECOND), False),
-    ((REPLY_TABLE, "CREATE INDEX more ON reply (number)", SECOND), False),
+    (("INSERT INTO meta VALUES ('more', 3)",), False),
+    ((CARGO_TABLE,), False),
+    ((CARGO_TABLE, FIRST), False),
+    ((CARGO_TABLE, SECOND), False),
+    ((CARGO_TABLE, "DROP TABLE cargo"), True),
     (("CREATE TABLE other (a INTEGER) STRICT",), False),
-    (("CREATE TABLE other (a INTEGER) STRICT", SECOND), False),
-    (("CREATE TABLE other (a INTEGER) STRICT", REPLY_TABLE, SECOND), False),
+    (("CREATE TABLE other (a INTEGER) STRICT", CARGO_TABLE, THIRD), False),
     (("CREATE VIEW counts AS SELECT amount FROM tally",), False),
     (("DROP INDEX move_by_request",), False),
     (("DROP INDEX move_by_request", "CREATE INDEX move_by_request ON move (request, seq)"), False),
     (("DROP TABLE record",), False),
-    (("DROP TABLE record", REPLY_TABLE, SECOND), False),
     (("DELETE FROM tally WHERE place = 15",), False),
     (("UPDATE request SET author = 'eve' WHERE num = 3",), True),
 ]
+# Of files of the first version.
+OF_FIRST: Changes = OF_OLDER + [
+    ((SECOND,), False),
+    ((REPLY_TABLE,), False),
+    ((REPLY_TABLE, SECOND), True),
+    ((REPLY_TABLE, THIRD), False),
+    ((REPLY_TABLE, SECOND, "INSERT INTO reply VALUES ('ann', 1, char(10))"), True),
+    ((REPLY_TABLE, SECOND, "INSERT INTO reply VALUES ('ann', 0, char(10))"), False),
+    ((REPLY_TABLE, "UPDATE meta SET value = 4"), False),
+    ((REPLY_TABLE, "DROP TABLE reply"), True),
+    *(((it, SECOND), False) for it in NO_REPLY_TABLES),
+    ((REPLY_TABLE, "CREATE INDEX more ON reply (number)", SECOND), False),
+    (("CREATE TABLE other (a INTEGER) STRICT", SECOND), False),
+    (("CREATE TABLE other (a INTEGER) STRICT", REPLY_TABLE, SECOND), False),
+    (("DROP TABLE record", REPLY_TABLE, SECOND), False),
+    ((CARGO_TABLE, THIRD), False),
+    ((REPLY_TABLE, CARGO_TABLE), False),
+    ((REPLY_TABLE, CARGO_TABLE, SECOND), False),
+    ((REPLY_TABLE, CARGO_TABLE, THIRD), True),
+    ((CARGO_TABLE, REPLY_TABLE, THIRD), False),
+    ((REPLY_TABLE, CARGO_TABLE, "DROP TABLE cargo", SECOND), True),
+    ((REPLY_TABLE, CARGO_TABLE, "DROP TABLE reply", THIRD), False),
+    *(((REPLY_TABLE, it, THIRD), False) for it in NO_CARGO_TABLES),
+    *(((it, CARGO_TABLE, THIRD), False) for it in NO_REPLY_TABLES),
+]
 # The same, where each row reads by itself.
-OF_FIRST_ROWS: list[tuple[tuple[str, ...], bool]] = [
+OF_FIRST_ROWS: Changes = [
     (("UPDATE request SET place = 3 WHERE num = 3",), False),
     (("UPDATE request SET cnt = 9 WHERE num = 3",), False),
     (("DELETE FROM move WHERE seq = 34",), False),
     (("DELETE FROM stack_approval",), False),
 ]
-# Of a desk of the newest version, which has no replies.
-OF_NEWEST: list[tuple[tuple[str, ...], bool]] = [
+# Of files of the second version, which have replies.
+OF_SECOND: Changes = OF_OLDER + [
+    ((FIRST,), False),
     (("DROP TABLE reply",), False),
     (("DROP TABLE reply", FIRST), True),
+    (("DROP TABLE reply", THIRD), False),
     (("DROP TABLE reply", REPLY_TABLE), True),
-    (("DROP TABLE reply", REPLY_TABLE.replace(" STRICT", "")), False),
+    *((("DROP TABLE reply", it), False) for it in NO_REPLY_TABLES),
+    ((CARGO_TABLE, THIRD), True),
+    *(((it, THIRD), False) for it in NO_CARGO_TABLES),
+    ((CARGO_TABLE, "CREATE INDEX more ON cargo (target)", THIRD), False),
+    (("DROP TABLE reply", CARGO_TABLE), False),
+    (("DROP TABLE reply", CARGO_TABLE, THIRD), False),
+    (("DROP TABLE reply", CARGO_TABLE, REPLY_TABLE, THIRD), False),
+    (("DROP TABLE reply", REPLY_TABLE, CARGO_TABLE, THIRD), True),
+    (("CREATE INDEX more ON reply (number)",), False),
+    (("INSERT INTO reply VALUES ('zed', 1, char(10))",), True),
+    (("INSERT INTO reply VALUES ('ann', 0, char(10))",), False),
+    (("UPDATE reply SET body = 'ok' WHERE rowid = 1",), False),
+    (("UPDATE reply SET body = 'ok' WHERE rowid = 1", CARGO_TABLE, THIRD), False),
+    (("DELETE FROM reply",), True),
+]
+# The same, where each row reads by itself.
+OF_SECOND_ROWS: Changes = [
+    (("UPDATE request SET place = 3 WHERE num = 3",), False),
+    (("UPDATE request SET cnt = 9 WHERE num = 3",), False),
+    (("DELETE FROM move WHERE seq = 41",), False),
+    (("DELETE FROM stack_approval",), False),
+]
+# Of a desk of the newest version, which has no replies.
+OF_NEWEST: Changes = [
+    ((FIRST,), False),
+    ((SECOND,), False),
+    (("DROP TABLE cargo",), False),
+    (("DROP TABLE cargo", FIRST), False),
+    (("DROP TABLE cargo", SECOND), True),
+    (("DROP TABLE cargo", CARGO_TABLE), True),
+    *((("DROP TABLE cargo", it), False) for it in NO_CARGO_TABLES),
+    (("DROP TABLE reply",), False),
+    (("DROP TABLE reply", FIRST), False),
+    (("DROP TABLE reply", SECOND), False),
+    (("DROP TABLE reply", REPLY_TABLE), False),
+    (("DROP TABLE cargo", "DROP TABLE reply"), False),
+    (("DROP TABLE cargo", "DROP TABLE reply", FIRST), True),
+    (("DROP TABLE cargo", "DROP TABLE reply", SECOND), False),
+    (("DROP TABLE cargo", "DROP TABLE reply", REPLY_TABLE, SECOND), True),
+    (("DROP TABLE cargo", "DROP TABLE reply", REPLY_TABLE, CARGO_TABLE), True),
+    (("DROP TABLE cargo", "DROP TABLE reply", CARGO_TABLE, REPLY_TABLE), False),
+    *((("DROP TABLE cargo", "DROP TABLE reply", it, CARGO_TABLE), False) for it in NO_REPLY_TABLES),
     (("ALTER TABLE reply RENAME COLUMN body TO lines",), False),
     (("ALTER TABLE reply RENAME TO replies",), False),
     (("ALTER TABLE reply ADD COLUMN moment INTEGER",), False),
+    (("ALTER TABLE cargo RENAME COLUMN at_time TO moment",), False),
+    (("ALTER TABLE cargo RENAME TO cargoes",), False),
+    (("ALTER TABLE cargo ADD COLUMN apid INTEGER",), False),
+    (("CREATE INDEX more ON cargo (target)",), False),
     ((REPLY_TABLE.replace("reply", "another"),), False),
-    (("INSERT INTO meta VALUES ('more', 2)",), False),
+    ((CARGO_TABLE.replace("cargo", "another"),), False),
+    (("INSERT INTO meta VALUES ('more', 3)",), False),
 ]
 
 
-def alone(changes: Sequence[tuple[str, bool]]) -> list[tuple[tuple[str, ...], bool]]:
+def alone(changes: Sequence[tuple[str, bool]]) -> Changes:
     """Changes of one statement each, as those of several are written."""
     return [((statement,), is_sound) for statement, is_sound in changes]
 
@@ -133,15 +221,15 @@ def kept(person: str, number: str, body: str) -> tuple[str, ...]:
     return (f"INSERT INTO reply VALUES ({person}, {number}, {body})",)
 
 
-def loosely(statement: str) -> tuple[str, ...]:
-    """A statement on the table of replies, which takes values of any kind meanwhile."""
-    return ("PRAGMA writable_schema = ON", "UPDATE sqlite_schema SET sql = replace(sql, ') STRICT', ')') WHERE name = 'reply'",
+def loosely(statement: str, table: str = "reply") -> tuple[str, ...]:
+    """A statement on a table, which takes values of any kind meanwhile."""
+    return ("PRAGMA writable_schema = ON", f"UPDATE sqlite_schema SET sql = replace(sql, ') STRICT', ')') WHERE name = '{table}'",
             "PRAGMA writable_schema = RESET", statement,
-            "PRAGMA writable_schema = ON", "UPDATE sqlite_schema SET sql = sql || ' STRICT' WHERE name = 'reply'", "PRAGMA writable_schema = RESET")
+            "PRAGMA writable_schema = ON", f"UPDATE sqlite_schema SET sql = sql || ' STRICT' WHERE name = '{table}'", "PRAGMA writable_schema = RESET")
 
 
 # Replies that are kept at such a desk: no other is there.
-OF_REPLIES: list[tuple[tuple[str, ...], bool]] = [
+OF_REPLIES: Changes = [
     (kept("'ann'", "1", "'ok' || char(10)"), True),
     (kept("'ann'", "4294967295", "'ok' || char(10)"), True),
     (kept("'sixteenletters12'", "7", "'ok' || char(10)"), True),
@@ -174,4 +262,56 @@ OF_REPLIES: list[tuple[tuple[str, ...], bool]] = [
     (loosely("INSERT INTO reply VALUES ('ann', 1.5, 'ok' || char(10))"), False),
     (loosely("INSERT INTO reply VALUES ('ann', 'one', 'ok' || char(10))"), False),
     (loosely("INSERT INTO reply VALUES ('ann', 1, 'ok' || char(10))"), True),
+]
+
+
+# ---- what an insert names behind its first activity
+
+def carried(request: str, position: str = "2", target: str = "1", at_time: str = "600") -> tuple[str, ...]:
+    """The statement that writes such a row, each value as SQL spells it."""
+    return (f"INSERT INTO cargo VALUES ({request}, {position}, {target}, {at_time})",)
+
+
+def many(count: int, *behind: str) -> tuple[str, ...]:
+    """Statements that write so many of them, and these behind."""
+    numbers = f"WITH RECURSIVE n(i) AS (SELECT 1 UNION ALL SELECT i + 1 FROM n WHERE i < {count})"
+    return (f"INSERT INTO cargo {numbers} SELECT i, 2, 1, 600 FROM n", *behind)
+
+
+# Rows of that table at such a desk, and whether each reads by itself. No desk has written one by now: an opening refuses them all.
+OF_CARGO: Changes = [
+    (carried("2"), True),
+    (carried("1"), True),
+    (carried("65535"), True),
+    (carried("0"), False),
+    (carried("65536"), False),
+    (carried("-1"), False),
+    (carried("2", position="1"), True),
+    (carried("2", position="8"), True),
+    (carried("2", position="255"), True),
+    (carried("2", position="0"), False),
+    (carried("2", position="-1"), False),
+    (carried("2", position="256"), False),
+    (carried("2", target="0"), True),
+    (carried("2", target="4294967295"), True),
+    (carried("2", target="-1"), False),
+    (carried("2", target="4294967296"), False),
+    (carried("2", at_time="0"), True),
+    (carried("2", at_time="4102444799"), True),
+    (carried("2", at_time="-1"), False),
+    (carried("2", at_time="4102444800"), False),
+    (carried("9223372036854775807"), False),
+    (carried("2", at_time="-9223372036854775807 - 1"), False),
+    ((*carried("2"), *carried("2", position="3"), *carried("3")), True),
+    ((*carried("2", position="3"), *carried("2")), True),
+    ((*carried("2"), "UPDATE cargo SET rowid = -5"), True),
+    ((*carried("2", position="0"), "UPDATE cargo SET rowid = -9223372036854775807 - 1"), False),
+    (many(2001), True),
+    (many(2001, "UPDATE cargo SET position = 0 WHERE rowid = 1000"), False),
+    (many(2001, "UPDATE cargo SET at_time = -1 WHERE rowid = 2001"), False),
+    (loosely("INSERT INTO cargo VALUES ('two', 2, 1, 600)", "cargo"), False),
+    (loosely("INSERT INTO cargo VALUES (2, 2.5, 1, 600)", "cargo"), False),
+    (loosely("INSERT INTO cargo VALUES (2, 2, x'31', 600)", "cargo"), False),
+    (loosely("INSERT INTO cargo VALUES (2, 2, 1, 'noon')", "cargo"), False),
+    (loosely("INSERT INTO cargo VALUES (2, 2, 1, 600)", "cargo"), True),
 ]

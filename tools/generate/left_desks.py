@@ -305,14 +305,22 @@ WHOLE = Left("whole", """\
 8 bob step 1 2 failed cid
 """, [Day(9, "places 3: 1 2 0 0 0 0 0 0 0 0 0 0 0 0 0\n")])
 
-# What is printed as the file of the first version is opened that has rows in every table (tools/cases/schema-1).
-FIRST = Day(500, """\
+# What is printed as the file of each earlier version is opened that has rows in every table (tools/cases/schema-N).
+OF_VERSIONS = {1: Day(500, """\
 move 35 500 desk 1 Scheduled Doubtful open
 move 36 500 desk 2 Riding Approved open
 move 37 500 desk 7 Queued Approved open
 move 38 500 desk 11 Sent Doubtful open
 places 12: 4 4 0 0 0 0 0 0 0 1 1 2 0 0 0
-""")
+"""), 2: Day(500, """\
+move 42 500 desk 1 Scheduled Doubtful open
+move 43 500 desk 2 Riding Approved open
+move 44 500 desk 4 Started Doubtful open
+move 45 500 desk 6 Queued Approved open
+move 46 500 desk 9 Confirmed Doubtful open
+move 47 500 desk 13 Sent Doubtful open
+places 15: 5 4 0 0 0 0 0 0 0 1 0 4 1 0 0
+""")}
 
 
 # ---- a history that is full

@@ -279,7 +279,7 @@ MARK = b"\xef\xbb\xbf"  # one at the very front is dropped
 
 # ---- the tables
 
-SCHEMA_VERSION = 2  # of a new desk, and of each that was opened
+SCHEMA_VERSION = 3  # of a new desk, and of each that was opened
 # The statements that make them, in order.
 SCHEMA = """\
 CREATE TABLE meta (name TEXT PRIMARY KEY, value INTEGER NOT NULL) STRICT
@@ -300,9 +300,11 @@ CREATE TABLE execution (num INTEGER PRIMARY KEY, procedure TEXT NOT NULL, person
 CREATE TABLE record (execution INTEGER NOT NULL, step INTEGER NOT NULL, verdict INTEGER NOT NULL, person TEXT NOT NULL, second TEXT NOT NULL, \
 moment INTEGER NOT NULL, PRIMARY KEY (execution, step)) STRICT
 CREATE TABLE reply (person TEXT NOT NULL, number INTEGER NOT NULL, body TEXT NOT NULL, PRIMARY KEY (person, number)) STRICT
+CREATE TABLE cargo (request INTEGER NOT NULL, position INTEGER NOT NULL, target INTEGER NOT NULL, at_time INTEGER NOT NULL, \
+PRIMARY KEY (request, position)) STRICT
 """.splitlines()
 # Of each version those that make its tables: an earlier version has the first of them.
-SCHEMAS = {1: SCHEMA[:12], SCHEMA_VERSION: SCHEMA}
+SCHEMAS = {1: SCHEMA[:12], 2: SCHEMA[:13], SCHEMA_VERSION: SCHEMA}
 
 
 def columns_by(statements: list[str]) -> dict[str, dict[str, type]]:

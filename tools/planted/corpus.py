@@ -10,7 +10,7 @@ from generate.book_plans import PLANS
 from generate.check_random import random_text
 from generate.check_texts import all_texts
 from generate.http_words import Case, get, numbered
-from generate.left_changes import OF_FIVE, OF_REPLIES, OF_WHOLE, alone
+from generate.left_changes import OF_CARGO, OF_FIVE, OF_REPLIES, OF_WHOLE, alone
 from generate.left_desks import EVERYWHERE, FILES, FIVE, GOING, OTHERS, RIDERS, WHOLE
 from generate.link_plans import Planner
 from generate.link_scripts import SCENES, STYLES, TOLD
@@ -22,7 +22,7 @@ from planted.recorded import Exchange, Recorded, Rows, Script, Served, Text, fil
 from tests.changes import change_file, changed_by
 from tests.full_desks import make_desks
 from tests.http_peer import Server
-from tests.made_files import FIRST_DAY, FIRST_NAMES, first_day, make_first
+from tests.made_files import OLD_DAY, OLDER, make_older
 from tests.test_broken import changes_of
 
 TURNS = 1000  # of a script of each style
@@ -83,13 +83,13 @@ def limit_changes(rows: Rows) -> dict[str, list[str]]:
 
 
 def record_left(program: str, work: str, made: Recorded) -> None:
-    """Desks as their first day left them, opened as they are and as statements by hand changed them; and files of the first version of the schema."""
-    for name in FIRST_NAMES:
+    """Desks as their first day left them, opened as they are and as statements by hand changed them; and files of earlier versions of the schema."""
+    for older in OLDER:
         folder = tempfile.mkdtemp(dir=work)
-        make_first(f"{folder}/first.db", name)
-        made.files.append(file_of(f"{folder}/first.db"))
-        made.openings.append(opening(program, folder, f"{folder}/first.db", f"{name}, of the first version", FIRST_DAY, first_day(name)[0].splitlines()))
-    changes = {"five": alone(OF_FIVE), "whole": [*alone(OF_WHOLE), *OF_REPLIES]}
+        make_older(f"{folder}/older.db", older)
+        made.files.append(file_of(f"{folder}/older.db"))
+        made.openings.append(opening(program, folder, f"{folder}/older.db", f"{older}", OLD_DAY, older.lines.splitlines()))
+    changes = {"five": alone(OF_FIVE), "whole": [*alone(OF_WHOLE), *OF_REPLIES, *OF_CARGO]}
     for left in (FIVE, WHOLE, RIDERS, OTHERS, EVERYWHERE, GOING):
         folder = tempfile.mkdtemp(dir=work)
         files = {name: text.encode() for name, text in FILES.items()}

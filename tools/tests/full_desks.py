@@ -1,5 +1,5 @@
-"""Desks of which every table has several rows, and where a request stands at every place; their scripts are written by hand, and their replies are made by
-SQLite.
+"""Desks of which every table has several rows, but for what inserts name behind their first activity, which no desk has written by now; and where a request stands at
+every place. Their scripts are written by hand, and their replies are made by SQLite.
 """
 import shutil
 from dataclasses import dataclass
@@ -8,7 +8,7 @@ from model.facts import place_word
 from model.kept import columns_of, connect, tables_of
 from model.rows import ROWS, Tables
 from model.sound import why_unsound
-from tests.made_files import as_first, keep_replies, make_file, some_replies
+from tests.made_files import EARLIER, as_version, keep_replies, make_file, some_replies
 from tests.runs import run_kept, write_lines
 
 FILES = {
@@ -175,8 +175,8 @@ def left_desk(path: str, moment: int) -> Desk:
 
 
 def make_desks(program: str, folder: str) -> list[Desk]:
-    """Runs the scripts: a day at the desk, and the next one on a copy of its file, which has the replies of both. And as a program wrote it that knew no other
-    version than the first: the desk of the first day."""
+    """Runs the scripts: a day at the desk, and the next one on a copy of its file, which has the replies of both. And as programs wrote it that knew no later
+    version, of each earlier one: the desk of the first day."""
     for name, text in FILES.items():
         write_lines(f"{folder}/{name}", text.splitlines())
     write_lines(f"{folder}/day.tc", DAY)
@@ -190,15 +190,17 @@ def make_desks(program: str, folder: str) -> list[Desk]:
     if made.status or more.status or refused:
         raise AssertionError(f"the desks could not be made: {made.status} {more.status} {refused} {made.errors}{more.errors}")
     desks = [left_desk(f"{folder}/day.db", 86400), left_desk(f"{folder}/next.db", 172800)]
-    make_file(f"{folder}/first.db", as_first(desks[0].tables))
-    return [*desks, left_desk(f"{folder}/first.db", 86400)]
+    for version in EARLIER:
+        make_file(f"{folder}/version{version}.db", as_version(desks[0].tables, version))
+        desks.append(left_desk(f"{folder}/version{version}.db", 86400))
+    return desks
 
 
 def lacks(desks: list[Desk]) -> list[str]:
     """What the desks should have and do not: tables of few rows, and places where nobody stands."""
     day = desks[0].tables
-    few = [name for name in ROWS if name != "meta" and len(getattr(day, name)) < 2]
-    few += [f"the replies of {desk.path}" for desk, count in zip(desks, (REPLIES, REPLIES, 0)) if desk.tables.reply != some_replies(count)]
+    few = [name for name in ROWS if name not in ("meta", "cargo") and len(getattr(day, name)) < 2]
+    few += [f"the replies of {desk.path}" for desk in desks if desk.tables.reply != some_replies(REPLIES if "reply" in desk.columns else 0)]
     empty = [place_word(t.place) for t in day.tally if t.amount == 0]
     unsound = [why for why in (why_unsound(desk.tables) for desk in desks) if why]
     unknown = [name for desk in desks for name in desk.columns if name not in ROWS]

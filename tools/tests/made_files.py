@@ -3,21 +3,54 @@ import os
 import shutil
 import tempfile
 from dataclasses import replace
-from typing import Optional, Union
+from typing import NamedTuple, Optional, Union
 
-from model.facts import COLUMNS, SCHEMAS, TABLES
+from model.facts import COLUMNS, SCHEMA_VERSION, SCHEMAS, TABLES
 from model.kept import connect, sqlite3
-from model.rows import Reply, Tables
-from tests.asked import TOOLS
+from model.rows import ROWS, Reply, Tables
 from tests.changes import Change, change_file
+from tests.plain_runs import CASES
 from tests.runs import bytes_of, write_files
 
-# Files of the first version that a program wrote which knew no other: statements that make them, a day at each, and what is printed of that. Nothing makes
-# such files any more.
-FIRST = f"{TOOLS}/cases/schema-1"
-FIRST_NAMES = tuple(sorted(it.removesuffix(".sql") for it in os.listdir(FIRST) if it.endswith(".sql")))
-FIRST_DAY = 500  # when the day of each begins
 BEHIND_A_LOG = bytes(9)  # what a program leaves behind a log, which SQLite does not
+EARLIER = tuple(version for version in SCHEMAS if version < SCHEMA_VERSION)
+
+
+class Older(NamedTuple):
+    """A file of an earlier version, which a program wrote that knew no later one: statements that make it, a day at it, and what that program printed of the day.
+    Nothing makes such files any more."""
+    version: int
+    name: str
+
+    def __str__(self) -> str:
+        """How it is told."""
+        return f"{self.name} of version {self.version}"
+
+    @property
+    def path(self) -> str:
+        """Where it lies in tools/cases, without what its files end on."""
+        return f"{CASES}/schema-{self.version}/{self.name}"
+
+    @property
+    def lines(self) -> str:
+        """The lines of its day."""
+        return bytes_of(f"{self.path}.day2").decode()
+
+    @property
+    def printed(self) -> str:
+        """All that is printed of the day."""
+        return bytes_of(f"{self.path}.day2.stdout").decode()
+
+
+def names_in(version: int) -> list[str]:
+    """The names of the files of a version."""
+    return sorted(it.removesuffix(".sql") for it in os.listdir(f"{CASES}/schema-{version}") if it.endswith(".sql"))
+
+
+OLD_DAY = 500  # when the day of each begins
+OLDER = tuple(Older(version, name) for version in EARLIER for name in names_in(version))
+# One of each earlier version, of which each table has rows.
+FULL_OLDER = {version: Older(version, "every-table") for version in EARLIER}
 
 
 def bound(value: Optional[Union[int, str]]) -> Optional[Union[bytes, int]]:
@@ -58,23 +91,18 @@ def make_file(path: str, tables: Tables, is_left_open: bool = False) -> None:
             connection.close()
 
 
-def as_first(tables: Tables) -> Tables:
-    """The same rows under the first version, which has no replies."""
-    return replace(tables, meta=[("schema", 1)], reply=[], version=1)
+def as_version(tables: Tables, version: int) -> Tables:
+    """The same rows under a version, without those that it has no table for."""
+    return replace(tables, meta=[("schema", version)], version=version, **{name: [] for name in ROWS if name not in TABLES[version]})
 
 
-def make_first(path: str, name: str) -> None:
-    """Makes one of the files of the first version."""
+def make_older(path: str, older: Older) -> None:
+    """Makes one of the files of an earlier version."""
     connection = connect(path)
     try:
-        connection.executescript(bytes_of(f"{FIRST}/{name}.sql").decode())
+        connection.executescript(bytes_of(f"{older.path}.sql").decode())
     finally:
         connection.close()
-
-
-def first_day(name: str) -> tuple[str, str]:
-    """The lines of its day, and all that is printed of it."""
-    return bytes_of(f"{FIRST}/{name}.day2").decode(), bytes_of(f"{FIRST}/{name}.day2.stdout").decode()
 
 
 def some_replies(count: int) -> list[Reply]:

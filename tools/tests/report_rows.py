@@ -4,7 +4,7 @@ of full_desks.py, of which each table has rows. Request 5 is of no stack and of 
 
 # Of each table, columns with values that no row may have: the row does not read, wherever it lies.
 UNREADABLE = {
-    "meta": ["value = 0", "value = 1", "value = 3", "name = 'other'"],
+    "meta": ["value = 0", "value = 1", "value = 2", "value = 4", "name = 'other'"],
     "request WHERE num = 5": [
         "num = 65536", "apid = 2048", "apid = -1", "cnt = 16384", "ack = 16", "ack = 99", "ack = -1", "critical = 2", "service = 0", "service = 256",
         "subtype = 0", "subtype = 256", "service = 11, subtype = 6", "target = 1", "at_time = 1", "outcome = ''", "outcome = 'ok/10'",

@@ -16,7 +16,7 @@ from typing import Optional, Union
 
 from model.facts import LAST_APID, LAST_MOMENT, MOST_STACKS
 from model.kept import read_tables
-from model.rows import ROWS, Tables
+from model.rows import ROWS, Cargo, Tables
 from model.sound import is_name, is_outcome, why_unsound
 from tests.asked import ASKED
 from tests.changes import Change, change_file, why_not_opened, why_not_refused
@@ -28,6 +28,7 @@ SEED = 20311125
 LEAST_JUDGED = 1000
 ROWS_A_COLUMN = 3
 VALUES_A_ROW = 3
+CARGO = 6  # rows of what requests name besides, one a change
 
 
 @dataclass
@@ -118,7 +119,14 @@ def changes_of(desk: Desk, dice: random.Random) -> list[Change]:
             changes += [set_value(desk, name, "rowid", row, it) for it in (10**6, -1)]
     for name in ("request", "move", "execution"):
         changes += [with_copy(desk, name, 0, 0, it) for it in (0, -1, -2**63, 2**63 - 1)]
-    return changes
+    return changes + [with_cargo(desk, dice) for _ in range(CARGO if "cargo" in desk.columns else 0)]
+
+
+def with_cargo(desk: Desk, dice: random.Random) -> Change:
+    """A row of what a request, which may be no insert, names behind its first activity."""
+    number, target = (dice.choice(desk.tables.request).num for _ in range(2))
+    row = Cargo(number, dice.randrange(1, 10), target, dice.choice((0, 600, LAST_MOMENT)))
+    return Change(f"cargo with {row}", [("INSERT INTO cargo VALUES (?, ?, ?, ?)", [*row])])
 
 
 def with_stacks(desk: Desk, most: int) -> Change:

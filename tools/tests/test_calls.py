@@ -39,9 +39,9 @@ def blocks(text: bytes) -> list[bytes]:
     return found
 
 
-def exchanges(name: str) -> list[Exchange]:
-    """The exchanges of a worked case."""
-    found = blocks(bytes_of(f"{CASES}/http/{name}"))
+def exchanges(path: str) -> list[Exchange]:
+    """The exchanges of a worked case, by its file."""
+    found = blocks(bytes_of(path))
     return [Exchange(*it) for it in zip(found[::2], found[1::2], strict=True)]
 
 
@@ -53,7 +53,7 @@ class Worked(Served):
         cases, names = self.cases, sorted(it for it in os.listdir(f"{CASES}/http") if it.endswith(".http"))
         cases.tell("worked cases", True, len(names) > 0)
         for name in names:
-            told, folder = exchanges(name), cases.folder()
+            told, folder = exchanges(f"{CASES}/http/{name}"), cases.folder()
             plain = Expected(folder, [Case(name, it.request) for it in told])
             with cases.server(folder, len(told)) as server:
                 for at, (it, reckoned) in enumerate(zip(told, plain.responses), 1):

@@ -2,7 +2,7 @@
 
 What each opening answers is written out in generate/left_desks.py, by hand: desks on which requests were on their way, opened a second time and
 a third; one whose approvals, stacks and executions go on; and one whose history lacks one row, and then is full. Then single values, rows, tables
-and indexes of files are changed by SQLite, also of one of the first version, and it stands there which of these a desk could have written: that is opened, and
+and indexes of files are changed by SQLite, also of one of each earlier version, and it stands there which of these a desk could have written: that is opened, and
 has the rows of the opening then; all else is refused, and its file left byte for byte. So it is of replies, in pages that end in each way.
 """
 import shutil
@@ -10,15 +10,16 @@ import tempfile
 from concurrent.futures import ThreadPoolExecutor
 from functools import partial
 from itertools import zip_longest
-from typing import Optional, Sequence
+from typing import Optional
 
-from generate.left_changes import OF_FIRST, OF_FIRST_ROWS, OF_FIVE, OF_NEWEST, OF_REPLIES, OF_WHOLE, alone, kept
-from generate.left_desks import EVERYWHERE, FILES, FIRST, FIVE, FULL, GOING, OTHERS, RIDERS, WHOLE, Day, Left, fill
+from generate.left_changes import (OF_CARGO, OF_FIRST, OF_FIRST_ROWS, OF_FIVE, OF_NEWEST, OF_REPLIES, OF_SECOND, OF_SECOND_ROWS, OF_WHOLE, Changes, alone,
+                                   kept)
+from generate.left_desks import EVERYWHERE, FILES, FIVE, FULL, GOING, OF_VERSIONS, OTHERS, RIDERS, WHOLE, Day, Left, fill
 from model.facts import MOST_HISTORY
 from model.kept import read_tables
 from tests.asked import ASKED
 from tests.changes import change_file, changed_by, left_beside, why_not_opened
-from tests.made_files import keep_replies, make_first
+from tests.made_files import FULL_OLDER, keep_replies, make_older
 from tests.runs import Tried, bytes_of, run_kept, write_lines
 from model.rows import empty_tables
 
@@ -113,7 +114,7 @@ def open_replies(program: str, work: str, told: Told) -> None:
         shutil.copy(f"{folder}/desk.db", path)
         keep_replies(path, count)
         ends = [it for it in (1, 99, 100, 101, 199, 200, 201, 250) if it <= count]
-        changes = [(kept("'zed'", "1", "'ok'"), False), (kept("'zed'", "1", "char(10)"), True), ((f"DELETE FROM reply WHERE rowid = {count}",), True)]
+        changes: Changes = [(kept("'zed'", "1", "'ok'"), False), (kept("'zed'", "1", "char(10)"), True), ((f"DELETE FROM reply WHERE rowid = {count}",), True)]
         changes += [((f"UPDATE reply SET {it} WHERE rowid = {end}",), False) for end in ends for it in ("body = 'ok'", "number = 0")]
         changes += [((f"UPDATE reply SET rowid = {to} WHERE rowid = {end}",), True) for end in ends for to in (-5, "-9223372036854775807 - 1", 1_000_000)]
         changes += [((f"UPDATE reply SET rowid = {to}, person = 'desk' WHERE rowid = {end}",), False) for end in ends for to in (-5, "-9223372036854775807 - 1")]
@@ -137,7 +138,7 @@ def open_changed(program: str, work: str, path: str, day: Day, change: tuple[tup
     return "the file was changed" if bytes_of(file) != before else f"beside it stay {left_beside(folder)}" if left_beside(folder) else ""
 
 
-def change_each(program: str, work: str, path: str, day: Day, changes: Sequence[tuple[tuple[str, ...], bool]], told: Told) -> None:
+def change_each(program: str, work: str, path: str, day: Day, changes: Changes, told: Told) -> None:
     """All changes of a desk's file, four at a time."""
     with ThreadPoolExecutor(4) as pool:
         for (statements, is_sound), fault in zip(changes, pool.map(partial(open_changed, program, work, path, day), changes)):
@@ -145,7 +146,7 @@ def change_each(program: str, work: str, path: str, day: Day, changes: Sequence[
             told.taken, told.refused = told.taken + is_sound, told.refused + (not is_sound)
 
 
-def change_left(program: str, work: str, left: Left, changes: Sequence[tuple[tuple[str, ...], bool]], told: Told) -> None:
+def change_left(program: str, work: str, left: Left, changes: Changes, told: Told) -> None:
     """All changes of a desk as its first day leaves it."""
     folder = made(program, work, left, told)
     if folder:
@@ -181,10 +182,17 @@ class Changed(Tried):
             change_left(ASKED.program, self.work, left, changes, self.told)
         self.settle()
 
-    def test_first(self) -> None:
-        """A file of the first version, with the tables or the number of another, or with rows that no desk wrote."""
-        make_first(f"{self.work}/first.db", "every-table")
-        change_each(ASKED.program, self.work, f"{self.work}/first.db", FIRST, OF_FIRST + OF_FIRST_ROWS, self.told)
+    def test_older(self) -> None:
+        """A file of each earlier version, with the tables or the number of another, or with rows that no desk wrote."""
+        for version, changes in ((1, OF_FIRST + OF_FIRST_ROWS), (2, OF_SECOND + OF_SECOND_ROWS)):
+            path = f"{self.work}/older{version}.db"
+            make_older(path, FULL_OLDER[version])
+            change_each(ASKED.program, self.work, path, OF_VERSIONS[version], changes, self.told)
+        self.settle()
+
+    def test_cargo(self) -> None:
+        """What an insert names behind its first activity: no desk has written that by now."""
+        change_left(ASKED.program, self.work, WHOLE, [(statements, False) for statements, _ in OF_CARGO], self.told)
         self.settle()
 
     def test_replies(self) -> None:

@@ -70,7 +70,7 @@ def faults_of(before: Tables, after: Tables, ran: Ran, moment: int) -> list[str]
         "the requests that stood": [r._replace(place=0) for r in after.request][:len(before.request)]
                                    == [r._replace(place=0) for r in before.request],
     }
-    for name in ("request_approval", "stack", "stack_approval", "procedure", "step", "execution", "record", "reply"):
+    for name in ("request_approval", "stack", "stack_approval", "procedure", "step", "execution", "record", "reply", "cargo"):
         stood = getattr(before, name)
         wants[f"the rows of {name} that stood"] = getattr(after, name)[:len(stood)] == stood
     why = why_unsound(after)

@@ -5,8 +5,9 @@ import os
 import shutil
 import tempfile
 import unittest
+from typing import Union
 
-from generate.left_changes import OF_FIRST, OF_FIRST_ROWS, OF_FIVE, OF_NEWEST, OF_REPLIES, OF_WHOLE, alone
+from generate.left_changes import OF_CARGO, OF_FIRST, OF_FIRST_ROWS, OF_FIVE, OF_NEWEST, OF_REPLIES, OF_SECOND, OF_SECOND_ROWS, OF_WHOLE, Changes, alone
 from generate.left_desks import EVERYWHERE, FILES, FIVE, FULL, GOING, OTHERS, RIDERS, WHOLE, Left
 from model.desk import Desk
 from model.facts import MOST_HISTORY, SCHEMAS, Cause, Place
@@ -14,7 +15,7 @@ from model.kept import connect, read_tables, statements_of
 from model.rows import ROWS, Move, Tables
 from model.sound import why_unsound
 from tests.changes import change_file, changed_by
-from tests.made_files import make_file, make_first
+from tests.made_files import FULL_OLDER, Older, make_file, make_older
 from tests.runs import quick_folder
 from tests.test_written import CASES, NO_TALLY, Case
 from tests.test_written import FILES as WRITTEN_FILES
@@ -81,14 +82,16 @@ class PlainDesk(unittest.TestCase):
 
     def test_changes(self) -> None:
         """It knows of each change of a file that leaves the tables of a version whether a desk could have written what is there then."""
-        changes = [(FIVE, alone(OF_FIVE)), (WHOLE, alone(OF_WHOLE)), (WHOLE, OF_NEWEST), (WHOLE, OF_REPLIES), (None, OF_FIRST), (None, OF_FIRST_ROWS)]
+        changes: list[tuple[Union[Left, Older], Changes]] = [
+            (FIVE, alone(OF_FIVE)), (WHOLE, alone(OF_WHOLE)), (WHOLE, OF_NEWEST), (WHOLE, OF_REPLIES), (WHOLE, [(it, False) for it, _ in OF_CARGO]),
+            (FULL_OLDER[1], OF_FIRST + OF_FIRST_ROWS), (FULL_OLDER[2], OF_SECOND + OF_SECOND_ROWS)]
         count = 0
         with tempfile.TemporaryDirectory(prefix="changes-", dir=quick_folder()) as work:
             for left, some in changes:
-                if left:
-                    make_file(f"{work}/left.db", self.tables_left(left))
+                if isinstance(left, Older):
+                    make_older(f"{work}/left.db", left)
                 else:
-                    make_first(f"{work}/left.db", "every-table")
+                    make_file(f"{work}/left.db", self.tables_left(left))
                 for statements, is_sound in some:
                     shutil.copy(f"{work}/left.db", f"{work}/copy.db")
                     change_file(f"{work}/copy.db", changed_by(*statements))
@@ -110,7 +113,7 @@ class PlainDesk(unittest.TestCase):
             self.assertIsNone(why_unsound(tables), case.name)
             for name in ROWS:
                 with self.subTest(f"{case.name}, {name}"):
-                    wanted = case.rows.get(name, {"meta": "schema|2", "tally": NO_TALLY}.get(name, "")).splitlines()
+                    wanted = case.rows.get(name, {"meta": "schema|3", "tally": NO_TALLY}.get(name, "")).splitlines()
                     rows = ["|".join(str(int(it) if isinstance(it, int) else it) for it in row) for row in getattr(tables, name)]
                     self.assertEqual(wanted, rows)
                     count += len(rows)

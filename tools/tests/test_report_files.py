@@ -7,11 +7,11 @@ from concurrent.futures import ThreadPoolExecutor
 from functools import partial
 from pathlib import Path
 
-from generate.left_changes import OF_FIRST, OF_FIRST_ROWS, OF_NEWEST, OF_REPLIES, REPLY_TABLE, SECOND
+from generate.left_changes import CARGO_TABLE, OF_CARGO, OF_FIRST, OF_FIRST_ROWS, OF_NEWEST, OF_REPLIES, OF_SECOND, OF_SECOND_ROWS, REPLY_TABLE, THIRD, Changes
 from model.kept import read_tables
 from model.rows import move_line
 from tests.full_desks import make_desks
-from tests.made_files import make_first
+from tests.made_files import FULL_OLDER, make_older
 from tests.report_cases import ALL, LAST, WORKED, Reported, change
 from tests.report_printer import moves_in, places_of, report_of
 from tests.report_rows import READABLE, UNREADABLE
@@ -86,15 +86,25 @@ class Files(Reported):
                 self.cases.ask(statement, folder, ["desk.db", str(begin), str(end)], report)
 
     def test_versions(self) -> None:
-        """Files of the first version and of the newest: tables of one with the number of the other, other tables, and replies. All that an opening takes is
-        reported, and nothing else; a row that only others refute is none of these."""
-        cases, first = self.cases, self.cases.folder()
-        make_first(f"{first}/desk.db", "every-table")
-        newest = cases.copy(first)
-        change(newest, REPLY_TABLE, SECOND)
-        moves = moves_in("\n".join(move_line(it) for it in read_tables(f"{first}/desk.db").move))
-        some = [(newest, *it) for it in OF_NEWEST + OF_REPLIES] + [(first, *it) for it in OF_FIRST] + [(first, it, True) for it, _ in OF_FIRST_ROWS[:2]]
-        for desk, statements, is_read in some:
+        """Files of each version: tables of one with the number of another, other tables, replies, and what inserts name behind their first activity. All that an
+        opening takes is reported, and nothing else but rows that only others refute, as any of the last are so far."""
+        older = {version: self.older_desk(version) for version in FULL_OLDER}
+        newest = self.cases.copy(older[1])
+        change(newest, REPLY_TABLE, CARGO_TABLE, THIRD)
+        self.changed(newest, OF_NEWEST + OF_REPLIES + OF_CARGO)
+        for version, changes, rows in ((1, OF_FIRST, OF_FIRST_ROWS), (2, OF_SECOND, OF_SECOND_ROWS)):
+            self.changed(older[version], changes + [(it, True) for it, _ in rows[:2]])
+
+    def older_desk(self, version: int) -> str:
+        """A folder with a desk of an earlier version."""
+        folder = self.cases.folder()
+        make_older(f"{folder}/desk.db", FULL_OLDER[version])
+        return folder
+
+    def changed(self, desk: str, changes: Changes) -> None:
+        """Asks for reports of a desk with each of these changes, none of which is of its moves: of those that are read, and of those that are not."""
+        cases, moves = self.cases, moves_in("\n".join(move_line(it) for it in read_tables(f"{desk}/desk.db").move))
+        for statements, is_read in changes:
             folder = cases.copy(desk)
             change(folder, *statements)
             if is_read:

@@ -1,27 +1,32 @@
-"""Files of desks of an earlier version of the schema: those of tools/cases/schema-1, which a program wrote that knew no other.
+"""Files of desks of each earlier version of the schema: those of tools/cases/schema-N, which programs wrote that knew no later one.
 
 Each is opened and worked for a day, and prints what is written there, byte for byte. Then it is of the newest version: its tables are made by the
 statements of a new desk, in their order, and all rows, with the numbers under which they stand, are those of the same desk that was of the newest version
 before. So it is where the opening moves nothing, and where no line comes behind it. Another opening changes no byte of the file. A report changes none of a file
-of an earlier version either, and is that of the same desk of the newest.
+of an earlier version either, and is that of the same desk of the newest. A call whose reply was kept is answered as it was then, also where the server itself brings
+the file to the newest version.
 """
 import os
 import tempfile
-from dataclasses import replace
 from typing import Any
 
+from model.calls import Calls
+from model.desk import Desk
 from model.facts import SCHEMA_VERSION
+from model.http import Acts, Loads, answer_to, reply_response
 from model.kept import connect, read_tables
-from model.rows import Tables, empty_tables, move_line, places_line
+from model.rows import Tables, move_line, places_line
 from model.sound import why_unsound
 from model.tables import opened_moves, opened_tables
 from tests.asked import ASKED
 from tests.changes import left_beside, why_not_opened
-from tests.made_files import FIRST_DAY, FIRST_NAMES, first_day, make_file, make_first
-from tests.plain_runs import Plain, unlike
+from tests.http_peer import Server
+from tests.made_files import OLD_DAY, OLDER, Older, as_version, make_file, make_older
+from tests.plain_runs import Plain, text_of, unlike
 from tests.report_cases import ALL, Cases, changed, difference, digests
 from tests.report_printer import moves_in, report_of
-from tests.runs import Tried, bytes_of, run_kept, write_files
+from tests.runs import Ended, Tried, bytes_of, run_kept, write_files
+from tests.test_calls import Exchange, exchanges
 
 # When each is opened again.
 AGAIN = 9000
@@ -38,13 +43,18 @@ def stored(path: str) -> tuple[list[Any], dict[str, list[Any]]]:
         connection.close()
 
 
-def as_newest(tables: Tables) -> Tables:
-    """The same rows under the newest version."""
-    return replace(tables, meta=empty_tables().meta, version=SCHEMA_VERSION)
+def by_plain(tables: Tables, told: list[Exchange]) -> list[bytes]:
+    """What the plain desk over these tables answers to each of these requests."""
+    calls, responses = Calls(Desk.opened(tables, AGAIN)), []
+    for it in told:
+        asked = answer_to(it.request)
+        assert isinstance(asked, (Acts, Loads)), it.request
+        responses.append(reply_response(calls.reply(asked)))
+    return responses
 
 
 class Versions(Tried):
-    """Files of the first version."""
+    """Files of earlier versions."""
 
     def setUp(self) -> None:
         """A folder to work in, and no fault yet."""
@@ -52,46 +62,45 @@ class Versions(Tried):
         self.addCleanup(folder.cleanup)
         self.cases, self.faults = Cases(ASKED.program, folder.name), list[str]()
 
-    def tell(self, name: str, *faults: str) -> None:
+    def tell(self, name: object, *faults: str) -> None:
         """Notes what of a case is not as it should be."""
         self.faults += [f"{name}: {it}" for it in faults if it]
 
     def settle(self, what: str) -> None:
         """Tells what was found."""
-        print(f"versions: {len(FIRST_NAMES)} {what}, {len(self.faults)} faults")
+        print(f"versions: {what}, {len(self.faults)} faults")
         self.no_faults(self.faults)
 
-    def made(self, name: str) -> tuple[str, Tables]:
+    def made(self, older: Older) -> tuple[str, Tables]:
         """A folder with one of the files, and its tables, which a desk could have written."""
         folder = self.cases.folder()
-        make_first(f"{folder}/desk.db", name)
+        make_older(f"{folder}/desk.db", older)
         tables = read_tables(f"{folder}/desk.db")
-        self.assertEqual((1, [], None), (tables.version, tables.reply, why_unsound(tables)), name)
+        self.assertEqual((older.version, None), (tables.version, why_unsound(tables)), older)
         return folder, tables
 
     def twin(self, tables: Tables) -> str:
         """A folder with the same desk in a file of the newest version."""
         folder = self.cases.folder()
-        make_file(f"{folder}/desk.db", as_newest(tables))
+        make_file(f"{folder}/desk.db", as_version(tables, SCHEMA_VERSION))
         return folder
 
-    def day(self, name: str, folder: str) -> list[str]:
+    def day(self, older: Older, folder: str) -> list[str]:
         """The day of a desk: what of that is not as it is written."""
-        lines, out = first_day(name)
-        write_files(folder, {"day.tc": lines.encode()})
-        ran = self.cases.call(folder, ["run", "--db", "desk.db", "--at", str(FIRST_DAY), "day.tc"])
-        return [difference(out, ran.out), "" if (ran.status, ran.err) == (0, "") else f"status {ran.status}, {ran.err!r}"]
+        write_files(folder, {"day.tc": older.lines.encode()})
+        ran = self.cases.call(folder, ["run", "--db", "desk.db", "--at", str(OLD_DAY), "day.tc"])
+        return [difference(older.printed, ran.out), "" if (ran.status, ran.err) == (0, "") else f"status {ran.status}, {ran.err!r}"]
 
     def newest(self, folder: str, wanted: Tables) -> list[str]:
         """In what the file of a desk is not of the newest version, as a new desk's is, or has other tables than these."""
         new = self.cases.folder()
         self.cases.run(new, [], "--db", "desk.db")
         listed, rows = stored(f"{folder}/desk.db")
+        beside = {*left_beside(folder)} - {"day.tc", "served.out", "served.err"}
         return [unlike(read_tables(f"{folder}/desk.db"), wanted),
                 "" if listed == stored(f"{new}/desk.db")[0] else f"its schema is {listed}",
                 "" if rows.get("meta") == [(1, "schema", SCHEMA_VERSION)] else f"meta has {rows.get('meta')}",
-                "" if rows.get("reply") == [] else f"it has the replies {rows.get('reply')}",
-                f"beside it stay {left_beside(folder)}" if set(left_beside(folder)) - {"day.tc"} else ""]
+                f"beside it stay {beside}" if beside else ""]
 
     def again(self, folder: str, tables: Tables) -> list[str]:
         """In what another opening, of these tables, is not one that moves nothing and changes no byte."""
@@ -102,48 +111,48 @@ class Versions(Tried):
 
     def test_days(self) -> None:
         """Each is worked for a day, beside the same desk of the newest version, and then opened again."""
-        for name in FIRST_NAMES:
-            folder, tables = self.made(name)
-            twin, plain = self.twin(tables), Plain(first_day(name)[0].splitlines(), {}, left=tables, moment=FIRST_DAY, is_kept=True)
-            self.tell(f"{name}, the plain desk", difference(first_day(name)[1], plain.whole))
-            self.tell(name, *self.day(name, folder), *self.newest(folder, plain.states[-1]))
-            self.tell(f"{name}, of the newest version", *self.day(name, twin))
-            self.tell(name, "" if stored(f"{folder}/desk.db") == stored(f"{twin}/desk.db") else "its rows are not those of the same desk of the newest version")
-            self.tell(name, *self.again(folder, plain.states[-1]))
-        self.settle("days")
+        for older in OLDER:
+            folder, tables = self.made(older)
+            twin, plain = self.twin(tables), Plain(older.lines.splitlines(), {}, left=tables, moment=OLD_DAY, is_kept=True)
+            self.tell(f"{older}, the plain desk", difference(older.printed, plain.whole))
+            self.tell(older, *self.day(older, folder), *self.newest(folder, plain.states[-1]))
+            self.tell(f"{older}, in the newest", *self.day(older, twin))
+            self.tell(older, "" if stored(f"{folder}/desk.db") == stored(f"{twin}/desk.db") else "its rows are not those of the same desk of the newest version")
+            self.tell(older, *self.again(folder, plain.states[-1]))
+        self.settle(f"{len(OLDER)} days")
 
     def test_openings(self) -> None:
-        """Each is opened, and nothing comes behind that: one of them at least has nothing to be moved, and one has."""
-        moved = []
-        for name in FIRST_NAMES:
-            folder, tables = self.made(name)
-            moved.append(len(opened_moves(tables, FIRST_DAY)))
-            ran = run_kept(ASKED.program, folder, "desk.db", FIRST_DAY, "/dev/null")
-            self.tell(name, why_not_opened(ran, folder, FIRST_DAY, tables))
-            opened = opened_tables(tables, FIRST_DAY)
-            self.tell(name, *self.newest(folder, opened), *self.again(folder, opened))
-        self.assertTrue(min(moved) == 0 < max(moved), moved)
-        self.settle("openings")
+        """Each is opened, and nothing comes behind that: of each version one at least has nothing to be moved, and one has."""
+        moved: dict[int, list[int]] = {}
+        for older in OLDER:
+            folder, tables = self.made(older)
+            moved.setdefault(older.version, []).append(len(opened_moves(tables, OLD_DAY)))
+            ran = run_kept(ASKED.program, folder, "desk.db", OLD_DAY, "/dev/null")
+            self.tell(older, why_not_opened(ran, folder, OLD_DAY, tables))
+            opened = opened_tables(tables, OLD_DAY)
+            self.tell(older, *self.newest(folder, opened), *self.again(folder, opened))
+        self.assertTrue(all(min(counts) == 0 < max(counts) for counts in moved.values()), moved)
+        self.settle(f"{len(OLDER)} openings")
 
     def test_logs(self) -> None:
         """Each where its program was killed, with all rows in the log beside it: it is reported, and then opened."""
-        for name in FIRST_NAMES:
-            tables, folder = self.made(name)[1], self.cases.folder()
+        for older in OLDER:
+            tables, folder = self.made(older)[1], self.cases.folder()
             make_file(f"{folder}/desk.db", tables, is_left_open=True)
-            self.tell(f"{name}, in the log", *self.reported(folder, tables))
-            ran = run_kept(ASKED.program, folder, "desk.db", FIRST_DAY, "/dev/null")
-            self.tell(f"{name}, in the log", why_not_opened(ran, folder, FIRST_DAY, tables), *self.newest(folder, opened_tables(tables, FIRST_DAY)))
-        self.settle("logs")
+            self.tell(f"{older}, in the log", *self.reported(folder, tables))
+            ran = run_kept(ASKED.program, folder, "desk.db", OLD_DAY, "/dev/null")
+            self.tell(f"{older}, in the log", why_not_opened(ran, folder, OLD_DAY, tables), *self.newest(folder, opened_tables(tables, OLD_DAY)))
+        self.settle(f"{len(OLDER)} logs")
 
     def test_reports(self) -> None:
         """Each is reported, also when it was opened since; no file of its folder is changed by that."""
-        for name in FIRST_NAMES:
-            folder, tables = self.made(name)
-            for where, version in ((folder, "1"), (self.twin(tables), "the newest")):
-                self.tell(f"{name}, of version {version}", *self.reported(where, tables))
-            run_kept(ASKED.program, folder, "desk.db", FIRST_DAY, "/dev/null")
-            self.tell(f"{name}, opened", *self.reported(folder, opened_tables(tables, FIRST_DAY)))
-        self.settle("reports")
+        for older in OLDER:
+            folder, tables = self.made(older)
+            for name, where in ((f"{older}", folder), (f"{older}, in the newest", self.twin(tables))):
+                self.tell(name, *self.reported(where, tables))
+            run_kept(ASKED.program, folder, "desk.db", OLD_DAY, "/dev/null")
+            self.tell(f"{older}, opened", *self.reported(folder, opened_tables(tables, OLD_DAY)))
+        self.settle(f"{len(OLDER)} reports")
 
     def reported(self, folder: str, tables: Tables) -> list[str]:
         """What of the reports of a desk with these tables is not as it should be: of all its moves, of some, and of none."""
@@ -155,3 +164,33 @@ class Versions(Tried):
             is_right = (ran.status, ran.err) == (0, "") and before.keys() == set(os.listdir(folder))
             faults += [difference(report_of(moves, "closed", begin, end), ran.out), changed(before, folder), "" if is_right else f"{ran.status}, {ran.err!r}"]
         return faults
+
+    def test_replies(self) -> None:
+        """Each call of which a reply is kept is sent again, to a server that brings the file to the newest version, to one behind a day, and to the next one: it is
+        answered as it was, byte for byte, and nothing is done."""
+        count = 0
+        for older in OLDER:
+            tables = self.made(older)[1]
+            self.assertEqual(bool(tables.reply), os.path.exists(f"{older.path}.http"), older)
+            if not tables.reply:
+                continue
+            told = exchanges(f"{older.path}.http")
+            self.assertEqual(len(tables.reply), len(told), older)
+            self.tell(f"{older}, the plain desk", "" if by_plain(tables, told) == [it.response for it in told] else "it answers otherwise")
+            for name, is_worked in ((f"{older}, served", False), (f"{older}, served behind a day", True)):
+                folder, _ = self.made(older)
+                self.tell(name, *(self.day(older, folder) if is_worked else []))
+                self.tell(name, *self.sent_again(folder, told), *self.sent_again(folder, told))
+                count += 2 * len(told)
+        self.assertGreater(count, 0)
+        self.settle(f"{count} calls sent again")
+
+    def sent_again(self, folder: str, told: list[Exchange]) -> list[str]:
+        """What is wrong where these calls are sent to a server of the desk in a folder."""
+        tables = read_tables(f"{folder}/desk.db")
+        opened, printed = opened_tables(tables, AGAIN), text_of(map(move_line, opened_moves(tables, AGAIN)))
+        with Server(ASKED.program, folder, "desk.db", len(told), ["--at", str(AGAIN)]) as server:
+            got = [(it, server.exchange(it.request)) for it in told]
+            ended, right = server.end(), Ended(0, printed, server.says)
+        faults = [f"{it.request!r:.300} is answered {response!r:.300}" for it, response in got if response != it.response]
+        return [*faults, "" if ended == right else f"its end: {ended}", *self.newest(folder, opened)]

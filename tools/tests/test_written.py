@@ -356,7 +356,7 @@ TEXTS = {"name", "outcome", "author", "stack", "person", "procedure", "body", "s
 
 def row_faults(case: Case, connection: sqlite3.Connection, name: str) -> tuple[list[str], int, int]:
     """How a table's rows differ from those that are written out; they stand in the order in which they were written."""
-    wanted = case.rows.get(name, {"meta": "schema|2", "tally": NO_TALLY}.get(name, "")).splitlines()
+    wanted = case.rows.get(name, {"meta": "schema|3", "tally": NO_TALLY}.get(name, "")).splitlines()
     cursor = connection.execute(f"SELECT * FROM {name} ORDER BY rowid")
     columns, rows = [it[0] for it in cursor.description], cursor.fetchall()
     kinds = [str if it in TEXTS else int for it in columns]

@@ -31,7 +31,7 @@ abbrev pub load_keys : Data → Option LoadKeys
 load_keys value =
     load_keys_of (text_at (codes "by") value) (text_at (codes "csv") value) (number_at (codes "moment") value) (text_at (codes "name") value) (number_at (codes "number") value)
 
--- a call of a load: who, when, where that is a moment, under which name, where that has its form, and the text
+-- a call of a load: who, when, where that is a moment, and the name and the text as they came
 pub record LoadCall : Type 0 where
   pub caller : Caller
   pub moment : Option ℕ

@@ -31,7 +31,7 @@ fn load_keys(value: &Value) -> Option<LoadKeys<'_>>
     })
 }
 
-/// A load that is called: by whom, when, where that is a moment, and under which name, where that has its form.
+/// A load that is called: by whom, when, where that is a moment, and the name and the text as they came.
 #[derive(Clone, Copy)]
 pub(crate) struct LoadPost<'a> {
     pub(crate) caller: Caller,

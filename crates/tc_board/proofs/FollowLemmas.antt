@@ -2,7 +2,7 @@
 use Rattle.std.proofs.Common.{◌≡◌, ℕ, ◌==◌, Bool, true, false, cond, Option, Some, None, List, [], ◌∷◌, ◌++◌, map, refl, sym, ◌∙◌, ap, subst, arith}
 use Rattle.std.specs.Prelude.{not, filter, fold}
 use Rattle.std.specs.List.{list_any, AllByRecursion}
-use Rattle.std.proofs.lemmas.List.{map-append}
+use Rattle.std.proofs.lemmas.List.{append-nil, append_assoc, map-append}
 use Rattle.std.proofs.lemmas.List.Sums.{fold-append}
 use Rattle.std.proofs.lemmas.Bool.Decides.{nat_tests}
 use Rattle.tc_types.specs.declared.link.activities.Activity.{Activity}
@@ -20,12 +20,12 @@ use Rattle.tc_types.specs.declared.link.telecommands.Task.TheVariants.{Plain, Sc
 use Rattle.tc_types.specs.declared.link.telecommands.Telecommand.{Telecommand}
 use Rattle.tc_board.specs.declared.outcomes.Reporter.{Reporter}
 use Rattle.tc_board.specs.declared.schedules.ScheduleFault.{ScheduleFault}
-use Rattle.tc_board.specs.Schedule.{ScheduleState, is_of, is_same_identity, has_identity, IsSchedule, listed, shifted, failure_of, commanded, after_command}
+use Rattle.tc_board.specs.Schedule.{ScheduleState, is_of, is_same_identity, has_identity, has_one_twice, meets_one, IsSchedule, listed, shifted, failure_of, commanded, after_command}
 use Rattle.tc_board.specs.Reports.{tells, asked, is_refused, first_reports, later_reports}
 use Rattle.tc_board.specs.Board.{BoardState, reporter_of, outcome_of, accept_reports, accepted, shown, command_reports, task_reports, after_task, work_reports, worked}
 use Rattle.tc_board.specs.Mirror.{MirrorState, mirror_of, mirror_after, is_listed_of, without, with_activity, moved, told, told_by, verified}
 use Rattle.tc_board.specs.Follows.{Roll, IsActivityOf, IsRequestOf, command_in, inserted, with_command, read_all}
-use Rattle.tc_board.proofs.SoundLemmas.{each_weaker, each_both, each_fails, insert_passes}
+use Rattle.tc_board.proofs.SoundLemmas.{each_weaker, each_both, each_appended, each_fails, first_goes_in, insert_passes}
 use Rattle.tc_board.proofs.SummaryLemmas.{summary-told}
 
 -- ---- what is read in two parts
@@ -162,16 +162,26 @@ same_mirror enabled xs ys same = ap (λ l. (let m : MirrorState = record { enabl
 with-new : (new : ListedActivity) (xs : List Activity) → IsAbsent new.request xs → with_activity new (map listed xs) ≡ map listed xs ++ new ∷ []
 with-new new xs absent = rw (none_listed new.request xs absent) refl
 
+-- so are all of a list, one after the other
+all_told : (roll : Roll) (xs ys : List Activity) → AllByRecursion (IsActivityOf roll) ys → AllByRecursion (IsActivityOf roll) xs → meets_one xs ys ≡ false → has_one_twice ys ≡ false
+    → fold (λ known a. with_activity (listed a) known) (map listed xs) ys ≡ map listed (xs ++ ys)
+all_told roll xs [] new all apart once = ap (map listed) (sym (append-nil xs))
+all_told roll xs (a ∷ ys) new all apart once =
+    let first = first_goes_in xs a ys apart once in
+    ap (λ known. fold (λ k b. with_activity (listed b) k) known ys)
+    (with-new (listed a) xs (new_absent roll a xs new.0 all first.0) ∙ sym (map-append listed xs (a ∷ [])))
+    ∙ all_told roll (xs ++ a ∷ []) ys new.1 (each_appended (IsActivityOf roll) xs a all new.0) first.1 first.2
+    ∙ ap (map listed) (append_assoc xs (a ∷ []) ys)
+
 -- the mirror follows a command that does not fail
 pub told_follows : (roll : Roll) (now : ℕ) (command : ScheduleCommand) (s : ScheduleState) → AllByRecursion (IsActivityOf roll) (inserted (Some command)) → AllByRecursion (IsActivityOf roll) s.activities
     → failure_of now command s ≡ None → told command (mirror_of s) ≡ mirror_of (commanded command s)
 told_follows roll now Enable s new all passes = refl
 told_follows roll now Disable s new all passes = refl
 told_follows roll now Reset s new all passes = refl
-told_follows roll now (Insert a) s new all passes =
-    same_mirror s.enabled _ _
-    (with-new (listed a) s.activities (new_absent roll a s.activities new.0 all (insert_passes _ _ _ passes).0)
-    ∙ sym (map-append listed s.activities (a ∷ [])))
+told_follows roll now (Insert activities) s new all passes =
+    let three = insert_passes _ _ _ _ passes in
+    same_mirror s.enabled _ _ (all_told roll s.activities activities new all three.0 three.1)
 told_follows roll now (Delete target) s new all passes = same_mirror s.enabled _ _ (filter-listed (λ a. not (is_listed_of target a)) s.activities)
 told_follows roll now (Shift target offset) s new all passes =
     same_mirror s.enabled _ _ (map-listed (λ l. cond (is_listed_of target l) (moved offset l) l) (λ a. cond (is_of target a) (shifted offset a) a) (λ a. by_test a (is_of target a)) s.activities)
@@ -187,7 +197,7 @@ shown_read : (roll : Roll) (command : ScheduleCommand) (s : ScheduleState) → I
 shown_read roll Enable s is = refl
 shown_read roll Disable s is = refl
 shown_read roll Reset s is = refl
-shown_read roll (Insert a) s is = refl
+shown_read roll (Insert activities) s is = refl
 shown_read roll (Delete target) s is = refl
 shown_read roll (Shift target offset) s is = refl
 shown_read roll (ShiftAll offset) s is = refl

@@ -20,15 +20,10 @@ use Rattle.tc_board.specs.Reports.{tells, asked, is_refused, first_reports, late
 use Rattle.tc_board.specs.Board.{BoardState, reporter_of, reporter_at, outcome_of, accepted, shown, command_reports, task_reports, after_task, work_reports, worked, released, ClockReports, clocked}
 use Rattle.tc_board.specs.Follows.{command_in, inserted, Event, Accept, Work, Clock, Makes}
 use Rattle.tc_board.specs.Names.{IsNamed, Knows, AreNamed, IsGivenOf}
-use Rattle.tc_board.proofs.SoundLemmas.{each_weaker, each_appended, each_filtered, command_each}
+use Rattle.tc_board.proofs.SoundLemmas.{each_weaker, each_appended, each_joined, each_filtered, command_each}
 use Rattle.tc_board.proofs.DueLemmas.{due_each}
 
 -- ---- what holds of each of a list
-
--- what holds of each of two lists holds of each of them joined
-each_joined : {X : Type 0} (P : X → Type 0) (xs ys : List X) → AllByRecursion P xs → AllByRecursion P ys → AllByRecursion P (xs ++ ys)
-each_joined P [] ys first second = second
-each_joined P (x ∷ xs) ys first second = (first.0, each_joined P xs ys first.1 second)
 
 -- so many lists joined
 each_flat : {X : Type 0} {Y : Type 0} (P : Y → Type 0) (f : X → List Y) (xs : List X) → AllByRecursion (λ x. AllByRecursion P (f x)) xs → AllByRecursion P (flat_map f xs)
@@ -47,7 +42,7 @@ shown_named : (K : ℕ → Type 0) (command : ScheduleCommand) (s : ScheduleStat
 shown_named K Enable s = tt
 shown_named K Disable s = tt
 shown_named K Reset s = tt
-shown_named K (Insert activity) s = tt
+shown_named K (Insert activities) s = tt
 shown_named K (Delete target) s = tt
 shown_named K (Shift target offset) s = tt
 shown_named K (ShiftAll offset) s = tt

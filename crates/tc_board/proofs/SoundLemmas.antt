@@ -1,9 +1,9 @@
 -- That a schedule stays one, at most 64 activities and no two of one identity, and that the spacecraft keeps what the desk releases.
-use Rattle.std.proofs.Common.{◌≡◌, ℕ, ◌<◌, Bool, true, false, cond, Option, Some, None, List, [], ◌∷◌, ◌++◌, length, map, refl, sym, ◌∙◌, ap, subst, arith}
-use Rattle.std.specs.Prelude.{ℤ, not, ◌||◌, filter, nat_le}
+use Rattle.std.proofs.Common.{◌≡◌, ℕ, ◌+◌, ◌==◌, ◌<◌, ◌≤◌, Bool, true, false, cond, Option, Some, None, List, [], ◌∷◌, ◌++◌, length, map, refl, sym, ◌∙◌, ap, subst, arith}
+use Rattle.std.specs.Prelude.{ℤ, not, ◌||◌, filter, nat_lt}
 use Rattle.std.specs.List.{list_any, AllByRecursion, IsDistinct}
 use Rattle.std.proofs.lemmas.Bool.Decides.{nat_tests}
-use Rattle.std.proofs.lemmas.List.{length-append, length-map}
+use Rattle.std.proofs.lemmas.List.{append-nil, append_assoc, length-append, length-map}
 use Rattle.std.proofs.lemmas.List.Sums.{length-filter, count_by-le-length}
 use Rattle.tc_types.specs.declared.link.activities.Activity.{Activity}
 use Rattle.tc_types.specs.declared.requests.Identity.{Identity}
@@ -14,7 +14,7 @@ use Rattle.tc_types.specs.declared.link.telecommands.Task.TheVariants.{Plain, Sc
 use Rattle.tc_types.specs.declared.link.telecommands.Telecommand.{Telecommand}
 use Rattle.tc_board.specs.declared.schedules.ScheduleFault.{ScheduleFault}
 use Rattle.tc_board.specs.declared.schedules.ScheduleFault.TheVariants.{Time, Full, IdentityInUse}
-use Rattle.tc_board.specs.Schedule.{ScheduleState, is_of, is_same_identity, has_identity, IsSchedule, shifted, first_failure, failure_of, commanded, after_command, is_due}
+use Rattle.tc_board.specs.Schedule.{ScheduleState, is_of, is_same_identity, has_identity, has_one_twice, meets_one, IsSchedule, shifted, first_failure, failure_of, commanded, after_command, is_due}
 use Rattle.tc_board.specs.Reports.{is_refused}
 use Rattle.tc_board.specs.Board.{BoardState, new_board, outcome_of, accepted, after_task, worked, clocked}
 use Rattle.tc_board.specs.Follows.{Roll, IsActivityOf, command_in, inserted, IsRequestOf, IsBoardOf}
@@ -35,6 +35,11 @@ each_both P Q R may (x ∷ xs) first second = (may x first.0 second.0, each_both
 pub each_appended : {X : Type 0} (P : X → Type 0) (xs : List X) (y : X) → AllByRecursion P xs → P y → AllByRecursion P (xs ++ y ∷ [])
 each_appended P [] y all last = (last, tt)
 each_appended P (x ∷ xs) y all last = (all.0, each_appended P xs y all.1 last)
+
+-- what holds of each of two lists holds of each of them joined
+pub each_joined : {X : Type 0} (P : X → Type 0) (xs ys : List X) → AllByRecursion P xs → AllByRecursion P ys → AllByRecursion P (xs ++ ys)
+each_joined P [] ys first second = second
+each_joined P (x ∷ xs) ys first second = (first.0, each_joined P xs ys first.1 second)
 
 -- those that pass a test
 pub each_filtered : {X : Type 0} (P : X → Type 0) (p : X → Bool) (xs : List X) → AllByRecursion P xs → AllByRecursion P (filter p xs)
@@ -75,6 +80,13 @@ none_passes p (x ∷ xs) all = rw all.0 (none_passes p xs all.1)
 -- the identities of activities
 abbrev pub identities : List Activity → List Identity
 identities activities = map (λ a. a.identity) activities
+
+-- one identity is another, whichever is named first
+same_both_ways : (a b : Identity) → is_same_identity a b ≡ is_same_identity b a
+same_both_ways a b =
+    let apid : (a.apid == b.apid) ≡ (b.apid == a.apid) = grind (arith, nat_tests) in
+    let count : (a.count == b.count) ≡ (b.count == a.count) = grind (arith, nat_tests) in
+    rw (apid, count) refl
 
 -- one more, of an identity that is not there
 apart_appended : (xs : List Activity) (a : Activity) → list_any (has_identity a.identity) xs ≡ false → IsDistinct is_same_identity (identities xs) → IsDistinct is_same_identity (identities (xs ++ a ∷ []))
@@ -121,6 +133,34 @@ schedule_empty = record { few = omega arith; apart = tt }
 pub schedule_appended : (xs : List Activity) (a : Activity) → IsSchedule xs → list_any (has_identity a.identity) xs ≡ false → length xs < 64 → IsSchedule (xs ++ a ∷ [])
 schedule_appended xs a is none room = record { few = (let len = length-append xs (a ∷ []) in omega (arith, len)); apart = apart_appended xs a none is.apart }
 
+-- the first of a list goes in: its identity is not there, and those of the others are not there then
+pub first_goes_in : (xs : List Activity) (a : Activity) (others : List Activity) → meets_one xs (a ∷ others) ≡ false → has_one_twice (a ∷ others) ≡ false
+    → (list_any (has_identity a.identity) xs ≡ false) × (meets_one (xs ++ a ∷ []) others ≡ false) × (has_one_twice others ≡ false)
+first_goes_in xs a others new once =
+    let met = neither (list_any (has_identity a.identity) xs) (meets_one xs others) new in
+    let twice = neither (list_any (has_identity a.identity) others) (has_one_twice others) once in (
+      met.0,
+      none_passes (λ b. list_any (has_identity b.identity) (xs ++ a ∷ [])) others
+          (each_both (λ b. list_any (has_identity b.identity) xs ≡ false) (λ b. has_identity a.identity b ≡ false) (λ b. list_any (has_identity b.identity) (xs ++ a ∷ []) ≡ false) (λ b apart other. none_behind xs a b apart other) others
+          (each_fails (λ b. list_any (has_identity b.identity) xs) others met.1) (each_fails (has_identity a.identity) others twice.0)),
+      twice.1,
+    )
+  where
+    none_behind : (xs : List Activity) (a b : Activity) → list_any (has_identity b.identity) xs ≡ false → has_identity a.identity b ≡ false → list_any (has_identity b.identity) (xs ++ a ∷ []) ≡ false
+    none_behind [] a b apart other = rw (same_both_ways a.identity b.identity, other) refl
+    none_behind (x ∷ xs) a b apart other =
+        let both = neither (has_identity b.identity x) (list_any (has_identity b.identity) xs) apart in
+        rw both.0 (none_behind xs a b both.1 other)
+
+-- a list of activities, no two of one identity, of which none is there, where there is room
+pub schedule_joined : (xs ys : List Activity) → IsSchedule xs → meets_one xs ys ≡ false → has_one_twice ys ≡ false → length xs + length ys ≤ 64 → IsSchedule (xs ++ ys)
+schedule_joined xs [] is new once room = subst IsSchedule (sym (append-nil xs)) is
+schedule_joined xs (a ∷ ys) is new once room =
+    let first = first_goes_in xs a ys new once in
+    let len = length-append xs (a ∷ []) in
+    subst IsSchedule (append_assoc xs (a ∷ []) ys)
+    (schedule_joined (xs ++ a ∷ []) ys (schedule_appended xs a is first.0 (omega (arith, room))) first.1 first.2 (omega (arith, room, len)))
+
 -- those that pass a test
 pub schedule_filtered : (p : Activity → Bool) (xs : List Activity) → IsSchedule xs → IsSchedule (filter p xs)
 schedule_filtered p xs is = record {
@@ -137,22 +177,23 @@ schedule_mapped f same xs is = record {
 
 -- ---- commands of the schedule
 
--- where an insert does not fail, the identity is not there, and there is room
-pub insert_passes : (early there full : Bool) → first_failure ((early, Time) ∷ (there, IdentityInUse) ∷ (full, Full) ∷ []) ≡ None → (there ≡ false) × (full ≡ false)
-insert_passes true there full passes = cc
-insert_passes false true full passes = cc
-insert_passes false false true passes = cc
-insert_passes false false false passes = (refl, refl)
+-- where an insert does not fail, no identity is there or comes twice, and there is room
+pub insert_passes : (early there twice full : Bool) → first_failure ((early, Time) ∷ (there || twice, IdentityInUse) ∷ (full, Full) ∷ []) ≡ None → (there ≡ false) × (twice ≡ false) × (full ≡ false)
+insert_passes true there twice full passes = cc
+insert_passes false true twice full passes = cc
+insert_passes false false true full passes = cc
+insert_passes false false false true passes = cc
+insert_passes false false false false passes = (refl, refl, refl)
 
 -- a command that does not fail leaves a schedule
-command_sound : (now : ℕ) (command : ScheduleCommand) (s : ScheduleState) → IsSchedule s.activities → failure_of now command s ≡ None → IsSchedule (commanded command s).activities
+pub command_sound : (now : ℕ) (command : ScheduleCommand) (s : ScheduleState) → IsSchedule s.activities → failure_of now command s ≡ None → IsSchedule (commanded command s).activities
 command_sound now Enable s is passes = is
 command_sound now Disable s is passes = is
 command_sound now Reset s is passes = schedule_empty
-command_sound now (Insert a) s is passes =
-    let both = insert_passes _ _ _ passes in
-    let full : nat_le 64 (length s.activities) ≡ false = both.1 in
-    schedule_appended s.activities a is both.0 (grind (arith, nat_tests, full))
+command_sound now (Insert activities) s is passes =
+    let three = insert_passes _ _ _ _ passes in
+    let full : nat_lt 64 (length s.activities + length activities) ≡ false = three.2 in
+    schedule_joined s.activities activities is three.0 three.1 (grind (arith, nat_tests, full))
 command_sound now (Delete target) s is passes = schedule_filtered (λ a. not (is_of target a)) s.activities is
 command_sound now (Shift target offset) s is passes = schedule_mapped (λ a. cond (is_of target a) (shifted offset a) a) (λ a. by_test a (is_of target a)) s.activities is
   where
@@ -172,7 +213,7 @@ pub command_each : (P : Activity → Type 0) → ((offset : ℤ) (a : Activity) 
 command_each P later Enable s new all = all
 command_each P later Disable s new all = all
 command_each P later Reset s new all = tt
-command_each P later (Insert a) s new all = each_appended P s.activities a all new.0
+command_each P later (Insert activities) s new all = each_joined P s.activities activities all new
 command_each P later (Delete target) s new all = each_filtered P (λ a. not (is_of target a)) s.activities all
 command_each P later (Shift target offset) s new all =
     each_mapped P (λ a. cond (is_of target a) (shifted offset a) a) s.activities

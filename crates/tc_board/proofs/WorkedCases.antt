@@ -1,5 +1,5 @@
 -- The definitions carried out on worked cases.
-use Rattle.std.proofs.Common.{◌≡◌, ℕ, pos, negsuc, true, false, Some, None, [], ◌∷◌, refl}
+use Rattle.std.proofs.Common.{◌≡◌, ℕ, zero, suc, negsuc, true, false, Some, None, List, [], ◌∷◌, refl}
 use Rattle.tc_types.specs.declared.link.activities.Activity.{Activity}
 use Rattle.tc_types.specs.declared.link.reports.Verification.TheVariants as report
 use Rattle.tc_types.specs.declared.link.reports.Telemetry.TheVariants.{Verification}
@@ -8,8 +8,8 @@ use Rattle.tc_types.specs.declared.requests.Ack.{Ack}
 use Rattle.tc_types.specs.declared.requests.Identity.{Identity}
 use Rattle.tc_types.specs.declared.requests.Outcome.TheVariants.{Completes, Halts}
 use Rattle.tc_types.specs.declared.link.telecommands.ScheduleCommand.TheVariants.{Insert, Delete, ShiftAll}
-use Rattle.tc_board.specs.declared.schedules.ScheduleFault.TheVariants.{Time, NotThere, IdentityInUse}
-use Rattle.tc_board.specs.Schedule.{ScheduleState, failure_of, after_due, fault_code}
+use Rattle.tc_board.specs.declared.schedules.ScheduleFault.TheVariants.{Time, NotThere, Full, IdentityInUse}
+use Rattle.tc_board.specs.Schedule.{ScheduleState, empty_schedule, failure_of, commanded, after_command, after_due, fault_code}
 use Rattle.tc_board.specs.Reports.{reports_of}
 use Rattle.tc_board.specs.Board.{released}
 use Rattle.tc_board.specs.Mirror.{mirror_of, mirrored, mirror_after}
@@ -57,14 +57,49 @@ shift_all-at_the_margin = refl
 pub code_of_a_time : fault_code Time ≡ 2
 code_of_a_time = refl
 
-pub insert-too_early : failure_of 1000 (Insert (at 3 1059)) two ≡ Some Time
+pub insert-too_early : failure_of 1000 (Insert (at 3 1059 ∷ [])) two ≡ Some Time
 insert-too_early = refl
 
-pub insert-at_the_margin : failure_of 1000 (Insert (at 3 1060)) two ≡ None
+pub insert-at_the_margin : failure_of 1000 (Insert (at 3 1060 ∷ [])) two ≡ None
 insert-at_the_margin = refl
 
-pub insert-again : failure_of 1000 (Insert (at 2 1300)) two ≡ Some IdentityInUse
+pub insert-again : failure_of 1000 (Insert (at 2 1300 ∷ [])) two ≡ Some IdentityInUse
 insert-again = refl
+
+pub insert-list : failure_of 1000 (Insert (at 4 1300 ∷ at 3 1060 ∷ [])) two ≡ None
+insert-list = refl
+
+-- they go in behind the others, in the list's order
+pub insert-list-done : commanded (Insert (at 4 1300 ∷ at 3 1060 ∷ [])) two ≡ record { enabled = false; activities = at 1 1100 ∷ at 2 1200 ∷ at 4 1300 ∷ at 3 1060 ∷ [] }
+insert-list-done = refl
+
+-- the first is there already, and the second is too early: all times are tested before any identity
+pub insert-times_first : failure_of 1000 (Insert (at 2 1300 ∷ at 3 1059 ∷ [])) two ≡ Some Time
+insert-times_first = refl
+
+pub insert-twice : failure_of 1000 (Insert (at 3 1300 ∷ at 4 1300 ∷ at 3 1400 ∷ [])) two ≡ Some IdentityInUse
+insert-twice = refl
+
+-- ---- 62 activities, and three more
+
+abbrev so_many : ℕ → List Activity
+so_many zero = []
+so_many (suc n) = at (suc n) 1100 ∷ so_many n
+
+abbrev nearly_full : ScheduleState
+nearly_full = record { enabled = false; activities = so_many 62 }
+
+pub insert-two_fit : failure_of 1000 (Insert (at 63 1100 ∷ at 64 1100 ∷ [])) nearly_full ≡ None
+insert-two_fit = refl
+
+pub insert-three_are_too_many : failure_of 1000 (Insert (at 63 1100 ∷ at 64 1100 ∷ at 65 1100 ∷ [])) nearly_full ≡ Some Full
+insert-three_are_too_many = refl
+
+-- none of them went in
+pub insert-none_went_in : after_command (failure_of 1000 (Insert (at 63 1100 ∷ at 64 1100 ∷ at 65 1100 ∷ [])) nearly_full) (Insert (at 63 1100 ∷ at 64 1100 ∷ at 65 1100 ∷ [])) nearly_full ≡ nearly_full
+insert-none_went_in = refl
+
+-- ---- the others
 
 pub delete-nothing : failure_of 1000 (Delete 3) two ≡ Some NotThere
 delete-nothing = refl
@@ -80,10 +115,14 @@ due-reported = refl
 
 -- request 9 inserted activity 1, which is then released
 pub mirror-follows : mirrored
-    ((Telemetry (Verification report.Accepted 9 (name 9)), Some (Insert (at 1 1100)))
-    ∷ (Telemetry (Verification report.Completed 9 (name 9)), Some (Insert (at 1 1100)))
+    ((Telemetry (Verification report.Accepted 9 (name 9)), Some (Insert (at 1 1100 ∷ [])))
+    ∷ (Telemetry (Verification report.Completed 9 (name 9)), Some (Insert (at 1 1100 ∷ [])))
     ∷ []) ≡ mirror_of (record { enabled = false; activities = at 1 1100 ∷ [] })
 mirror-follows = refl
+
+-- request 9 inserted both
+pub mirror-list : mirror_after (mirror_of empty_schedule) (Telemetry (Verification report.Completed 9 (name 9)), Some (Insert (at 1 1100 ∷ at 2 1200 ∷ []))) ≡ mirror_of two
+mirror-list = refl
 
 pub mirror-released : mirror_after (mirror_of two) (Telemetry (Verification report.Accepted 1 (name 1)), None) ≡ mirror_of (record { enabled = false; activities = at 2 1200 ∷ [] })
 mirror-released = refl

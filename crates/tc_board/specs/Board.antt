@@ -63,7 +63,7 @@ abbrev pub shown : ScheduleCommand → ScheduleState → List Telemetry
 shown Enable s = []
 shown Disable s = []
 shown Reset s = []
-shown (Insert activity) s = []
+shown (Insert activities) s = []
 shown (Delete target) s = []
 shown (Shift target offset) s = []
 shown (ShiftAll offset) s = []

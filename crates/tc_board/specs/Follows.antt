@@ -1,5 +1,5 @@
 -- That the mirror is the board's schedule while every report is read, in order.
-use Rattle.std.specs.Prelude.{◌≡◌, ℕ, Bool, true, false, Option, Some, None, List, [], ◌∷◌, ◌++◌, map, fold}
+use Rattle.std.specs.Prelude.{◌≡◌, ℕ, Bool, true, false, Option, Some, None, List, [], ◌++◌, map, fold}
 use Rattle.std.specs.List.{AllByRecursion}
 use Rattle.tc_types.specs.declared.link.activities.Activity.{Activity}
 use Rattle.tc_types.specs.declared.requests.Identity.{Identity}
@@ -40,7 +40,7 @@ inserted None = []
 inserted (Some Enable) = []
 inserted (Some Disable) = []
 inserted (Some Reset) = []
-inserted (Some (Insert activity)) = activity ∷ []
+inserted (Some (Insert activities)) = activities
 inserted (Some (Delete target)) = []
 inserted (Some (Shift target offset)) = []
 inserted (Some (ShiftAll offset)) = []

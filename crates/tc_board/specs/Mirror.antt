@@ -1,8 +1,7 @@
 -- What the ground knows of the on-board schedule: a fold over the reports that were read (this desk's own).
-use Rattle.std.specs.Prelude.{ℕ, ℤ, ◌==◌, ◌<◌, ◌≤◌, length, Bool, true, false, not, if◌then◌else◌, Option, Some, None, List, [], ◌∷◌, ◌++◌, map, filter, fold}
+use Rattle.std.specs.Prelude.{ℕ, ℤ, ◌+◌, ◌==◌, ◌≤◌, length, Bool, true, false, not, if◌then◌else◌, Option, Some, None, List, [], ◌∷◌, ◌++◌, map, filter, fold}
 use Rattle.std.specs.List.{list_any, filter_map}
 use Rattle.tc_types.specs.declared.link.activities.ListedActivity.{ListedActivity}
-use Rattle.tc_types.specs.declared.link.activities.Activity.{Activity}
 use Rattle.tc_types.specs.declared.link.reports.Verification.{Verification}
 use Rattle.tc_types.specs.declared.link.reports.Verification.TheVariants.{Accepted, AcceptanceFailed, Started, StartFailed, StepDone, StepFailed, Completed, CompletionFailed}
 use Rattle.tc_types.specs.declared.link.reports.Telemetry.{Telemetry}
@@ -11,6 +10,7 @@ use Rattle.tc_types.specs.declared.link.reports.Report.{Report}
 use Rattle.tc_types.specs.declared.link.reports.Report.TheVariants as report
 use Rattle.tc_types.specs.declared.link.telecommands.ScheduleCommand.{ScheduleCommand}
 use Rattle.tc_types.specs.declared.link.telecommands.ScheduleCommand.TheVariants.{Enable, Disable, Reset, Insert, Delete, Shift, ShiftAll, Summarize}
+use Rattle.tc_types.specs.Inserts.{most_inserted}
 use Rattle.tc_board.specs.Schedule.{ScheduleState, listed, shifted_time, nearest_moment}
 
 -- the list holds the members of a set
@@ -27,9 +27,9 @@ pub record KeptMirror : Type 0 where
   pub told : MirrorState
   pub most : ℕ
 
--- there is room for one more activity, and for all that a summary carries
+-- there is room for as many more as an insert carries, and for all that a summary carries
 abbrev pub HasRoom : KeptMirror → Type 0
-HasRoom m = (length m.told.activities < m.most) × (64 ≤ m.most)
+HasRoom m = (length m.told.activities + most_inserted ≤ m.most) × (64 ≤ m.most)
 
 -- what the mirror is, where it is the schedule's
 abbrev pub mirror_of : ScheduleState → MirrorState
@@ -57,7 +57,7 @@ abbrev pub told : ScheduleCommand → MirrorState → MirrorState
 told Enable m = record m { enabled = true }
 told Disable m = record m { enabled = false }
 told Reset m = record { enabled = false; activities = [] }
-told (Insert activity) m = record m { activities = with_activity (listed activity) m.activities }
+told (Insert activities) m = record m { activities = fold (λ known a. with_activity (listed a) known) m.activities activities }
 told (Delete target) m = without target m
 told (Shift target offset) m = record m { activities = map (λ a. if is_listed_of target a then moved offset a else a) m.activities }
 told (ShiftAll offset) m = record m { activities = map (moved offset) m.activities }

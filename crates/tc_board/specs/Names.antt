@@ -13,7 +13,7 @@ abbrev pub IsNamed : (ℕ → Type 0) → Telemetry → Type 0
 IsNamed K (telemetry.Verification verification request identity) = K request
 IsNamed K (telemetry.Summary summary) = Unit {0}
 
--- K holds of a request that came on board, and of the activity that it inserts
+-- K holds of a request that came on board, and of the activities that it inserts
 pub record Knows (K : ℕ → Type 0) (t : Telecommand) : Type 0 where
   pub request : K t.request
   pub inserts : AllByRecursion (λ (a : Activity). K a.request) (inserted (command_in t.task))

@@ -30,6 +30,15 @@ is_same_identity a b = (a.apid == b.apid) && (a.count == b.count)
 abbrev pub has_identity : Identity → Activity → Bool
 has_identity identity activity = is_same_identity activity.identity identity
 
+-- two of them have one identity
+abbrev pub has_one_twice : List Activity → Bool
+has_one_twice [] = false
+has_one_twice (activity ∷ others) = list_any (has_identity activity.identity) others || has_one_twice others
+
+-- one of them has an identity that is there
+abbrev pub meets_one : List Activity → List Activity → Bool
+meets_one there activities = list_any (λ a. list_any (has_identity a.identity) there) activities
+
 -- a schedule as it can be: at most 64 activities, no two of one identity
 pub record IsSchedule (activities : List Activity) : Type 0 where
   pub few : length activities ≤ 64
@@ -63,17 +72,17 @@ abbrev pub fault_code : ScheduleFault → ℕ
 fault_code Time = 2  -- a time too early, or past the last
 fault_code NotThere = 3  -- no such activity
 fault_code Full = 4  -- the schedule is full
-fault_code IdentityInUse = 6  -- the identity is there
+fault_code IdentityInUse = 6  -- an identity is there, or comes twice
 
 -- The tests of each command, each with its failure, in order. The first that holds is the command's failure.
 abbrev pub tests_of : ℕ → ScheduleCommand → ScheduleState → List (Bool × ScheduleFault)
 tests_of now Enable s = []
 tests_of now Disable s = []
 tests_of now Reset s = []
-tests_of now (Insert activity) s =
-    (is_too_early now activity.time, Time)
-    ∷ (list_any (has_identity activity.identity) s.activities, IdentityInUse)
-    ∷ (nat_le 64 (length s.activities), Full)
+tests_of now (Insert activities) s =
+    (list_any (λ a. is_too_early now a.time) activities, Time)
+    ∷ (meets_one s.activities activities || has_one_twice activities, IdentityInUse)
+    ∷ (nat_lt 64 (length s.activities + length activities), Full)
     ∷ []
 tests_of now (Delete target) s = (not (list_any (is_of target) s.activities), NotThere) ∷ []
 tests_of now (Shift target offset) s =
@@ -96,7 +105,7 @@ abbrev pub commanded : ScheduleCommand → ScheduleState → ScheduleState
 commanded Enable s = record s { enabled = true }
 commanded Disable s = record s { enabled = false }
 commanded Reset s = empty_schedule
-commanded (Insert activity) s = record s { activities = s.activities ++ activity ∷ [] }
+commanded (Insert activities) s = record s { activities = s.activities ++ activities }
 commanded (Delete target) s = record s { activities = filter (λ a. not (is_of target a)) s.activities }
 commanded (Shift target offset) s = record s { activities = map (λ a. if is_of target a then shifted offset a else a) s.activities }
 commanded (ShiftAll offset) s = record s { activities = map (shifted offset) s.activities }

@@ -123,7 +123,7 @@ fn command_schedule<A: Allocator + Copy + Drop>(
         ScheduleCommand::Enable => schedule.enable(),
         ScheduleCommand::Disable => schedule.disable(),
         ScheduleCommand::Reset => schedule.reset(),
-        ScheduleCommand::Insert(activity) => return schedule.insert(now, activity),
+        ScheduleCommand::Insert(activities) => return schedule.insert(now, &activities),
         ScheduleCommand::Delete { target } => return schedule.delete(now, target),
         ScheduleCommand::Shift { target, offset } => return schedule.shift(now, target, offset),
         ScheduleCommand::ShiftAll { offset } => return schedule.shift_all(now, offset),

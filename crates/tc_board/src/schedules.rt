@@ -1,13 +1,14 @@
 //! The on-board schedule (ECSS-E-ST-70-41C, service 11).
-ghost use Rattle.std.specs.Prelude.{◌≡◌, ◌≤◌, ◌++◌, ◌&&◌, not, map, filter, drop, length, vec_len, Some, IsPermutation, IsSortedBy, IfOk, OnOk, if◌then◌else◌};
+ghost use Rattle.std.specs.Prelude.{◌≡◌, ◌≤◌, ◌+◌, ◌++◌, ◌&&◌, not, map, filter, drop, length, vec_len, vec_capacity, Some, IsPermutation, IsSortedBy, IfOk, OnOk, if◌then◌else◌};
 ghost use Rattle.std.specs.List.{list_any};
 ghost use Rattle.tc_types.specs.declared.link.telecommands.ScheduleCommand.TheVariants as command;
-ghost use Rattle.tc_board.specs.Schedule.{empty_schedule, fault_code, Obeys, Becomes, Holds, commanded, after_due, FallDue, summary_of, is_of, is_too_early, is_bad_time, shifted_time, nearest_moment, shifts_badly, shifted, has_identity, is_due, is_before, IsSchedule, listed, places_for};
+ghost use Rattle.tc_board.specs.Schedule.{empty_schedule, fault_code, failure_of, Obeys, Becomes, Holds, commanded, after_due, FallDue, summary_of, is_of, is_too_early, has_one_twice, meets_one, is_bad_time, shifted_time, nearest_moment, shifts_badly, shifted, has_identity, is_due, is_before, IsSchedule, listed, places_for};
 
 use std::alloc::{AllocError, Allocator};
 use std::marker::Model;
 use tc_types::{
-    Activity, Identity, LARGEST_MOMENT, ListedActivity, MOST_ACTIVITIES, Moment, Offset, Summary,
+    Activities, Activity, Identity, LARGEST_MOMENT, ListedActivity, MOST_ACTIVITIES, Moment,
+    Offset, Summary,
 };
 
 /// How far off a time to come is at least, in seconds (this desk's own).
@@ -22,7 +23,7 @@ pub enum ScheduleFault {
     NotThere,
     /// The schedule is full.
     Full,
-    /// The identity is there already.
+    /// An identity is there already, or comes twice.
     IdentityInUse,
 }
 
@@ -63,6 +64,53 @@ fn is_too_early(now: Moment, time: Moment) -> bool
     ensures { result ≡ is_too_early now time }
 {
     u64::from(time.get()) < u64::from(now.get()) + u64::from(MARGIN)
+}
+
+/// Whether the time of an activity is nearer than the margin.
+fn some_is_too_early(now: Moment, activities: &[Activity]) -> bool
+    ensures { result ≡ list_any (λ a. is_too_early now a.time) activities.now }
+{
+    activities.iter().any(|a| is_too_early(now, a.time))
+}
+
+/// Whether an activity has this identity.
+fn some_has_identity(activities: &[Activity], identity: Identity) -> bool
+    ensures { result ≡ list_any (has_identity identity) activities.now }
+{
+    let apid = identity.apid.get();
+    let count = identity.count.get();
+    activities.iter().any(|a| a.identity.apid.get() == apid && a.identity.count.get() == count)
+}
+
+/// Whether an activity has an identity that is there.
+fn meets_one(there: &[Activity], activities: &[Activity]) -> bool
+    ensures { result ≡ meets_one there.now activities.now }
+{
+    activities
+        .iter()
+        .any(|a| some_has_identity(there, a.identity))
+}
+
+/// Whether two activities have one identity.
+fn has_one_twice(activities: &[Activity]) -> bool
+    ensures { result ≡ has_one_twice activities.now }
+{
+    for (index, activity) in activities.iter().enumerate() {
+        if some_has_identity(&activities[index + 1..], activity.identity) {
+            return true;
+        }
+    }
+    false
+}
+
+/// These are put behind the others, for which there is room.
+fn put_behind<A: Allocator>(activities: &mut Vec<Activity, A>, others: &[Activity])
+    requires { vec_len activities.old + length others.now ≤ vec_capacity activities.old }
+    ensures { Holds (activities.old.items ++ others.now) activities.old activities.new }
+{
+    for activity in others {
+        activities.push_reserved(*activity);
+    }
 }
 
 /// The moment that is so far from a time, or the nearest one.
@@ -207,16 +255,6 @@ impl<A: Allocator + Copy + Drop> Schedule<A> {
         &self.activities
     }
 
-    /// Whether an activity has this identity.
-    fn has_identity(&self, identity: Identity) -> bool
-        ensures { result ≡ list_any (has_identity identity) self.now.activities }
-    {
-        let apid = identity.apid.get();
-        let count = identity.count.get();
-        self.activities.iter().any(|a| a.identity.apid.get() == apid
-            && a.identity.count.get() == count)
-    }
-
     /// Whether the activity of this request is there.
     fn is_there(&self, target: u32) -> bool
         ensures { result ≡ list_any (is_of target) self.now.activities }
@@ -241,21 +279,33 @@ impl<A: Allocator + Copy + Drop> Schedule<A> {
             .any(|a| is_bad_time(now, a.time, offset))
     }
 
-    /// TC[11,4]: the activity is released at its time. Fails with `Time` where that is nearer than the margin, with
-    /// `IdentityInUse` where its identity is there, and with `Full` where there are 64; then nothing changes.
-    pub fn insert(&mut self, now: Moment, activity: Activity) -> Result<(), ScheduleFault>
-        ensures { Obeys now (command.Insert activity) self.old self.new result }
+    /// Why these activities cannot be inserted, if they cannot: each test is of all of them, before the next.
+    fn insert_fault(&self, now: Moment, activities: &Activities) -> Option<ScheduleFault>
+        ensures { result ≡ failure_of now (command.Insert activities.now) self.now }
     {
-        if is_too_early(now, activity.time) {
-            return Err(ScheduleFault::Time);
+        let inserted = activities.as_slice();
+        if some_is_too_early(now, inserted) {
+            return Some(ScheduleFault::Time);
         }
-        if self.has_identity(activity.identity) {
-            return Err(ScheduleFault::IdentityInUse);
+        if meets_one(&self.activities, inserted) || has_one_twice(inserted) {
+            return Some(ScheduleFault::IdentityInUse);
         }
-        if self.activities.len() >= MOST_ACTIVITIES {
-            return Err(ScheduleFault::Full);
+        if self.activities.len() + inserted.len() > MOST_ACTIVITIES {
+            return Some(ScheduleFault::Full);
         }
-        self.activities.push_reserved(activity);
+        None
+    }
+
+    /// TC[11,4]: the activities are released at their times. All go in, or none: it fails with `Time` where the time of
+    /// one is nearer than the margin, then with `IdentityInUse` where the identity of one is there or two have one
+    /// identity, and then with `Full` where there would be more than 64; then nothing changes.
+    pub fn insert(&mut self, now: Moment, activities: &Activities) -> Result<(), ScheduleFault>
+        ensures { Obeys now (command.Insert activities.now) self.old self.new result }
+    {
+        if let Some(fault) = self.insert_fault(now, activities) {
+            return Err(fault);
+        }
+        put_behind(&mut self.activities, activities.as_slice());
         Ok(())
     }
 

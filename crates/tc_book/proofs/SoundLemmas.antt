@@ -8,6 +8,7 @@ use Rattle.tc_types.specs.declared.requests.Request.{Request}
 use Rattle.tc_types.specs.declared.tables.rows.PlacedRequest.{PlacedRequest}
 use Rattle.tc_types.specs.declared.tables.rows.LoadedStack.{LoadedStack}
 use Rattle.tc_types.specs.declared.tables.rows.Tally.{Tally}
+use Rattle.tc_types.specs.declared.tables.cargo.Cargo.{Cargo}
 use Rattle.tc_types.specs.Lawful.{is_among}
 use Rattle.tc_types.specs.History.{place_of, count_at}
 use Rattle.tc_types.specs.declared.history.moves.Move.{Move}
@@ -48,19 +49,22 @@ sound_whole image start approvals rest log = record {
   placed = start.past.placed;
   tallied = start.past.tallied;
   stacks = start.requests.stacks;
+  cargo = start.requests.cargo;
 }
 
 -- sound tables are those of the book that they tell of
-told : (image : Image) (requests : List PlacedRequest) (tallies : List Tally) (stacks : List LoadedStack) → requests ≡ image.requests → tallies ≡ image.tallies → stacks ≡ image.stacks
-    → record image { requests = requests; tallies = tallies; stacks = stacks } ≡ image
-told image requests tallies stacks by_requests by_tallies by_stacks =
-    ap (λ (l : List PlacedRequest). record image { requests = l; tallies = tallies; stacks = stacks }) by_requests
-    ∙ ap (λ (l : List Tally). record image { tallies = l; stacks = stacks }) by_tallies
-    ∙ ap (λ (l : List LoadedStack). record image { stacks = l }) by_stacks
+told : (image : Image) (requests : List PlacedRequest) (tallies : List Tally) (stacks : List LoadedStack) (cargo : List Cargo)
+    → requests ≡ image.requests → tallies ≡ image.tallies → stacks ≡ image.stacks → cargo ≡ image.cargo
+    → record image { requests = requests; tallies = tallies; stacks = stacks; cargo = cargo } ≡ image
+told image requests tallies stacks cargo by_requests by_tallies by_stacks by_cargo =
+    ap (λ (l : List PlacedRequest). record image { requests = l; tallies = tallies; stacks = stacks; cargo = cargo }) by_requests
+    ∙ ap (λ (l : List Tally). record image { tallies = l; stacks = stacks; cargo = cargo }) by_tallies
+    ∙ ap (λ (l : List LoadedStack). record image { stacks = l; cargo = cargo }) by_stacks
+    ∙ ap (λ (l : List Cargo). record image { cargo = l }) by_cargo
 
 pub told_image : (image : Image) → IsSound image → image_of (book_of image) ≡ image
 told_image image sound =
-    told image (map (placed image.moves) (book_of image).requests) (tallies_by (count_at image.moves)) (stacks_of (book_of image).requests) (sym sound.placed) (sym sound.tallied) (sym sound.stacks)
+    told image (map (placed image.moves) (book_of image).requests) (tallies_by (count_at image.moves)) (stacks_of (book_of image).requests) [] (sym sound.placed) (sym sound.tallied) (sym sound.stacks) (sym sound.cargo)
 
 -- as many requests are moved by an opening as the rows say
 opened_alike : (history : List Move) (at : Option Place) → is_opened (unwrap_or at Entered) ≡ is_among opened_places at
@@ -96,4 +100,5 @@ good_sound book good = record {
   placed = ap (map (placed book.history)) (sym (requests_again book.history book.requests));
   tallied = refl;
   stacks = ap stacks_of (sym (requests_again book.history book.requests));
+  cargo = refl;
 }

@@ -1,5 +1,5 @@
 -- Which tables a desk could have written, so that one may be opened over them (this desk's own).
-use Rattle.std.specs.Prelude.{◌≡◌, Result, IfErr, OnOk, map}
+use Rattle.std.specs.Prelude.{◌≡◌, Result, IfErr, OnOk, [], map}
 use Rattle.tc_types.specs.declared.tables.rows.PlacedRequest.{PlacedRequest}
 use Rattle.tc_types.specs.History.{count_at}
 use Rattle.tc_types.specs.Tables.{Image, tallies_by}
@@ -22,12 +22,14 @@ book_of image = record {
 
 -- Tables that a desk could have written: the book that they tell of is good, and what they say again is as the book has it: each request's
 -- row says the place where the history leaves it, each tally how many stand there, and the table of stacks which stacks the requests came
--- with. So they are the tables of a good book, and those of each good book are such (`laws`).
+-- with. A desk writes no row of cargo: each insert names one activity, which stands in its request's own row. So they are the tables of a
+-- good book, and those of each good book are such (`laws`).
 pub record IsSound (image : Image) : Type 0 where
   pub book : IsGoodBook (book_of image)
   pub placed : image.requests ≡ map (placed image.moves) (book_of image).requests
   pub tallied : image.tallies ≡ tallies_by (count_at image.moves)
   pub stacks : image.stacks ≡ stacks_of (book_of image).requests
+  pub cargo : image.cargo ≡ []
 
 -- what is read from tables that were left has this part of being sound, and where it is found unsound no desk could have written them
 pub record Judges {X : Type 0} (image : Image) (part : Type 0) (result : Result X ReopenFault) : Type 0 where

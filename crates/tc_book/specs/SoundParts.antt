@@ -25,13 +25,14 @@ pub record IsSoundPast (image : Image) : Type 0 where
   pub tallied : image.tallies ≡ tallies_by (count_at image.moves)
   pub numbers : HasNumbers (book_of image)
 
--- each request may follow those before it, there are no more of them, and no more stacks, than a desk takes, and the table of stacks says
--- which they came with
+-- each request may follow those before it, there are no more of them, and no more stacks, than a desk takes, the table of stacks says
+-- which they came with, and none has cargo
 pub record HasSoundRequests (image : Image) : Type 0 where
   pub requests : AllAfter IsGoodRequest [] (book_of image).requests
   pub few : length (book_of image).requests ≤ most_requests
   pub few_stacks : count_by begins_stack (book_of image).requests ≤ most_stacks
   pub stacks : image.stacks ≡ stacks_of (book_of image).requests
+  pub cargo : image.cargo ≡ []
 
 -- both, and the history enters the requests
 pub record IsSoundStart (image : Image) : Type 0 where

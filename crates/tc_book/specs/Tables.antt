@@ -1,5 +1,5 @@
 -- The rows of a book: what its tables hold, and nothing else.
-use Rattle.std.specs.Prelude.{List, map, unwrap_or}
+use Rattle.std.specs.Prelude.{List, [], map, unwrap_or}
 use Rattle.tc_types.specs.declared.history.places.Place.TheVariants.{Entered}
 use Rattle.tc_types.specs.declared.history.moves.Move.{Move}
 use Rattle.tc_types.specs.declared.requests.Request.{Request}
@@ -13,6 +13,7 @@ use Rattle.tc_book.specs.Stacks.{stacks_of}
 abbrev pub placed : List Move → Request → PlacedRequest
 placed history request = record { request = request; place = unwrap_or (place_of history request.number) Entered }
 
+-- Each insert names one activity, which stands in its request's own row: no row of cargo is a book's.
 abbrev pub image_of : Book → Image
 image_of book = record {
   requests = map (placed book.history) book.requests;
@@ -25,4 +26,5 @@ image_of book = record {
   steps = book.log.steps;
   executions = book.log.executions;
   records = book.log.records;
+  cargo = [];
 }

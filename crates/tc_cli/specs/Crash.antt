@@ -27,7 +27,7 @@ use Rattle.tc_room.specs.Opening.{OpensLeft}
 
 -- what the files hold, as tables of a version with these rows and no other
 abbrev pub HasRowsAs : Version → Trees → Ledger → Type 0
-HasRowsAs version trees ledger = Matches trees (contents_of version ledger.image ledger.replies) × IsListed (schema_of version) trees × Lacks version ledger.replies
+HasRowsAs version trees ledger = Matches trees (contents_of version ledger.image ledger.replies) × IsListed (schema_of version) trees × Lacks version ledger.image ledger.replies
 
 -- the tables of a connection are of a version and hold this ledger, and a crash leaves just that
 pub record HasLedgerAs {S : Type 0} (g : Ghosts S) (version : Version) (tables : Held S) (ledger : Ledger) : Type 0 where

@@ -20,10 +20,10 @@ abbrev pub activity_of : Request → ℕ → Activity
 activity_of target time =
     record { request = target.number; identity = target.body.identity; ack = target.body.ack; outcome = target.body.outcome; time = time }
 
--- an insert carries its activity; there is none without a request
+-- an insert carries the one activity that it names; there is none without a request
 abbrev pub insert_of : Option Request → ℕ → Option ScheduleCommand
 insert_of None time = None
-insert_of (Some target) time = Some (schedule.Insert (activity_of target time))
+insert_of (Some target) time = Some (schedule.Insert (activity_of target time ∷ []))
 
 -- a command of the schedule as it flies
 abbrev pub flown_command : Book → Command → Option ScheduleCommand

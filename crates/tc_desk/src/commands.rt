@@ -1,10 +1,13 @@
 //! The commands of the on-board schedule at the desk: which requests they name, and what flies of them.
-ghost use Rattle.std.specs.Prelude.{◌≡◌, Some, None};
+ghost use Rattle.std.specs.Prelude.{◌≡◌, Some, None, [], ◌∷◌};
+ghost use Rattle.tc_types.specs.declared.link.telecommands.ScheduleCommand.TheVariants as schedule;
 ghost use Rattle.tc_desk.specs.Commands.{activity_of, insert_of, flown_command, task_of, payload_of, command_at, inserted_by, activity_at};
 
 use std::alloc::Allocator;
 use tc_book::Records;
-use tc_types::{Activity, Body, Command, Moment, Payload, Request, ScheduleCommand, Task};
+use tc_types::{
+    Activities, Activity, Body, Command, Moment, Payload, Request, ScheduleCommand, Task,
+};
 
 /// A request as an activity that is released at this time.
 fn activity_of(target: &Request, time: Moment) -> Activity
@@ -19,13 +22,20 @@ fn activity_of(target: &Request, time: Moment) -> Activity
     }
 }
 
-/// An insert of this request, which carries it as an activity.
+/// An insert of this activity alone.
+fn insert_one(activity: Activity) -> ScheduleCommand
+    ensures { result ≡ schedule.Insert (activity ∷ []) }
+{
+    ScheduleCommand::Insert(Activities::of(&[activity]).unwrap())
+}
+
+/// An insert of this request, which carries it as its one activity.
 fn insert_of(target: Option<Request>, time: Moment) -> Option<ScheduleCommand>
     ensures { result ≡ insert_of target time }
 {
     match target {
         None => None,
-        Some(target) => Some(ScheduleCommand::Insert(activity_of(&target, time))),
+        Some(target) => Some(insert_one(activity_of(&target, time))),
     }
 }
 

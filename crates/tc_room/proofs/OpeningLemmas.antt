@@ -1,5 +1,5 @@
 -- What is opened over tables.
-use Rattle.std.proofs.Common.{◌≡◌, ◌∙◌, ◌⊎◌, inl, inr, ℕ, Bool, true, false, List, [], ◌∷◌, refl, ap, subst, sym}
+use Rattle.std.proofs.Common.{◌≡◌, ◌∙◌, ◌⊎◌, inl, inr, ℕ, Bool, true, false, List, [], ◌∷◌, drop, refl, ap, subst, sym}
 use Rattle.sqlite_schema.specs.declared.schema.Schema.{Schema}
 use Rattle.sqlite_trees.specs.declared.store.Store.{Ghosts}
 use Rattle.sqlite.specs.Effect.{Database}
@@ -12,7 +12,7 @@ use Rattle.tc_types.specs.declared.refusals.Refusal.TheVariants.{BadDirective, M
 use Rattle.tc_types.specs.declared.tables.rows.Row.{Row}
 use Rattle.tc_desk.specs.declared.configs.Config.{Config}
 use Rattle.tc_store.specs.declared.versions.Version.{Version}
-use Rattle.tc_store.specs.declared.versions.Version.TheVariants.{First, Second}
+use Rattle.tc_store.specs.declared.versions.Version.TheVariants.{First, Second, Third}
 use Rattle.tc_store.specs.Ledgers.{Ledger}
 use Rattle.tc_store.specs.Schema.{schema_of, HoldsAs}
 use Rattle.tc_room.specs.Joined.{LinkState}
@@ -45,17 +45,20 @@ not_empty version same = true_false (ap (λ (s : Schema). has_any s.tables) same
 pub keeps_same : (old new : Database) → new ≡ old → KeepsTables old new
 keeps_same old new same = record { empty = λ none. same; held = λ version ledger held. subst (λ now. HoldsAs version now ledger) (sym same) held }
 
-has_twelve : {X : Type 0} → List X → Bool
-has_twelve (a ∷ b ∷ c ∷ d ∷ e ∷ f ∷ g ∷ h ∷ i ∷ j ∷ k ∷ l ∷ xs) = true
-has_twelve xs = false
+-- which version has so many tables behind the eleven of the first
+abbrev version_behind : {X : Type 0} → List X → Version
+version_behind [] = First
+version_behind (a ∷ []) = Second
+version_behind (a ∷ b ∷ xs) = Third
+
+told_back : (version : Version) → version_behind (drop 11 (schema_of version).tables) ≡ version
+told_back First = refl
+told_back Second = refl
+told_back Third = refl
 
 -- a schema is of one version
 pub same_version : (a b : Version) → schema_of a ≡ schema_of b → a ≡ b
-unfolding has_twelve
-same_version First First same = refl
-same_version First Second same = absurd (true_false (sym (ap (λ (s : Schema). has_twelve s.tables) same)))
-same_version Second First same = absurd (true_false (ap (λ (s : Schema). has_twelve s.tables) same))
-same_version Second Second same = refl
+same_version a b same = sym (told_back a) ∙ ap (λ (s : Schema). version_behind (drop 11 s.tables)) same ∙ told_back b
 
 -- tables of a version that were found in a database
 module _ {S : Type 0} (g : Ghosts S) (tables store : Held S) (at : Version) (same : tables ≡ store) (ours : (state g store).now.schema ≡ schema_of at) where

@@ -24,8 +24,8 @@ fn earlier(version: Version) -> Option<Version>
     ensures { from_or result ≡ version }
 {
     match version {
-        Version::First => Some(version),
-        Version::Second => None,
+        Version::First | Version::Second => Some(version),
+        Version::Third => None,
     }
 }
 

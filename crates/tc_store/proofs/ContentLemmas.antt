@@ -9,6 +9,7 @@ use Rattle.sqlite_keyed.proofs.ListLemmas.{map-map, map_same}
 use Rattle.sqlite.specs.Effect.{Database}
 use Rattle.tc_types.specs.Tables.{Image}
 use Rattle.tc_store.specs.declared.versions.Version.{Version}
+use Rattle.tc_store.specs.declared.versions.Version.TheVariants.{First, Second, Third}
 use Rattle.tc_store.specs.Ledgers.{Ledger}
 use Rattle.tc_sql.specs.Contents.{has_tree, rows_in}
 use Rattle.tc_sql.specs.Numbered.{numbered_from, numbered}
@@ -24,9 +25,11 @@ use Rattle.tc_store.specs.Procedures.{procedure_tree, procedure_values}
 use Rattle.tc_store.specs.ProcedureSteps.{step_tree, step_values}
 use Rattle.tc_store.specs.Executions.{execution_tree, execution_row, execution_given}
 use Rattle.tc_store.specs.Records.{record_tree, record_values}
-use Rattle.tc_store.specs.Loads.{all_request_columns, all_tally_columns, all_approval_columns, all_stack_columns, all_stack_approval_columns, all_procedure_columns, all_step_columns, all_execution_columns, all_record_columns}
+use Rattle.tc_store.specs.Replies.{reply_tree, reply_values}
+use Rattle.tc_store.specs.Cargo.{cargo_tree, cargo_values}
+use Rattle.tc_store.specs.Loads.{all_request_columns, all_tally_columns, all_approval_columns, all_stack_columns, all_stack_approval_columns, all_procedure_columns, all_step_columns, all_execution_columns, all_record_columns, all_cargo_columns}
 use Rattle.tc_store.specs.Schema.{contents_behind, contents_of, HoldsAs}
-use Rattle.tc_store.specs.Shows.{shown_of, IsNumbered, AreNumbered, ShowsRows, ShowsAll}
+use Rattle.tc_store.specs.Shows.{shown_of, IsNumbered, AreNumbered, ShowsRows, ShowsCargo, ShowsAll}
 use Rattle.tc_store.proofs.ShowLemmas.{map_all}
 
 -- a row of a table whose key is a number, of the columns that show it
@@ -59,8 +62,9 @@ module _ (version : Version) (ledger : Ledger) (loaded : Image) (db : Database) 
       let at = matches_at db.trees move_tree (contents_of version ledger.image ledger.replies) held.rows refl in
       record { rise = subst IsTable (sym at.0) at.1; whole = subst (AllByRecursion IsNumbered) (sym at.0) (map_all move_row IsNumbered (λ m. (refl, refl)) ledger.image.moves) }
 
-  pub contents_same : ShowsAll version db loaded → contents_of version loaded ledger.replies ≡ contents_of version ledger.image ledger.replies
-  contents_same shows =
+  same_from : ShowsAll version db loaded → contents_behind version loaded ledger.replies ≡ contents_behind version ledger.image ledger.replies
+      → contents_of version loaded ledger.replies ≡ contents_of version ledger.image ledger.replies
+  same_from shows behind =
       let requests = keyed request_tree all_request_columns request_row request_given ledger.image.requests loaded.requests refl refl (λ x. refl) (λ x. refl) shows.requests.requests_are in
       let moves = keyed move_tree move_columns move_row move_shown ledger.image.moves loaded.moves refl refl (λ x. refl) (λ x. refl) (shows.requests.moves_are moves_numbered) in
       let tallies = keyed tally_tree all_tally_columns tally_row tally_given ledger.image.tallies loaded.tallies refl refl (λ x. refl) (λ x. refl) shows.requests.tallies_are in
@@ -72,4 +76,15 @@ module _ (version : Version) (ledger : Ledger) (loaded : Image) (db : Database) 
       let executions = keyed execution_tree all_execution_columns execution_row execution_given ledger.image.executions loaded.executions refl refl (λ x. refl) (λ x. refl) shows.procedures.executions_are in
       let records = in_order record_tree all_record_columns record_values ledger.image.records loaded.records refl refl (λ n x. refl) shows.procedures.records_are in
       λ i. (meta_tree, version_row version ∷ []) ∷ (request_tree, requests i) ∷ (move_tree, moves i) ∷ (tally_tree, tallies i) ∷ (approval_tree, approvals i) ∷ (stack_tree, stacks i)
-      ∷ (stack_approval_tree, stack_approvals i) ∷ (procedure_tree, procedures i) ∷ (step_tree, steps i) ∷ (execution_tree, executions i) ∷ (record_tree, records i) ∷ contents_behind version ledger.replies
+      ∷ (stack_approval_tree, stack_approvals i) ∷ (procedure_tree, procedures i) ∷ (step_tree, steps i) ∷ (execution_tree, executions i) ∷ (record_tree, records i) ∷ behind i
+
+-- those behind the tables of the first version
+behind_same : (version : Version) (ledger : Ledger) (loaded : Image) (db : Database) → HoldsAs version db ledger → ShowsCargo version db loaded.cargo → contents_behind version loaded ledger.replies ≡ contents_behind version ledger.image ledger.replies
+behind_same First ledger loaded db held shows = refl
+behind_same Second ledger loaded db held shows = refl
+behind_same Third ledger loaded db held shows =
+    ap (λ rows. (reply_tree, numbered (map reply_values ledger.replies)) ∷ (cargo_tree, rows) ∷ [])
+    (in_order Third ledger loaded db held cargo_tree all_cargo_columns cargo_values ledger.image.cargo loaded.cargo refl refl (λ n x. refl) shows)
+
+pub contents_same : (version : Version) (ledger : Ledger) (loaded : Image) (db : Database) → HoldsAs version db ledger → ShowsAll version db loaded → contents_of version loaded ledger.replies ≡ contents_of version ledger.image ledger.replies
+contents_same version ledger loaded db held shows = same_from version ledger loaded db held shows (behind_same version ledger loaded db held shows.requests.cargo_is)

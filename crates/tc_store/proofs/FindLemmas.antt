@@ -15,7 +15,7 @@ use Rattle.sqlite.specs.Listing.{understood, listing_schema}
 use Rattle.sqlite.specs.State.{State, Shown}
 use Rattle.tc_store.specs.Ledgers.{KeptAnswer, Ledger, reply_at}
 use Rattle.tc_store.specs.declared.versions.Version.{Version}
-use Rattle.tc_store.specs.declared.versions.Version.TheVariants.{First, Second}
+use Rattle.tc_store.specs.declared.versions.Version.TheVariants.{First, Second, Third}
 use Rattle.tc_sql.specs.Lists.{ListsFrom, passes, no_limit}
 use Rattle.tc_sql.proofs.Appends.{shown_numbered}
 use Rattle.tc_sql.proofs.Changes.{matches_at}
@@ -34,6 +34,7 @@ pub find_quiet : (version : Version) → IsQuiet (understood (schema_of version)
 unfolding understood listing_schema everything
 find_quiet First = tt
 find_quiet Second = (refl, refl)
+find_quiet Third = (refl, refl)
 
 truth_of : (b : Bool) → is_true (from_truth (Some b)) ≡ b
 truth_of true = refl

@@ -19,6 +19,7 @@ pub mod BehindLemmas
 pub mod ReadLemmas
 pub mod LoadLemmas
 pub mod TextLemmas
+pub mod CargoLemmas
 pub mod ShowLemmas
 pub mod PageLemmas
 pub mod NumberLemmas

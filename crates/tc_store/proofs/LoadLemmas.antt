@@ -142,14 +142,20 @@ shown_numbered : {X : Type 0} (columns : List Term) (values : X → Row) → ((n
 shown_numbered columns values showed n [] = refl
 shown_numbered columns values showed n (x ∷ xs) = ap₂ (λ a b. a ∷ b) (showed n x) (shown_numbered columns values showed (n + 1) xs)
 
+pub rows_numbered_in : {X : Type 0} (tree : ℕ) (columns : List Term) (values : X → Row) (text : List ℕ) (xs : List X) (version : Version) → ListsFrom (schema_of version) tree text [] columns no_limit → (ledger : Ledger) (old new : State) (rows : List Row)
+    → has_tree tree (contents_of version ledger.image ledger.replies) ≡ true → rows_in tree (contents_of version ledger.image ledger.replies) ≡ numbered (map values xs) → ((n : ℕ) (x : X) → shown_of columns (Int (pos n) ∷ values x) ≡ values x)
+    → HoldsAs version old.now ledger → Shown text [] old new rows → rows ≡ map values xs
+rows_numbered_in tree columns values text xs version lists ledger old new rows named is showed held h =
+    let at = matches_at old.now.trees tree (contents_of version ledger.image ledger.replies) held.rows named in
+    listed tree [] columns no_limit [] (schema_of version) text old new held.schema lists rows (subst IsTable (sym at.0) at.1) h
+    ∙ ap (λ all. map (shown_of columns) (filter (passes [] []) all)) (at.0 ∙ is)
+    ∙ shown_numbered columns values showed 1 xs
+
+-- so it is in each version, where each has the table
 pub rows_numbered : {X : Type 0} (tree : ℕ) (columns : List Term) (values : X → Row) (text : List ℕ) → ((version : Version) → ListsFrom (schema_of version) tree text [] columns no_limit) → (xs : List X) (version : Version) (ledger : Ledger) (old new : State)
     → (rows : List Row) → has_tree tree (contents_of version ledger.image ledger.replies) ≡ true → rows_in tree (contents_of version ledger.image ledger.replies) ≡ numbered (map values xs) → ((n : ℕ) (x : X) → shown_of columns (Int (pos n) ∷ values x) ≡ values x)
     → HoldsAs version old.now ledger → Shown text [] old new rows → rows ≡ map values xs
-rows_numbered tree columns values text lists xs version ledger old new rows named is showed held h =
-    let at = matches_at old.now.trees tree (contents_of version ledger.image ledger.replies) held.rows named in
-    listed tree [] columns no_limit [] (schema_of version) text old new held.schema (lists version) rows (subst IsTable (sym at.0) at.1) h
-    ∙ ap (λ all. map (shown_of columns) (filter (passes [] []) all)) (at.0 ∙ is)
-    ∙ shown_numbered columns values showed 1 xs
+rows_numbered tree columns values text lists xs version = rows_numbered_in tree columns values text xs version (lists version)
 
 -- one row more was read
 pub all_at : {X : Type 0} (P : X → Type 0) (xs : List X) (k : ℕ) (d : X) → k < length xs → AllByRecursion P xs → P (get_or xs k d)
@@ -171,7 +177,7 @@ all_told (x ∷ xs) = (tt, all_told xs)
 
 -- what was read of requests, of stacks and of procedures is one image
 pub joined : (of : Version) (db : Database) → ShowsRows (db.trees meta_tree) all_version_columns (version_shown of ∷ [])
-    → ((a : Image) × ShowsRequests db a.requests a.moves a.tallies a.approvals × AllByRecursion IsToldRequest a.requests) → ((b : Image) × ShowsStacks db b.stacks b.stack_approvals)
+    → ((a : Image) × ShowsRequests of db a.requests a.moves a.tallies a.approvals a.cargo × AllByRecursion IsToldRequest a.requests) → ((b : Image) × ShowsStacks db b.stacks b.stack_approvals)
     → ((c : Image) × ShowsProcedures db c.procedures c.steps c.executions c.records × AllByRecursion IsToldStep c.steps × AllByRecursion IsToldRecord c.records) → AreJudged of db → (image : Image) × ShowsAll of db image × IsTold image
 joined of db version a b c judged =
     let image : Image = record {
@@ -185,6 +191,7 @@ joined of db version a b c judged =
       steps = c.0.steps;
       executions = c.0.executions;
       records = c.0.records;
+      cargo = a.0.cargo;
     } in
     let shows : ShowsAll of db image = record { version = version; requests = a.1; stacks = b.1; procedures = c.1; replies = judged } in
     let told : IsTold image = record { requests = a.2; steps = c.2; records = c.3 } in

@@ -31,6 +31,7 @@ use Rattle.tc_store.specs.ProcedureSteps.{step_tree}
 use Rattle.tc_store.specs.Executions.{execution_tree}
 use Rattle.tc_store.specs.Records.{record_tree}
 use Rattle.tc_store.specs.Replies.{reply_tree}
+use Rattle.tc_store.specs.Cargo.{cargo_tree}
 use Rattle.tc_store.specs.declared.versions.Version.{Version}
 use Rattle.tc_store.specs.Ledgers.{newest}
 use Rattle.tc_store.specs.Schema.{newest_schema, schema_of, create_texts, texts_count, Holds}
@@ -46,15 +47,15 @@ meta_puts = record { at = 0; listed = refl; command = refl; plain = (refl, refl)
 abbrev no_rows : Contents
 no_rows =
     (meta_tree, []) ∷ (request_tree, []) ∷ (move_tree, []) ∷ (tally_tree, []) ∷ (approval_tree, []) ∷ (stack_tree, []) ∷ (stack_approval_tree, []) ∷ (procedure_tree, []) ∷ (step_tree, [])
-    ∷ (execution_tree, []) ∷ (record_tree, []) ∷ (reply_tree, []) ∷ []
+    ∷ (execution_tree, []) ∷ (record_tree, []) ∷ (reply_tree, []) ∷ (cargo_tree, []) ∷ []
 
 abbrev given : Row
-given = Null ∷ Text (codes "schema") ∷ Int (pos 2) ∷ []
+given = Null ∷ Text (codes "schema") ∷ Int (pos 3) ∷ []
 
 versioned_from : (old new : Database) → BuildsTo newest_schema [] old → HasPut meta_tree (with_rowid Chosen (old.trees meta_tree) given) old new → Holds new blank_ledger
 versioned_from old new to put =
     let none : AllByRecursion (λ t. old.trees t.tree ≡ []) newest_schema.tables = subst (λ (s : Schema). AllByRecursion (λ t. old.trees t.tree ≡ []) s.tables) to.builds to.empty in
-    let before : Matches old.trees no_rows = ((none.0, tt), ((none.1.0, tt), ((none.1.1.0, tt), ((none.1.1.1.0, tt), ((none.1.1.1.1.0, tt), ((none.1.1.1.1.1.0, tt), ((none.1.1.1.1.1.1.0, tt), ((none.1.1.1.1.1.1.1.0, tt), ((none.1.1.1.1.1.1.1.1.0, tt), ((none.1.1.1.1.1.1.1.1.1.0, tt), ((none.1.1.1.1.1.1.1.1.1.1.0, tt), ((none.1.1.1.1.1.1.1.1.1.1.1.0, tt), tt)))))))))))) in
+    let before : Matches old.trees no_rows = ((none.0, tt), ((none.1.0, tt), ((none.1.1.0, tt), ((none.1.1.1.0, tt), ((none.1.1.1.1.0, tt), ((none.1.1.1.1.1.0, tt), ((none.1.1.1.1.1.1.0, tt), ((none.1.1.1.1.1.1.1.0, tt), ((none.1.1.1.1.1.1.1.1.0, tt), ((none.1.1.1.1.1.1.1.1.1.0, tt), ((none.1.1.1.1.1.1.1.1.1.1.0, tt), ((none.1.1.1.1.1.1.1.1.1.1.1.0, tt), ((none.1.1.1.1.1.1.1.1.1.1.1.1.0, tt), tt))))))))))))) in
     let clear : are_tables old.schema no_rows ≡ true = ap (λ s. are_tables s no_rows) to.builds in
     let row : version_row newest ∷ [] ≡ put_row (with_rowid Chosen (old.trees meta_tree) given) (old.trees meta_tree) = ap (λ rows. put_row (with_rowid Chosen rows given) rows) (sym none.0) in
     record { schema = put.schema ∙ to.builds; rows = matches_put meta_tree (with_rowid Chosen (old.trees meta_tree) given) (version_row newest ∷ []) old new no_rows put clear row before; lacks = tt; sound = put.sound }

@@ -30,7 +30,7 @@ use Rattle.sqlite.specs.Held.{Held, state}
 use Rattle.sqlite.specs.declared.error.Error.{Error}
 use Rattle.sqlite.proofs.Callers.{command_of, statement_of, runs_as, one_step}
 use Rattle.tc_store.specs.declared.versions.Version.{Version}
-use Rattle.tc_store.specs.declared.versions.Version.TheVariants.{First, Second}
+use Rattle.tc_store.specs.declared.versions.Version.TheVariants.{First, Second, Third}
 use Rattle.tc_store.specs.Ledgers.{Ledger, newest}
 use Rattle.tc_sql.specs.Builds.{Builds}
 use Rattle.tc_sql.specs.Contents.{Contents, Matches, are_tables, with_rows}
@@ -43,6 +43,7 @@ use Rattle.tc_sql.proofs.Parts.{went, same_value}
 use Rattle.tc_sql.proofs.Selects.{overlay_none, kept_rows}
 use Rattle.tc_store.specs.Meta.{meta_tree, meta_form, meta_update, version_row, update_query, update_columns}
 use Rattle.tc_store.specs.Replies.{reply_tree, reply_values}
+use Rattle.tc_store.specs.Cargo.{cargo_tree, cargo_values}
 use Rattle.tc_sql.specs.Numbered.{numbered}
 use Rattle.tc_store.specs.Schema.{missing_texts, schema_of, newest_schema, contents_of, contents, HoldsAs}
 use Rattle.tc_store.specs.Steps.{Ran, AreOf, IsFilled, Defined, Migrated}
@@ -71,6 +72,7 @@ found : (from : Version) → filter (passes update_query.filter []) (version_row
 unfolding binary value_cmp lib.Ieee.is_nan lib.Ieee.lt
 found First = refl
 found Second = refl
+found Third = refl
 
 -- the newest stands in its place, behind the number of the row
 shown : (from : Version) → eval_all update_columns ([] ∷ version_row from ∷ []) ≡ Int (pos 1) ∷ version_row newest
@@ -93,11 +95,13 @@ put_there : (from : Version) → version_row newest ∷ [] ≡ put_row (version_
 unfolding value_cmp lib.Ieee.is_nan lib.Ieee.lt
 put_there First = refl
 put_there Second = refl
+put_there Third = refl
 
 gone_there : (from : Version) → without_rowid (pos 1) (version_row from ∷ []) ≡ []
 unfolding value_cmp lib.Ieee.is_nan lib.Ieee.lt
 gone_there First = refl
 gone_there Second = refl
+gone_there Third = refl
 
 updates : (from : Version) (old new : State) (count : ℕ) → old.now.schema ≡ newest_schema → old.now.trees meta_tree ≡ version_row from ∷ [] → Executes meta_update [] old new (Ok count)
     → HasPut meta_tree (version_row newest) old.now new.now
@@ -137,20 +141,33 @@ grown from ledger = (meta_tree, version_row from ∷ []) ∷ drop 1 (contents le
 abbrev AreBlank : Contents → Type 0
 AreBlank more = AllByRecursion (λ (e : ℕ × List Row). e.1 ≡ []) more
 
+-- a table that was made behind, where there is no row of it
+no_replies : (e : ℕ × List Row) (ledger : Ledger) → e.0 ≡ reply_tree → e.1 ≡ [] → ledger.replies ≡ [] → e ≡ (reply_tree, numbered (map reply_values ledger.replies))
+no_replies e ledger tree blank none = λ i. (tree i, (blank ∙ ap (λ replies. numbered (map reply_values replies)) (sym none)) i)
+
+no_cargo : (e : ℕ × List Row) (ledger : Ledger) → e.0 ≡ cargo_tree → e.1 ≡ [] → ledger.image.cargo ≡ [] → e ≡ (cargo_tree, numbered (map cargo_values ledger.image.cargo))
+no_cargo e ledger tree blank none = λ i. (tree i, (blank ∙ ap (λ cargo. numbered (map cargo_values cargo)) (sym none)) i)
+
 -- those that were made behind are the newest's
 more_is : (from : Version) (ledger : Ledger) (more : Contents) (db : Database) → HoldsAs from db ledger → AreBlank more → AreOf newest_schema.tables (contents_of from ledger.image ledger.replies ++ more)
     → contents_of from ledger.image ledger.replies ++ more ≡ grown from ledger
 more_is First ledger [] db held blank of = absurd of.1.1.1.1.1.1.1.1.1.1.1
-more_is First ledger (e ∷ []) db held blank of =
-    let last : e ≡ (reply_tree, numbered (map reply_values ledger.replies)) = λ i. (of.1.1.1.1.1.1.1.1.1.1.1.0 i, (blank.0 ∙ ap (λ replies. numbered (map reply_values replies)) (sym held.lacks)) i) in
-    ap (λ l. contents_of First ledger.image ledger.replies ++ l ∷ []) last
-more_is First ledger (e ∷ f ∷ more) db held blank of = absurd of.1.1.1.1.1.1.1.1.1.1.1.1
-more_is Second ledger [] db held blank of = refl
-more_is Second ledger (e ∷ more) db held blank of = absurd of.1.1.1.1.1.1.1.1.1.1.1.1
+more_is First ledger (e ∷ []) db held blank of = absurd of.1.1.1.1.1.1.1.1.1.1.1.1
+more_is First ledger (e ∷ f ∷ []) db held blank of =
+    let replies = no_replies e ledger of.1.1.1.1.1.1.1.1.1.1.1.0 blank.0 held.lacks.0 in
+    let cargo = no_cargo f ledger of.1.1.1.1.1.1.1.1.1.1.1.1.0 blank.1.0 held.lacks.1 in
+    λ i. contents_of First ledger.image ledger.replies ++ replies i ∷ cargo i ∷ []
+more_is First ledger (e ∷ f ∷ h ∷ more) db held blank of = absurd of.1.1.1.1.1.1.1.1.1.1.1.1.1
+more_is Second ledger [] db held blank of = absurd of.1.1.1.1.1.1.1.1.1.1.1.1
+more_is Second ledger (e ∷ []) db held blank of = ap (λ l. contents_of Second ledger.image ledger.replies ++ l ∷ []) (no_cargo e ledger of.1.1.1.1.1.1.1.1.1.1.1.1.0 blank.0 held.lacks)
+more_is Second ledger (e ∷ f ∷ more) db held blank of = absurd of.1.1.1.1.1.1.1.1.1.1.1.1.1
+more_is Third ledger [] db held blank of = refl
+more_is Third ledger (e ∷ more) db held blank of = absurd of.1.1.1.1.1.1.1.1.1.1.1.1.1
 
 all_of : (from : Version) (ledger : Ledger) → AreOf (schema_of from).tables (contents_of from ledger.image ledger.replies)
 all_of First ledger = (refl, (refl, (refl, (refl, (refl, (refl, (refl, (refl, (refl, (refl, (refl, tt)))))))))))
 all_of Second ledger = (refl, (refl, (refl, (refl, (refl, (refl, (refl, (refl, (refl, (refl, (refl, (refl, tt))))))))))))
+all_of Third ledger = (refl, (refl, (refl, (refl, (refl, (refl, (refl, (refl, (refl, (refl, (refl, (refl, (refl, tt)))))))))))))
 
 named_newest : (from : Version) (ledger : Ledger) → with_rows meta_tree (version_row newest ∷ []) (grown from ledger) ≡ contents ledger
 named_newest from ledger = refl

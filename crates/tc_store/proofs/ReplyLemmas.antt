@@ -1,5 +1,5 @@
 -- What the texts of `reply` mean: one reply more, behind those that stand, none of which is of the same call; and the one that is kept for a call.
-use Rattle.std.proofs.Common.{◌≡◌, ℕ, ◌+◌, pos, List, [], ◌∷◌, ◌++◌, map, true, Some, Result, Ok, Err, OnOk, IfOk, refl, sym, ap, subst, eqb-true}
+use Rattle.std.proofs.Common.{◌≡◌, ℕ, ◌+◌, pos, List, [], ◌∷◌, ◌++◌, map, true, Some, Result, Ok, Err, OnOk, IfOk, refl, sym, ap, subst, ◌∙◌, eqb-true}
 use Rattle.std.specs.List.{AllByRecursion}
 use Rattle.sqlite_value.specs.declared.value.Value.TheVariants.{Int, Text}
 use Rattle.sqlite_value.specs.Order.{Row}
@@ -14,13 +14,14 @@ use Rattle.sqlite.specs.State.{State, Executes}
 use Rattle.sqlite.specs.Held.{Held, state}
 use Rattle.tc_store.specs.Ledgers.{KeptAnswer, Ledger, is_same_call, IsKeptAnswer}
 use Rattle.tc_store.specs.declared.versions.Version.{Version}
-use Rattle.tc_store.specs.declared.versions.Version.TheVariants.{First, Second}
+use Rattle.tc_store.specs.declared.versions.Version.TheVariants.{First, Second, Third}
+use Rattle.tc_sql.specs.Contents.{has_tree, rows_in}
 use Rattle.tc_sql.specs.Puts.{PutsInto}
 use Rattle.tc_sql.specs.Numbered.{numbered_from, numbered, IsKeyedAt, AreAlike, HasAppended}
 use Rattle.tc_sql.proofs.Appends.{appends, same_text, matches_appended}
 use Rattle.tc_sql.proofs.Changes.{matches_at}
 use Rattle.tc_store.specs.Replies.{reply_tree, reply_places, reply_form, reply_put, reply_terms, reply_values}
-use Rattle.tc_store.specs.Schema.{newest_schema, contents, HoldsAs, Holds}
+use Rattle.tc_store.specs.Schema.{newest_schema, contents_of, contents, HasReplies, HoldsAs, Holds}
 use Rattle.tc_store.specs.Shows.{IsReplyRow, IsNumbered, AreNumbered, AreJudged}
 use Rattle.tc_store.specs.Steps.{Ran, Replied}
 use Rattle.tc_store.proofs.SchemaLemmas.{holds_after, unindexed}
@@ -80,10 +81,21 @@ each_kept : (n : ℕ) (replies : List KeptAnswer) → AllByRecursion IsReplyRow 
 each_kept n [] all = tt
 each_kept n (k ∷ replies) all = (subst IsKeptAnswer (sym (same_reply k all.0.kept all.0.is)) all.0.sound, each_kept (n + 1) replies all.1)
 
-pub all_kept : (version : Version) (ledger : Ledger) (db : Database) → HoldsAs version db ledger → AreJudged version db → AllByRecursion IsKeptAnswer ledger.replies
-all_kept First ledger db held judged = subst (AllByRecursion IsKeptAnswer) (sym held.lacks) tt
-all_kept Second ledger db held judged =
-    let at = matches_at db.trees reply_tree (contents ledger) held.rows refl in
-    let rows : db.trees reply_tree ≡ numbered (map reply_values ledger.replies) = at.0 in
+reply_rows : (version : Version) (ledger : Ledger) → HasReplies version
+    → (has_tree reply_tree (contents_of version ledger.image ledger.replies) ≡ true) × (rows_in reply_tree (contents_of version ledger.image ledger.replies) ≡ numbered (map reply_values ledger.replies))
+reply_rows First ledger has = absurd has
+reply_rows Second ledger has = (refl, refl)
+reply_rows Third ledger has = (refl, refl)
+
+kept_in_rows : (version : Version) → HasReplies version → (ledger : Ledger) (db : Database) → HoldsAs version db ledger → AreJudged version db → AllByRecursion IsKeptAnswer ledger.replies
+kept_in_rows version has ledger db held judged =
+    let named = reply_rows version ledger has in
+    let at = matches_at db.trees reply_tree (contents_of version ledger.image ledger.replies) held.rows named.0 in
+    let rows : db.trees reply_tree ≡ numbered (map reply_values ledger.replies) = at.0 ∙ named.1 in
     let stand : AreNumbered (db.trees reply_tree) = record { rise = subst IsTable (sym at.0) at.1; whole = subst (AllByRecursion IsNumbered) (sym rows) (numbered_rows 1 (map reply_values ledger.replies)) } in
-    each_kept 1 ledger.replies (subst (AllByRecursion IsReplyRow) rows (judged stand))
+    each_kept 1 ledger.replies (subst (AllByRecursion IsReplyRow) rows (judged has stand))
+
+pub all_kept : (version : Version) (ledger : Ledger) (db : Database) → HoldsAs version db ledger → AreJudged version db → AllByRecursion IsKeptAnswer ledger.replies
+all_kept First ledger db held judged = subst (AllByRecursion IsKeptAnswer) (sym held.lacks.0) tt
+all_kept Second ledger db held judged = kept_in_rows Second tt ledger db held judged
+all_kept Third ledger db held judged = kept_in_rows Third tt ledger db held judged

@@ -12,32 +12,35 @@ use Rattle.sqlite.specs.Listing.{understood, listing_schema}
 use Rattle.sqlite.specs.State.{State, Shown}
 use Rattle.tc_store.specs.Ledgers.{KeptAnswer}
 use Rattle.tc_store.specs.declared.versions.Version.{Version}
-use Rattle.tc_store.specs.declared.versions.Version.TheVariants.{First, Second}
+use Rattle.tc_store.specs.declared.versions.Version.TheVariants.{First, Second, Third}
 use Rattle.tc_sql.specs.Lists.{ListsFrom, passes}
 use Rattle.tc_sql.proofs.Selects.{listed, paged}
 use Rattle.tc_store.specs.Replies.{reply_tree, reply_values, reply_page_text, reply_page_tests, reply_page_columns, reply_page_size, reply_page_limit}
 use Rattle.tc_store.specs.Loads.{first_behind}
-use Rattle.tc_store.specs.Schema.{schema_of, newest_schema}
+use Rattle.tc_store.specs.Schema.{HasReplies, schema_of}
 use Rattle.tc_store.specs.Reads.{IsQuiet}
 use Rattle.tc_store.specs.Shows.{shown_of, as_number, number_of, IsNumbered, AreNumbered, AreOfReply, IsReplyRow, rows_from}
 use Rattle.tc_store.proofs.ShowLemmas.{map_all}
 use Rattle.tc_store.proofs.NumberLemmas.{filter_on, passes_from, rest_of, all_left}
 
-reply_page_is : ListsFrom newest_schema reply_tree reply_page_text reply_page_tests reply_page_columns reply_page_limit
+reply_page_is : (version : Version) → HasReplies version → ListsFrom (schema_of version) reply_tree reply_page_text reply_page_tests reply_page_columns reply_page_limit
 unfolding understood everything
-reply_page_is = record { names = _; command = refl; plain = (refl, refl); unlisted = refl }
+reply_page_is First has = absurd has
+reply_page_is Second has = record { names = _; command = refl; plain = (refl, refl); unlisted = refl }
+reply_page_is Third has = record { names = _; command = refl; plain = (refl, refl); unlisted = refl }
 
 -- a version without the table does not understand it
 pub page_quiet : (version : Version) → IsQuiet (understood (schema_of version) reply_page_text)
 unfolding understood listing_schema everything
 page_quiet First = tt
 page_quiet Second = (refl, refl)
+page_quiet Third = (refl, refl)
 
-page_rows : (first : ℤ) (old new : State) (rows : List Row) → old.now.schema ≡ newest_schema → AreNumbered (old.now.trees reply_tree) → Shown reply_page_text (Int first ∷ []) old new rows
+page_rows : (version : Version) → HasReplies version → (first : ℤ) (old new : State) (rows : List Row) → old.now.schema ≡ schema_of version → AreNumbered (old.now.trees reply_tree) → Shown reply_page_text (Int first ∷ []) old new rows
     → rows ≡ take reply_page_size (map (shown_of reply_page_columns) (rows_from first (old.now.trees reply_tree)))
-page_rows first old new rows has numbered h =
+page_rows version replies first old new rows has numbered h =
     let params = Int first ∷ [] in
-    listed reply_tree reply_page_tests reply_page_columns reply_page_limit params newest_schema reply_page_text old new has reply_page_is rows numbered.rise h
+    listed reply_tree reply_page_tests reply_page_columns reply_page_limit params (schema_of version) reply_page_text old new has (reply_page_is version replies) rows numbered.rise h
     ∙ paged reply_tree reply_page_tests reply_page_columns reply_page_limit params reply_page_size _ refl
     ∙ ap (λ l. take reply_page_size (map (shown_of reply_page_columns) l))
     (filter_on (passes reply_page_tests params) (λ row. int_le first (number_of row)) IsNumbered (passes_from first) (old.now.trees reply_tree) numbered.whole)
@@ -67,7 +70,7 @@ at_of (r ∷ rows) (suc k) last got = at_of rows k last got
 next_of : (m n : ℤ) → int_le (m +ℤ pos 1) n ≡ int_lt m n
 next_of m n = grind (arith, ints)
 
-module _ (first : ℤ) (was : Database) (old new : State) (page seen : List Row) (there : old.now ≡ was) (has : was.schema ≡ newest_schema) (numbered : AreNumbered (was.trees reply_tree))
+module _ (version : Version) (replies : HasReplies version) (first : ℤ) (was : Database) (old new : State) (page seen : List Row) (there : old.now ≡ was) (has : was.schema ≡ schema_of version) (numbered : AreNumbered (was.trees reply_tree))
     (so_far : AreJudgedTo (was.trees reply_tree) first) (h : Shown reply_page_text (Int first ∷ []) old new page) (same : seen ≡ page)
     (judges : AllByRecursion (λ (row : Row). length row ≡ 4) seen → AllByRecursion (λ (row : Row). AreOfReply (drop 1 row)) seen) where
   abbrev rows : List Row
@@ -78,7 +81,7 @@ module _ (first : ℤ) (was : Database) (old new : State) (page seen : List Row)
 
   seen_is : seen ≡ map (shown_of reply_page_columns) taken
   seen_is =
-      same ∙ page_rows first old new page (ap (λ (db : Database). db.schema) there ∙ has) (subst (λ (db : Database). AreNumbered (db.trees reply_tree)) (sym there) numbered) h
+      same ∙ page_rows version replies first old new page (ap (λ (db : Database). db.schema) there ∙ has) (subst (λ (db : Database). AreNumbered (db.trees reply_tree)) (sym there) numbered) h
       ∙ ap (λ (db : Database). take reply_page_size (map (shown_of reply_page_columns) (rows_from first (db.trees reply_tree)))) there ∙ take-map (shown_of reply_page_columns) reply_page_size (rows_from first rows)
 
   taken_judged : AllByRecursion IsReplyRow taken

@@ -11,7 +11,7 @@ use Rattle.sqlite_tied.specs.Compute.{everything}
 use Rattle.sqlite.specs.Listing.{understood}
 use Rattle.tc_types.specs.Tables as tables
 use Rattle.tc_store.specs.declared.versions.Version.{Version}
-use Rattle.tc_store.specs.declared.versions.Version.TheVariants.{First, Second}
+use Rattle.tc_store.specs.declared.versions.Version.TheVariants.{First, Second, Third}
 use Rattle.tc_types.specs.Tables.{Image}
 use Rattle.tc_store.specs.Ledgers.{Ledger, with_image}
 use Rattle.tc_types.specs.declared.tables.rows.Row.{Row}
@@ -34,7 +34,8 @@ use Rattle.tc_store.specs.Procedures.{procedure_form}
 use Rattle.tc_store.specs.ProcedureSteps.{step_form}
 use Rattle.tc_store.specs.Executions.{execution_form}
 use Rattle.tc_store.specs.Records.{record_form}
-use Rattle.tc_store.specs.Replies.{reply_form}
+use Rattle.tc_store.specs.Replies.{reply_form, reply_text}
+use Rattle.tc_store.specs.Cargo.{cargo_form, cargo_text}
 use Rattle.sqlite_schema.specs.declared.schema.Schema.{Schema}
 use Rattle.tc_store.specs.Schema.{create_texts, with_meta, with_request, with_move, with_index, with_tally, with_approval, with_stack, with_stack_approval, with_procedure, with_step, with_execution, schema_1, schema_of, newest_schema, texts_count, missing_texts, contents, Holds}
 use Rattle.tc_store.specs.Steps.{Goes, IsNewIn, Step}
@@ -97,15 +98,20 @@ built_then : (before mid after : Schema) (texts more : List (List ℕ)) → Buil
 built_then before mid after [] more one two = subst (λ s. Builds s more after) (sym one) two
 built_then before mid after (text ∷ texts) more one two = (one.0, one.1, built_then one.0 mid after texts more one.2 two)
 
--- from each version to the newest
-pub built_from : (version : Version) → Builds (schema_of version) (missing_texts version) newest_schema
+-- each version from the one before
+built_second : Builds (schema_of First) (reply_text ∷ []) (schema_of Second)
 unfolding understood everything
-built_from First = (
-  newest_schema,
-  inl (record { table = table_of reply_form 0; command = refl; plain = (refl, refl); whole = refl; defined = refl; uncounted = refl; is = refl }),
-  refl,
-)
-built_from Second = refl
+built_second = (schema_of Second, inl (record { table = table_of reply_form 0; command = refl; plain = (refl, refl); whole = refl; defined = refl; uncounted = refl; is = refl }), refl)
+
+built_third : Builds (schema_of Second) (cargo_text ∷ []) (schema_of Third)
+unfolding understood everything
+built_third = (schema_of Third, inl (record { table = table_of cargo_form 0; command = refl; plain = (refl, refl); whole = refl; defined = refl; uncounted = refl; is = refl }), refl)
+
+-- the newest from each
+pub built_from : (version : Version) → Builds (schema_of version) (missing_texts version) newest_schema
+built_from First = built_then (schema_of First) (schema_of Second) newest_schema (reply_text ∷ []) (cargo_text ∷ []) built_second built_third
+built_from Second = built_third
+built_from Third = refl
 
 pub built : Builds no_schema create_texts newest_schema
 built = built_then no_schema schema_1 newest_schema (take 12 create_texts) (missing_texts First) built_first (built_from First)
@@ -113,7 +119,8 @@ built = built_then no_schema schema_1 newest_schema (take 12 create_texts) (miss
 -- to each version
 pub built_as : (version : Version) → Builds no_schema (take (texts_count version) create_texts) (schema_of version)
 built_as First = built_first
-built_as Second = built
+built_as Second = built_then no_schema schema_1 (schema_of Second) (take 12 create_texts) (reply_text ∷ []) built_first built_second
+built_as Third = built
 
 -- each tree of the contents is a table's
 pub clear : (ledger : Ledger) → are_tables newest_schema (contents ledger) ≡ true

@@ -89,14 +89,20 @@ map_all f P each (x ∷ xs) = (each x, map_all f P each xs)
 pub shown_wide : {X : Type 0} (columns : List Term) (shown : X → Row) → ((x : X) → length (shown x) ≡ length columns) → (rows : List Row) → AreWide shown (map (shown_of columns) rows)
 shown_wide columns shown wide rows = map_all (shown_of columns) _ (λ row x. length-map columns (λ t. eval t ([] ∷ row ∷ [])) ∙ sym (wide x)) rows
 
-pub table_shown : {X : Type 0} (tree : ℕ) (columns : List Term) (shown : X → Row) → ((x : X) → length (shown x) ≡ length columns) → (text : List ℕ) → ((version : Version) → ListsFrom (schema_of version) tree text [] columns no_limit)
-    → (old new : State) (rows seen : List Row) (items : List X) → seen ≡ rows → (AreWide shown seen → seen ≡ map shown items) → Shown text [] old new rows → (version : Version) → old.now.schema ≡ schema_of version
+pub table_shown_in : {X : Type 0} (tree : ℕ) (columns : List Term) (shown : X → Row) → ((x : X) → length (shown x) ≡ length columns) → (text : List ℕ) (version : Version) → ListsFrom (schema_of version) tree text [] columns no_limit
+    → (old new : State) (rows seen : List Row) (items : List X) → seen ≡ rows → (AreWide shown seen → seen ≡ map shown items) → Shown text [] old new rows → old.now.schema ≡ schema_of version
     → ShowsRows (old.now.trees tree) columns (map shown items)
-table_shown {X} tree columns shown wide text it old new rows seen items same reads h version has =
-    let all = all_shown tree columns version text old new has (it version) rows h in
+table_shown_in {X} tree columns shown wide text version it old new rows seen items same reads h has =
+    let all = all_shown tree columns version text old new has it rows h in
     let P : Row → Type 0 = λ row. (x : X) → length row ≡ length (shown x) in
     let fits : AreWide shown rows = recursion_from_All P rows (All-permutation P (map (shown_of columns) (old.now.trees tree)) rows all.all (All-from_recursion P _ (shown_wide columns shown wide (old.now.trees tree)))) in
     subst (ShowsRows (old.now.trees tree) columns) (sym same ∙ reads (subst (AreWide shown) (sym same) fits)) all
+
+-- so it is in each version, where each has the table
+pub table_shown : {X : Type 0} (tree : ℕ) (columns : List Term) (shown : X → Row) → ((x : X) → length (shown x) ≡ length columns) → (text : List ℕ) → ((version : Version) → ListsFrom (schema_of version) tree text [] columns no_limit)
+    → (old new : State) (rows seen : List Row) (items : List X) → seen ≡ rows → (AreWide shown seen → seen ≡ map shown items) → Shown text [] old new rows → (version : Version) → old.now.schema ≡ schema_of version
+    → ShowsRows (old.now.trees tree) columns (map shown items)
+table_shown tree columns shown wide text it old new rows seen items same reads h version has = table_shown_in tree columns shown wide text version (it version) old new rows seen items same reads h has
 
 -- the one row of `meta`
 pub one_version : (of : Version) (rows : List Row) (d : Row) → length rows ≡ 1 → (column (get_or rows 0 d) 0 ≡ Text (codes "schema")) × (column (get_or rows 0 d) 1 ≡ Int (pos (version_number of))) → AllByRecursion (λ (row : Row). length row ≡ 2) rows

@@ -7,7 +7,7 @@ use Rattle.tc_types.specs.declared.tables.rows.Row.{Row}
 use Rattle.tc_store.specs.declared.batches.Batch.{Batch}
 use Rattle.tc_store.specs.declared.batches.KeptReply.{KeptReply}
 use Rattle.tc_store.specs.declared.versions.Version.{Version}
-use Rattle.tc_store.specs.declared.versions.Version.TheVariants.{Second}
+use Rattle.tc_store.specs.declared.versions.Version.TheVariants.{Third}
 use Rattle.tc_store.specs.CallNumbers.{IsCallNumber}
 use Rattle.tc_types.specs.Names.{IsPerson}
 use Rattle.tc_types.specs.Tables.{Image, empty_image, applied}
@@ -70,7 +70,7 @@ pub record IsKeptAnswer (k : KeptAnswer) : Type 0 where
 
 -- the version of which new tables are, and to which an opening brings those of an earlier one
 abbrev pub newest : Version
-newest = Second
+newest = Third
 
 -- the version of the tables that a batch is written into
 abbrev pub from_or : Option Version → Version

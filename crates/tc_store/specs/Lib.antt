@@ -13,6 +13,7 @@ pub mod ProcedureSteps
 pub mod Executions
 pub mod Records
 pub mod Replies
+pub mod Cargo
 pub mod Schema
 pub mod Steps
 pub mod Commits

@@ -8,6 +8,7 @@ use Rattle.sqlite_sql.specs.Term.{Term, lit, col, op2}
 use Rattle.tc_types.specs.declared.history.moves.Move.{Move}
 use Rattle.tc_types.specs.Limits.{page}
 use Rattle.tc_store.specs.declared.loads.approvals.TheConstants.{ALL as ALL_APPROVAL}
+use Rattle.tc_store.specs.declared.loads.cargo.TheConstants.{ALL as ALL_CARGO}
 use Rattle.tc_store.specs.declared.loads.executions.TheConstants.{ALL as ALL_EXECUTION}
 use Rattle.tc_store.specs.declared.loads.procedures.TheConstants.{ALL as ALL_PROCEDURE}
 use Rattle.tc_store.specs.declared.loads.records.TheConstants.{ALL as ALL_RECORD}
@@ -73,6 +74,12 @@ all_record_text = ALL_RECORD.now
 
 abbrev pub all_record_columns : List Term
 all_record_columns = col 1 1 ∷ col 1 2 ∷ col 1 3 ∷ col 1 4 ∷ col 1 5 ∷ col 1 6 ∷ []
+
+abbrev pub all_cargo_text : List ℕ
+all_cargo_text = ALL_CARGO.now
+
+abbrev pub all_cargo_columns : List Term
+all_cargo_columns = col 1 1 ∷ col 1 2 ∷ col 1 3 ∷ col 1 4 ∷ []
 
 abbrev pub all_version_text : List ℕ
 all_version_text = ALL_VERSION.now

@@ -10,7 +10,7 @@ use Rattle.sqlite_sql.specs.declared.ops.CompareOp.TheVariants.{Eq}
 use Rattle.sqlite_sql.specs.Term.{Term, lit, col, op2}
 use Rattle.sqlite_sql.specs.Query.{Query, inner, end}
 use Rattle.tc_store.specs.declared.versions.Version.{Version}
-use Rattle.tc_store.specs.declared.versions.Version.TheVariants.{First, Second}
+use Rattle.tc_store.specs.declared.versions.Version.TheVariants.{First, Second, Third}
 use Rattle.tc_store.specs.Ledgers.{newest}
 use Rattle.tc_sql.specs.Forms.{Form, column_of}
 use Rattle.tc_store.specs.declared.creates.TheConstants.{CREATE_META, PUT_VERSION}
@@ -42,6 +42,7 @@ meta_update = UPDATE_VERSION.now
 abbrev pub version_number : Version → ℕ
 version_number First = 1
 version_number Second = 2
+version_number Third = 3
 
 -- the schema has this version
 abbrev pub version_row : Version → Row

@@ -1,5 +1,5 @@
 -- What the tables show: all rows of each table, as the texts that read them show the columns.
-use Rattle.std.specs.Prelude.{◌≡◌, ℕ, ℤ, pos, true, int_le, List, [], ◌∷◌, filter, map, None, IsPermutation, ⊤}
+use Rattle.std.specs.Prelude.{◌≡◌, ℕ, ℤ, pos, true, int_le, List, [], ◌∷◌, filter, map, None, IsPermutation}
 use Rattle.std.specs.List.{AllByRecursion}
 use Rattle.sqlite_value.specs.declared.value.Value.{Value}
 use Rattle.sqlite_value.specs.declared.value.Value.TheVariants.{Int, Text}
@@ -18,9 +18,10 @@ use Rattle.tc_types.specs.declared.tables.rows.LoadedProcedure.{LoadedProcedure}
 use Rattle.tc_types.specs.declared.tables.rows.ProcedureStep.{ProcedureStep}
 use Rattle.tc_types.specs.declared.tables.rows.BegunExecution.{BegunExecution}
 use Rattle.tc_types.specs.declared.tables.rows.StepRecord.{StepRecord}
+use Rattle.tc_types.specs.declared.tables.cargo.Cargo.{Cargo}
 use Rattle.tc_types.specs.Grammar.{outcome_word}
 use Rattle.tc_store.specs.declared.versions.Version.{Version}
-use Rattle.tc_store.specs.declared.versions.Version.TheVariants.{First, Second}
+use Rattle.tc_store.specs.declared.versions.Version.TheVariants.{First, Second, Third}
 use Rattle.tc_types.specs.Tables.{Image}
 use Rattle.tc_store.specs.Ledgers.{KeptAnswer, IsKeptAnswer}
 use Rattle.tc_store.specs.Meta.{meta_tree, version_shown}
@@ -35,7 +36,9 @@ use Rattle.tc_store.specs.ProcedureSteps.{step_tree, step_values}
 use Rattle.tc_store.specs.Executions.{execution_tree, execution_given}
 use Rattle.tc_store.specs.Records.{record_tree, record_values}
 use Rattle.tc_store.specs.Replies.{reply_tree, reply_columns, reply_values}
-use Rattle.tc_store.specs.Loads.{all_version_columns, all_request_columns, all_tally_columns, all_approval_columns, all_stack_columns, all_stack_approval_columns, all_procedure_columns, all_step_columns, all_execution_columns, all_record_columns, first_behind}
+use Rattle.tc_store.specs.Cargo.{cargo_tree, cargo_values}
+use Rattle.tc_store.specs.Schema.{HasReplies}
+use Rattle.tc_store.specs.Loads.{all_version_columns, all_request_columns, all_tally_columns, all_approval_columns, all_stack_columns, all_stack_approval_columns, all_procedure_columns, all_step_columns, all_execution_columns, all_record_columns, all_cargo_columns, first_behind}
 
 -- what columns show of a row
 abbrev pub shown_of : List Term → Row → Row
@@ -68,12 +71,19 @@ pub record AreNumbered (rows : List Row) : Type 0 where
 abbrev pub rows_from : ℤ → List Row → List Row
 rows_from first rows = filter (λ row. int_le first (number_of row)) rows
 
+-- the table of cargo has these rows and no other; a version without it shows none
+abbrev pub ShowsCargo : Version → Database → List Cargo → Type 0
+ShowsCargo First db cargo = cargo ≡ []
+ShowsCargo Second db cargo = cargo ≡ []
+ShowsCargo Third db cargo = ShowsRows (db.trees cargo_tree) all_cargo_columns (map cargo_values cargo)
+
 -- The tables of requests have these rows and no other. The moves are read page by page, so that is said of moves that stand under numbers.
-pub record ShowsRequests (db : Database) (requests : List PlacedRequest) (moves : List Move) (tallies : List Tally) (approvals : List Approval) : Type 0 where
+pub record ShowsRequests (of : Version) (db : Database) (requests : List PlacedRequest) (moves : List Move) (tallies : List Tally) (approvals : List Approval) (cargo : List Cargo) : Type 0 where
   pub requests_are : ShowsRows (db.trees request_tree) all_request_columns (map request_given requests)
   pub moves_are : AreNumbered (db.trees move_tree) → ShowsRows (db.trees move_tree) move_columns (map move_shown moves)
   pub tallies_are : ShowsRows (db.trees tally_tree) all_tally_columns (map tally_given tallies)
   pub approvals_are : ShowsRows (db.trees approval_tree) all_approval_columns (map approval_values approvals)
+  pub cargo_is : ShowsCargo of db cargo
 
 -- so it is of those of stacks
 pub record ShowsStacks (db : Database) (stacks : List LoadedStack) (approvals : List StackApproval) : Type 0 where
@@ -99,13 +109,12 @@ IsReplyRow row = AreOfReply (shown_of reply_columns row)
 
 -- So is each row of the table of replies, where the version has one. They are read page by page, so that is said of rows that stand under numbers.
 abbrev pub AreJudged : Version → Database → Type 0
-AreJudged First db = ⊤
-AreJudged Second db = AreNumbered (db.trees reply_tree) → AllByRecursion IsReplyRow (db.trees reply_tree)
+AreJudged of db = HasReplies of → AreNumbered (db.trees reply_tree) → AllByRecursion IsReplyRow (db.trees reply_tree)
 
 -- the one row of `meta` names this version, all rows of all tables of a book are those of the image, and those of replies are judged
 pub record ShowsAll (of : Version) (db : Database) (image : Image) : Type 0 where
   pub version : ShowsRows (db.trees meta_tree) all_version_columns (version_shown of ∷ [])
-  pub requests : ShowsRequests db image.requests image.moves image.tallies image.approvals
+  pub requests : ShowsRequests of db image.requests image.moves image.tallies image.approvals image.cargo
   pub stacks : ShowsStacks db image.stacks image.stack_approvals
   pub procedures : ShowsProcedures db image.procedures image.steps image.executions image.records
   pub replies : AreJudged of db

@@ -87,7 +87,7 @@ pub record Defined {S : Type 0} (g : Ghosts S) (texts : List (List ℕ)) (old ne
 
 -- a desk whose tables have no row but the version
 abbrev pub blank_image : Image
-blank_image = record { requests = []; moves = []; tallies = []; approvals = []; stacks = []; stack_approvals = []; procedures = []; steps = []; executions = []; records = [] }
+blank_image = record { requests = []; moves = []; tallies = []; approvals = []; stacks = []; stack_approvals = []; procedures = []; steps = []; executions = []; records = []; cargo = [] }
 
 abbrev pub blank_ledger : Ledger
 blank_ledger = record { image = blank_image; replies = [] }

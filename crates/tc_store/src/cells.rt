@@ -33,6 +33,18 @@ fn byte_at(row: &Row, at: usize) -> Result<u8, ReadFault>
     u8::try_from(number).map_err(|_| ReadFault::Damaged)
 }
 
+/// A position in a list, from 1.
+pub(crate) fn position_at(row: &Row, at: usize) -> Result<u8, ReadFault>
+    ensures reads { IfOk result (ShowsNumber row.now at) }
+    ensures told { IfOk result (λ position. position ≢ 0) }
+{
+    let position = byte_at(row, at)?;
+    if position == 0 {
+        return Err(ReadFault::Damaged);
+    }
+    Ok(position)
+}
+
 /// The number of a request.
 pub(crate) fn request_at(row: &Row, at: usize) -> Result<RequestNumber, ReadFault>
     ensures reads { IfOk result (ShowsNumber row.now at) }

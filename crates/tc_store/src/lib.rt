@@ -7,6 +7,7 @@
 mod approvals;
 mod batches;
 mod call_numbers;
+mod cargo;
 mod cells;
 mod creates;
 mod executions;

@@ -14,6 +14,7 @@ ghost use Rattle.tc_store.specs.Reads.{Reads};
 
 mod approvals;
 mod bodies;
+mod cargo;
 mod commands;
 mod executions;
 pub(crate) mod judges;
@@ -31,6 +32,7 @@ mod versions;
 
 use crate::faults::ReadFault;
 use crate::loads::approvals::load_approvals;
+use crate::loads::cargo::load_cargo;
 use crate::loads::executions::load_executions;
 use crate::loads::moves::load_moves;
 use crate::loads::procedures::load_procedures;
@@ -46,7 +48,7 @@ use crate::versions::Version;
 use sqlite::{Alter, Connection};
 use std::alloc::Global;
 use tc_types::{
-    Approval, BegunExecution, Image, LoadedProcedure, LoadedStack, Move, PlacedRequest,
+    Approval, BegunExecution, Cargo, Image, LoadedProcedure, LoadedStack, Move, PlacedRequest,
     ProcedureStep, StackApproval, StepRecord, Tally,
 };
 
@@ -57,6 +59,7 @@ struct OfRequests {
     moves: Vec<Move>,
     tallies: Vec<Tally>,
     approvals: Vec<Approval>,
+    cargo: Vec<Cargo>,
 }
 
 /// What they tell of stacks.
@@ -79,20 +82,23 @@ struct OfProcedures {
 fn load_of_requests<S: Alter>(
     conn: &mut Connection<S>,
     alloc: Global,
+    version: Version,
 ) -> Result<OfRequests, ReadFault>
-    ensures rows { HasCleanDisk (state S.Store conn.new) → IfOk result (λ found. (version : SomeVersion) (ledger : Ledger) → IsTold ledger.image → HoldsAs version (state S.Store conn.old).now ledger → (found.requests.items ≡ ledger.image.requests) × (found.moves.items ≡ ledger.image.moves) × (found.tallies.items ≡ ledger.image.tallies) × (found.approvals.items ≡ ledger.image.approvals)) }
-    ensures reads { Reads S.Store (λ db found. (version : SomeVersion) → db.schema ≡ schema_of version → ShowsRequests db found.requests.items found.moves.items found.tallies.items found.approvals.items) conn.old conn.new result }
+    ensures rows { HasCleanDisk (state S.Store conn.new) → IfOk result (λ found. (of : SomeVersion) (ledger : Ledger) → of ≡ version → IsTold ledger.image → HoldsAs of (state S.Store conn.old).now ledger → (found.requests.items ≡ ledger.image.requests) × (found.moves.items ≡ ledger.image.moves) × (found.tallies.items ≡ ledger.image.tallies) × (found.approvals.items ≡ ledger.image.approvals) × (found.cargo.items ≡ ledger.image.cargo)) }
+    ensures reads { Reads S.Store (λ db found. (of : SomeVersion) → db.schema ≡ schema_of of → of ≡ version → ShowsRequests version db found.requests.items found.moves.items found.tallies.items found.approvals.items found.cargo.items) conn.old conn.new result }
     ensures told { IfOk result (λ found. AllByRecursion IsToldRequest found.requests.items) }
 {
     let requests = load_requests(conn, alloc)?;
     let moves = load_moves(conn, alloc)?;
     let tallies = load_tallies(conn, alloc)?;
     let approvals = load_approvals(conn, alloc)?;
+    let cargo = load_cargo(conn, alloc, version)?;
     Ok(OfRequests {
         requests,
         moves,
         tallies,
         approvals,
+        cargo,
     })
 }
 
@@ -139,7 +145,7 @@ pub(crate) fn load_tables<S: Alter>(
     ensures reads { Reads S.Store (λ db loaded. db.schema ≡ schema_of version → ShowsAll version db (rows_in loaded)) conn.old conn.new result }
 {
     check_version(conn, version)?;
-    let book = load_of_requests(conn, alloc)?;
+    let book = load_of_requests(conn, alloc, version)?;
     let room = load_of_stacks(conn, alloc)?;
     let log = load_of_procedures(conn, alloc)?;
     judge_replies(conn, version)?;
@@ -154,5 +160,6 @@ pub(crate) fn load_tables<S: Alter>(
         steps: log.steps,
         executions: log.executions,
         records: log.records,
+        cargo: book.cargo,
     })
 }

@@ -9,7 +9,7 @@ use crate::versions::Version;
 use sqlite::{Alter, Error, Transaction};
 
 /// The text that names the newest version where another is named. The row keeps its number, which is that of a new desk's.
-const UPDATE_VERSION: &str = "UPDATE meta SET value = 2 WHERE name = 'schema'";
+const UPDATE_VERSION: &str = "UPDATE meta SET value = 3 WHERE name = 'schema'";
 
 /// Makes the tables that an earlier version lacks, and names the newest.
 fn migrate<S: Alter>(tx: &mut Transaction<'_, S>, from: Version) -> Result<usize, Error>

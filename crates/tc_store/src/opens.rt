@@ -35,6 +35,9 @@ pub(crate) fn version_of(alloc: Global, schema: &Schema) -> Result<Option<Versio
     ensures ours { IfOk result (λ found. IfSome found (λ version. schema.now ≡ schema_of version)) }
     ensures foreign { IfOk result (λ found. found ≡ None → (version : SomeVersion) → schema.now ≢ schema_of version) }
 {
+    if is_of(alloc, schema, Version::Third)? {
+        return Ok(Some(Version::Third));
+    }
     if is_of(alloc, schema, Version::Second)? {
         return Ok(Some(Version::Second));
     }

@@ -1,4 +1,5 @@
 pub mod NameLaws
+pub mod InsertLaws
 pub mod StepTextLaws
 pub mod WordLaws
 pub mod NumberLaws

@@ -14,4 +14,5 @@ rows_in image = record {
   steps = image.steps.items;
   executions = image.executions.items;
   records = image.records.items;
+  cargo = image.cargo.items;
 }

@@ -8,6 +8,7 @@ pub mod History
 pub mod Images
 pub mod Lines
 pub mod Schedule
+pub mod Inserts
 pub mod LinkGrammar
 pub mod LinkLines
 pub mod StepGrammar

@@ -12,6 +12,7 @@ use Rattle.tc_types.specs.declared.tables.rows.LoadedProcedure.{LoadedProcedure}
 use Rattle.tc_types.specs.declared.tables.rows.ProcedureStep.{ProcedureStep}
 use Rattle.tc_types.specs.declared.tables.rows.BegunExecution.{BegunExecution}
 use Rattle.tc_types.specs.declared.tables.rows.StepRecord.{StepRecord}
+use Rattle.tc_types.specs.declared.tables.cargo.Cargo.{Cargo}
 use Rattle.tc_types.specs.declared.tables.rows.Row.{Row}
 use Rattle.tc_types.specs.declared.tables.rows.Row.TheVariants as row
 use Rattle.tc_types.specs.Lawful.{place_number, all_places}
@@ -28,6 +29,7 @@ pub record Image : Type 0 where
   pub steps : List ProcedureStep
   pub executions : List BegunExecution
   pub records : List StepRecord
+  pub cargo : List Cargo
 
 -- a tally of each place, in order of number
 abbrev pub tallies_by : (Place → ℕ) → List Tally
@@ -46,6 +48,7 @@ empty_image = record {
   steps = [];
   executions = [];
   records = [];
+  cargo = [];
 }
 
 -- a table with this row: in place of the one with the same key, else in order of key

@@ -33,6 +33,7 @@ pub use history::places::{ALL_PLACES, PLACES, Place, is_among, is_same_place};
 pub use link::activities::{Activity, ListedActivity, MOST_ACTIVITIES, Summary};
 pub use link::directives::Directive;
 pub use link::frames::Frame;
+pub use link::inserts::{Activities, MOST_INSERTED};
 pub use link::reports::{Report, Telemetry, Verification, stage_of};
 pub use link::telecommands::{Payload, ScheduleCommand, Task, Telecommand};
 pub use loads::{Load, LoadKind};
@@ -56,6 +57,7 @@ pub use read::words::cut;
 pub use refusals::Refusal;
 pub use requests::{Ack, Body, Command, Form, Identity, Origin, Outcome, Request};
 pub use step_texts::StepText;
+pub use tables::cargo::Cargo;
 pub use tables::images::Image;
 pub use tables::rows::{
     Approval, BegunExecution, LoadedProcedure, LoadedStack, PlacedRequest, ProcedureStep, Row,

@@ -2,5 +2,6 @@
 pub mod activities;
 pub mod directives;
 pub mod frames;
+pub mod inserts;
 pub mod reports;
 pub mod telecommands;

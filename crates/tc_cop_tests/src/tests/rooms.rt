@@ -11,7 +11,7 @@ use tc_fop::signals::Indication;
 use tc_types::{Directive, Refusal};
 
 /// More than a FOP and an output take.
-const HEAP: usize = 131_072;
+const HEAP: usize = 524_288;
 
 /// The service starts without check.
 const START: Call = Call::Direct(Directive::InitiateNone);
@@ -19,10 +19,10 @@ const START: Call = Call::Direct(Directive::InitiateNone);
 /// How many sizes are tried of what something else takes of the heap.
 const SIZES: usize = 256;
 
-/// The sizes by 512 bytes, from the largest down to nothing: the one at this place.
+/// The sizes by 2,048 bytes, from the largest down to nothing: the one at this place.
 fn size_at(place: usize) -> usize {
-    HEAP.saturating_sub(512)
-        .saturating_sub(place.saturating_mul(512))
+    HEAP.saturating_sub(2_048)
+        .saturating_sub(place.saturating_mul(2_048))
 }
 
 /// Checks that this refusal is one of memory, and that nothing changed.
@@ -85,7 +85,7 @@ fn is_refused_memory_and_goes_on(rt: HostRuntime) -> Result<(), Fail> {
 
 /// Takes what is left of the heap, or nothing where nothing is left.
 fn fill<'a>(heap: &'a LocalHeap) -> Vec<u8, &'a LocalHeap> {
-    for place in 1..2_049usize {
+    for place in 1..8_193usize {
         let size = HEAP.saturating_sub(place.saturating_mul(64));
         if let Ok(taken) = Vec::with_capacity(heap, size) {
             return taken;
@@ -205,7 +205,7 @@ fn refusal_in(alloc: Global, size: usize) -> Result<Option<Refusal>, Fail> {
 #[test]
 fn is_made_where_there_is_room(rt: HostRuntime) -> Result<(), Fail> {
     let (mut refused, mut made) = (0u32, 0u32);
-    for size in (1_024..32_768).step_by(1_024) {
+    for size in (8_192..262_144).step_by(8_192) {
         match refusal_in(rt.alloc(), size)? {
             None => made = made.saturating_add(1),
             Some(refusal) => {

@@ -10,6 +10,7 @@ ghost use Rattle.tc_store.specs.Reads.{Reads};
 
 use crate::faults::ReadFault;
 use crate::loads::approvals::load_approvals;
+use crate::loads::cargo::load_cargo;
 use crate::loads::executions::load_executions;
 use crate::loads::moves::judge_moves;
 use crate::loads::procedures::load_procedures;
@@ -26,13 +27,18 @@ use sqlite::{Alter, Connection};
 use std::alloc::Global;
 
 /// Reads what the tables tell of requests.
-fn judge_of_requests<S: Alter>(conn: &mut Connection<S>, alloc: Global) -> Result<(), ReadFault>
-    ensures reads { Reads S.Store (λ db _. (version : SomeVersion) → db.schema ≡ schema_of version → (image : Rows) × ShowsRequests db image.requests image.moves image.tallies image.approvals × AllByRecursion IsToldRequest image.requests) conn.old conn.new result }
+fn judge_of_requests<S: Alter>(
+    conn: &mut Connection<S>,
+    alloc: Global,
+    version: Version,
+) -> Result<(), ReadFault>
+    ensures reads { Reads S.Store (λ db _. (of : SomeVersion) → db.schema ≡ schema_of of → of ≡ version → (image : Rows) × ShowsRequests version db image.requests image.moves image.tallies image.approvals image.cargo × AllByRecursion IsToldRequest image.requests) conn.old conn.new result }
 {
     let _ = load_requests(conn, alloc)?;
     judge_moves(conn, alloc)?;
     let _ = load_tallies(conn, alloc)?;
     let _ = load_approvals(conn, alloc)?;
+    let _ = load_cargo(conn, alloc, version)?;
     Ok(())
 }
 
@@ -65,7 +71,7 @@ pub(crate) fn judge_tables<S: Alter>(
     ensures reads { Reads S.Store (λ db _. db.schema ≡ schema_of version → (image : Rows) × ShowsAll version db image × IsTold image) conn.old conn.new result }
 {
     check_version(conn, version)?;
-    judge_of_requests(conn, alloc)?;
+    judge_of_requests(conn, alloc, version)?;
     judge_of_stacks(conn, alloc)?;
     judge_of_procedures(conn, alloc)?;
     judge_replies(conn, version)

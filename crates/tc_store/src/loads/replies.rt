@@ -4,7 +4,6 @@ ghost use Rattle.std.specs.List.{AllByRecursion};
 ghost use Rattle.sqlite_value.specs.declared.value.Value.TheVariants.{Text};
 ghost use Rattle.sqlite_value.specs.Order.{Row as Values, column};
 ghost use Rattle.tc_store.specs.declared.versions.Version.{Version as SomeVersion};
-ghost use Rattle.tc_store.specs.declared.versions.Version.TheVariants.{Second};
 ghost use Rattle.tc_types.specs.Names.{IsPerson};
 ghost use Rattle.tc_store.specs.CallNumbers.{IsCallNumber};
 ghost use Rattle.tc_store.specs.Schema.{schema_of};
@@ -66,7 +65,7 @@ fn judge_all(rows: &[Row]) -> Result<(), ReadFault>
 
 /// Reads the replies page by page, and judges each. The tables stay, also where one is none that a desk keeps.
 fn judge_pages<S: Alter>(conn: &mut Connection<S>) -> Result<(), ReadFault>
-    ensures reads { Reads S.Store (λ db _. db.schema ≡ schema_of Second → AreJudged Second db) conn.old conn.new result }
+    ensures reads { Reads S.Store (λ db _. (of : SomeVersion) → db.schema ≡ schema_of of → AreJudged of db) conn.old conn.new result }
 {
     let mut first = i64::MIN;
     // each page ends on a greater number than the one before; no desk has so many replies that the pages end with the numbers
@@ -94,6 +93,6 @@ pub(crate) fn judge_replies<S: Alter>(
 {
     match version {
         Version::First => Ok(()),
-        Version::Second => judge_pages(conn),
+        Version::Second | Version::Third => judge_pages(conn),
     }
 }

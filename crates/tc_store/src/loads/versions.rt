@@ -26,6 +26,7 @@ fn version_number(version: Version) -> u32
     match version {
         Version::First => 1,
         Version::Second => 2,
+        Version::Third => 3,
     }
 }
 

@@ -1,5 +1,5 @@
 //! What flies to the spacecraft, and what it takes from the link.
-use crate::link::activities::Activity;
+use crate::link::inserts::Activities;
 use crate::numbers::{Offset, RequestNumber};
 use crate::requests::{Ack, Identity, Outcome};
 
@@ -13,8 +13,8 @@ pub enum ScheduleCommand {
     Disable,
     /// TC[11,3]: reset the schedule.
     Reset,
-    /// TC[11,4]: insert this activity.
-    Insert(Activity),
+    /// TC[11,4]: insert these activities.
+    Insert(Activities),
     /// TC[11,5]: delete the activity `target`.
     Delete { target: u32 },
     /// TC[11,7]: shift the activity `target` in time.

@@ -1,5 +1,6 @@
 //! All rows of a desk's tables.
 use crate::history::moves::Move;
+use crate::tables::cargo::Cargo;
 use crate::tables::rows::{
     Approval, BegunExecution, LoadedProcedure, LoadedStack, PlacedRequest, ProcedureStep,
     StackApproval, StepRecord, Tally,
@@ -29,4 +30,6 @@ pub struct Image {
     pub executions: Vec<BegunExecution>,
     /// What was recorded of their steps.
     pub records: Vec<StepRecord>,
+    /// What inserts name behind their first activity.
+    pub cargo: Vec<Cargo>,
 }

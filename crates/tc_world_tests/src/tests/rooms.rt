@@ -125,7 +125,7 @@ fn is_refused_memory_and_stands(rt: HostRuntime) -> Result<(), Fail> {
     first_events(&rt, &mut events)?;
     let mut refused = 0u32;
     let mut is_last_refused = true;
-    for size in (4_096..524_288).step_by(2_048) {
+    for size in (8_192..2_097_152).step_by(8_192) {
         is_last_refused = is_refused_in(&rt, rt.alloc(), size, &events)?;
         if is_last_refused {
             refused = refused.saturating_add(1);

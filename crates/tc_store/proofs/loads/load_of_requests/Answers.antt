@@ -23,18 +23,31 @@ returns-in_err-approvals-clause-reads g c = record {
   left = (reads_then g.S.Store (reads_then g.S.Store (reads_then g.S.Store c.in_ok-requests.ensures.reads c.in_ok-moves.ensures.reads) c.in_ok-tallies.ensures.reads) c.load_approvals.ensures.reads).left;
 }
 
+pub returns-in_err-cargo-clause-reads : goal.returns-in_err-cargo-clause-reads
+returns-in_err-cargo-clause-reads g c = record {
+  finds = search rules;
+  same = search rules;
+  left = (reads_then g.S.Store (reads_then g.S.Store (reads_then g.S.Store (reads_then g.S.Store c.in_ok-requests.ensures.reads c.in_ok-moves.ensures.reads) c.in_ok-tallies.ensures.reads) c.in_ok-approvals.ensures.reads) c.load_cargo.ensures.reads).left;
+}
+
 pub returns-clause-reads : goal.returns-clause-reads
 returns-clause-reads g c =
-    let all = reads_then g.S.Store (reads_then g.S.Store (reads_then g.S.Store c.in_ok-requests.ensures.reads c.in_ok-moves.ensures.reads) c.in_ok-tallies.ensures.reads) c.in_ok-approvals.ensures.reads in
+    let all = reads_then g.S.Store (reads_then g.S.Store (reads_then g.S.Store (reads_then g.S.Store c.in_ok-requests.ensures.reads c.in_ok-moves.ensures.reads) c.in_ok-tallies.ensures.reads) c.in_ok-approvals.ensures.reads) c.in_ok-cargo.ensures.reads in
     record {
-      finds = λ clean version has. let seen = all.finds clean version has in record { requests_are = seen.0.0.0; moves_are = seen.0.0.1; tallies_are = seen.0.1; approvals_are = seen.1 };
+      finds = λ clean of has same. let seen = all.finds clean of has in record { requests_are = seen.0.0.0.0; moves_are = seen.0.0.0.1; tallies_are = seen.0.0.1; approvals_are = seen.0.1; cargo_is = seen.1 same };
       same = all.same;
       left = all.left;
     }
 
 pub returns-clause-rows : goal.returns-clause-rows
-returns-clause-rows g c clean version ledger told held =
-    let at3 = held_then g.S.Store (reads_then g.S.Store (reads_then g.S.Store c.in_ok-requests.ensures.reads c.in_ok-moves.ensures.reads) c.in_ok-tallies.ensures.reads) c.in_ok-approvals.ensures.reads clean version ledger held in
-    let at2 = held_then g.S.Store (reads_then g.S.Store c.in_ok-requests.ensures.reads c.in_ok-moves.ensures.reads) c.in_ok-tallies.ensures.reads at3.0 version ledger held in
-    let at1 = held_then g.S.Store c.in_ok-requests.ensures.reads c.in_ok-moves.ensures.reads at2.0 version ledger held in
-    (c.in_ok-requests.ensures.rows at1.0 version ledger told held, c.in_ok-moves.ensures.rows at2.0 version ledger at1.1, c.in_ok-tallies.ensures.rows at3.0 version ledger at2.1, c.in_ok-approvals.ensures.rows clean version ledger at3.1)
+returns-clause-rows g c clean of ledger same told held =
+    let at4 = held_then g.S.Store (reads_then g.S.Store (reads_then g.S.Store (reads_then g.S.Store c.in_ok-requests.ensures.reads c.in_ok-moves.ensures.reads) c.in_ok-tallies.ensures.reads) c.in_ok-approvals.ensures.reads) c.in_ok-cargo.ensures.reads clean of ledger held in
+    let at3 = held_then g.S.Store (reads_then g.S.Store (reads_then g.S.Store c.in_ok-requests.ensures.reads c.in_ok-moves.ensures.reads) c.in_ok-tallies.ensures.reads) c.in_ok-approvals.ensures.reads at4.0 of ledger held in
+    let at2 = held_then g.S.Store (reads_then g.S.Store c.in_ok-requests.ensures.reads c.in_ok-moves.ensures.reads) c.in_ok-tallies.ensures.reads at3.0 of ledger held in
+    let at1 = held_then g.S.Store c.in_ok-requests.ensures.reads c.in_ok-moves.ensures.reads at2.0 of ledger held in (
+      c.in_ok-requests.ensures.rows at1.0 of ledger told held,
+      c.in_ok-moves.ensures.rows at2.0 of ledger at1.1,
+      c.in_ok-tallies.ensures.rows at3.0 of ledger at2.1,
+      c.in_ok-approvals.ensures.rows at4.0 of ledger at3.1,
+      c.in_ok-cargo.ensures.rows clean of ledger same at4.1,
+    )

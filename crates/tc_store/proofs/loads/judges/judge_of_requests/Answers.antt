@@ -15,15 +15,36 @@ returns-in_err-load_approvals g c = record {
   });
 }
 
+pub returns-in_err-load_cargo : goal.returns-in_err-load_cargo
+returns-in_err-load_cargo g c = record {
+  reads = (record {
+    finds = search rules;
+    same = search rules;
+    left = (reads_then g.S.Store (reads_then g.S.Store (reads_then g.S.Store (reads_then g.S.Store c.in_ok-load_requests.ensures.reads c.in_ok-judge_moves.ensures.reads) c.in_ok-load_tallies.ensures.reads) c.in_ok-load_approvals.ensures.reads) c.load_cargo.ensures.reads).left;
+  });
+}
+
 pub returns : goal.returns
 returns g c =
-    let all = reads_then g.S.Store (reads_then g.S.Store (reads_then g.S.Store c.in_ok-load_requests.ensures.reads c.in_ok-judge_moves.ensures.reads) c.in_ok-load_tallies.ensures.reads) c.in_ok-load_approvals.ensures.reads in
+    let all = reads_then g.S.Store (reads_then g.S.Store (reads_then g.S.Store (reads_then g.S.Store c.in_ok-load_requests.ensures.reads c.in_ok-judge_moves.ensures.reads) c.in_ok-load_tallies.ensures.reads) c.in_ok-load_approvals.ensures.reads) c.in_ok-load_cargo.ensures.reads in
     record {
       reads = (record {
-        finds = λ clean version has.
-            let seen = all.finds clean version has in
-            let image : Image = record blank_image { requests = c.in_ok-load_requests.field-0.items; moves = seen.0.0.1.0; tallies = c.in_ok-load_tallies.field-0.items; approvals = c.in_ok-load_approvals.field-0.items } in
-            let shows : ShowsRequests (state g.S.Store c.args.conn.now).now image.requests image.moves image.tallies image.approvals = record { requests_are = seen.0.0.0; moves_are = seen.0.0.1.1; tallies_are = seen.0.1; approvals_are = seen.1 } in
+        finds = λ clean of has same.
+            let seen = all.finds clean of has in
+            let image : Image = record blank_image {
+              requests = c.in_ok-load_requests.field-0.items;
+              moves = seen.0.0.0.1.0;
+              tallies = c.in_ok-load_tallies.field-0.items;
+              approvals = c.in_ok-load_approvals.field-0.items;
+              cargo = c.in_ok-load_cargo.field-0.items;
+            } in
+            let shows : ShowsRequests c.args.version (state g.S.Store c.args.conn.now).now image.requests image.moves image.tallies image.approvals image.cargo = record {
+              requests_are = seen.0.0.0.0;
+              moves_are = seen.0.0.0.1.1;
+              tallies_are = seen.0.0.1;
+              approvals_are = seen.0.1;
+              cargo_is = seen.1 same;
+            } in
             (image, shows, c.in_ok-load_requests.ensures.told);
         same = all.same;
         left = all.left;

@@ -10,7 +10,7 @@ returns g c =
     record {
       reads = (record {
         finds = λ clean. if_ok c.judge_replies.result _ _ (all.finds clean) (λ last shows has.
-            let seen = shows c.args.version has in joined c.args.version (state g.S.Store c.args.conn.now).now seen.0.0.0.0 seen.0.0.0.1 seen.0.0.1 seen.0.1 (seen.1 refl));
+            let seen = shows c.args.version has in joined c.args.version (state g.S.Store c.args.conn.now).now seen.0.0.0.0 (seen.0.0.0.1 refl) seen.0.0.1 seen.0.1 (seen.1 refl));
         same = all.same;
         left = all.left;
       });

@@ -1,8 +1,9 @@
 use Rattle.std.proofs.Common.{◌≡◌}
 use Rattle.sqlite.specs.State.{HasCleanDisk}
 use Rattle.sqlite.specs.Held.{state}
+use Rattle.tc_store.specs.declared.versions.Version.{Version}
 use Rattle.tc_store.specs.Replies.{reply_tree}
-use Rattle.tc_store.specs.Schema.{newest_schema}
+use Rattle.tc_store.specs.Schema.{HasReplies, schema_of}
 use Rattle.tc_store.specs.Shows.{AreNumbered}
 use Rattle.tc_store.specs.Reads.{Stays, Spares}
 use Rattle.tc_store.proofs.ReplyPageLemmas.{AreJudgedTo}
@@ -13,5 +14,5 @@ abbrev pub invariant-pages : goal.invariant-pages
 invariant-pages g l =
     (HasCleanDisk (state g.S.Store l.conn) → Stays g.S.Store l.initial.conn l.conn)
     × Spares g.S.Store l.initial.conn l.conn
-    × (HasCleanDisk (state g.S.Store l.conn) → (state g.S.Store l.initial.conn).now.schema ≡ newest_schema → AreNumbered ((state g.S.Store l.initial.conn).now.trees reply_tree)
+    × (HasCleanDisk (state g.S.Store l.conn) → (of : Version) → HasReplies of → (state g.S.Store l.initial.conn).now.schema ≡ schema_of of → AreNumbered ((state g.S.Store l.initial.conn).now.trees reply_tree)
     → AreJudgedTo ((state g.S.Store l.initial.conn).now.trees reply_tree) l.first)
