@@ -12,6 +12,7 @@ pub mod Loads
 pub mod Interlocks
 pub mod Logs
 pub mod Steps
+pub mod Cargoes
 pub mod Tables
 pub mod Opening
 pub mod Held

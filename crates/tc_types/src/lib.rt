@@ -19,8 +19,10 @@ mod print;
 pub mod read;
 mod refusals;
 mod requests;
+mod rides;
 mod step_texts;
 mod tables;
+mod targets;
 mod verdicts;
 
 pub use acts::{Act, BookAct, Line, LinkAct, Query, StepAct};
@@ -56,6 +58,7 @@ pub use read::load_reader::read_load;
 pub use read::words::cut;
 pub use refusals::Refusal;
 pub use requests::{Ack, Body, Command, Form, Identity, Origin, Outcome, Request};
+pub use rides::{Ride, Rides};
 pub use step_texts::StepText;
 pub use tables::cargo::Cargo;
 pub use tables::images::Image;
@@ -63,4 +66,5 @@ pub use tables::rows::{
     Approval, BegunExecution, LoadedProcedure, LoadedStack, PlacedRequest, ProcedureStep, Row,
     StackApproval, StepRecord, Tally,
 };
+pub use targets::Targets;
 pub use verdicts::Verdict;

@@ -5,5 +5,6 @@ pub(crate) mod line_reader;
 pub(crate) mod link_reader;
 pub(crate) mod load_reader;
 pub mod readers;
+pub mod ride_reader;
 mod step_reader;
 pub(crate) mod words;
