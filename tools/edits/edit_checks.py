@@ -14,6 +14,8 @@ from edit_files import Function, text_of
 PARTS = ("src", "specs", "proofs")
 # What is said where a proof file names what the edit took away, or cites such a file.
 GONE = re.compile(r"has no field|is not in scope|has no `|was not admitted")
+# A line that tells why a check is refused.
+REASON = re.compile(r"(?:\./)?\S+:\d+:\d+: error\b|note: (?:\./)?\S+:\d+:\d+: it is not proved")
 # What is said of a text that reads as no term at all, once the names in it are taken out.
 UNREAD = re.compile(r"is not in scope|has no field|is no name|operand is missing|expected the end|cannot continue")
 
@@ -182,12 +184,12 @@ def fault_of(function: Function, path: str, report: Report) -> Fault | None:
 
 def told(report: Report) -> tuple[str, bool]:
     """The first line of a whole check that tells why it is refused, and whether that is more than a proof file that
-    names what is gone."""
-    lines = [it for it in report.lines if re.match(r"(note: )?\S+:\d+:\d+:", it)]
-    lines = [it for it in lines if ": error" in it or it.startswith("note: ")] or lines
+    names what is gone. Other notes, as on how large a proof became, are no reason."""
+    lines = [it for it in report.lines if REASON.match(it)]
+    lines = lines or [f"fn {name}: {why}" for name, why in report.not_proved().items()]
     is_gone = re.compile(rf"(\./)?proofs/.*(?:{GONE.pattern})")
     first = next((it for it in lines if not is_gone.match(it)), None)
-    return (first, True) if first else (lines[0], False) if lines else ("no place is told", True)
+    return (first, True) if first else (lines[0], False) if lines else ("no reason is told", False)
 
 
 def crates_of(path: str = "crates.txt") -> dict[str, list[str]]:

@@ -12,6 +12,8 @@ import sys
 import tempfile
 from collections.abc import Iterator, Mapping
 
+from edit_checks import Report, told
+
 TOOLS = os.path.dirname(os.path.realpath(__file__))
 # What must hold: its name, whether it does, and what was said.
 Held = tuple[str, object, object]
@@ -406,9 +408,26 @@ def judges(top: str) -> Iterator[Held]:
     yield "once a rule of judging changes", tried(top, tools=f"{top}/rules"), recorded(top)
 
 
+def reasons() -> Iterator[Held]:
+    """What must hold of the line that tells why a whole check is refused."""
+    note = "note: src/lib.rt:3:1: its proof took a large solution"
+    gone = "./proofs/half/Answers.antt:5:1: error: `c.args` has no field `x`"
+    goal = "note: src/lib.rt:7:5: it is not proved that the sum fits"
+    other = "fn planted::half: not proved; `search` did not prove a goal of it"
+    for name, lines, wanted in (
+        ("a goal, behind a note", [note, goal, other], (goal, True)),
+        ("a proof file that names what is gone, behind a note", [note, gone, other], (gone, False)),
+        ("a goal, behind such a file", [gone, goal], (goal, True)),
+        ("a function, where no place is told", [note, other], (other, True)),
+        ("a note alone", [note], ("no reason is told", False)),
+    ):
+        said = told(Report(1, [*lines, "logic=not-proved"], 0, 0))
+        yield f"the reason: {name}", said == wanted, list(map(str, said))
+
+
 def main() -> int:
     passed = failed = 0
-    for name, is_well, said in [*verdicts(), *records(), *changes()]:
+    for name, is_well, said in [*reasons(), *verdicts(), *records(), *changes()]:
         passed, failed = passed + bool(is_well), failed + (not is_well)
         if not is_well:
             print(f"edits_test: {name}: it said {said}", flush=True)

@@ -40,14 +40,21 @@ impl Model for Rides {
     ghost inverse = { λ rides. record { places = padded rides; count = length rides } };
 }
 
-/// The numbers of these are in their ranges.
-#[tactic(auto, using(crate::proofs::RideLemmas::each_next))]
+/// The numbers of an activity are in their ranges.
+fn keeps_ranges(ride: &Ride)
+    ensures { IsRide ride.now }
+{
+    // read for the proof alone
+    let Ride { target, time } = ride;
+    let _numbers = (*target, time.get());
+}
+
+/// The same of each of these.
 fn keep_ranges(rides: &[Ride])
     ensures { AllByRecursion IsRide rides.now }
 {
-    // read for the proof alone
     for ride in rides {
-        let _numbers = (ride.target, ride.time.get());
+        keeps_ranges(ride);
     }
 }
 

@@ -4,7 +4,7 @@ ghost use Rattle.std.specs.Fmt.{decimal};
 ghost use Rattle.std.specs.String.{string_bytes};
 ghost use Rattle.tc_types.specs.Grammar.{ack_word, yes_no, listed, target_word, time_word};
 ghost use Rattle.tc_types.specs.Lines.{spaced};
-ghost use Rattle.tc_types.specs.RequestLine.{kind_word, target_words, request_line};
+ghost use Rattle.tc_types.specs.RequestLine.{kind_word, with_word, target_words, request_line};
 ghost use Rattle.tc_types.specs.Words.{is_one_line};
 
 use crate::history::moves::from_name;
@@ -45,7 +45,7 @@ fn push_target<A: Allocator + Copy>(
     at: usize,
     ride: &Ride,
 ) -> Result<(), AllocError>
-    ensures { OnOk result (string_bytes text.new ≡ joined_more (string_bytes text.old) at (target_word ride.now)) }
+    ensures { OnOk result (string_bytes text.new ≡ with_word (string_bytes text.old) at (target_word ride.now)) }
 {
     let target = ride.target;
     if at == 0 {
@@ -61,7 +61,7 @@ fn push_time<A: Allocator + Copy>(
     at: usize,
     ride: &Ride,
 ) -> Result<(), AllocError>
-    ensures { OnOk result (string_bytes text.new ≡ joined_more (string_bytes text.old) at (time_word ride.now)) }
+    ensures { OnOk result (string_bytes text.new ≡ with_word (string_bytes text.old) at (time_word ride.now)) }
 {
     let time = ride.time.get();
     if at == 0 {
@@ -72,22 +72,22 @@ fn push_time<A: Allocator + Copy>(
 }
 
 /// The list of the requests that an insert names. Fails where memory is refused.
-fn targets_text<A: Allocator + Copy>(alloc: A, rides: &Rides) -> Result<String<A>, AllocError>
+fn targets_text<A: Allocator + Copy>(alloc: A, rides: &[Ride]) -> Result<String<A>, AllocError>
     ensures { IfOk result (λ t. string_bytes t ≡ listed target_word rides.now) }
 {
     let mut text = String::new(alloc);
-    for (at, ride) in rides.as_slice().iter().enumerate() {
+    for (at, ride) in rides.iter().enumerate() {
         push_target(&mut text, at, ride)?;
     }
     Ok(text)
 }
 
 /// The list of their times. Fails where memory is refused.
-fn times_text<A: Allocator + Copy>(alloc: A, rides: &Rides) -> Result<String<A>, AllocError>
+fn times_text<A: Allocator + Copy>(alloc: A, rides: &[Ride]) -> Result<String<A>, AllocError>
     ensures { IfOk result (λ t. string_bytes t ≡ listed time_word rides.now) }
 {
     let mut text = String::new(alloc);
-    for (at, ride) in rides.as_slice().iter().enumerate() {
+    for (at, ride) in rides.iter().enumerate() {
         push_time(&mut text, at, ride)?;
     }
     Ok(text)
@@ -97,8 +97,8 @@ fn times_text<A: Allocator + Copy>(alloc: A, rides: &Rides) -> Result<String<A>,
 fn rides_text<A: Allocator + Copy>(alloc: A, rides: &Rides) -> Result<String<A>, AllocError>
     ensures { IfOk result (λ t. string_bytes t ≡ spaced (listed target_word rides.now ∷ listed time_word rides.now ∷ [])) }
 {
-    let targets = targets_text(alloc, rides)?;
-    let times = times_text(alloc, rides)?;
+    let targets = targets_text(alloc, rides.as_slice())?;
+    let times = times_text(alloc, rides.as_slice())?;
     let targets = targets.as_str();
     let times = times.as_str();
     format!(in alloc; "{targets} {times}")
