@@ -1,6 +1,6 @@
 -- The text of a stack: a row in each record, under a header (this desk's own). Instants are those of RFC 3339 and RFC 9557, as the
 -- crate jiff reads them.
-use Rattle.std.specs.Prelude.{◌≡◌, ◌⊎◌, ⊤, ⊥, ℕ, ℤ, ◌*◌, ◌<◌, pos, Bool, true, false, Option, Some, None, Ok, IfSome, List, [], ◌∷◌, length, map, get_or, drop}
+use Rattle.std.specs.Prelude.{◌≡◌, ◌⊎◌, ⊤, ℕ, ℤ, ◌*◌, ◌<◌, pos, Bool, true, false, Option, Some, None, Ok, IfSome, List, [], ◌∷◌, length, map, get_or, drop}
 use Rattle.std.specs.List.{AllByRecursion}
 use Rattle.std.specs.Fmt.{decimal, signed_decimal}
 use Rattle.std.specs.Str.{IsUtf8}
