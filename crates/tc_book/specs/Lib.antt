@@ -18,6 +18,7 @@ pub mod Opening
 pub mod Held
 pub mod Sound
 pub mod Known
+pub mod Joining
 pub mod GoodApprovals
 pub mod SoundParts
 pub mod Answers

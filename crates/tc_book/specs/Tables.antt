@@ -1,5 +1,6 @@
 -- The rows of a book: what its tables hold, and nothing else.
-use Rattle.std.specs.Prelude.{List, [], map, unwrap_or}
+use Rattle.std.specs.Prelude.{List, map, unwrap_or}
+use Rattle.std.specs.List.{flat_map}
 use Rattle.tc_types.specs.declared.history.places.Place.TheVariants.{Entered}
 use Rattle.tc_types.specs.declared.history.moves.Move.{Move}
 use Rattle.tc_types.specs.declared.requests.Request.{Request}

@@ -1,5 +1,5 @@
 -- Which requests a command of the on-board schedule may name.
-use Rattle.std.specs.Prelude.{◌≡◌, ℕ, Bool, true, false, not, ◌&&◌, ◌||◌, List, IsSomeAnd}
+use Rattle.std.specs.Prelude.{◌≡◌, ℕ, Bool, false, not, ◌&&◌, ◌||◌, List, IsSomeAnd}
 use Rattle.std.specs.List.{AllByRecursion}
 use Rattle.tc_types.specs.declared.requests.Request.{Request}
 use Rattle.tc_types.specs.declared.requests.Command.{Command}
