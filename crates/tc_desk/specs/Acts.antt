@@ -1,7 +1,7 @@
 -- What each kind of act is refused for, what it makes of the book by itself, and how its reply begins. An act on the book
 -- alone is the book's matter.
 use Rattle.std.specs.Prelude.{ℕ, ◌==◌, nat_lt, Bool, true, false, not, ◌&&◌, ◌||◌, Option, Some, None, is_some, List, [], ◌∷◌, ◌++◌, count_by}
-use Rattle.std.specs.Option.{option_map_or}
+use Rattle.std.specs.List.{list_any}
 use Rattle.tc_types.specs.declared.link.activities.ListedActivity.{ListedActivity}
 use Rattle.tc_types.specs.declared.history.places.Place.TheVariants.{Entered, Approved, Queued, Riding}
 use Rattle.tc_types.specs.declared.history.causes.Cause.TheVariants as cause

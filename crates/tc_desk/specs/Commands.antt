@@ -28,10 +28,14 @@ abbrev pub activity_of : Request → ℕ → Activity
 activity_of target time =
     record { request = target.number; identity = target.body.identity; ack = target.body.ack; outcome = target.body.outcome; time = time }
 
--- what an insert names, as the activities that fly with it; none where a request is not there
+-- what an insert names at one of its places, as the activity that flies with it; none where that request is not there
+abbrev pub flown_activity : Book → Ride → Option Activity
+flown_activity book ride = option_map (λ target. activity_of target ride.time) (request_at book ride.target)
+
+-- all that it names; none where a request is not there
 abbrev pub activities_of : Book → List Ride → Option (List Activity)
 activities_of book [] = Some []
-activities_of book (ride ∷ rides) = both_of (option_map (λ target. activity_of target ride.time) (request_at book ride.target)) (activities_of book rides)
+activities_of book (ride ∷ rides) = both_of (flown_activity book ride) (activities_of book rides)
 
 -- an insert carries the activities that it names
 abbrev pub insert_of : Book → List Ride → Option ScheduleCommand

@@ -1,6 +1,6 @@
 -- What the book hears of the link: each indication, and each report that was read, is one equation. Where an insert moves, its
 -- activities follow.
-use Rattle.std.specs.Prelude.{◌≡◌, ◌≢◌, ◌⊎◌, ℕ, ◌+◌, ◌≤◌, Bool, true, false, if◌then◌else◌, Option, Some, None, List, [], ◌∷◌, length, map, fold}
+use Rattle.std.specs.Prelude.{◌≡◌, ◌≢◌, ◌⊎◌, ℕ, ◌≤◌, Bool, true, false, if◌then◌else◌, Option, Some, None, List, [], ◌∷◌, length, map, fold}
 use Rattle.std.specs.List.{list_any}
 use Rattle.tc_types.specs.declared.history.places.Place.{Place}
 use Rattle.tc_types.specs.declared.history.places.Place.TheVariants as place
@@ -14,6 +14,7 @@ use Rattle.tc_types.specs.declared.link.reports.Verification.{Verification}
 use Rattle.tc_types.specs.declared.requests.Command.{Command}
 use Rattle.tc_types.specs.declared.requests.Command.TheVariants as command
 use Rattle.tc_types.specs.declared.requests.Request.{Request}
+use Rattle.tc_types.specs.History.{count_at}
 use Rattle.tc_types.specs.Lawful.{is_among, is_lawful, is_one_of}
 use Rattle.tc_types.specs.Schedule.{ridden}
 use Rattle.tc_types.specs.Stages.{stage_of_verification}
@@ -27,16 +28,21 @@ use Rattle.tc_book.specs.Places.{numbers_from}
 use Rattle.tc_book.specs.Records.{Kept}
 use Rattle.tc_desk.specs.Commands.{activities_at}
 
--- there is room for so many rows more, and from each of these places a move to this one is lawful for this cause; only its approvers move a
--- request with the cause `approve`
-pub record MayMove (most : ℕ) (at : Kept) (places : List Place) (to : Place) (why : Cause) : Type 0 where
-  pub room : length at.book.history + most ≤ at.most_rows
+-- how many requests ride inside an insert
+unfoldable pub riding : Book → ℕ
+riding book = count_at book.history place.Riding
+
+-- there is room for the rows of this book
+abbrev pub MayHold : Kept → Book → Type 0
+MayHold at book = length book.history ≤ at.most_rows
+
+-- from each of these places a move to this one is lawful for this cause; only its approvers move a request with the cause `approve`
+pub record MayMove (places : List Place) (to : Place) (why : Cause) : Type 0 where
   pub lawful : (from : Option Place) → is_among places from ≡ true → is_lawful from to why ≡ true
   pub own : why ≢ cause.Approve
 
--- requests were moved, so many times at most: all but the history stays, and there is room for as many rows as there was at least
-pub record OnlyMoves (most : ℕ) (old new : Kept) : Type 0 where
-  pub rows : length new.book.history ≤ length old.book.history + most
+-- requests were moved: all but the history stays, and there is room for as many rows as there was at least
+pub record OnlyMoves (old new : Kept) : Type 0 where
   pub rows_kept : old.most_rows ≤ new.most_rows
   pub requests : new.book.requests ≡ old.book.requests
   pub approvals : new.book.approvals ≡ old.book.approvals
