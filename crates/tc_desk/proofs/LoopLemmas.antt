@@ -117,14 +117,6 @@ hear_in_turn stamp mirror said k i old now within item is kept room =
     subst (λ (j : LinkIndication). length (heard stamp mirror now.book j).history ≤ now.most_rows) (sym item)
     (room_in_turn (heard stamp mirror) (heard_grows stamp mirror) said k i old.book now.book now.most_rows within is (omega (arith, room, most)))
 
--- where there is room for a move that is made, there is for one row more
-pub room_to_move : (stamp : Stamp) (book : Book) (n : ℕ) (places : List Place) (to : Place) (c : Cause) (most : ℕ) → stands book n places ≡ true → length (tried stamp book n places to c).history ≤ most → length book.history < most
-room_to_move stamp book n places to c most here room =
-    let is : tried stamp book n places to c ≡ moved stamp book (want n to c) = ap (λ t. if t then moved stamp book (want n to c) else book) here in
-    let same = ap (λ (b : Book). length b.history) is in
-    let longer = moved_rows stamp book n to c in
-    omega (arith, same, longer, room)
-
 -- a request that moves with its activities: there is room for its own row, and for theirs
 pub room_to_move_with : (stamp : Stamp) (book : Book) (n : ℕ) (places : List Place) (to : Place) (c : Cause) (most : ℕ) → stands book n places ≡ true → length (tried_with stamp book n places to c).history ≤ most
     → (length book.history < most) × (length (followed stamp (moved stamp book (want n to c)) (activities_at book n) (place.Riding ∷ []) to c).history ≤ most)

@@ -5,7 +5,7 @@ use Rattle.std.specs.List.{list_any}
 use Rattle.std.proofs.lemmas.Bool.{or_parts}
 use Rattle.std.proofs.lemmas.Bool.Decides.{nat_tests}
 use Rattle.std.proofs.lemmas.List.{length-append, length-map}
-use Rattle.std.proofs.lemmas.List.Sums.{sum_by-cons, count_by-le-length}
+use Rattle.std.proofs.lemmas.List.Sums.{sum_by-cons}
 use Rattle.tc_types.specs.declared.history.places.Place.{Place}
 use Rattle.tc_types.specs.declared.history.places.Place.TheVariants as place
 use Rattle.tc_types.specs.declared.history.causes.Cause.{Cause}
@@ -427,12 +427,3 @@ down_rows stamp mirror all book most is alone few least = ⊎_elim
     let same = ap (λ (l : List LinkIndication). length (heard_all stamp mirror l book).history) one.1 in
     let rows = told_rows stamp mirror book one.0 is in omega (arith, same, rows, least))
     alone
-
--- no more ride than were entered
-pub riding_few : (book : Book) → IsGoodBook book → riding book ≤ 65535
-unfolding riding
-riding_few book good =
-    let most = count_by-le-length (λ n. rides_at (place_in book n)) (entered book.history) in
-    let same = as_many book good in
-    let few = good.few in
-    omega (arith, most, same, few)

@@ -31,7 +31,7 @@ use tc_world::{Carrier, Event, LinkIndication};
 
 /// The most rows that a release makes beside those of what the link tells of those that ride already: its own, and two for each of its
 /// activities, which may come back at once.
-pub(crate) const MOST_RELEASED: usize = 17;
+const MOST_RELEASED: usize = 17;
 
 /// A request that may be released.
 #[derive(Drop)]
