@@ -28,7 +28,7 @@ ENTRIES = (
     Entry("status", "each command where its output takes nothing, its input does not read, or the disk is full",
           command=("tests/status_cases.sh", "PROGRAM")),
     Entry("manual", "whether the commands of docs/OPERATORS.md and README.md, and examples/, print what is shown",
-          command=("pages/manual.sh", "PROGRAM"), needs="curl, python3"),
+          command=("pages/manual.sh", "PROGRAM"), needs="curl"),
     Entry("man-page", "whether docs/tcdesk.1 says what the manual and --help say", command=("pages/man_cases.sh", "PROGRAM"),
           needs="curl; mandoc or man, or that is not tried"),
     Entry("check", "each line of `check` on 786 texts that are judged by hand, and on random ones", modules=("tests.test_check",), takes_seed=True),

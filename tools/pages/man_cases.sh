@@ -4,7 +4,7 @@
 # Where mandoc or man is installed, the page is rendered without a warning. The refusals of the page (number, name, and what to do then) are those of the
 # table of docs/OPERATORS.md. The commands of its synopsis, and the options and words of each, are those that `--help` of the program and of
 # each command names, and so are the options that its description lists. Each limit stands there as in docs/OPERATORS.md. Its example of a desk over
-# HTTP is run as a script, at a port that nobody uses; curl and python3 are needed for that.
+# HTTP is run as a script, at a port that nobody uses; curl is needed for that.
 #
 # A difference is printed, and makes the status 1. The last line counts what was compared.
 set -u
@@ -15,7 +15,8 @@ page=$top/docs/tcdesk.1
 [[ -x $program ]] || { echo "man: $program is not built" >&2; exit 1; }
 command -v curl >/dev/null || { echo "man: curl is not installed (Debian: curl)" >&2; exit 1; }
 work=$(mktemp -d) || exit 1
-trap 'rm -rf "$work"' EXIT
+. "$top/tools/lib.sh"
+trap end_cases EXIT
 status=0
 
 # compare WHAT WANTED SHOWN: prints where the two lists, in any order, differ. None may be empty.
@@ -102,7 +103,7 @@ section "$page" '.Sh DESCRIPTION' | sed -n 's/^\.It Cm //p' >"$work/commands.pag
 compare commands "$work/commands" "$work/commands.page"
 
 # The example of a desk over HTTP, as a script.
-port=$(python3 -c 'import socket; s = socket.socket(); s.bind(("127.0.0.1", 0)); print(s.getsockname()[1])') || exit 1
+port=$(free_port)
 section "$page" '.Sh EXAMPLES' | awk '/^\.Bd/ { text = ""; next } /^\.Ed/ { if (text ~ /tcdesk serve/) printf "%s", text; next }
     { text = text $0 "\n" }' | sed "s/8080/$port/" >"$work/example"
 mkdir "$work/bin" "$work/folder" && ln -s "$program" "$work/bin/tcdesk" || exit 1

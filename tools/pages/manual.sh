@@ -160,8 +160,9 @@ run_command() {
 
 # start_server WORDS: starts the server of README.md, for one connection, and waits until it says that it listens.
 start_server() {
-    port=$(python3 -c 'import socket; s = socket.socket(); s.bind(("127.0.0.1", 0)); print(s.getsockname()[1])') || exit 1
+    port=$(free_port)
     expect_said "$1"
+    : >"$work/said"
     bash -c "exec ${1/8080/$port} 1" >"$work/served" 2>"$work/said" </dev/null &
     server=$!
     for ((i = 0; i < 200; i++)); do
