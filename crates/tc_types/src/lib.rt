@@ -54,7 +54,6 @@ pub use print::request_texts::{mark, request_text};
 pub use print::texts::{approvals_text, entered_text, history_text, places_text, stack_text};
 pub use read::act_reader::{LONGEST_ACT, read_act};
 pub use read::line_reader::read_line;
-pub use read::load_reader::read_load;
 pub use read::words::cut;
 pub use refusals::Refusal;
 pub use requests::{Ack, Body, Command, Form, Identity, Origin, Outcome, Request};

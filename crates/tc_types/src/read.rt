@@ -3,7 +3,7 @@ pub(crate) mod act_reader;
 pub mod entry_reader;
 pub(crate) mod line_reader;
 pub(crate) mod link_reader;
-pub(crate) mod load_reader;
+pub mod load_reader;
 pub mod readers;
 pub mod ride_reader;
 mod step_reader;
