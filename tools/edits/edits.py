@@ -7,8 +7,9 @@ is refused where its own function, or a closure in it, has a goal of its own tha
 function calls, and not because a proof file names what is gone. An edit of a constant is refused where a function that
 names it has such a goal. What is not clear so is tried alone, by a whole check, and judged as `rt must-fail` does.
 
-A crate that is not proved as it stands shows nothing of its edits. So each is checked first, whole; with --proved it is not,
-where `rt ci` has proved these very texts before, as it has in the gate.
+A crate that is not proved as it stands shows nothing of its edits. So each is checked first, whole, and its edits are tried over
+what that check proved. With --proved it is not, where `rt ci` has proved these very texts before; then each group proves what its
+functions call anew, so that is shorter only for a crate with few edits.
 
 Where no crate is named, a crate is passed over whose edits were all refused for the very texts that stand: tools/edits.tried
 has the digests, and tools/edits/edit_record.py says what they cover and what is trusted. --record writes that file after a run.
