@@ -29,7 +29,7 @@ use Rattle.tc_types.specs.declared.acts.Act.{Act}
 use Rattle.tc_types.specs.declared.acts.Act.TheVariants as act
 use Rattle.tc_types.specs.declared.acts.Query.TheVariants as query
 use Rattle.tc_types.specs.declared.acts.Line.{Line}
-use Rattle.tc_types.specs.Lines.{spaced}
+use Rattle.tc_types.specs.Lines.{spaced, place_name}
 use Rattle.tc_types.specs.Grammar.{flag, ack_word, yes_no, outcome_words, outcome_word, IsOutcome, command_words, IsCommand, listed, target_word, time_word, IsRide, entry_words, IsEntry}
 use Rattle.tc_types.specs.ActGrammar.{book_act_words, IsBookAct, act_words, IsAct, act_text, SpellsLine, after_two, act_part, HasLongAct, line_words, IsLine}
 use Rattle.tc_types.specs.LinkGrammar.{directive_words, IsDirective, link_act_words, IsLinkAct}
@@ -38,6 +38,8 @@ use Rattle.tc_types.specs.declared.loads.LoadKind.{LoadKind}
 use Rattle.tc_types.specs.declared.loads.LoadKind.TheVariants as kind
 use Rattle.tc_types.specs.declared.acts.StepAct.{StepAct}
 use Rattle.tc_types.specs.declared.verdicts.Verdict.{Verdict}
+use Rattle.tc_types.specs.declared.history.places.Place.{Place}
+use Rattle.tc_types.specs.declared.history.places.Place.TheVariants as place
 use Rattle.tc_types.specs.declared.verdicts.Verdict.TheVariants as verdict
 use Rattle.tc_types.specs.StepGrammar.{verdict_word, second_word, IsSecond, step_words, IsStepAct}
 use Rattle.tc_types.specs.Words.{words, words_left}
@@ -194,6 +196,24 @@ step_parted : (a : StepAct) → IsStepAct a → (list_all (lacks 32) (step_words
 step_parted a h =
     (rw (number_lacks a.execution h.0, number_lacks a.step h.1, verdict_lacks a.verdict, second_lacks a.second h.2) refl, omega arith)
 
+-- nor has the name of a place
+place_lacks : (at : Place) → lacks 32 (place_name at) ≡ true
+place_lacks place.Entered = refl
+place_lacks place.Approved = refl
+place_lacks place.Queued = refl
+place_lacks place.Sent = refl
+place_lacks place.Confirmed = refl
+place_lacks place.Riding = refl
+place_lacks place.Scheduled = refl
+place_lacks place.Accepted = refl
+place_lacks place.Started = refl
+place_lacks place.Completed = refl
+place_lacks place.Failed = refl
+place_lacks place.Doubtful = refl
+place_lacks place.Withdrawn = refl
+place_lacks place.Deleted = refl
+place_lacks place.Closed = refl
+
 -- nor have those of any act
 pub act_parted : (a : Act) → IsAct a → (list_all (lacks 32) (act_words a) ≡ true) × (0 < length (act_words a))
 act_parted (act.Book given) h = book_act_parted given h
@@ -206,6 +226,10 @@ act_parted (act.Ask query.Link) h = (refl, omega arith)
 act_parted (act.Ask query.Schedule) h = (refl, omega arith)
 act_parted (act.Ask (query.Log execution)) h = (rw (number_lacks execution h) refl, omega arith)
 act_parted (act.Ask (query.Report from to)) h = (rw (number_lacks from (omega (arith, h.0)), number_lacks to (omega (arith, h.1))) refl, omega arith)
+act_parted (act.Ask query.Waiting) h = (refl, omega arith)
+act_parted (act.Ask (query.Moves after)) h = (rw (number_lacks after h) refl, omega arith)
+act_parted (act.Ask (query.Standing place after)) h = (rw (place_lacks place, number_lacks after h) refl, omega arith)
+act_parted (act.Ask (query.Steps procedure)) h = (rw (name_lacks procedure (search rules)) refl, omega arith)
 
 -- nor have those of a line
 pub line_parted : (line : Line) → IsLine line → (list_all (lacks 32) (line_words line) ≡ true) × (0 < length (line_words line))

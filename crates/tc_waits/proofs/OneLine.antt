@@ -1,0 +1,115 @@
+-- No line of these has an LF in it.
+use Rattle.std.proofs.Common.{◌≡◌, ℕ, ◌<◌, ◌^◌, Bool, true, false, if◌then◌else◌, eqb, Option, Some, None, List, [], ◌∷◌, ◌++◌, refl, arith}
+use Rattle.std.specs.Prelude.{codes, IfSome, IsTrue, is_some}
+use Rattle.std.specs.List.{list_all}
+use Rattle.std.specs.Fmt.{decimal}
+use Rattle.std.proofs.lemmas.Bool.{and_parts}
+use Rattle.std.proofs.lemmas.Grind.{common_steps}
+use Rattle.tc_types.specs.declared.history.places.Place.{Place}
+use Rattle.tc_types.specs.declared.requests.Identity.{Identity}
+use Rattle.tc_types.specs.declared.tables.rows.LoadedProcedure.{LoadedProcedure}
+use Rattle.tc_types.specs.declared.tables.rows.ProcedureStep.{ProcedureStep}
+use Rattle.tc_types.specs.Grammar.{yes_no}
+use Rattle.tc_types.specs.Lines.{place_name, identity_word}
+use Rattle.tc_types.specs.Names.{IsName}
+use Rattle.tc_types.specs.StepGrammar.{second_word}
+use Rattle.tc_types.specs.StepTexts.{is_printable}
+use Rattle.tc_types.specs.Words.{is_one_line}
+use Rattle.tc_types.proofs.OneLine.{spaced_one, both, number_one, name_one, second_one, place_one, identity_one}
+use Rattle.tc_types.proofs.WordLaws.{lacks}
+use Rattle.tc_waits.specs.declared.waits.Lock.{Lock}
+use Rattle.tc_waits.specs.declared.waits.Wanting.{Wanting}
+use Rattle.tc_waits.specs.declared.waits.Waiting.TheVariants.{Request, Stack, Free, Locked, Doubtful, Step}
+use Rattle.tc_waits.specs.WaitingLines.{given, wanted, wanting_words, waiting_words, waiting_line, waiting_count_line}
+use Rattle.tc_waits.specs.ListLines.{moves_line, standing_line, named_line}
+use Rattle.tc_waits.specs.StepLines.{procedure_head_line, released_word, step_line}
+
+-- TEMPORARY
+yes_no_one : (b : Bool) → lacks 10 (yes_no b) ≡ true
+yes_no_one true = refl
+yes_no_one false = refl
+
+given_one : (w : Wanting) → lacks 10 (decimal (given w)) ≡ true
+given_one w = by_author w.by
+  where
+    by_author : (by : Option (List ℕ)) → lacks 10 (decimal (if is_some by then 1 else 0)) ≡ true
+    by_author None = number_one 0 (omega arith)
+    by_author (Some person) = number_one 1 (omega arith)
+
+wanted_one : (w : Wanting) → lacks 10 (decimal (wanted w)) ≡ true
+wanted_one w = by_mark w.critical
+  where
+    by_mark : (critical : Bool) → lacks 10 (decimal (if critical then 2 else 1)) ≡ true
+    by_mark true = number_one 2 (omega arith)
+    by_mark false = number_one 1 (omega arith)
+
+wanting_one : (w : Wanting) → IsName w.author → IfSome w.by IsName → list_all (lacks 10) (wanting_words w) ≡ true
+wanting_one w author by = rw (name_one w.author author, yes_no_one w.critical, given_one w, wanted_one w, second_one w.by by) refl
+
+pub request_one : (n : ℕ) (w : Wanting) → n < 2 ^ 32 → IsName w.author → IfSome w.by IsName → IsTrue (is_one_line (waiting_line (Request n w)))
+request_one n w small author by = spaced_one (waiting_words (Request n w)) (rw (number_one n (omega arith), wanting_one w author by) refl)
+
+pub stack_one : (name : List ℕ) (w : Wanting) (rows first : ℕ) → IsName name → IsName w.author → IfSome w.by IsName → rows < 2 ^ 32 → first < 2 ^ 32 → IsTrue (is_one_line (waiting_line (Stack name w rows first)))
+stack_one name w rows first named author by few small =
+    spaced_one (waiting_words (Stack name w rows first))
+    (rw (name_one name named, name_one w.author author, yes_no_one w.critical, given_one w, wanted_one w, second_one w.by by, number_one rows (omega arith), number_one first (omega arith)) refl)
+
+pub free_one : (n : ℕ) → n < 2 ^ 32 → IsTrue (is_one_line (waiting_line (Free n)))
+free_one n small = spaced_one (waiting_words (Free n)) (rw (number_one n (omega arith)) refl)
+
+pub locked_one : (n : ℕ) (lock : Lock) → n < 2 ^ 32 → IsName lock.stack → lock.line < 2 ^ 32 → IsTrue (is_one_line (waiting_line (Locked n lock)))
+locked_one n lock small named less = spaced_one (waiting_words (Locked n lock)) (rw (number_one n (omega arith), number_one lock.line (omega arith), name_one lock.stack named) refl)
+
+pub doubtful_one : (n : ℕ) → n < 2 ^ 32 → IsTrue (is_one_line (waiting_line (Doubtful n)))
+doubtful_one n small = spaced_one (waiting_words (Doubtful n)) (rw (number_one n (omega arith)) refl)
+
+pub next_one : (execution : ℕ) (procedure : List ℕ) (step : ℕ) (second : Bool) → execution < 2 ^ 32 → IsName procedure → step < 2 ^ 32 → IsTrue (is_one_line (waiting_line (Step execution procedure step second)))
+next_one execution procedure step second small named less =
+    spaced_one (waiting_words (Step execution procedure step second)) (rw (number_one execution (omega arith), name_one procedure named, number_one step (omega arith), yes_no_one second) refl)
+
+pub count_one : (count : ℕ) → count < 2 ^ 64 → IsTrue (is_one_line (waiting_count_line count))
+count_one count small = spaced_one (codes "waiting" ∷ decimal count ∷ []) (rw (number_one count small) refl)
+
+-- ` more`, or nothing
+end_one : (more : Bool) → lacks 10 (if more then codes " more" else []) ≡ true
+end_one true = refl
+end_one false = refl
+
+pub moves_one : (shown : ℕ) (more : Bool) → shown < 2 ^ 32 → IsTrue (is_one_line (moves_line shown more))
+moves_one shown more small =
+    both (codes "moves " ++ decimal shown) (if more then codes " more" else []) (both (codes "moves ") (decimal shown) refl (number_one shown (omega arith))) (end_one more)
+
+pub standing_one : (place : Place) (shown : ℕ) (more : Bool) → shown < 2 ^ 32 → IsTrue (is_one_line (standing_line place shown more))
+standing_one place shown more small =
+    both (codes "standing " ++ place_name place ++ codes ": " ++ decimal shown) (if more then codes " more" else [])
+    (both (codes "standing " ++ place_name place ++ codes ": ") (decimal shown)
+    (both (codes "standing " ++ place_name place) (codes ": ") (both (codes "standing ") (place_name place) refl (place_one place)) refl)
+    (number_one shown (omega arith)))
+    (end_one more)
+
+pub named_one : (n : ℕ) (identity : Identity) → n < 2 ^ 32 → identity.apid < 2048 → identity.count < 16384 → IsTrue (is_one_line (named_line n identity))
+named_one n identity small apid count = spaced_one (codes "request" ∷ decimal n ∷ identity_word identity ∷ []) (rw (number_one n (omega arith), identity_one identity apid count) refl)
+
+pub procedure_one : (loaded : LoadedProcedure) (steps : ℕ) → IsName loaded.name → IsName loaded.author → steps < 2 ^ 32 → IsTrue (is_one_line (procedure_head_line loaded steps))
+procedure_one loaded steps named author small =
+    spaced_one (codes "procedure" ∷ loaded.name ∷ codes "author" ∷ loaded.author ∷ codes "steps" ∷ decimal steps ∷ [])
+    (rw (name_one loaded.name named, name_one loaded.author author, number_one steps (omega arith)) refl)
+
+-- what is printable is no LF
+printable_one : (byte : ℕ) → is_printable byte ≡ true → eqb byte 10 ≡ false
+printable_one byte h = grind (arith, common_steps)
+
+text_one : (text : List ℕ) → list_all is_printable text ≡ true → lacks 10 text ≡ true
+text_one [] h = refl
+text_one (byte ∷ others) h =
+    let parts = and_parts (is_printable byte) (list_all is_printable others) h in
+    rw (printable_one byte parts.0, text_one others parts.1) refl
+
+released_one : (request : Option ℕ) → IfSome request (λ n. n < 2 ^ 32) → lacks 10 (released_word request) ≡ true
+released_one None h = refl
+released_one (Some n) h = number_one n (omega (arith, h))
+
+pub step_one : (s : ProcedureStep) → s.step < 2 ^ 32 → IfSome s.request (λ n. n < 2 ^ 32) → list_all is_printable s.text ≡ true → IsTrue (is_one_line (step_line s))
+step_one s small request printable =
+    spaced_one (codes "step" ∷ decimal s.step ∷ codes "second" ∷ yes_no s.is_countersigned ∷ codes "request" ∷ released_word s.request ∷ s.text ∷ [])
+    (rw (number_one s.step (omega arith), yes_no_one s.is_countersigned, released_one s.request request, text_one s.text printable) refl)
