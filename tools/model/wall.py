@@ -116,13 +116,12 @@ def wait_row(kind: str, sign: str, what: str, waits_for: str, by_whom: str) -> s
 
 
 def approval_row(it: Approval) -> str:
-    """Approvals that are wanting: who gave one, and who may give none: the author, and who gave one."""
+    """Approvals that are wanting, and who may give none: the author, and who gave one."""
     what = f"stack {escaped(it.stack)}" if it.stack else f"request {it.number}"
     mark = f" {critical(True)}" if it.is_critical else ""
-    by = "".join(f" by {escaped(person)}" for person in it.given)
     rows = f", rows {it.rows} first {it.number}" if it.stack else ""
     others = "".join(f", {escaped(person)}" for person in it.given)
-    return wait_row("Entered", ENTERED_SIGN, what + mark, f"approval {len(it.given)} of {it.wanted}{by}{rows}", f"not {escaped(it.author)}{others}")
+    return wait_row("Entered", ENTERED_SIGN, what + mark, f"approval {len(it.given)} of {it.wanted}{rows}", f"not {escaped(it.author)}{others}")
 
 
 def ready_row(it: Ready) -> str:

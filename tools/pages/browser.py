@@ -244,6 +244,7 @@ class Browsed(unittest.TestCase):
         self.look("busy", busy(), texts=[STEP_TEXT])
         self.look("long names", busy(LONG), texts=[STEP_TEXT])
         self.look("in doubt", in_doubt())
+        self.look("twenty in doubt", in_doubt(20))
         self.look("closed", busy(), closed=True, texts=[STEP_TEXT])
 
     def test_full(self) -> None:
