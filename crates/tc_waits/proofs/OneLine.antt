@@ -21,7 +21,7 @@ use Rattle.tc_waits.specs.declared.waits.Lock.{Lock}
 use Rattle.tc_waits.specs.declared.waits.Wanting.{Wanting}
 use Rattle.tc_waits.specs.declared.waits.Waiting.TheVariants.{Request, Stack, Free, Locked, Doubtful, Step}
 use Rattle.tc_waits.specs.WaitingLines.{given, wanted, wanting_words, waiting_words, waiting_line, waiting_count_line}
-use Rattle.tc_waits.specs.ListLines.{moves_line, standing_line, named_line}
+use Rattle.tc_waits.specs.ListLines.{shown_words, moves_line, standing_line, named_line}
 use Rattle.tc_waits.specs.StepLines.{procedure_head_line, released_word, step_line}
 
 -- TEMPORARY
@@ -81,11 +81,9 @@ moves_one shown more small =
 
 pub standing_one : (place : Place) (shown : ℕ) (more : Bool) → shown < 2 ^ 32 → IsTrue (is_one_line (standing_line place shown more))
 standing_one place shown more small =
-    both (codes "standing " ++ place_name place ++ codes ": " ++ decimal shown) (if more then codes " more" else [])
-    (both (codes "standing " ++ place_name place ++ codes ": ") (decimal shown)
-    (both (codes "standing " ++ place_name place) (codes ": ") (both (codes "standing ") (place_name place) refl (place_one place)) refl)
-    (number_one shown (omega arith)))
-    (end_one more)
+    let counted : lacks 10 (shown_words shown more) ≡ true = both (decimal shown) (if more then codes " more" else []) (number_one shown (omega arith)) (end_one more) in
+    both (codes "standing ") (place_name place ++ codes ": " ++ shown_words shown more) refl
+    (both (place_name place) (codes ": " ++ shown_words shown more) (place_one place) (both (codes ": ") (shown_words shown more) refl counted))
 
 pub named_one : (n : ℕ) (identity : Identity) → n < 2 ^ 32 → identity.apid < 2048 → identity.count < 16384 → IsTrue (is_one_line (named_line n identity))
 named_one n identity small apid count = spaced_one (codes "request" ∷ decimal n ∷ identity_word identity ∷ []) (rw (number_one n (omega arith), identity_one identity apid count) refl)

@@ -9,7 +9,7 @@ use tc_types::{Identity, Place};
 
 /// Adds ` more` to a line, where others are left out.
 fn with_more<A: Allocator + Copy>(mut line: String<A>, more: bool) -> Result<String<A>, AllocError>
-    ensures { IfOk result (λ t. string_bytes t ≡ string_bytes line.old ++ (if more then codes " more" else [])) }
+    ensures { IfOk result (λ t. string_bytes t ≡ string_bytes line ++ (if more then codes " more" else [])) }
 {
     if more {
         line.push_str(" more")?;

@@ -59,11 +59,10 @@ pub enum Waiting {
     Free {
         request: u32,
     },
-    /// A request stands at Approved, and may not be released before this line of this stack is completed.
+    /// A request stands at Approved, and is not released before this is completed.
     Locked {
         request: u32,
-        stack: Name,
-        line: u32,
+        lock: Lock,
     },
     /// A request stands at Doubtful.
     Doubtful {
