@@ -19,11 +19,7 @@ use tc_waits::{
 };
 
 /// Adds a line for each of these to a reply.
-fn add_waiting(
-    alloc: Global,
-    reply: &mut String,
-    waiting: &[Waiting],
-) -> Result<(), AllocError>
+fn add_waiting(alloc: Global, reply: &mut String, waiting: &[Waiting]) -> Result<(), AllocError>
     ensures added { OnOk result (string_bytes reply.new ≡ string_bytes reply.old ++ ended (map waiting_line waiting.now)) }
     ensures lines { OnOk result (AreLines (map waiting_line waiting.now)) }
 {
@@ -57,11 +53,7 @@ fn add_named(alloc: Global, reply: &mut String, found: &[Request]) -> Result<(),
 }
 
 /// The reply to `standing`, where these requests stand at the place: the first 50 of them.
-pub fn standing_reply(
-    alloc: Global,
-    place: Place,
-    found: &[Request],
-) -> Result<String, AllocError>
+pub fn standing_reply(alloc: Global, place: Place, found: &[Request]) -> Result<String, AllocError>
     ensures text { IfOk result (λ text. string_bytes text ≡ ended (standing_lines place found.now)) }
     ensures lines { OnOk result (AreLines (standing_lines place found.now)) }
 {
