@@ -14,6 +14,8 @@ from edit_files import Function, text_of
 PARTS = ("src", "specs", "proofs")
 # What is said where a proof file names what the edit took away, or cites such a file.
 GONE = re.compile(r"has no field|is not in scope|has no `|was not admitted")
+# A line that tells why a check is refused.
+REASON = re.compile(r"(?:\./)?\S+:\d+:\d+: error\b|note: (?:\./)?\S+:\d+:\d+: it is not proved")
 # What is said of a text that reads as no term at all, once the names in it are taken out.
 UNREAD = re.compile(r"is not in scope|has no field|is no name|operand is missing|expected the end|cannot continue")
 
@@ -93,6 +95,12 @@ class Report:
         found = (re.match(r"fn (\S+): ((?:not proved|no proof).*)", line) for line in self.lines)
         return {it[1]: it[2] for it in found if it}
 
+    @property
+    def misnamed(self) -> str | None:
+        """The word of `--only` that names no function, or several."""
+        found = re.match(r"rattle: error: .*(?:has no function|functions are named) `([^`]+)`", self.last)
+        return found[1] if found else None
+
     def unread(self, files: Container[str]) -> list[str]:
         """The lines that tell of a text which the prover cannot read, as rt takes them: of these files, src/ or specs/."""
         found: list[str] = []
@@ -107,10 +115,10 @@ class Report:
 
 
 def check(
-    crate: Crate, texts: Mapping[str, str], kept: str, only: Sequence[str] = (), logs: str | None = None
+    crate: Crate, texts: Mapping[str, str], kept: str | None, only: Sequence[str] = (), logs: str | None = None
 ) -> Report:
-    """Checks a copy of the crate with these texts, over what is kept, which stays as it is where `only` names functions
-    or texts are given: rattle replaces the files that it keeps, so hard links to them serve a copy."""
+    """Checks a copy of the crate with these texts, from nothing or over what is kept, which stays as it is where `only` names
+    functions or texts are given: rattle replaces the files that it keeps, so hard links to them serve a copy."""
     began = time.time()
     with tempfile.TemporaryDirectory(prefix="edits-") as room:
         for part in PARTS:
@@ -119,9 +127,9 @@ def check(
         for file, text in texts.items():
             with open(f"{room}/{file}", "w", encoding="utf-8") as it:
                 it.write(text)
-        if texts:
+        if texts and kept:
             kept = shutil.copytree(kept, f"{room}/kept", copy_function=os.link)
-        words = [*crate.words(), "--incremental", kept]
+        words = [*crate.words(), *(["--incremental", kept] if kept else [])]
         for name in only:
             words += ["--only", name]
         ran = subprocess.Popen(
@@ -148,11 +156,21 @@ class Fault:
     is_searched: bool
 
 
-def path_of(function: Function, crate: str, names: set[str]) -> str | None:
-    """The name by which a check reports the function, or None where that is not plain: what stands in an impl is named
-    by the module of its type."""
+def home_of(function: Function, crate: str) -> str:
+    """The function's name behind that of the module it stands in."""
     module = function.file.removeprefix("src/").removesuffix(".rt").replace("/", "::")
-    own = "::".join([crate, *([] if module in ("lib", "main") else [module]), function.name])
+    return "::".join([crate, *([] if module in ("lib", "main") else [module]), function.name])
+
+
+def word_of(function: Function, crate: str) -> str:
+    """What asks a check for the function: its name, and of what stands in an impl the end of it, since it is named by the
+    module of its type."""
+    return function.name if "::" in function.name else home_of(function, crate)
+
+
+def path_of(function: Function, crate: str, names: set[str]) -> str | None:
+    """The name by which a check reports the function, or None where that is not plain."""
+    own = home_of(function, crate)
     if own in names:
         return own
     ends = [it for it in names if "::" in function.name and it.endswith(f"::{function.name}")]
@@ -182,12 +200,12 @@ def fault_of(function: Function, path: str, report: Report) -> Fault | None:
 
 def told(report: Report) -> tuple[str, bool]:
     """The first line of a whole check that tells why it is refused, and whether that is more than a proof file that
-    names what is gone."""
-    lines = [it for it in report.lines if re.match(r"(note: )?\S+:\d+:\d+:", it)]
-    lines = [it for it in lines if ": error" in it or it.startswith("note: ")] or lines
+    names what is gone. Other notes, as on how large a proof became, are no reason."""
+    lines = [it for it in report.lines if REASON.match(it)]
+    lines = lines or [f"fn {name}: {why}" for name, why in report.not_proved().items()]
     is_gone = re.compile(rf"(\./)?proofs/.*(?:{GONE.pattern})")
     first = next((it for it in lines if not is_gone.match(it)), None)
-    return (first, True) if first else (lines[0], False) if lines else ("no place is told", True)
+    return (first, True) if first else (lines[0], False) if lines else ("no reason is told", False)
 
 
 def crates_of(path: str = "crates.txt") -> dict[str, list[str]]:

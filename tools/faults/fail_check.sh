@@ -47,9 +47,9 @@ check() {
     ((ended > before)) || { bad=$((bad + 1)); echo "fail_check: check $1 $2 never ended for memory" >&2; }
 }
 
-# An activity and its insert, as a spreadsheet writes them; and two steps.
+# Two activities and their insert, as a spreadsheet writes them; and two steps.
 printf '\xef\xbb\xbf%s\r\n' 'line,apid,service,subtype,target,time,ack,critical,after,outcome' >stack.csv
-printf '%s\r\n' '1,5,8,1,,,a--c,no,,ok' '2,5,11,4,1,2031-05-04T10:00:00Z,---c,yes,1,ok' >>stack.csv
+printf '%s\r\n' '1,5,8,1,,,a--c,no,,ok' '2,5,8,2,,,a--c,no,,ok' '3,5,11,4,2;1,2031-05-04T10:00:00Z;2031-05-04T11:00:00Z,---c,yes,1,ok' >>stack.csv
 printf '%s\n' 'step,text,second,request' '1,check power,no,' '2,switch on,yes,1' >procedure.csv
 sed 's/a--c/---c/' stack.csv >barred.csv
 sed 's/yes/maybe/' procedure.csv >faulty.csv

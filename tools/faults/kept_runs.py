@@ -8,6 +8,7 @@ import tempfile
 from dataclasses import replace
 from typing import NamedTuple, Optional, Sequence
 
+from generate.texts import joined
 from model.facts import MOST_ROWS, MOST_STEPS, PROCEDURE_HEADER, SCHEMA_VERSION, STACK_HEADER
 from model.kept import sqlite3
 from model.rows import Tables, empty_tables
@@ -48,25 +49,29 @@ QUIET = (
     "bob approve 2",
 )
 
-# Request 1 is Scheduled, 3 Riding, 4 and 5 Sent, 6 Queued.
+# Request 1 is Scheduled, 5 and 6 Sent, 9 Queued; 4 and 3 ride in 5, 8 and 7 in 9.
 ON_THE_WAY = (
     "ann enter 5 a--c no 8 1 - - ok",
     "ann enter 5 ---c no 11 4 1 600 ok",
     "ann enter 5 a--c no 8 1 - - ok",
-    "ann enter 5 ---c no 11 4 3 700 ok",
+    "ann enter 5 a--c no 8 1 - - ok",
+    "ann enter 5 ---c no 11 4 4;3 700;800 ok",
     "ann enter 5 a--c no 8 1 - - ok",
     "ann enter 5 a--c no 8 1 - - ok",
-    *(f"bob approve {request}" for request in range(1, 7)),
+    "ann enter 5 a--c no 8 1 - - ok",
+    "ann enter 5 ---c no 11 4 8;7 700;800 ok",
+    *(f"bob approve {request}" for request in range(1, 10)),
     "ann initiate none",
     "ann set k 3",
     "ann release 2",
     "ann up",
     "ann work",
     "ann down",
-    "ann release 4",
     "ann release 5",
     "ann release 6",
+    "ann release 9",
 )
+ON_THE_WAY_REQUESTS = 9
 
 # One act at least of each kind that writes rows.
 ACTS = (
@@ -104,23 +109,26 @@ def of_case(name: str) -> tuple[str, ...]:
 
 RUNS = (
     Run("a desk that is made", (), ()),
-    Run("the opening of a desk with requests on their way", ON_THE_WAY, (), 6),
-    Run("the opening of one that was stopped", ON_THE_WAY, (), 6, is_left_open=True),
+    Run("the opening of a desk with requests on their way", ON_THE_WAY, (), ON_THE_WAY_REQUESTS),
+    Run("the opening of one that was stopped", ON_THE_WAY, (), ON_THE_WAY_REQUESTS, is_left_open=True),
     *(run for version in EARLIER for run in (
-        Run(f"the opening of one of version {version}", ON_THE_WAY, ("ann close 1", "bob withdraw 2"), 6, version=version),
+        Run(f"the opening of one of version {version}", ON_THE_WAY, ("ann close 1", "bob withdraw 2"), ON_THE_WAY_REQUESTS, version=version),
         Run(f"the opening of one of version {version} that moves nothing", QUIET, (), 3, version=version),
-        Run(f"the opening of one of version {version} that was stopped", ON_THE_WAY, (), 6, is_left_open=True, version=version))),
+        Run(f"the opening of one of version {version} that was stopped", ON_THE_WAY, (), ON_THE_WAY_REQUESTS, is_left_open=True, version=version))),
     Run("a script of several acts", QUIET, ACTS, 3),
-    Run("an insert", (), of_case("insert")),
-    Run("an insert that comes too early", (), of_case("insert-too-early")),
+    Run("an insert of two", (), of_case("two-activities")),
+    Run("an insert of two, one of which comes too early", (), of_case("two-activities-too-early")),
     Run(f"the load of {MOST_ROWS} rows", QUIET, (STACK, "bob approvestack many"), 3),
     Run(f"the load of {MOST_STEPS} steps", QUIET, (PROCEDURE, "ann begin long"), 3),
 )
 
 
 def stack_of(rows: int) -> bytes:
-    """The text of a stack of so many rows, each of which waits for the one before it."""
+    """The text of a stack of so many rows, each of which waits for the one before it. Each tenth inserts the eight before it."""
     made = [f"{row},{6 + row % 3},8,{row},,,a--c,no,{row - 1 or ''},ok" for row in range(1, rows + 1)]
+    for row in range(10, rows + 1, 10):
+        named, times = joined(str(row - at) for at in range(8, 0, -1)), joined(["1970-01-01T00:10:00Z"] * 8)
+        made[row - 1] = f"{row},9,11,4,{named},{times},---c,no,{row - 1},ok"
     return text_of([STACK_HEADER, *made]).encode()
 
 

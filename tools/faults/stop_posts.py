@@ -36,13 +36,15 @@ STORE, STOPPED_ROOM = (reply_response([it]) for it in ("refused 31 Store", "refu
 
 Row = tuple[int, str, str, str]  # of the history: the request, from where, to where, why
 Key = tuple[str, int]  # whose a kept reply is, and its number
+Carried = tuple[int, int, int]  # an insert, a position in its list, and the request that is named there
 LAST_NUMBER = 2**32 - 1
 
 
 class Stands(NamedTuple):
-    """What lies in the file of a desk: the history without who and when, and the kept replies."""
+    """What lies in the file of a desk: the history without who and when, the kept replies, and what inserts name behind their first activity."""
     moves: list[Row]
     replies: dict[Key, str]
+    cargo: list[Carried]
 
 
 class Mend(NamedTuple):
@@ -65,8 +67,11 @@ class Run(NamedTuple):
     posted: tuple[bytes, ...] = ()
     before: list[Row] = []
     mend: list[Mend] = []
-    # The row of an opening behind it.
+    # The rows of an opening behind it.
     opened: list[Row] = []
+    # What inserts name behind their first activity: those before it, and what it adds.
+    cargo: list[Carried] = []
+    added_cargo: list[Carried] = []
 
 
 def called(number: int, act: str) -> bytes:
@@ -87,19 +92,27 @@ def entered(requests: int) -> list[Row]:
 ENTERED = ["ok request 1 5/0", "move 1 100 ann 1 - Entered enter"]
 LOAD = post("/stacks", body_of({"by": "ann", "csv": stack_of(MOST_ROWS).decode(), "moment": 100, "name": "many", "number": 7}))
 LOADED = [f"ok stack many {MOST_ROWS} 1", *(f"move {it} 100 ann {it} - Entered enter" for it in range(1, MOST_ROWS + 1))]
-APPROVED = [*entered(1), moved(1, Place.ENTERED, Place.APPROVED, Cause.APPROVE)]
-RELEASED = [moved(1, Place.APPROVED, Place.QUEUED, Cause.RELEASE), moved(1, Place.QUEUED, Place.SENT, Cause.TRANSMIT)]
+# Of each tenth row, which inserts the eight before it.
+LOADED_CARGO = [(row, position, row - 9 + position) for row in range(10, MOST_ROWS + 1, 10) for position in range(2, 9)]
+INSERT = "enter 5 ---c no 11 4 2;1 60;61 ok"
+APPROVED = [*entered(3), *(moved(it, Place.ENTERED, Place.APPROVED, Cause.APPROVE) for it in (1, 2, 3))]
+RELEASED = [moved(3, Place.APPROVED, Place.QUEUED, Cause.RELEASE), *(moved(it, Place.APPROVED, Place.RIDING, Cause.RELEASE) for it in (2, 1)),
+            moved(3, Place.QUEUED, Place.SENT, Cause.TRANSMIT)]
 
 RUNS = (
     Run("an entry, on a desk that is made", [called(7, ENTRY)], 7, ENTERED, entered(1)),
     Run("the repeat of an entry", [called(7, ENTRY)], 7, ENTERED, [], posted=(called(7, ENTRY),), before=entered(1)),
     Run("an act that makes no row", [called(LAST_NUMBER, "tick")], LAST_NUMBER, ["ok"], [], left=("100 ann places",)),
-    Run(f"a load of {MOST_ROWS} rows", [LOAD], 7, LOADED, entered(MOST_ROWS), left=("100 ann places",)),
-    Run("a release", [called(6, "initiate none"), called(7, "release 1")], 7,
-        ["ok", "move 3 100 ann 1 Approved Queued release", "move 4 100 ann 1 Queued Sent transmit"], RELEASED,
-        left=(f"100 ann {ENTRY}", "100 bob approve 1"), before=APPROVED,
+    Run(f"a load of {MOST_ROWS} rows", [LOAD], 7, LOADED, entered(MOST_ROWS), left=("100 ann places",), added_cargo=LOADED_CARGO),
+    Run("the entry of an insert of two", [called(7, INSERT)], 7, ["ok request 3 5/2", "move 3 100 ann 3 - Entered enter"], entered(3)[2:],
+        left=(f"100 ann {ENTRY}",) * 2, before=entered(2), added_cargo=[(3, 2, 1)]),
+    Run("a release, by which two ride", [called(6, "initiate none"), called(7, "release 3")], 7,
+        ["ok", "move 7 100 ann 3 Approved Queued release", "move 8 100 ann 2 Approved Riding release", "move 9 100 ann 1 Approved Riding release",
+         "move 10 100 ann 3 Queued Sent transmit"], RELEASED,
+        left=(*(f"100 ann {it}" for it in (ENTRY, ENTRY, INSERT)), *(f"100 bob approve {it}" for it in (1, 2, 3))), before=APPROVED,
         mend=[Mend("refused 11 ServiceNotActive", 8, "initiate none", ["ok", "started"])],
-        opened=[moved(1, Place.SENT, Place.DOUBTFUL, Cause.OPEN)]),
+        opened=[*(moved(it, Place.RIDING, Place.DOUBTFUL, Cause.OPEN) for it in (1, 2)), moved(3, Place.SENT, Place.DOUBTFUL, Cause.OPEN)],
+        cargo=[(3, 2, 1)]),
 )
 
 
@@ -115,18 +128,19 @@ def stands_in(path: str) -> Stands:
             if os.path.exists(path + end):
                 shutil.copy(path + end, f"{folder}/copy.db{end}")
         if holds_no_table(f"{folder}/copy.db"):
-            return Stands([], {})
+            return Stands([], {}, [])
         connection = connect(f"{folder}/copy.db", "mode=rw")
         try:
             moves = connection.execute("SELECT request, from_place, to_place, cause FROM move ORDER BY seq").fetchall()
             requests = connection.execute("SELECT num, place FROM request ORDER BY num").fetchall()
             replies = connection.execute("SELECT person, number, body FROM reply").fetchall()
+            cargo = connection.execute("SELECT request, position, target FROM cargo ORDER BY rowid").fetchall()
         finally:
             connection.close()
     if dict(requests) != {request: to for request, _, to, _ in moves}:
         raise sqlite3.DatabaseError(f"requests and history are apart: {requests}, {moves}")
     return Stands([moved(request, Place(before), Place(to), Cause(cause)) for request, before, to, cause in moves],
-                  {(person, number): body for person, number, body in replies})
+                  {(person, number): body for person, number, body in replies}, cargo)
 
 
 class Sent(NamedTuple):
@@ -234,9 +248,9 @@ class Trial:
             return f"it answered {last!r}"
         if not is_done and (kind.posted or last == self.right):
             return "its reply is not kept"
-        if lies.moves != kind.before + (kind.added if is_done else []) or lies.replies.get(self.key, text_of(kind.lines)) != text_of(kind.lines):
-            return f"it left {lies}"
-        return ""
+        moves, cargo = kind.before + (kind.added if is_done else []), kind.cargo + (kind.added_cargo if is_done else [])
+        is_right = (lies.moves, lies.cargo) == (moves, cargo) and lies.replies.get(self.key, text_of(kind.lines)) == text_of(kind.lines)
+        return "" if is_right else f"it left {lies}"
 
     def again(self, folder: str, lies: Stands) -> str:
         """Sends the call to a new server, and once more; what is wrong of its answers, or of what stands then."""
@@ -250,7 +264,7 @@ class Trial:
         if sent.answers != wanted or sent.ended != Ended(0, sent.ended.out, sent.says):
             return f"sent again: {sent}"
         found = stands_in(f"{folder}/desk.db")
-        right = Stands(kind.before + kind.added + (kind.opened if is_done else []), replies)
+        right = Stands(kind.before + kind.added + (kind.opened if is_done else []), replies, kind.cargo + kind.added_cargo)
         return "" if found == right else f"sent again, it leaves {found}"
 
 

@@ -6,7 +6,7 @@ from typing import Callable, Iterable
 
 from generate.scripts import Written
 from generate.texts import procedure_text, stack_text
-from model.facts import (COUNTS, LAST_MOMENT, LAST_NUMBER, LONGEST_ACT, LONGEST_TEXT, MARK, MOST_EXECUTIONS, MOST_PROCEDURES, MOST_REQUESTS,
+from model.facts import (COUNTS, LAST_MOMENT, LAST_NUMBER, LONGEST_ACT, LONGEST_TEXT, MARK, MOST_EXECUTIONS, MOST_INSERTED, MOST_PROCEDURES, MOST_REQUESTS,
                          MOST_ROWS, MOST_STACKS, MOST_STEPS, STACK_HEADER)
 
 PLAIN = "enter {} ---- no 8 1 - - ok"
@@ -120,15 +120,27 @@ def history() -> Written:
     return script
 
 
+def full_lists() -> bytes:
+    """The text of a stack of 200 rows, of which 8 are plain and each other inserts those 8, in another order than the one before."""
+    time, rows = "1970-01-01T00:01:00Z", [f"{line},{line},8,1,,,a--c,no,,ok" for line in range(1, MOST_INSERTED + 1)]
+    for line in range(len(rows) + 1, MOST_ROWS + 1):
+        named = [str(1 + (line + at) % MOST_INSERTED) for at in range(MOST_INSERTED)]
+        rows.append(f"{line},9,11,4,{';'.join(named)},{';'.join([time] * MOST_INSERTED)},---c,no,,ok")
+    return "".join(f"{it}\n" for it in [STACK_HEADER, *rows]).encode()
+
+
 def long_stacks() -> Written:
-    """Two stacks of 200 rows, which are approved, and some of whose rows are withdrawn before."""
+    """Three stacks of 200 rows, which are approved, and some of whose rows are withdrawn before: of one all rows but 8 are inserts of 8."""
     script = Written("stacks of 200 rows")
     rows = [f"{line},{line % 10},8,{line},,,aspc,{'yes' if line == 200 else 'no'},{line - 1 if line % 2 == 0 else ''},ok" for line in range(1, 201)]
     script.file(MARK + "\r\n".join([STACK_HEADER] + rows).encode(), "long")
     script.file("\r".join([STACK_HEADER] + rows).replace("yes", "no").encode(), "plain")
-    say_all(script, ["stack a long", "stack b plain", "withdraw 7", "withdraw 200", "withdraw 400"])
+    script.file(full_lists(), "lists")
+    say_all(script, ["stack a long", "stack b plain", "stack c lists", "withdraw 7", "withdraw 200", "withdraw 400"])
     for line in ("1 bob approvestack a", "2 bob approvestack b", "3 cid approvestack b", "3 cid approvestack a", "4 eve approvestack a",
-                 "5 bob places", "5 bob request 200", "5 bob request 399", "5 bob initiate none", "5 bob release 2", "5 bob release 9"):
+                 "5 bob places", "5 bob request 200", "5 bob request 399", "5 bob initiate none", "5 bob release 2", "5 bob release 9",
+                 "6 bob approvestack c", "6 bob request 409", "6 bob request 600", "6 bob release 409", "6 bob release 600", "6 bob terminate",
+                 "6 bob places"):
         script.say(line)
     return script
 
@@ -141,6 +153,7 @@ NUMBERS = ["0", "1", "2", "3", "10", "15", "16", "255", "256", "2047", "2048", "
 NUMBERED = ["enter {} ---- no 8 1 - - ok", "enter 5 ---- no {} 1 - - ok", "enter 5 ---- no 8 {} - - ok", "enter 5 ---c no 11 {} - - ok",
             "enter 5 ---c no 11 {} 1 - ok", "enter 5 ---c no 11 {} 1 60 ok", "enter 5 ---c no 11 {} - 60 ok", "enter 5 ---c no 11 4 {} 60 ok",
             "enter 5 ---c no 11 5 {} - ok", "enter 5 ---c no 11 7 {} -60 ok", "enter 5 ---c no 11 4 1 {} ok", "enter 5 ---c no 11 7 1 {} ok",
+            "enter 5 ---c no 11 4 1;{} 60;60 ok", "enter 5 ---c no 11 4 {};1 60;60 ok", "enter 5 ---c no 11 4 1;2 60;{} ok", "enter 5 ---c no 11 5 1;{} - ok",
             "enter 5 ---c no 11 15 - {} ok", "enter 5 ---- no 8 1 {} - ok", "enter 5 ---- no 8 1 - {} ok", "enter 5 ---- no 8 1 - - ok/{}",
             "enter 5 ---- no 8 1 - - refuse/{}", "enter 5 ---- no 8 1 - - nostart/{}", "enter 5 ---- no 8 1 - - halt/{}/16",
             "enter 5 ---- no 8 1 - - halt/9/{}", "enter 5 ---- no 8 1 - - fail/{}", "withdraw {}", "approve {}", "release {}", "close {}",
@@ -156,7 +169,7 @@ def borders() -> Written:
     script = Written("borders")
     for name, text in (("one", stack_text(5)), ("steps", procedure_text("", "", ""))):
         script.file(text, name)
-    say_all(script, ["enter 5 a--- no 8 1 - - ok", "procedure p steps", "begin p", "begin p", "begin p", "initiate none"])
+    say_all(script, ["enter 5 a--- no 8 1 - - ok"] * 2 + ["procedure p steps", "begin p", "begin p", "begin p", "initiate none"])
     say_all(script, [line.format(it) for line in NUMBERED for it in NUMBERS])
     say_all(script, [line.format(it) for line in NAMED for it in NAMES])
     for it in NUMBERS:
@@ -187,6 +200,8 @@ def lengths() -> Written:
         say_all(script, [f"{kind} rows {script.file(text + more)}" for more in (last * 101, last, b"")])
         say_all(script, [f"{kind} size{size} {script.file(text + b'x' * (size - len(text)))}" for size in (LONGEST_TEXT, LONGEST_TEXT + 1)])
         say_all(script, [f"{kind} ends{size} {script.file(text + bytes([10]) * (size - len(text)))}" for size in (LONGEST_TEXT, LONGEST_TEXT + 1)])
+    longest = [";".join([str(it)] * MOST_INSERTED) for it in (LAST_NUMBER, LAST_MOMENT)]
+    say_all(script, [f"enter {apid} aspc yes 11 4 {' '.join(longest)} ok" for apid in (5, 50)])  # of 200 bytes, and of 201
     for size in (0, 1, LONGEST_ACT - 1, LONGEST_ACT, LONGEST_ACT + 1, LONGEST_ACT + 2, 5000):
         script.say("0 ann " + "x" * size)
         script.say("no moment " + "x" * size)

@@ -4,17 +4,20 @@ model does not know.
 from random import Random
 from typing import Sequence
 
-from generate.texts import BAD_FIELDS, Records, damaged, row_text, some_bytes, some_instant
+from generate.texts import BAD_FIELDS, Records, damaged, joined, row_text, some_bytes, some_count, some_instant
 from model.facts import LAST_MOMENT, LONGEST_TEXT, MARK, MOST_ROWS, MOST_STEPS
 from model.texts import PROCEDURE_COLUMNS, STACK_COLUMNS
 
 NUMBERS = ("0 1 2 3 01 00 +1 -1 -0 10 11 12 16 17 18 199 200 201 255 256 2047 2048 65536 4294967295 4294967296 4294967297 18446744073709551617"
            " x").split()
+INSTANT = "2031-05-04T10:00:00Z"
 # What may stand in a column in place of what stands there: at the limits, and a little past them.
 WORDS = {
     "line": NUMBERS, "apid": NUMBERS, "service": NUMBERS + ["8", "11", "11", "011", "11.0"], "subtype": NUMBERS + "4 5 6 7 8 14 15 16 017".split(),
-    "target": NUMBERS + ["", "", "-"], "after": NUMBERS + ["", "-"], "request": NUMBERS + ["", "-"], "step": NUMBERS,
-    "time": ["", "", "0", "-1", "60", "-0", "+60", "060"] + [f"{sign}{LAST_MOMENT + it}" for sign in ("", "-") for it in (0, 1)],
+    "target": NUMBERS + ["", "", "-", "1;2", "1;1", "1;", ";1", "1;;2", "1; 2", "1;02", "1;2;3;4;5;6;7;8;9"], "after": NUMBERS + ["", "-"],
+    "request": NUMBERS + ["", "-"], "step": NUMBERS,
+    "time": ["", "", "0", "-1", "60", "-0", "+60", "060", ";", "60;60", INSTANT, f"{INSTANT};{INSTANT}", f"{INSTANT};"]
+            + [f"{sign}{LAST_MOMENT + it}" for sign in ("", "-") for it in (0, 1)],
     "ack": "aspc a--- ---c ---- asp- --- aspcc cpsa ASPC x".split() + [""], "critical": "yes no Yes NO y n true yesno".split() + [""],
     "second": "yes no Yes NO y n true yesno".split() + [""],
     "outcome": "ok ok/1 ok/9 ok/0 ok/10 ok/01 refuse/16 refuse/255 refuse/15 refuse/256 nostart/16 nostart halt/2/17 halt/0/17 halt/9/255 halt/1"
@@ -50,10 +53,12 @@ def command(dice: Random, plain: Sequence[int]) -> list[str]:
     subtype = dice.choice(subtypes)
     if service != "11":
         return [service, subtype, "", ""]
-    line = str(dice.choice(plain)) if subtype in ("4", "5", "7") else ""
+    if subtype == "4":
+        lines = dice.sample(plain, min(len(plain), some_count(dice)))
+        return ["11", subtype, joined(map(str, lines)), joined(some_instant(dice, dice.choice([0, 1935655200, LAST_MOMENT])) for _ in lines)]
+    line = str(dice.choice(plain)) if subtype in ("5", "7") else ""
     offset = str(dice.choice([-LAST_MOMENT, -60, 0, 60, LAST_MOMENT]))
-    time = some_instant(dice, dice.choice([0, 1935655200, LAST_MOMENT])) if subtype == "4" else offset if subtype in ("7", "15") else ""
-    return ["11", subtype, line, time]
+    return ["11", subtype, line, offset if subtype in ("7", "15") else ""]
 
 
 def good_stack(dice: Random) -> Records:
@@ -107,16 +112,25 @@ def other_target(dice: Random, records: Records) -> Records:
     if not commands:
         return other_field(dice, records)
     row = dice.choice(commands)
-    if dice.random() < 0.2:
-        return with_field(records, min(int(records[row][4]), len(records) - 1), 6, "--pc")
+    lines = records[row][4].split(";")
+    at = dice.randrange(len(lines))
+    if dice.random() < 0.2 and lines[at].isdecimal():
+        return with_field(records, min(int(lines[at]), len(records) - 1), 6, "--pc")
     others = [it for it in rows_with(records, *"1 2 3 4 5 7 15 17".split()) if it < row]
-    return with_field(records, row, 4, str(dice.choice(others * 2 + [row - 1, row, row + 1])))
+    lines[at] = str(dice.choice([*others * 2, row - 1, row, row + 1, *lines]))
+    return with_field(records, row, 4, joined(lines))
 
 
 def other_instant(dice: Random, records: Records) -> Records:
-    """An insert has another time."""
+    """An insert has another time, or one more or less."""
     inserts = rows_with(records, "4")
-    return with_field(records, dice.choice(inserts), 5, spelled_instant(dice)) if inserts else other_field(dice, records)
+    if not inserts:
+        return other_field(dice, records)
+    row, kind = dice.choice(inserts), dice.randrange(8)
+    times = records[row][5].split(";")
+    at = dice.randrange(len(times))
+    times[at:at + 1] = [times[at]] * 2 if kind == 0 else [] if kind == 1 else [spelled_instant(dice)]
+    return with_field(records, row, 5, joined(times))
 
 
 def other_shape(dice: Random, records: Records) -> Records:

@@ -153,7 +153,7 @@ LIMIT_STACKS = [
     ("line 1, field apid: not 0 to 2047 in plain digits", STACK + b"1," + b"5" * 65400 + b",8,1,,,---c,no,,ok\n"),
     ("line 200, field after: neither empty nor an earlier line", STACK + counted(ANY_ROW, 199) + b"200,5,8,1,,,---c,no,200,ok\n"),
     ("ok", STACK + counted(ANY_ROW, 199) + b"200,5,8,1,,,---c,no,199,ok\n"),
-    ("line 200, field target: a line of service 11, or one whose ack has no a",
+    ("line 200, field target: a line of service 11, one whose ack has no a, or one that is named twice",
      STACK + counted(ANY_ROW, 199) + b"200,5,11,4,199,2031-05-04T10:00:00Z,---c,no,,ok\n"),
 ]
 LIMIT_PROCEDURES = [

@@ -5,6 +5,7 @@ from random import Random
 from typing import Callable
 
 from generate.scripts import LosingWriter
+from generate.texts import joined
 from model.desk import Desk
 from model.facts import Place
 from model.rows import Tables
@@ -33,9 +34,25 @@ class Day(LosingWriter):
 
     def close_day(self) -> None:
         """The day often ends with requests out, an insert among them, and one that waits."""
-        for turn in [self.start, self.release, self.lay_in, self.release] if self.dice.random() < 0.6 else []:
+        turns = self.dice.choice([[self.release, self.lay_in, self.release], [self.release, self.lay_in_several], [self.lay_in_several, self.release]])
+        for turn in [self.start, *turns] if self.dice.random() < 0.8 else []:
             self.give("set k 1")
             turn()
+
+    def lay_in_several(self) -> None:
+        """An insert of some new requests is entered, approved and released; now and then one of them is closed then."""
+        listed = []
+        for _ in range(self.dice.choice([2, 3, 3, 8])):
+            if self.give("enter 6 a--c no 8 1 - - ok", "ann"):
+                listed.append(len(self.book.requests))
+                self.give(f"approve {listed[-1]}", "bob")
+        times = [str(self.desk.board.now + 60 + at) for at in range(len(listed))]
+        self.give(f"enter 5 ---c no 11 4 {joined(map(str, listed[::-1]))} {joined(times)} ok", "ann")
+        number = len(self.book.requests)
+        self.give(f"approve {number}", "bob")
+        self.give(f"release {number}")
+        if self.dice.random() < 0.3:
+            self.give(f"close {listed[0]}")
 
     def opening(self) -> list[str]:
         """What the opening printed before the first line."""

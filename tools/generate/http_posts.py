@@ -282,17 +282,31 @@ def acts() -> Iterator[Case]:
             ("ann", "step 1 2 done bob", 3),
             ("ann", "step 1 2 skipped bob", 0), ("ann", "step 1 2 done bob", 14), ("ann", "log 1", 0), ("ann", "terminate", 0), ("ann", "link", 0),
             ("ann", "history 3 0", 0),
-            ("ann", "report 0 4102444799", 0), ("ann", "places", 0)]:
+            ("ann", "report 0 4102444799", 0), ("ann", "places", 0),
+            # lists: requests 1, 4 and 6 may be named, 3 asks for no acceptance, and 2 is a command of the schedule
+            ("ann", "enter 5 ---c no 11 4 1;6 1060;1061 ok", 0), ("bob", "request 9", 0), ("ann", "enter 5 ---c no 11 4 1;6 1060 ok", 1),
+            ("ann", "enter 5 ---c no 11 4 1; 1060;1060 ok", 1), ("ann", "enter 5 ---c no 11 4 1;1 1060;1060 ok", 19),
+            ("ann", "enter 5 ---c no 11 4 1;2 1060;1060 ok", 19), ("ann", "enter 5 ---c no 11 4 1;3 1060;1060 ok", 19),
+            ("ann", "enter 5 ---c no 11 4 2;77 1060;1060 ok", 2), ("ann", "enter 5 ---c no 11 4 1;1;77 1060;1060;1060 ok", 2),
+            ("ann", "enter 5 ---c no 11 4 1;2;3;4;5;6;7;8;9 1;1;1;1;1;1;1;1;1 ok", 1), ("ann", "enter 5 ---c no 11 5 1;6 - ok", 1)]:
         yield Case(f"{by} {text}", act(text, by), want)
+    lists = f"{STACK_HEADER}\n1,6,8,1,,,a--c,no,,ok\n2,6,8,2,,,a--c,no,,ok\n3,6,11,4,{{}},1970-01-01T00:20:00Z;1970-01-01T00:21:00Z,---c,no,,ok\n"
+    for name, named, want in (("two", "2;1", 0), ("one", "1", 1), ("twice", "1;1", 19), ("itself", "1;3", 1), ("spaced", "1; 2", 1)):
+        yield Case(f"ann loads a stack whose insert names {named!r}", load("stack", name, lists.format(named)), want)
 
 
 def fly() -> Iterator[Case]:
-    """A request flies to its end, and an insert with its activity."""
+    """A request flies to its end, an insert with its activity, and one with two."""
     for by, text, want in [
             ("ann", "clock 1000", 0), ("ann", "clock 5", 12), ("ann", ENTRY, 0), ("ann", "enter 5 ---c no 11 4 1 1060 ok", 0),
             ("bob", "approve 1", 0), ("bob", "approve 2", 0),
             ("ann", "initiate none", 0), ("ann", "release 2", 0), ("ann", "up", 0), ("ann", "work", 0), ("ann", "clcw", 0), ("ann", "down", 0),
             ("ann", "down", 0), ("ann", "down", 0),
             ("ann", "schedule", 0), ("ann", "loseup 0", 0), ("ann", "losedown 7", 0), ("ann", "clock 2000", 0), ("ann", "down", 0),
-            ("ann", "link", 0), ("ann", "initiate setvr 256", 1)]:
+            ("ann", "link", 0), ("ann", "initiate setvr 256", 1),
+            # two more, by a list
+            ("ann", ENTRY, 0), ("ann", ENTRY, 0), ("ann", "enter 5 ---c no 11 4 4;3 2100;2200 ok", 0), ("bob", "approve 3", 0), ("bob", "approve 4", 0),
+            ("bob", "approve 5", 0), ("ann", "release 5", 0), ("ann", "release 3", 3), ("ann", "up", 0), ("ann", "work", 0), ("ann", "down", 0),
+            ("ann", "schedule", 0), ("ann", "clock 2150", 0), ("ann", "down", 0), ("ann", "clcw", 0), ("ann", "down", 0), ("ann", "schedule", 0),
+            ("ann", "request 5", 0), ("ann", "places", 0)]:
         yield Case(f"{by} {text}", act(text, by), want)

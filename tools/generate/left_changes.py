@@ -278,7 +278,63 @@ def many(count: int, *behind: str) -> tuple[str, ...]:
     return (f"INSERT INTO cargo {numbers} SELECT i, 2, 1, 600 FROM n", *behind)
 
 
-# Rows of that table at such a desk, and whether each reads by itself. No desk has written one by now: an opening refuses them all.
+# Of the desk LISTS.
+OF_LISTS: Changes = [
+    # fewer and more
+    (("DELETE FROM cargo WHERE rowid = 6",), True),
+    (("DELETE FROM cargo WHERE request = 15",), True),
+    (("DELETE FROM cargo WHERE request = 11",), True),
+    (carried("15", position="5"), False),
+    (carried("15", position="5", target="2"), True),
+    ((*carried("15", position="5", target="2"), *carried("15", position="6", target="3")), True),
+    (tuple(it for at in (5, 6, 7, 8) for it in carried("15", position=f"{at}", target=f"{at - 3}")), True),
+    (tuple(it for at in (5, 6, 7, 8, 9) for it in carried("15", position=f"{at}", target=f"{at - 3}")), False),
+    # a gap, no position that there is, one of the first
+    (("DELETE FROM cargo WHERE rowid = 4",), False),
+    (("DELETE FROM cargo WHERE rowid = 5",), False),
+    (("DELETE FROM cargo WHERE rowid = 1",), False),
+    *(((f"UPDATE cargo SET position = {at} WHERE rowid = {row}",), False)
+      for row, at in ((6, 1), (6, 5), (6, 8), (6, 9), (6, 255), (4, 1), (4, 5), (4, 9), (3, 1), (3, 3))),
+    (carried("15", position="6", target="2"), False),
+    (carried("15", position="1", target="2"), False),
+    (carried("15", position="9", target="2"), False),
+    (("UPDATE cargo SET position = position + 10 WHERE request = 15",), False),
+    # of others: of one that has none, of a plain request, of a delete, of nobody
+    (carried("12", target="5"), False),
+    (("UPDATE cargo SET rowid = rowid + 10 WHERE rowid > 2", "INSERT INTO cargo (rowid, request, position, target, at_time) VALUES (3, 12, 2, 5, 60)"), True),
+    *((carried(number, target="2"), False) for number in ("1", "9", "10", "13", "16", "65535")),
+    (("UPDATE cargo SET rowid = rowid + 10", "INSERT INTO cargo (rowid, request, position, target, at_time) VALUES (1, 9, 2, 2, 60)"), False),
+    (("UPDATE cargo SET rowid = rowid + 10 WHERE rowid > 2", "INSERT INTO cargo (rowid, request, position, target, at_time) VALUES (3, 13, 2, 5, 60)"), False),
+    *(((f"UPDATE cargo SET request = {number} WHERE rowid = 6",), False) for number in ("14", "13", "12", "1", "16")),
+    (("UPDATE cargo SET request = 15, position = 5 WHERE rowid = 3",), False),
+    # in another order
+    (("UPDATE cargo SET rowid = 100 WHERE rowid = 6",), True),
+    (("UPDATE cargo SET rowid = -100 WHERE rowid = 1",), True),
+    (("UPDATE cargo SET rowid = 100 WHERE rowid = 4",), False),
+    (("UPDATE cargo SET rowid = 100 WHERE rowid = 5",), False),
+    (("UPDATE cargo SET rowid = 100 WHERE rowid = 1",), False),
+    (("UPDATE cargo SET rowid = 100 WHERE rowid = 3",), False),
+    (("UPDATE cargo SET rowid = -100 WHERE rowid = 6",), False),
+    # what is named, and when
+    (("UPDATE cargo SET target = 2 WHERE rowid = 6",), True),
+    *(((f"UPDATE cargo SET target = {number} WHERE rowid = 6",), False) for number in ("7", "8", "9", "10", "11", "13", "15", "16", "0", "65536", "4294967295")),
+    *(((f"UPDATE cargo SET at_time = {time} WHERE rowid = 6",), True) for time in ("0", "200", "4102444799")),
+    *(((f"UPDATE cargo SET at_time = {time} WHERE rowid = 6",), False) for time in ("-1", "4102444800")),
+    (("UPDATE request SET target = 2 WHERE num = 15",), True),
+    (("UPDATE request SET target = 8 WHERE num = 15",), False),
+    (("UPDATE request SET ack = 1 WHERE num = 8",), False),
+    (("UPDATE request SET ack = 9 WHERE num = 10", "UPDATE cargo SET target = 10 WHERE rowid = 6"), True),
+    (("UPDATE request SET ack = 9 WHERE num = 13", "UPDATE cargo SET target = 13 WHERE rowid = 6"), False),
+    (("UPDATE request SET target = 10 WHERE num = 13",), True),
+    (("UPDATE request SET target = 12 WHERE num = 13",), False),
+    # the request is no insert
+    (("UPDATE request SET subtype = 5, at_time = 0 WHERE num = 15",), False),
+    (("UPDATE request SET subtype = 5, at_time = 0 WHERE num = 15", "DELETE FROM cargo WHERE request = 15"), True),
+    (("UPDATE request SET subtype = 7 WHERE num = 15",), False),
+    (("UPDATE request SET service = 8, target = 0, at_time = 0, ack = 9 WHERE num = 15",), False),
+]
+# Rows of that table at a desk whose inserts name one request each, and whether each reads by itself. An opening refuses them all: what they name is
+# named already, or was entered later.
 OF_CARGO: Changes = [
     (carried("2"), True),
     (carried("1"), True),

@@ -305,6 +305,54 @@ WHOLE = Left("whole", """\
 8 bob step 1 2 failed cid
 """, [Day(9, "places 3: 1 2 0 0 0 0 0 0 0 0 0 0 0 0 0\n")])
 
+# Inserts of several activities, which stand in the rows of cargo from position 2 on: 11, of 1, 2 and 3, is at Sent; 14, of 6 and 5, waits at Queued; 12, of one
+# alone, and 15, of 7, 8, 9 and 1, are entered. 10 asks for no report of its acceptance, and 13 is a delete.
+LISTS = Left("lists", "".join(["0 ann enter 5 a--c no 8 1 - - ok\n"] * 9) + """\
+0 ann enter 5 ---- no 8 1 - - ok
+0 ann enter 6 ---c no 11 4 1;2;3 1100;1200;1300 ok
+0 ann enter 6 ---c no 11 4 4 1100 ok
+0 ann enter 6 ---c no 11 5 1 - ok
+0 ann enter 6 ---c no 11 4 6;5 1100;1200 ok
+""" + "".join(f"0 bob approve {it}\n" for it in (*range(1, 10), 11, 14)) + """\
+0 ann initiate none
+0 ann set k 1
+0 ann release 11
+0 ann release 14
+0 ann enter 6 ---c no 11 4 7;8;9;1 100;200;300;400 ok
+""", [
+    Day(500, """\
+move 35 500 desk 1 Riding Doubtful open
+move 36 500 desk 2 Riding Doubtful open
+move 37 500 desk 3 Riding Doubtful open
+move 38 500 desk 5 Riding Approved open
+move 39 500 desk 6 Riding Approved open
+move 40 500 desk 11 Sent Doubtful open
+move 41 500 desk 14 Queued Approved open
+places 15: 4 7 0 0 0 0 0 0 0 0 0 4 0 0 0
+"""),
+    Day(9000, """\
+> 9001 cid request 11
+request 11 6/0 11/4 ---c no 1;2;3 1100;1200;1300 ok ann Doubtful
+> 9001 cid request 12
+request 12 6/1 11/4 ---c no 4 1100 ok ann Entered
+> 9001 cid request 15
+request 15 6/4 11/4 ---c no 7;8;9;1 100;200;300;400 ok ann Entered
+> 9002 cid initiate none
+ok
+started
+> 9003 cid release 14
+ok
+move 42 9003 cid 14 Approved Queued release
+move 43 9003 cid 6 Approved Riding release
+move 44 9003 cid 5 Approved Riding release
+move 45 9003 cid 14 Queued Sent transmit
+> 9004 cid close 2
+ok
+move 46 9004 cid 2 Doubtful Closed close
+places 15: 4 4 0 1 0 2 0 0 0 0 0 3 0 0 1
+"""),
+])
+
 # What is printed as the file of each earlier version is opened that has rows in every table (tools/cases/schema-N).
 OF_VERSIONS = {1: Day(500, """\
 move 35 500 desk 1 Scheduled Doubtful open

@@ -4,6 +4,7 @@
 from typing import Optional
 
 from generate.link_writers import Style, Writer
+from generate.texts import joined
 from model.facts import COUNTS, LAST_MOMENT, MOST_ACTIVITIES, Place
 
 PLAIN, LISTED = "5 ---- no 8 1 - - ok", "7 a--c no 8 1 - - ok"
@@ -102,12 +103,13 @@ def overwritten(seed: int, size: int) -> Scene:
 
 
 def full_schedule(seed: int) -> Scene:
-    """64 activities and one more; then they are shifted, told by a summary, and fall due."""
+    """64 activities and one more, some of them by lists, of which one would be too many by one; then they are shifted, told by a summary, and fall due."""
     it = Scene(seed, 20, asks=0.02)
     it.said("initiate none")
-    for number in range(MOST_ACTIVITIES + 1):
-        listed = it.prepare(f"{number % 3 * 3} a--c no 8 1 - - {it.outcome()}")
-        it.commands(f"4 {listed} {60 + it.dice.randrange(40)}")
+    # so many at a time: 63 stand before two are too many
+    for count in [1] * 34 + [8, 7, 6, 5, 2, 1, 2, 1, 1]:
+        several = [it.prepare(f"{number % 3 * 3} a--c no 8 1 - - {it.outcome()}") for number in range(count)]
+        it.commands(f"4 {joined(map(str, several))} {joined(str(60 + it.dice.randrange(40)) for _ in several)}")
         it.said("clcw", "down")
     it.said("schedule")
     it.commands("17 - -")
@@ -120,6 +122,21 @@ def full_schedule(seed: int) -> Scene:
         it.commands(words)
         it.said("schedule", "clcw", "down")
     it.said("clock 80", *["down"] * 60, "schedule", f"clock {LAST_MOMENT}", *["down"] * 60, "schedule", "places")
+    return it
+
+
+def lists(seed: int) -> Scene:
+    """Inserts of each number of activities from 1 to 8, of which one is too early at each place in turn, or none; then all fall due."""
+    it = Scene(seed, 20, asks=0.02)
+    it.said("initiate none", "clock 1000")
+    for count in range(1, 9):
+        for early in (*range(count), None):
+            listed = [it.prepare(f"{number} a--c no 8 1 - - {it.outcome()}") for number in range(count)]
+            it.commands(f"4 {joined(map(str, listed))} {joined('1059' if at == early else str(1060 + at) for at in range(count))}")
+            it.said("clcw", "down")
+        it.said("schedule")
+    it.commands("1 - -")
+    it.said("clock 1063", *["down"] * 40, "schedule", "clock 1100", *["down"] * 60, "schedule", "places")
     return it
 
 
@@ -230,16 +247,18 @@ def reset_all(seed: int) -> Scene:
 
 
 def same_name(seed: int) -> Scene:
-    """All names of one application process are given; then one is given again whose first bearer was closed, and still is on board."""
+    """All names of one application process are given; then two are given again whose first bearers were closed, and still are on board: one goes there by
+    itself, and one behind a request whose name is free."""
     it = Scene(seed, 20, asks=0)
     it.said("initiate none")
-    listed = it.prepare("9 a--c no 8 1 - - ok")
-    it.commands(f"4 {listed} 9000")
-    it.said(f"close {listed}")
-    for _ in range(COUNTS - 1):
+    first, other = (it.prepare("9 a--c no 8 1 - - ok") for _ in range(2))
+    it.commands(f"4 {first};{other} 9000;9000")
+    it.said(f"close {first}", f"close {other}")
+    for _ in range(COUNTS - 2):
         it.put("7 ann enter 9 ---- no 8 1 - - ok")
-    again = it.prepare("9 a--c no 8 1 - - ok")
-    it.commands(f"4 {again} 9500")
+    first, other = (it.prepare("9 a--c no 8 1 - - ok") for _ in range(2))
+    it.commands(f"4 {first} 9500")
+    it.commands(f"4 {it.prepare(LISTED)};{other} 9500;9500")
     it.said("schedule", "clock 9000", "down", "down", "schedule", "clcw", "down", "enter 9 ---- no 8 1 - - ok", "places")
     return it
 

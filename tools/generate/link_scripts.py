@@ -32,18 +32,18 @@ STYLES = {style.name: style for style in (
 )}
 # Longer ones, in which after each act is asked where the requests stand.
 TOLD = {style.name: style for style in (
-    Style("kept", 22000, ALL, (1, 2, 3, 5, 10), commands=0.3, asks=0, every=("places",)),
+    Style("kept", 22000, ALL, (1, 2, 3, 5, 10), commands=0.5, lists=0.7, asks=0, every=("places",)),
     Style("broken", 6000, ALL, (2, 3, 10), starts="hasty", asks=0, every=("places",), weights={"terminate": 2}),
 )}
 STYLES |= {style.name: style for size in RINGS for style in (
     Style(f"ring of {size}", 2500, ALL, (1, 2, 3, 10), starts="hasty", weights={"terminate": 2, "burst": 6, "clcw": 30, "tick": 6}, ring=size),)}
 TOLD |= {style.name: style for size in RINGS for style in (
-    Style(f"kept over a ring of {size}", 5000, ALL, (1, 1, 2, 3, 10), commands=0.3, asks=0, every=("places",), ring=size,
+    Style(f"kept over a ring of {size}", 5000, ALL, (1, 1, 2, 3, 10), commands=0.5, lists=0.7, asks=0, every=("places",), ring=size,
           weights={"burst": 6, "clcw": 20, "tick": 6}),)}
 SCENES: list[Job] = [
     *[("every_k", w, least, most) for w, least, most in ((254, 1, 45), (254, 46, 90), (254, 91, 127), (128, 40, 64), (20, 1, 10), (2, 1, 1))],
     *[("overwritten", size) for size in RINGS],
-    *[("widest",), ("full_schedule",), ("same_name",)],
+    *[("widest",), ("full_schedule",), ("lists",), ("same_name",)],
     *3 * [("ends_of_time",), ("mirror_behind",), ("reports_lost",), ("insert_in_doubt",), ("report_after_confirm",),
           ("reset_all",), ("crowded",), ("locked_out",), ("unlevel",), ("waits",), ("ended",)]]
 # How many scripts of each style there are.

@@ -5,6 +5,7 @@ import random
 from dataclasses import dataclass, field
 from typing import Callable, Optional
 
+from generate.texts import joined
 from model.book import Book
 from model.carrier import Carrier
 from model.desk import Desk
@@ -21,13 +22,15 @@ PERSONS = "ann bob cid eve joe".split()
 BAD_LINES = ("0 ann", "ann 0 up", "0 ann up ", "0 ann  up", "0 desk up", "4102444800 ann up", "00 ann up", "0 ann loseup -1",
              "0 ann set k 0", "0 ann set k 256", "0 ann set t1 65536", "0 ann set limit 0", "0 ann set vs 256",
              "0 ann initiate setvr 256", "0 ann initiate", "0 ann initiate Check", "0 ann clock 4102444800", "0 ann release 01",
-             "0 ann losedown 4294967296", "0 ann tick 1", "0 ann " + "x" * 200, "0 ann " + "x" * 201, "ann ann " + "x" * 201)
+             "0 ann losedown 4294967296", "0 ann enter 5 ---c no 11 4 1;2 90 ok", "0 ann enter 5 ---c no 11 4 1; 90;90 ok",
+             "0 ann tick 1", "0 ann " + "x" * 200, "0 ann " + "x" * 201, "ann ann " + "x" * 201)
 
 
 @dataclass
 class Style:
-    """How a script is written: how many turns, which windows, starts, losses and kinds of requests, and how often is asked; and the
-    size of the link's two rings, where it is not two lists. A K that is wider than fits stands for the widest that does."""
+    """How a script is written: how many turns, which windows, starts, losses and kinds of requests, how often a request is a command and an insert
+    names several, and how often is asked; and the size of the link's two rings, where it is not two lists. A K that is wider than fits stands
+    for the widest that does."""
     name: str
     turns: int
     windows: tuple[int, ...]
@@ -36,6 +39,7 @@ class Style:
     limits: tuple[int, ...] = (1, 2, 3, 3, 5)
     t1s: tuple[int, ...] = (1, 2, 3, 10)
     commands: float = 0.2
+    lists: float = 0.4
     seeks: float = 0.0
     asks: float = 0.15
     every: tuple[str, ...] = ()
@@ -153,17 +157,33 @@ class Writer:
         now = self.desk.board.now
         return min(self.dice.choice((now + self.dice.randrange(40, 500), now + 59, now + 60, LAST_MOMENT)), LAST_MOMENT)
 
+    def dues(self, count: int) -> list[int]:
+        """A time for each of so many: mostly times that the spacecraft takes."""
+        if count > 1 and self.dice.random() < 0.6:
+            return [self.desk.board.now + self.dice.randrange(150, 500) for _ in range(count)]
+        return [self.due() for _ in range(count)]
+
     def command_words(self) -> str:
         """A command of the schedule, as its entry spells it."""
         offset = self.dice.choice((self.dice.randrange(-200, 300), -60, LAST_MOMENT, -LAST_MOMENT, 0))
         kind = self.dice.choice((1, 1, 2, 3, 4, 4, 4, 4, 4, 4, 4, 4, 5, 5, 7, 7, 7, 15, 15, 17))
-        plain = [n for n in self.standing(Place.APPROVED) if self.book.requests[n - 1].form.is_plain()]
-        ridden = self.dice.choice(plain) if plain and self.dice.random() < 0.9 else self.pick(Place.APPROVED)
+        ridden = self.riders() if kind == 4 else []
         deleted, shifted = self.pick(Place.SCHEDULED, Place.RIDING, Place.DOUBTFUL), self.pick(Place.SCHEDULED)
-        target = {4: ridden, 5: deleted, 7: shifted}.get(kind, "-")
-        time = {4: self.due(), 7: offset, 15: offset}.get(kind, "-")
+        target = {4: joined(map(str, ridden)), 5: deleted, 7: shifted}.get(kind, "-")
+        time = {4: joined(map(str, self.dues(len(ridden)))), 7: offset, 15: offset}.get(kind, "-")
         ack = "".join(letter if self.dice.random() < 0.4 else "-" for letter in "asp") + "c"
         return f"{self.dice.choice((5, 6))} {ack} no 11 {kind} {target} {time} ok"
+
+    def riders(self) -> list[int]:
+        """What an insert names: mostly 1 to 8 requests that may ride, of which those that lack are entered and approved; now and then any."""
+        count = self.dice.choice((2, 2, 3, 3, 4, 5, 8)) if self.dice.random() < self.style.lists else 1
+        if self.dice.random() < 0.1:
+            return [self.pick(Place.APPROVED) for _ in range(count)]
+        forms = {n: self.book.requests[n - 1].form for n in self.standing(Place.APPROVED)}
+        may = [n for n, form in forms.items() if form.is_plain() and form.asks("a")]
+        ridden = self.dice.sample(may, min(count, len(may)))
+        made = [self.prepare(f"{self.dice.choice((1, 2, 3))} a--c no 8 1 - - {self.outcome()}") for _ in range(count - len(ridden))]
+        return ridden + [it for it in made if it]
 
     def enter(self, words: str, by: str = "ann") -> Optional[int]:
         """A request is entered; its number, where it was."""
@@ -196,8 +216,7 @@ class Writer:
         back = self.standing(Place.APPROVED)
         if back and self.dice.random() < 0.45:
             number = self.dice.choice(back[:6])
-            activity = self.book.activity(number)
-            if activity is None or self.book.place(activity) is Place.APPROVED or self.dice.random() < 0.05:
+            if all(self.book.place(it) is Place.APPROVED for it in self.book.activities(number)) or self.dice.random() < 0.05:
                 return number
         return None
 

@@ -5,7 +5,7 @@ from collections import Counter
 from random import Random
 from typing import Callable, Iterable, NamedTuple, Optional
 
-from generate.texts import Records, damaged, row_text, some_bytes, some_instant
+from generate.texts import Records, damaged, joined, no_list, row_text, some_bytes, some_count, some_instant
 from model import lines
 from model.book import Book
 from model.desk import LOADS, Desk
@@ -177,14 +177,31 @@ class Writer(Written):
         if kind == 0:
             service = dice.choice([1, 3, 8, 10, 12, 255])
             return Command([str(service), str(dice.randrange(1, 256)), "", ""], ack, critical, self.outcome())
-        target = str(named()) if kind in (4, 5, 7) else ""
-        shift = str(dice.choice([-LAST_MOMENT, -60, -1, 0, 1, 60, 3600, LAST_MOMENT]))
-        time = instant(self.desk.board.now + dice.choice([0, 59, 60, 61, 120, 900])) if kind == 4 else shift if kind in (7, 15) else ""
+        target, time = self.insert(named, instant) if kind == 4 else ("", "")
+        target = str(named()) if kind in (5, 7) else target
+        time = str(dice.choice([-LAST_MOMENT, -60, -1, 0, 1, 60, 3600, LAST_MOMENT])) if kind in (7, 15) else time
         return Command(["11", str(kind), target, time], ack[:3] + "c", critical, "ok")
+
+    def insert(self, named: Callable[[], int], instant: Callable[[int], str]) -> tuple[str, str]:
+        """What an insert names, and its times: 1 to 8 of each; now and then one twice, or lists that are none."""
+        targets = [str(named()) for _ in range(some_count(self.dice))]
+        if self.dice.random() < 0.9:
+            targets = list(dict.fromkeys(targets))
+        times = [instant(self.desk.board.now + self.dice.choice([0, 59, 60, 60, 61, 61, 120, 900])) for _ in targets]
+        if self.dice.random() < 0.08:
+            targets, times = (no_list(self.dice, it) if self.dice.random() < 0.7 else it for it in (targets, times))
+        return joined(targets), joined(times)
+
+    def nameable(self) -> int:
+        """A request that a command names: mostly one that it may name."""
+        places = (Place.ENTERED, Place.APPROVED, Place.SCHEDULED, Place.RIDING)
+        forms = {n: self.book.requests[n - 1].form for n in self.there(places)}
+        may = [n for n, form in forms.items() if form.is_plain() and form.asks("a")]
+        return self.dice.choice(may) if may and self.dice.random() < 0.85 else self.pick(*places)
 
     def enter(self) -> None:
         """A request is entered."""
-        it = self.form(lambda: self.pick(Place.ENTERED, Place.APPROVED, Place.SCHEDULED, Place.RIDING), str)
+        it = self.form(self.nameable, str)
         words = " ".join(word or "-" for word in it.words)
         self.give(f"enter {self.dice.choice([0, 5, 5, 6, 2047])} {it.ack} {it.critical} {words} {it.outcome}")
 
@@ -229,14 +246,23 @@ class Writer(Written):
         self.give(f"{kind} {self.name(known)} {self.file(data)}")
 
     def stack(self) -> None:
-        """A stack is loaded, mostly a short one."""
-        rows = []
+        """A stack is loaded, mostly a short one; now and then its last row is an insert of what it may name of the others."""
+        rows: Records = []
+        may: list[int] = []
         for line in range(1, self.dice.choice([1, 2, 3, 4, 5, 8, 9]) + 1):
-            it = self.form(lambda: self.dice.randrange(1, max(2, line)), lambda time: some_instant(self.dice, time))
+            it = self.form(lambda: self.earlier_line(line, may), lambda time: some_instant(self.dice, time))
             ack = "a" + it.ack[1:] if self.dice.random() < 0.7 else it.ack
+            may += [line] if it.words[0] != "11" and ack[0] == "a" else []
             after = str(self.dice.randrange(1, line)) if line > 1 and self.dice.random() < 0.4 else ""
             rows.append([str(line), str(self.dice.choice([5, 6, 7])), *it.words, ack, it.critical, after, it.outcome])
+        if len(may) > 1 and self.dice.random() < 0.8:
+            named = self.insert(lambda: self.dice.choice(may), lambda time: some_instant(self.dice, time))
+            rows.append([str(len(rows) + 1), "8", "11", "4", *named, "---c", "no", "", "ok"])
         self.load("stack", self.book.stacks, STACK_HEADER, rows)
+
+    def earlier_line(self, line: int, may: list[int]) -> int:
+        """A line before this one that a command names: mostly one of these, which it may name."""
+        return self.dice.choice(may) if may and self.dice.random() < 0.85 else self.dice.randrange(1, max(2, line))
 
     def procedure(self) -> None:
         """A procedure is loaded."""
@@ -266,7 +292,7 @@ class Writer(Written):
     def release(self) -> None:
         """A request is released, mostly one that is approved."""
         there = self.there((Place.APPROVED,))
-        inserts = [n for n in there if self.book.activity(n)]
+        inserts = [n for n in there if self.book.activities(n)]
         number = (self.dice.choice(inserts) if inserts and self.dice.random() < 0.4
                   else self.pick(Place.APPROVED, Place.APPROVED, Place.ENTERED))
         self.give(f"release {number}")
@@ -282,7 +308,10 @@ class Writer(Written):
             return dice.choice([f"5 {request} -", f"7 {request} {now + dice.choice([59, 60, 900]) - time}"])
         if dice.random() < 0.4:
             return dice.choice(["1 - -", "1 - -", "3 - -", "2 - -", "17 - -", "15 - 60", "15 - -1"])
-        return f"4 {dice.choice(named)} {now + dice.choice([30, 59, 60, 60, 61, 90, 400])}" if named else None
+        listed = dice.sample(named, min(len(named), some_count(dice)))
+        first = dice.choice([30, 59, 60, 60, 61, 90, 400])
+        times = [str(now + (first if dice.random() < 0.8 else dice.choice([59, 60, 400]))) for _ in listed]
+        return f"4 {joined(map(str, listed))} {joined(times)}" if named else None
 
     def lay_in(self) -> None:
         """A command of the schedule is entered and approved, and mostly released and carried out."""
@@ -348,7 +377,7 @@ class Writer(Written):
         dice = self.dice
         line = dice.choice(self.lines[-MOST_ROWS:]) if self.lines else "0 ann places"
         at, kind = dice.randrange(len(line) + 1), dice.randrange(6)
-        sign = dice.choice(list(" -0129/azAZ\t\r\0~") + ["\xff", "\xc3\xa9", "  "])
+        sign = dice.choice(list(" -0129/azAZ;\t\r\0~") + ["\xff", "\xc3\xa9", "  "])
         words = line.split(" ")
         if kind == 5:
             word = dice.randrange(len(words))

@@ -2,7 +2,7 @@
 import re
 from datetime import datetime, timedelta, timezone
 from random import Random
-from typing import Optional, Sequence
+from typing import Iterable, Optional, Sequence
 
 from model.facts import MARK, PROCEDURE_HEADER, STACK_HEADER
 
@@ -23,6 +23,24 @@ def some_bytes(dice: Random, records: Sequence[str]) -> bytes:
     end = dice.choice(["\n"] * 6 + ["\r\n", "\r", "\n\n"])
     text = end.join(records) + (end if dice.random() < 0.9 else "")
     return (MARK if dice.random() < 0.1 else b"") + text.encode("latin-1")
+
+
+def some_count(dice: Random) -> int:
+    """How many activities an insert names: one as often as several."""
+    return dice.choice([1, 1, 1, 1, 2, 2, 3, 8])
+
+
+def joined(words: Iterable[str]) -> str:
+    """A list as it is spelled: its words, parted by semicolons."""
+    return ";".join(words)
+
+
+def no_list(dice: Random, words: Sequence[str]) -> list[str]:
+    """The words of a list with one more, less, or another, by which it is none, or another, mostly of another length."""
+    at = dice.randrange(len(words))
+    word, other = words[at], dice.choice(["", " ", "-", "00", "x", f" {words[at]}"])
+    others: list[list[str]] = [[], [word] * 2, [word] * 9, ["", word], [other]]
+    return [*words[:at], *dice.choice(others), *words[at + 1:]]
 
 
 def some_instant(dice: Random, seconds: int) -> str:

@@ -25,11 +25,12 @@ class Summary(NamedTuple):
 
 Report = Union[Verify, Summary]
 
-# What has to be met of commands on board, each with the code of its failure, and of activities that fall due.
+# What has to be met of commands on board, each with the code of its failure, of inserts of several activities, and of activities that fall due.
 ON_BOARD: list[tuple[Any, ...]] = (
     [(subtype, 0) for subtype in Subtype]
     + [(Subtype.INSERT, Code.TOO_EARLY), (Subtype.INSERT, Code.THERE), (Subtype.INSERT, Code.FULL), (Subtype.DELETE, Code.NOT_THERE),
-       (Subtype.SHIFT, Code.NOT_THERE), (Subtype.SHIFT, Code.TOO_EARLY), (Subtype.SHIFT_ALL, Code.TOO_EARLY), ("due", True), ("due", False)])
+       (Subtype.SHIFT, Code.NOT_THERE), (Subtype.SHIFT, Code.TOO_EARLY), (Subtype.SHIFT_ALL, Code.TOO_EARLY), ("due", True), ("due", False),
+       ("several", 0), ("several", Code.TOO_EARLY), ("several", Code.THERE), ("several", Code.FULL)])
 
 
 # ---- the reports of a request
@@ -92,14 +93,15 @@ class Board:
 
     def failure_of(self, form: Form) -> int:
         """The code of the first test that a command of the schedule fails; 0 where it passes all."""
-        times, target, time = self.schedule.times, form.target, form.time
+        there, names = self.schedule.times, [*map(self.identity, self.schedule.times), *map(self.identity, form.activities())]
         tests: dict[int, list[tuple[Callable[[], bool], Code]]] = {
-            Subtype.INSERT: [(lambda: self.is_bad(time), Code.TOO_EARLY),
-                             (lambda: self.identity(target) in map(self.identity, times), Code.THERE),
-                             (lambda: len(times) >= MOST_ACTIVITIES, Code.FULL)],
-            Subtype.DELETE: [(lambda: target not in times, Code.NOT_THERE)],
-            Subtype.SHIFT: [(lambda: target not in times, Code.NOT_THERE), (lambda: self.is_bad(times[target] + time), Code.TOO_EARLY)],
-            Subtype.SHIFT_ALL: [(lambda: any(self.is_bad(it + time) for it in times.values()), Code.TOO_EARLY)],
+            Subtype.INSERT: [(lambda: any(map(self.is_bad, form.times)), Code.TOO_EARLY),
+                             (lambda: len(set(names)) < len(names), Code.THERE),
+                             (lambda: len(names) > MOST_ACTIVITIES, Code.FULL)],
+            Subtype.DELETE: [(lambda: form.target not in there, Code.NOT_THERE)],
+            Subtype.SHIFT: [(lambda: form.target not in there, Code.NOT_THERE),
+                            (lambda: self.is_bad(there[form.target] + form.offset), Code.TOO_EARLY)],
+            Subtype.SHIFT_ALL: [(lambda: any(self.is_bad(it + form.offset) for it in there.values()), Code.TOO_EARLY)],
         }
         return next((int(code) for holds, code in tests.get(form.subtype, []) if holds()), 0)
 
@@ -107,6 +109,7 @@ class Board:
         """A command of the schedule is carried out: its reports."""
         code = self.failure_of(it.form)
         self.visits[it.form.subtype, code] += 1
+        self.visits["several", code] += len(it.form.activities()) > 1
         if code:
             return [Verify(Verification.NOT_STARTED, it.number, 0, code)]
         reports: list[Report] = [Verify(Verification.STARTED, it.number)] if it.form.asks("s") else []

@@ -3,9 +3,9 @@ the program nothing. Records, fields and instants are read as loads read them (t
 """
 from typing import Any, Callable, NamedTuple, Optional, Sequence
 
-from model.facts import (ACKS, LAST_APID, LAST_KIND, LAST_MOMENT, LONGEST_STEP, LONGEST_TEXT, MOST_ROWS, MOST_STEPS, SCHEDULE, TAKES_OFFSET,
+from model.facts import (ACKS, LAST_APID, LAST_KIND, LAST_MOMENT, LONGEST_STEP, LONGEST_TEXT, MOST_INSERTED, MOST_ROWS, MOST_STEPS, SCHEDULE, TAKES_OFFSET,
                          TAKES_TARGET, Refusal, Subtype)
-from model.lines import Reader, ack, between, is_read, is_yes, number, offset, one_of, outcome
+from model.lines import Reader, ack, between, is_read, is_yes, listed, number, offset, one_of, outcome
 from model.refused import need
 from model.texts import PROCEDURE_COLUMNS, STACK_COLUMNS, earlier, instant, records_of, step_text, unmarked
 
@@ -67,14 +67,22 @@ def subtype(row: TextRow) -> tuple[Reader, str]:
 
 
 def target(row: TextRow) -> tuple[Reader, str]:
-    """An earlier line where the command names one."""
-    return (earlier(row["number"]), "not an earlier line") if commands(row, *TAKES_TARGET) else (empty, "not empty")
+    """Earlier lines of an insert, an earlier line where another command names one."""
+    read = earlier(row["number"])
+    if commands(row, Subtype.INSERT):
+        return listed(read, MOST_INSERTED), f"not 1 to {MOST_INSERTED} earlier lines, parted by ;"
+    return (read, "not an earlier line") if commands(row, *TAKES_TARGET) else (empty, "not empty")
+
+
+def instants(count: int) -> Reader:
+    """What reads so many instants, parted by semicolons."""
+    return lambda word: need(len(listed(instant, count)(word)) == count)
 
 
 def time(row: TextRow) -> tuple[Reader, str]:
-    """An instant, an offset, or nothing."""
+    """As many instants as an insert names lines, an offset, or nothing."""
     if commands(row, Subtype.INSERT):
-        return instant, "not an instant of whole seconds"
+        return instants(len(str(row["target"]).split(";"))), "not as many instants as targets, parted by ;"
     return (offset, f"not seconds, -{LAST_MOMENT} to {LAST_MOMENT}") if commands(row, *TAKES_OFFSET) else (empty, "not empty")
 
 
@@ -113,6 +121,11 @@ KINDS = {"stack": STACK, "procedure": PROCEDURE}
 
 # ---- what is wrong with a text
 
+# Why a row may not name a line, where it is an insert and where it is not.
+WHY_NO_ACTIVITY = f"a line of service {SCHEDULE}, one whose ack has no a, or one that is named twice"
+WHY_NO_TARGET = f"a line of service {SCHEDULE}"
+
+
 def why_no_table(kind: Kind, data: bytes, records: Sequence[list[str]]) -> Optional[Told]:
     """What is wrong with a text as a whole, and with what it is refused; nothing where it is a table."""
     if len(data) > LONGEST_TEXT:
@@ -137,14 +150,13 @@ def why_no_row(kind: Kind, at: int, fields: Sequence[str]) -> str:
 
 
 def why_barred(rows: Sequence[list[str]]) -> str:
-    """The first row of a stack whose command names one that it may not name; nothing where none does."""
+    """The first row of a stack whose command names one that it may not name, or one twice; nothing where none does."""
     for at, fields in enumerate(rows, 1):
         row = dict(zip(STACK_COLUMNS, fields))
-        named = dict(zip(STACK_COLUMNS, rows[int(row["target"]) - 1])) if row["target"] else None
-        if named and commands(row, Subtype.INSERT) and (is_scheduling(named) or named["ack"][0] == "-"):
-            return f"line {at}, field target: a line of service {SCHEDULE}, or one whose ack has no a"
-        if named and is_scheduling(named):
-            return f"line {at}, field target: a line of service {SCHEDULE}"
+        lines, is_insert = list(filter(None, row["target"].split(";"))), commands(row, Subtype.INSERT)
+        named = [dict(zip(STACK_COLUMNS, rows[int(it) - 1])) for it in lines]
+        if any(is_scheduling(it) or is_insert and it["ack"][0] == "-" for it in named) or len(set(lines)) < len(lines):
+            return f"line {at}, field target: {WHY_NO_ACTIVITY if is_insert else WHY_NO_TARGET}"
     return ""
 
 

@@ -19,6 +19,7 @@ MOST_REQUESTS, MOST_STACKS, MOST_PROCEDURES, MOST_EXECUTIONS = 65_535, 1000, 100
 MOST_HISTORY = 990_000  # rows of the history; with so many no act comes that may write one
 MOST_SHOWN = 50  # rows in one answer to `history`
 MOST_BUFFERED, MOST_ACTIVITIES = 4, 64  # on board
+MOST_INSERTED = 8  # activities of one insert
 MARGIN = 60  # seconds between the spacecraft's time and the time of an activity that it takes
 LAST_RING = 4096  # places of a link's ring
 
@@ -114,7 +115,7 @@ RULES: dict[Cause, list[tuple[frozenset[Place], frozenset[Place]]]] = {
 # The lawful moves: from where, to where, and why.
 LAWFUL = frozenset((before, to, cause) for cause, rules in RULES.items() for befores, tos in rules for before in befores for to in tos)
 
-# What an indication of the FOP moves: from where, to where, and why. With an insert that is given back or in doubt its activity goes too.
+# What an indication of the FOP moves: from where, to where, and why. With an insert that is given back or in doubt its activities go too.
 INDICATIONS = {
     "Sent": (Place.QUEUED, Place.SENT, Cause.TRANSMIT),
     "Confirmed": (Place.SENT, Place.CONFIRMED, Cause.CONFIRM),

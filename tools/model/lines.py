@@ -2,10 +2,10 @@
 is written from the requirements, and asks the program nothing.
 """
 import re
-from typing import Any, Callable, NamedTuple, Optional
+from typing import Any, Callable, Iterable, NamedTuple, Optional
 
-from model.facts import (LAST_APID, LAST_K, LAST_KIND, LAST_LIMIT, LAST_MOMENT, LAST_NUMBER, LAST_T1, LONGEST_ACT, NAME, OUTCOMES, SCHEDULE, THE_DESK,
-                         VERDICTS, Refusal, Subtype)
+from model.facts import (LAST_APID, LAST_K, LAST_KIND, LAST_LIMIT, LAST_MOMENT, LAST_NUMBER, LAST_T1, LONGEST_ACT, MOST_INSERTED, NAME, OUTCOMES,
+                         SCHEDULE, THE_DESK, VERDICTS, Refusal, Subtype)
 from model.refused import Refused, need
 from model.request import Form, takes_target, takes_time
 
@@ -110,23 +110,36 @@ def is_read(read: Reader, word: str) -> bool:
 
 # ---- requests
 
+def listed(read: Reader, most: int) -> Callable[[str], tuple[int, ...]]:
+    """What reads so many values at most, parted by semicolons, each of them so."""
+    def read_list(word: str) -> tuple[int, ...]:
+        """The values, in their order."""
+        words = word.split(";")
+        need(len(words) <= most)
+        return tuple(map(read, words))
+    return read_list
+
+
 def form(words: list[str], absent: str, read_moment: Reader, read_target: Reader) -> Form:
     """What eight words enter; `absent` stands where there is no target and no time."""
     apid, asked, critical, service, subtype, target, time, behaves = words
     kind = (number(service, 1, LAST_KIND), number(subtype, 1, LAST_KIND))
-    is_schedule, has_target, has_time = kind[0] == SCHEDULE, takes_target(*kind), takes_time(*kind)
+    is_schedule, is_insert = kind[0] == SCHEDULE, kind == (SCHEDULE, Subtype.INSERT)
     need(not is_schedule or kind[1] in tuple(Subtype))
-    need((target != absent) == has_target and (time != absent) == has_time)
-    read_time = read_moment if kind[1] == Subtype.INSERT else offset
-    made = Form(number(apid, 0, LAST_APID), ack(asked), is_yes(critical), *kind, read_target(target) if has_target else 0,
-                read_time(time) if has_time else 0, outcome(behaves))
+    need((target != absent) == takes_target(*kind) and (time != absent) == takes_time(*kind))
+    most, read_time = (MOST_INSERTED, read_moment) if is_insert else (1, offset)
+    targets = listed(read_target, most)(target) if takes_target(*kind) else ()
+    times = listed(read_time, most)(time) if takes_time(*kind) else ()
+    need(not is_insert or len(times) == len(targets))
+    made = Form(number(apid, 0, LAST_APID), ack(asked), is_yes(critical), *kind, targets, times, outcome(behaves))
     need(not is_schedule or made.asks("c") and made.outcome == "ok")
     return made
 
 
-def check_target(command: Form, named: Form) -> None:
-    """A command names a request that it may name."""
-    need(named.is_plain() and (command.subtype != Subtype.INSERT or named.asks("a")), Refusal.BAD_ACTIVITY)
+def check_targets(command: Form, named: Iterable[Form]) -> None:
+    """A command names requests that it may name, and none of them twice."""
+    is_insert, is_once = command.subtype == Subtype.INSERT, len(set(command.targets)) == len(command.targets)
+    need(is_once and all(it.is_plain() and (it.asks("a") or not is_insert) for it in named), Refusal.BAD_ACTIVITY)
 
 
 # ---- acts

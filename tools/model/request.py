@@ -1,5 +1,5 @@
 """What a request is: what is entered of it, and what the desk adds."""
-from typing import NamedTuple, Optional
+from typing import Iterable, NamedTuple, Optional
 
 from model.facts import ACK_BITS, ACKS, SCHEDULE, TAKES_TARGET, TAKES_TIME, Subtype
 
@@ -14,14 +14,15 @@ class Identity(NamedTuple):
 
 
 class Form(NamedTuple):
-    """What is entered of a request. `time` is a moment or an offset; it and `target` are 0 where the command takes none."""
+    """What is entered of a request. An insert names 1 to 8 requests in `targets`, and in `times` a moment for each, in the same order. Of any other command
+    `targets` has the one request that it names, `times` its offset; both are empty where it takes none."""
     apid: int
     ack: str
     is_critical: bool
     service: int
     subtype: int
-    target: int
-    time: int
+    targets: tuple[int, ...]
+    times: tuple[int, ...]
     outcome: str
 
     def is_plain(self) -> bool:
@@ -32,17 +33,19 @@ class Form(NamedTuple):
         """The command of the schedule that it is; none of a plain request."""
         return None if self.is_plain() else Subtype(self.subtype)
 
-    def takes_target(self) -> bool:
-        """Whether it names a request."""
-        return takes_target(self.service, self.subtype)
+    @property
+    def target(self) -> int:
+        """The request that a command names that is no insert."""
+        return self.targets[0]
 
-    def takes_time(self) -> bool:
-        """Whether it has a time, or an offset."""
-        return takes_time(self.service, self.subtype)
+    @property
+    def offset(self) -> int:
+        """By how much a command shifts."""
+        return self.times[0]
 
-    def activity(self) -> Optional[int]:
-        """The request that an insert puts into the schedule; none of any other."""
-        return self.target if self.command() is Subtype.INSERT else None
+    def activities(self) -> tuple[int, ...]:
+        """The requests that an insert puts into the schedule, in its order; none of any other."""
+        return self.targets if self.command() is Subtype.INSERT else ()
 
     def asks(self, letter: str) -> bool:
         """Whether a report of success is asked for."""
@@ -70,8 +73,13 @@ def ack_text(number: int) -> str:
     return "".join(letter if number & bit else "-" for letter, bit in zip(ACKS, ACK_BITS))
 
 
+def list_text(items: Iterable[int]) -> str:
+    """A list as it is spelled, parted by semicolons; a dash where nothing is in it."""
+    return ";".join(map(str, items)) or "-"
+
+
 def takes_target(service: int, subtype: int) -> bool:
-    """Whether a command names a request."""
+    """Whether a command names a request, or several."""
     return service == SCHEDULE and subtype in TAKES_TARGET
 
 

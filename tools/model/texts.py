@@ -6,7 +6,7 @@ from datetime import date
 from typing import Callable, NamedTuple, Optional, Sequence
 
 from model.facts import LAST_MOMENT, LONGEST_STEP, LONGEST_TEXT, MARK, MOST_ROWS, MOST_STEPS, PROCEDURE_HEADER, STACK_HEADER, Refusal
-from model.lines import between, check_target, form, is_yes, number
+from model.lines import between, check_targets, form, is_yes, number
 from model.refused import Refused, need
 from model.request import Form
 
@@ -15,7 +15,7 @@ ENDS, PLAIN = re.compile("[\r\n]+"), re.compile("[^,\r\n]*")
 
 
 class Row(NamedTuple):
-    """A row of a stack: what is entered, its target by its line, and the line that has to be completed before, or 0."""
+    """A row of a stack: what is entered, its targets by their lines, and the line that has to be completed before, or 0."""
     form: Form
     after: int
 
@@ -86,7 +86,8 @@ def table_of(data: bytes, header: Sequence[str], most: int) -> list[list[str]]:
 # ---- instants
 
 CLOCK = r"([0-9]{2})(?:(:?)([0-9]{2})(?:\%d([0-9]{2})(?:[.,]([0-9]{1,9}))?)?)?"
-INSTANT = re.compile(rf"([0-9]{{4}}|[+-]00[0-9]{{4}})(-?)([0-9]{{2}})\2([0-9]{{2}})[Tt ]{CLOCK % 6}(?:[Zz]|([+-]){CLOCK % 12})")
+PART = "[A-Za-z._][A-Za-z0-9._+-]*"  # of the name of a time zone
+INSTANT = re.compile(rf"([0-9]{{4}}|[+-]00[0-9]{{4}})(-?)([0-9]{{2}})\2([0-9]{{2}})[Tt ]{CLOCK % 6}(?:[Zz]|([+-]){CLOCK % 12})(?:\[!?{PART}(?:/{PART})*\])?")
 
 
 def clock(parts: Sequence[Optional[str]], last_hour: int, last_second: int) -> tuple[int, int]:
@@ -97,8 +98,8 @@ def clock(parts: Sequence[Optional[str]], last_hour: int, last_second: int) -> t
 
 
 def instant(word: str) -> int:
-    """A moment as an instant with its offset, of whole seconds: in the extended and in the basic form, second 60 being 59. What stands in
-    brackets behind it (RFC 9557) is not known here, and refused.
+    """A moment as an instant with its offset, of whole seconds: in the extended and in the basic form, second 60 being 59. The name of a time zone may stand in
+    brackets behind it (RFC 9557), which tells nothing more; what else may stand there is not known here, and refused.
     """
     found = INSTANT.fullmatch(word)
     if not found:
@@ -131,8 +132,7 @@ def read_stack(data: bytes) -> list[Row]:
         made = form([apid, asked, critical, service, subtype, target, time, behaves], "", instant, earlier(line))
         rows.append(Row(made, earlier(line)(after) if after else 0))
     for row in rows:
-        if row.form.takes_target():
-            check_target(row.form, rows[row.form.target - 1].form)
+        check_targets(row.form, [rows[it - 1].form for it in row.form.targets])
     return rows
 
 

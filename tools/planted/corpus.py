@@ -10,8 +10,8 @@ from generate.book_plans import PLANS
 from generate.check_random import random_text
 from generate.check_texts import all_texts
 from generate.http_words import Case, get, numbered
-from generate.left_changes import OF_CARGO, OF_FIVE, OF_REPLIES, OF_WHOLE, alone
-from generate.left_desks import EVERYWHERE, FILES, FIVE, GOING, OTHERS, RIDERS, WHOLE
+from generate.left_changes import OF_CARGO, OF_FIVE, OF_LISTS, OF_REPLIES, OF_WHOLE, alone
+from generate.left_desks import EVERYWHERE, FILES, FIVE, GOING, LISTS, OTHERS, RIDERS, WHOLE
 from generate.link_plans import Planner
 from generate.link_scripts import SCENES, STYLES, TOLD
 from generate.link_writers import Writer
@@ -89,8 +89,8 @@ def record_left(program: str, work: str, made: Recorded) -> None:
         make_older(f"{folder}/older.db", older)
         made.files.append(file_of(f"{folder}/older.db"))
         made.openings.append(opening(program, folder, f"{folder}/older.db", f"{older}", OLD_DAY, older.lines.splitlines()))
-    changes = {"five": alone(OF_FIVE), "whole": [*alone(OF_WHOLE), *OF_REPLIES, *OF_CARGO]}
-    for left in (FIVE, WHOLE, RIDERS, OTHERS, EVERYWHERE, GOING):
+    changes = {"five": alone(OF_FIVE), "whole": [*alone(OF_WHOLE), *OF_REPLIES, *OF_CARGO], "lists": OF_LISTS}
+    for left in (FIVE, WHOLE, RIDERS, OTHERS, EVERYWHERE, GOING, LISTS):
         folder = tempfile.mkdtemp(dir=work)
         files = {name: text.encode() for name, text in FILES.items()}
         record(program, Script(left.name, left.lines.splitlines(), files=files, is_kept=True), folder)

@@ -10,10 +10,13 @@ from itertools import zip_longest
 
 from planted.recorded import Opening, Recorded, Rows, Script, Served
 
-# Scripts that fill a desk, which take seconds: they are for the file of the limits and the one of the book.
+# Scripts that fill a desk, which take seconds: they are for the file of the limits and the one of the book; and one in which names come again, for these and for
+# the spacecraft.
 FULL = ("book identities run out", "book a desk that stacks fill")
+AGAIN = "insert-name-there"
 ORDERED = ("request", "move", "tally", "execution")
 OF_SERVED = ("model/calls.py", "model/http.py")  # what a desk alone that is served asks
+OPENED = 500  # when the desks of tools/cases/days are opened again
 TOOLS = os.path.dirname(os.path.dirname(os.path.realpath(__file__)))
 
 
@@ -41,16 +44,31 @@ def first_other(title: str, got: list[str], wanted: list[str]) -> str:
 
 # ---- what is written
 
-def case_faults() -> Iterator[str]:
-    """The written scripts: what a desk answers to each, and its status."""
+def case_faults(file: str) -> Iterator[str]:
+    """The written scripts: what a desk answers to each, and its status; where this file is changed."""
     from model.desk import answers
     folder = f"{TOOLS}/cases"
     files = {it: text_of(f"{folder}/data/{it}").encode("latin-1") for it in sorted(os.listdir(f"{folder}/data"))}
-    for name in sorted(it.removesuffix(".tc") for it in os.listdir(folder) if it.endswith(".tc")):
+    names = sorted(it.removesuffix(".tc") for it in os.listdir(folder) if it.endswith(".tc"))
+    for name in names if file in ("", "model/facts.py", "model/book.py", "model/board.py") else [it for it in names if it != AGAIN]:
         case = f"{folder}/{name}"
         told, status = answers(text_of(f"{case}.tc"), files, tuple(text_of(f"{case}.args").split()))
         wanted = [*text_of(f"{case}.stdout").split("\n")[:-1], text_of(f"{case}.status").strip() or "0"]
         yield first_other(f"the case {name}", [*told, str(status)], wanted)
+
+
+def day_faults() -> Iterator[str]:
+    """The written desks that are opened again: what is printed of their second day."""
+    from model.desk import Desk
+    from model.lines import script_lines
+    folder = f"{TOOLS}/cases/days"
+    for name in sorted(it.removesuffix(".day1") for it in os.listdir(folder) if it.endswith(".day1")):
+        desk = Desk()
+        for line in script_lines(text_of(f"{folder}/{name}.day1")):
+            desk.line(line)
+        desk = Desk.opened(desk.tables(), OPENED)
+        told = [move.line() for move in desk.opening] + [it for line in script_lines(text_of(f"{folder}/{name}.day2")) for it in desk.line(line)]
+        yield first_other(f"the days {name}", [*told, desk.places()], text_of(f"{folder}/{name}.day2.stdout").split("\n")[:-1])
 
 
 def text_faults(recorded: Recorded) -> Iterator[str]:
@@ -162,7 +180,8 @@ def served_faults(served: Served) -> Iterator[str]:
 def differences(file: str, recorded: Recorded) -> Iterator[str]:
     """What differs, and what does not (nothing), where this file is changed; of no file, all."""
     if file not in ("model/check.py", *OF_SERVED):
-        yield from case_faults()
+        yield from case_faults(file)
+        yield from day_faults()
     if file not in OF_SERVED:
         yield from text_faults(recorded)
     if file != "model/check.py":

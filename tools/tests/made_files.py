@@ -47,7 +47,21 @@ def names_in(version: int) -> list[str]:
     return sorted(it.removesuffix(".sql") for it in os.listdir(f"{CASES}/schema-{version}") if it.endswith(".sql"))
 
 
-OLD_DAY = 500  # when the day of each begins
+class TwoDays(NamedTuple):
+    """A desk of tools/cases/days: the lines of its first day, those of the day at which it is opened again, and all that is printed of that one."""
+    name: str
+    first: str
+    second: str
+    printed: str
+
+
+def two_days() -> list[TwoDays]:
+    """All of them, in order of name."""
+    paths = sorted(f"{CASES}/days/{it.removesuffix('.day1')}" for it in os.listdir(f"{CASES}/days") if it.endswith(".day1"))
+    return [TwoDays(os.path.basename(it), *(bytes_of(f"{it}{end}").decode() for end in (".day1", ".day2", ".day2.stdout"))) for it in paths]
+
+
+OLD_DAY = 500  # when the day of each begins, and the second day of those of tools/cases/days
 OLDER = tuple(Older(version, name) for version in EARLIER for name in names_in(version))
 # One of each earlier version, of which each table has rows.
 FULL_OLDER = {version: Older(version, "every-table") for version in EARLIER}

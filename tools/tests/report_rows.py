@@ -1,5 +1,6 @@
 """Single rows of a desk's file that are others, and by hand of each whether all rows still read; soundness is not asked for. They are of the desks
-of full_desks.py, of which each table has rows. Request 5 is of no stack and of a plain command, 12 deletes an activity, 23 is of the stack heater.
+of full_desks.py, of which each table has rows. Request 5 is of no stack and of a plain command, 12 deletes an activity, 22 inserts two, 23 is of the
+stack heater.
 """
 
 # Of each table, columns with values that no row may have: the row does not read, wherever it lies.
@@ -31,6 +32,9 @@ UNREADABLE = {
     "reply WHERE rowid = 100": ["body = 'ok'"],
     "reply WHERE rowid = 101": ["body = 'ok'"],
     "reply WHERE rowid = 250": ["body = 'ok'", "rowid = -5, number = 0"],
+    "cargo WHERE request = 22": ["request = 0", "request = 65536", "position = 0", "position = 256", "target = -1", "target = 4294967296", "at_time = -1",
+                                 "at_time = 4102444800"],
+    "cargo WHERE position = 8": ["position = 0", "rowid = -5, at_time = -1"],
 }
 # Statements behind which all rows read, though no desk wrote them: a number that is left out, a row that is another's or gone, a place or a sum
 # that is another. A report of such a file is printed.
@@ -44,4 +48,6 @@ READABLE = [
     "UPDATE request_approval SET person = 'zed' WHERE rowid = 1", "UPDATE step SET request = 65535 WHERE rowid = 1",
     "UPDATE execution SET procedure = 'none' WHERE num = 1", "UPDATE record SET step = 99 WHERE rowid = 1", "DELETE FROM reply",
     "DELETE FROM reply WHERE rowid = 100", "UPDATE reply SET person = 'zed', number = 4294967295, body = char(10) WHERE rowid = 1",
-    "UPDATE reply SET rowid = -5 WHERE rowid = 250"]
+    "UPDATE reply SET rowid = -5 WHERE rowid = 250", "DELETE FROM cargo", "DELETE FROM cargo WHERE position = 2",
+    "UPDATE cargo SET position = 9 WHERE position = 8", "UPDATE cargo SET position = 1 WHERE position = 2", "UPDATE cargo SET request = 1 WHERE position = 8",
+    "UPDATE cargo SET request = 65535 WHERE position = 8", "UPDATE cargo SET target = 0 WHERE position = 8", "UPDATE cargo SET rowid = -5 WHERE position = 8"]

@@ -1,9 +1,12 @@
-"""The plain desk answers the scripts of tools/cases as persons wrote it; the program is asked nothing (test `program` runs them)."""
+"""The plain desk answers the scripts of tools/cases, and desks that are opened again, as persons wrote it; the program is asked nothing (tests `program` and
+`changed` run them)."""
 import os
 from typing import Iterator, NamedTuple, Optional
 
 from model.desk import answers
-from tests.plain_runs import CASES, case_files
+from model.lines import script_lines
+from tests.made_files import OLD_DAY, two_days
+from tests.plain_runs import CASES, Plain, case_files
 from tests.runs import Tried
 
 
@@ -46,4 +49,15 @@ class Cases(Tried):
             is_right = ("".join(f"{it}\n" for it in lines), status) == (case.printed, case.status)
             faults, count = faults + ([] if is_right else [f"the plain desk answers {case.name} otherwise"]), count + 1
         print(f"cases: {count} written scripts, {len(faults)} that the plain desk answers otherwise")
+        self.no_faults(faults)
+
+    def test_days(self) -> None:
+        """Each desk that is left and opened again: all that is printed of its second day."""
+        faults = []
+        for it in two_days():
+            left = Plain(script_lines(it.first), {}, is_kept=True)
+            day = Plain(script_lines(it.second), {}, left=left.states[-1], moment=OLD_DAY)
+            faults += [f"the first day of {it.name} is refused"] * left.status + [f"{it.name}: {day.whole!r:.900}"] * (day.whole != it.printed)
+        print(f"cases: {len(two_days())} desks of two days")
+        self.assertTrue(two_days())
         self.no_faults(faults)

@@ -12,16 +12,18 @@ from functools import partial
 from itertools import zip_longest
 from typing import Optional
 
-from generate.left_changes import (OF_CARGO, OF_FIRST, OF_FIRST_ROWS, OF_FIVE, OF_NEWEST, OF_REPLIES, OF_SECOND, OF_SECOND_ROWS, OF_WHOLE, Changes, alone,
-                                   kept)
-from generate.left_desks import EVERYWHERE, FILES, FIVE, FULL, GOING, OF_VERSIONS, OTHERS, RIDERS, WHOLE, Day, Left, fill
+from generate.left_changes import (OF_CARGO, OF_FIRST, OF_FIRST_ROWS, OF_FIVE, OF_LISTS, OF_NEWEST, OF_REPLIES, OF_SECOND, OF_SECOND_ROWS, OF_WHOLE, Changes,
+                                   alone, kept)
+from generate.left_desks import EVERYWHERE, FILES, FIVE, FULL, GOING, LISTS, OF_VERSIONS, OTHERS, RIDERS, WHOLE, Day, Left, fill
 from model.facts import MOST_HISTORY
 from model.kept import read_tables
+from model.lines import script_lines
+from model.rows import empty_tables
 from tests.asked import ASKED
 from tests.changes import change_file, changed_by, left_beside, why_not_opened
-from tests.made_files import FULL_OLDER, keep_replies, make_older
-from tests.runs import Tried, bytes_of, run_kept, write_lines
-from model.rows import empty_tables
+from tests.made_files import FULL_OLDER, OLD_DAY, keep_replies, make_older, two_days
+from tests.plain_runs import Plain, text_of, unlike
+from tests.runs import Tried, bytes_of, run_kept, write_files, write_lines
 
 
 class Told:
@@ -171,9 +173,23 @@ class Changed(Tried):
 
     def test_days(self) -> None:
         """Desks that are opened again and again, and one whose history is full."""
-        for left in (FIVE, RIDERS, OTHERS, EVERYWHERE, GOING, WHOLE):
+        for left in (FIVE, RIDERS, OTHERS, EVERYWHERE, GOING, LISTS, WHOLE):
             open_left(ASKED.program, self.work, left, self.told)
         open_left(ASKED.program, self.work, FULL, self.told, fill(MOST_HISTORY - 1))
+        self.settle()
+
+    def test_two_days(self) -> None:
+        """Desks of tools/cases/days, opened again: all that is printed of the second day, and the tables behind it."""
+        for it in two_days():
+            folder = tempfile.mkdtemp(dir=self.work)
+            write_files(folder, {"first.tc": it.first.encode(), "second.tc": it.second.encode()})
+            left = Plain(script_lines(it.first), {}, is_kept=True)
+            plain = Plain(script_lines(it.second), {}, left=left.states[-1], moment=OLD_DAY, is_kept=True)
+            first, second = (run_kept(ASKED.program, folder, "desk.db", moment, name) for moment, name in ((0, "first.tc"), (OLD_DAY, "second.tc")))
+            self.told.tell(it.name, "" if (first.status, first.errors) == (0, "") else f"its first day: {first}")
+            self.told.tell(it.name, "" if (second.status, text_of(second.lines), second.errors) == (plain.status, it.printed, "") else f"{second}")
+            self.told.tell(it.name, unlike(read_tables(f"{folder}/desk.db"), plain.states[-1]))
+            self.told.days, self.told.lines = self.told.days + 1, self.told.lines + len(plain.lines)
         self.settle()
 
     def test_changes(self) -> None:
@@ -191,8 +207,9 @@ class Changed(Tried):
         self.settle()
 
     def test_cargo(self) -> None:
-        """What an insert names behind its first activity: no desk has written that by now."""
+        """What inserts name behind their first activity: as a desk could have written it, and as it could not."""
         change_left(ASKED.program, self.work, WHOLE, [(statements, False) for statements, _ in OF_CARGO], self.told)
+        change_left(ASKED.program, self.work, LISTS, OF_LISTS, self.told)
         self.settle()
 
     def test_replies(self) -> None:

@@ -7,7 +7,7 @@ share of the texts comes by the standard input too, and of a share the load is t
 fault, as the rule says, and else not. Then the words of the command line, files that give no text, and outputs that take none. Where all are
 run, each line has to be told of some random texts.
 
-Not known to the reading, and not tried, is what may stand in brackets behind an instant (RFC 9557).
+Not known to the reading, and not tried, is what may stand in brackets behind an instant (RFC 9557), but for the name of a time zone.
 """
 import os
 import re
@@ -44,9 +44,10 @@ stack line N, field apid: not 0 to 2047 in plain digits
 stack line N, field service: not 1 to 255 in plain digits
 stack line N, field subtype: not 1 to 255 in plain digits
 stack line N, field subtype: not 1, 2, 3, 4, 5, 7, 15 or 17, which service 11 has
+stack line N, field target: not 1 to 8 earlier lines, parted by ;
 stack line N, field target: not an earlier line
 stack line N, field target: not empty
-stack line N, field time: not an instant of whole seconds
+stack line N, field time: not as many instants as targets, parted by ;
 stack line N, field time: not seconds, -4102444799 to 4102444799
 stack line N, field time: not empty
 stack line N, field ack: not aspc, with - for each report that is not wanted
@@ -55,7 +56,7 @@ stack line N, field critical: neither yes nor no
 stack line N, field after: neither empty nor an earlier line
 stack line N, field outcome: not an outcome, such as ok or halt/2/17, where a code is 16 to 255
 stack line N, field outcome: not ok, which service 11 wants
-stack line N, field target: a line of service 11, or one whose ack has no a
+stack line N, field target: a line of service 11, one whose ack has no a, or one that is named twice
 stack line N, field target: a line of service 11
 procedure ok
 procedure file: more than 65536 bytes

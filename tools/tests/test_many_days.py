@@ -13,12 +13,13 @@ from concurrent.futures import ThreadPoolExecutor
 from dataclasses import dataclass
 from functools import partial
 from itertools import zip_longest
+from typing import Sequence
 
 from generate.days import Day, day_script
 from model.facts import MOST_SHOWN, place_word
 from model.kept import read_tables
-from model.request import ack_text, takes_time
-from model.rows import ROWS, Request, Tables, empty_tables, move_line, places_by, places_line, tallies_by
+from model.request import ack_text, list_text, takes_time
+from model.rows import ROWS, Cargo, Request, Tables, carried_by, empty_tables, move_line, places_by, places_line, tallies_by
 from model.sound import why_unsound
 from model.tables import opened_moves
 from tests.asked import ASKED
@@ -86,20 +87,20 @@ def faults_by(script: Day, ran: Ran, after: Tables) -> list[str]:
         f"the table {name} is not the plain desk's" for name in ROWS if getattr(wanted, name) != getattr(after, name)]
 
 
-def request_line(r: Request) -> str:
-    """A request as the program tells it."""
-    target = str(r.target) if r.target else "-"
-    time = r.at_time if takes_time(r.service, r.subtype) else "-"
-    return (f"request {r.num} {r.apid}/{r.cnt} {r.service}/{r.subtype} {ack_text(r.ack)} {'yes' if r.critical else 'no'} {target} {time}"
-            f" {r.outcome} {r.author} {place_word(r.place)}")
+def request_line(r: Request, cargo: Sequence[Cargo]) -> str:
+    """A request as the program tells it, with these activities behind its first."""
+    targets = [r.target, *(it.target for it in cargo)] if r.target else []
+    times = [r.at_time, *(it.at_time for it in cargo)] if takes_time(r.service, r.subtype) else []
+    return (f"request {r.num} {r.apid}/{r.cnt} {r.service}/{r.subtype} {ack_text(r.ack)} {'yes' if r.critical else 'no'}"
+            f" {list_text(targets)} {list_text(times)} {r.outcome} {r.author} {place_word(r.place)}")
 
 
 def answers_of(tables: Tables) -> list[str]:
     """What questions for each request, and its history, have to answer."""
-    lines = []
+    lines, carried = list[str](), carried_by(tables.cargo)
     for r in tables.request:
         rows = [move_line(it) for it in tables.move if it.request == r.num][:MOST_SHOWN]
-        lines += [request_line(r), f"history {r.num}: {len(rows)}"] + rows
+        lines += [request_line(r, carried[r.num]), f"history {r.num}: {len(rows)}"] + rows
     return lines + [places_line(tables)]
 
 

@@ -7,8 +7,9 @@ import tempfile
 import unittest
 from typing import Union
 
-from generate.left_changes import OF_CARGO, OF_FIRST, OF_FIRST_ROWS, OF_FIVE, OF_NEWEST, OF_REPLIES, OF_SECOND, OF_SECOND_ROWS, OF_WHOLE, Changes, alone
-from generate.left_desks import EVERYWHERE, FILES, FIVE, FULL, GOING, OTHERS, RIDERS, WHOLE, Left
+from generate.left_changes import (OF_CARGO, OF_FIRST, OF_FIRST_ROWS, OF_FIVE, OF_LISTS, OF_NEWEST, OF_REPLIES, OF_SECOND, OF_SECOND_ROWS, OF_WHOLE, Changes,
+                                   alone)
+from generate.left_desks import EVERYWHERE, FILES, FIVE, FULL, GOING, LISTS, OTHERS, RIDERS, WHOLE, Left
 from model.desk import Desk
 from model.facts import MOST_HISTORY, SCHEMAS, Cause, Place
 from model.kept import connect, read_tables, statements_of
@@ -59,7 +60,7 @@ class PlainDesk(unittest.TestCase):
     def test_days(self) -> None:
         """It answers each opening of the desks that were left, and each line behind it, up to the last row of a history."""
         count = 0
-        for left in (FIVE, RIDERS, OTHERS, EVERYWHERE, GOING, WHOLE, FULL):
+        for left in (FIVE, RIDERS, OTHERS, EVERYWHERE, GOING, LISTS, WHOLE, FULL):
             tables = self.tables_left(left)
             for day in left.days:
                 with self.subTest(f"{left.name} at {day.moment}"):
@@ -84,6 +85,7 @@ class PlainDesk(unittest.TestCase):
         """It knows of each change of a file that leaves the tables of a version whether a desk could have written what is there then."""
         changes: list[tuple[Union[Left, Older], Changes]] = [
             (FIVE, alone(OF_FIVE)), (WHOLE, alone(OF_WHOLE)), (WHOLE, OF_NEWEST), (WHOLE, OF_REPLIES), (WHOLE, [(it, False) for it, _ in OF_CARGO]),
+            (LISTS, OF_LISTS),
             (FULL_OLDER[1], OF_FIRST + OF_FIRST_ROWS), (FULL_OLDER[2], OF_SECOND + OF_SECOND_ROWS)]
         count = 0
         with tempfile.TemporaryDirectory(prefix="changes-", dir=quick_folder()) as work:

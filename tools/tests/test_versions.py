@@ -4,7 +4,8 @@ Each is opened and worked for a day, and prints what is written there, byte for 
 statements of a new desk, in their order, and all rows, with the numbers under which they stand, are those of the same desk that was of the newest version
 before. So it is where the opening moves nothing, and where no line comes behind it. Another opening changes no byte of the file. A report changes none of a file
 of an earlier version either, and is that of the same desk of the newest. A call whose reply was kept is answered as it was then, also where the server itself brings
-the file to the newest version.
+the file to the newest version. Inserts of several activities, which no earlier version could keep, are entered and released at each of them, and at the
+same desks of the newest version, whose inserts have one activity each.
 """
 import os
 import tempfile
@@ -30,6 +31,15 @@ from tests.test_calls import Exchange, exchanges
 
 # When each is opened again.
 AGAIN = 9000
+
+
+def list_day(behind: int) -> list[str]:
+    """Lines that enter requests behind so many, and inserts of some of them, which are released: one is carried out, one waits as the desk is closed."""
+    first, plain = behind + 1, [f"{OLD_DAY} ann enter 2040 a--c no 8 1 - - ok"] * 4
+    lines = [*plain, *(f"{OLD_DAY} ann enter 2041 ---c no 11 4 {it} ok" for it in (f"{first + 1};{first} 600;700", f"{first + 3};{first + 2} 600;700"))]
+    lines += [f"{OLD_DAY} bob approve {it}" for it in range(first, first + 6)]
+    lines += [f"{OLD_DAY} ann {it}" for it in ("initiate none", f"release {first + 4}", "up", "work", "down", "set k 1", f"release {first + 5}")]
+    return lines + [f"{OLD_DAY} ann request {it}" for it in range(first, first + 6)]
 
 
 def stored(path: str) -> tuple[list[Any], dict[str, list[Any]]]:
@@ -120,6 +130,24 @@ class Versions(Tried):
             self.tell(older, "" if stored(f"{folder}/desk.db") == stored(f"{twin}/desk.db") else "its rows are not those of the same desk of the newest version")
             self.tell(older, *self.again(folder, plain.states[-1]))
         self.settle(f"{len(OLDER)} days")
+
+    def test_lists(self) -> None:
+        """At each, and at the same desk of the newest version, inserts of several are entered and released; then it is opened again."""
+        for older in OLDER:
+            folder, tables = self.made(older)
+            lines = list_day(len(tables.request))
+            plain = Plain(lines, {}, left=tables, moment=OLD_DAY, is_kept=True)
+            right = Ended(plain.status, plain.whole, "")
+            self.assertTrue(plain.states[-1].cargo, older)
+            for name, where in ((f"{older}", folder), (f"{older}, in the newest", self.twin(tables))):
+                write_files(where, {"day.tc": text_of(lines).encode()})
+                ran = self.cases.call(where, ["run", "--db", "desk.db", "--at", str(OLD_DAY), "day.tc"])
+                self.tell(f"{name}, with lists", difference(plain.whole, ran.out), "" if ran == right else f"it ends with {ran.status}, {ran.err!r}")
+                self.tell(f"{name}, with lists", *self.newest(where, plain.states[-1]))
+                os.remove(f"{where}/day.tc")
+                opened = run_kept(ASKED.program, where, "desk.db", AGAIN, "/dev/null")
+                self.tell(f"{name}, with lists, opened again", why_not_opened(opened, where, AGAIN, plain.states[-1]))
+        self.settle(f"{len(OLDER)} days of lists")
 
     def test_openings(self) -> None:
         """Each is opened, and nothing comes behind that: of each version one at least has nothing to be moved, and one has."""

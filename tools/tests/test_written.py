@@ -32,6 +32,16 @@ line,apid,service,subtype,target,time,ack,critical,after,outcome
 2,5,11,5,1,,---c,no,1,ok
 3,0,11,4,1,1970-01-01T00:00:00Z,a--c,no,,ok
 """,
+    "lists.csv": """\
+line,apid,service,subtype,target,time,ack,critical,after,outcome
+1,7,8,1,,,a---,no,,ok
+2,7,8,2,,,a---,no,,ok
+3,7,8,3,,,a---,no,,ok
+4,7,8,4,,,a---,no,,ok
+5,7,8,5,,,a---,no,,ok
+6,7,8,6,,,a---,no,,ok
+7,7,11,4,3;1;2,1970-01-01T00:01:00Z;1970-01-01T00:02:00Z;2031-05-04T10:00:00Z,---c,no,,ok
+""",
     "steps.csv": '''\
 step,text,second,request
 1,it's ~ done,no,
@@ -348,7 +358,100 @@ PROCEDURES = Case("procedures", [(0, """\
     "execution": "1|z|bob|22\n2|z|cid|4102444799\n3|proc0123456789zz|eve|0\n",
     "record": "1|1|1|ann|zoe|24\n1|2|1|ann|bob|25\n1|3|2|ann||26\n2|1|3|cid||27\n3|1|2|eve|ann|28\n",
 })
-CASES = (Case("nothing", [(0, "")], 0), ENTRIES, MOVES, STACKS, PROCEDURES)
+
+# Inserts of several activities, by themselves and in a stack, whose lines are requests 4 to 10: the first stands in the row of its request, each other one in
+# cargo, by its position. As the desk is closed one is at Sent and one at Queued, and their activities ride.
+LISTS = Case("lists", [(0, """\
+1 ann enter 5 a--c no 8 1 - - ok
+1 ann enter 5 a--- no 8 1 - - ok
+1 ann enter 5 ---c no 11 4 2;1 4102444799;0 ok
+1 ann enter 5 ---c no 11 4 1;2 60 ok
+1 ann enter 5 ---c no 11 4 1;1 60;60 ok
+1 ann enter 5 ---c no 11 4 1;99;1 60;60;60 ok
+2 bob stack s lists.csv
+3 ann enter 5 ---c no 11 4 1;2;4;5;6;7;8;9 100;101;102;103;104;105;106;107 ok
+4 bob approve 1
+4 bob approve 2
+4 bob approve 3
+4 ann approvestack s
+5 ann initiate none
+5 ann set k 1
+5 ann release 3
+6 ann release 10
+"""), (900, """\
+901 ann enter 5 ---c no 11 4 9 60 ok
+""")], 3, {
+    "request": """\
+1|5|0|9|0|8|1|0|0|ok|ann||0|0|12
+2|5|1|8|0|8|1|0|0|ok|ann||0|0|12
+3|5|2|1|0|11|4|2|4102444799|ok|ann||0|0|12
+4|7|0|8|0|8|1|0|0|ok|bob|s|1|0|2
+5|7|1|8|0|8|2|0|0|ok|bob|s|2|0|2
+6|7|2|8|0|8|3|0|0|ok|bob|s|3|0|2
+7|7|3|8|0|8|4|0|0|ok|bob|s|4|0|2
+8|7|4|8|0|8|5|0|0|ok|bob|s|5|0|2
+9|7|5|8|0|8|6|0|0|ok|bob|s|6|0|2
+10|7|6|1|0|11|4|6|60|ok|bob|s|7|0|2
+11|5|3|1|0|11|4|1|100|ok|ann||0|0|1
+12|5|4|1|0|11|4|9|60|ok|ann||0|0|1
+""",
+    "cargo": """\
+3|2|1|0
+10|2|4|120
+10|3|5|1935655200
+11|2|2|101
+11|3|4|102
+11|4|5|103
+11|5|6|104
+11|6|7|105
+11|7|8|106
+11|8|9|107
+""",
+    "move": """\
+1|1|0|1|1|ann|1
+2|2|0|1|1|ann|1
+3|3|0|1|1|ann|1
+4|4|0|1|1|bob|2
+5|5|0|1|1|bob|2
+6|6|0|1|1|bob|2
+7|7|0|1|1|bob|2
+8|8|0|1|1|bob|2
+9|9|0|1|1|bob|2
+10|10|0|1|1|bob|2
+11|11|0|1|1|ann|3
+12|1|1|2|2|bob|4
+13|2|1|2|2|bob|4
+14|3|1|2|2|bob|4
+15|4|1|2|2|ann|4
+16|5|1|2|2|ann|4
+17|6|1|2|2|ann|4
+18|7|1|2|2|ann|4
+19|8|1|2|2|ann|4
+20|9|1|2|2|ann|4
+21|10|1|2|2|ann|4
+22|3|2|3|4|ann|5
+23|2|2|6|4|ann|5
+24|1|2|6|4|ann|5
+25|3|3|4|5|ann|5
+26|10|2|3|4|ann|6
+27|6|2|6|4|ann|6
+28|4|2|6|4|ann|6
+29|5|2|6|4|ann|6
+30|1|6|12|14|desk|900
+31|2|6|12|14|desk|900
+32|3|4|12|14|desk|900
+33|4|6|2|14|desk|900
+34|5|6|2|14|desk|900
+35|6|6|2|14|desk|900
+36|10|3|2|14|desk|900
+37|12|0|1|1|ann|901
+""",
+    "tally": "1|2\n2|7\n3|0\n4|0\n5|0\n6|0\n7|0\n8|0\n9|0\n10|0\n11|0\n12|3\n13|0\n14|0\n15|0\n",
+    "request_approval": "1|bob\n2|bob\n3|bob\n",
+    "stack": "s|bob|0\n",
+    "stack_approval": "s|ann\n",
+})
+CASES = (Case("nothing", [(0, "")], 0), ENTRIES, MOVES, STACKS, PROCEDURES, LISTS)
 TEXTS = {"name", "outcome", "author", "stack", "person", "procedure", "body", "second"}
 
 

@@ -18,6 +18,7 @@ use Rattle.tc_types.specs.declared.link.telecommands.ScheduleCommand.TheVariants
 use Rattle.tc_types.specs.declared.link.telecommands.Task.{Task}
 use Rattle.tc_types.specs.declared.link.telecommands.Task.TheVariants.{Plain, Schedule}
 use Rattle.tc_types.specs.declared.link.telecommands.Telecommand.{Telecommand}
+use Rattle.tc_types.proofs.RideLemmas.{each_appended}
 use Rattle.tc_board.specs.declared.outcomes.Reporter.{Reporter}
 use Rattle.tc_board.specs.declared.schedules.ScheduleFault.{ScheduleFault}
 use Rattle.tc_board.specs.Schedule.{ScheduleState, is_of, is_same_identity, has_identity, has_one_twice, meets_one, IsSchedule, listed, shifted, failure_of, commanded, after_command}
@@ -25,7 +26,7 @@ use Rattle.tc_board.specs.Reports.{tells, asked, is_refused, first_reports, late
 use Rattle.tc_board.specs.Board.{BoardState, reporter_of, outcome_of, accept_reports, accepted, shown, command_reports, task_reports, after_task, work_reports, worked}
 use Rattle.tc_board.specs.Mirror.{MirrorState, mirror_of, mirror_after, is_listed_of, without, with_activity, moved, told, told_by, verified}
 use Rattle.tc_board.specs.Follows.{Roll, IsActivityOf, IsRequestOf, command_in, inserted, with_command, read_all}
-use Rattle.tc_board.proofs.SoundLemmas.{each_weaker, each_both, each_appended, each_fails, first_goes_in, insert_passes}
+use Rattle.tc_board.proofs.SoundLemmas.{each_weaker, each_both, each_fails, first_goes_in, insert_passes}
 use Rattle.tc_board.proofs.SummaryLemmas.{summary-told}
 
 -- ---- what is read in two parts

@@ -13,6 +13,7 @@ use Rattle.tc_types.specs.declared.link.telecommands.ScheduleCommand.TheVariants
 use Rattle.tc_types.specs.declared.link.telecommands.Task.{Task}
 use Rattle.tc_types.specs.declared.link.telecommands.Task.TheVariants.{Plain, Schedule}
 use Rattle.tc_types.specs.declared.link.telecommands.Telecommand.{Telecommand}
+use Rattle.tc_types.proofs.RideLemmas.{each_appended}
 use Rattle.tc_board.specs.declared.outcomes.Reporter.{Reporter}
 use Rattle.tc_board.specs.declared.schedules.ScheduleFault.{ScheduleFault}
 use Rattle.tc_board.specs.Schedule.{ScheduleState, failure_of, after_command, is_due}
@@ -20,7 +21,7 @@ use Rattle.tc_board.specs.Reports.{tells, asked, is_refused, first_reports, late
 use Rattle.tc_board.specs.Board.{BoardState, reporter_of, reporter_at, outcome_of, accepted, shown, command_reports, task_reports, after_task, work_reports, worked, released, ClockReports, clocked}
 use Rattle.tc_board.specs.Follows.{command_in, inserted, Event, Accept, Work, Clock, Makes}
 use Rattle.tc_board.specs.Names.{IsNamed, Knows, AreNamed, IsGivenOf}
-use Rattle.tc_board.proofs.SoundLemmas.{each_weaker, each_appended, each_joined, each_filtered, command_each}
+use Rattle.tc_board.proofs.SoundLemmas.{each_weaker, each_joined, each_filtered, command_each}
 use Rattle.tc_board.proofs.DueLemmas.{due_each}
 
 -- ---- what holds of each of a list

@@ -12,6 +12,7 @@ use Rattle.tc_types.specs.declared.link.telecommands.ScheduleCommand.TheVariants
 use Rattle.tc_types.specs.declared.link.telecommands.Task.{Task}
 use Rattle.tc_types.specs.declared.link.telecommands.Task.TheVariants.{Plain, Schedule}
 use Rattle.tc_types.specs.declared.link.telecommands.Telecommand.{Telecommand}
+use Rattle.tc_types.proofs.RideLemmas.{each_appended}
 use Rattle.tc_board.specs.declared.schedules.ScheduleFault.{ScheduleFault}
 use Rattle.tc_board.specs.declared.schedules.ScheduleFault.TheVariants.{Time, Full, IdentityInUse}
 use Rattle.tc_board.specs.Schedule.{ScheduleState, is_of, is_same_identity, has_identity, has_one_twice, meets_one, IsSchedule, shifted, first_failure, failure_of, commanded, after_command, is_due}
@@ -30,11 +31,6 @@ each_weaker P Q may (x ∷ xs) all = (may x all.0, each_weaker P Q may xs all.1)
 pub each_both : {X : Type 0} (P Q R : X → Type 0) → ((x : X) → P x → Q x → R x) → (xs : List X) → AllByRecursion P xs → AllByRecursion Q xs → AllByRecursion R xs
 each_both P Q R may [] first second = tt
 each_both P Q R may (x ∷ xs) first second = (may x first.0 second.0, each_both P Q R may xs first.1 second.1)
-
--- one more at the end
-pub each_appended : {X : Type 0} (P : X → Type 0) (xs : List X) (y : X) → AllByRecursion P xs → P y → AllByRecursion P (xs ++ y ∷ [])
-each_appended P [] y all last = (last, tt)
-each_appended P (x ∷ xs) y all last = (all.0, each_appended P xs y all.1 last)
 
 -- what holds of each of two lists holds of each of them joined
 pub each_joined : {X : Type 0} (P : X → Type 0) (xs ys : List X) → AllByRecursion P xs → AllByRecursion P ys → AllByRecursion P (xs ++ ys)

@@ -1,12 +1,11 @@
 -- The rehearsal spacecraft: its time, its input buffer and its schedule. Buffer, codes and the report of an activity that
 -- falls due while the schedule is disabled are this desk's own.
-use Rattle.std.specs.Prelude.{◌≡◌, ℕ, Bool, true, false, if◌then◌else◌, Option, Some, None, List, [], ◌∷◌, ◌++◌, map}
+use Rattle.std.specs.Prelude.{◌≡◌, ℕ, Bool, if◌then◌else◌, Option, Some, None, List, [], ◌∷◌, ◌++◌, map}
 use Rattle.std.specs.List.{flat_map}
 use Rattle.tc_types.specs.declared.link.activities.Activity.{Activity}
 use Rattle.tc_types.specs.declared.link.reports.Verification.TheVariants as report
 use Rattle.tc_types.specs.declared.link.reports.Telemetry.{Telemetry}
 use Rattle.tc_types.specs.declared.link.reports.Telemetry.TheVariants as telemetry
-use Rattle.tc_types.specs.declared.requests.Ack.{Ack}
 use Rattle.tc_types.specs.declared.requests.Identity.{Identity}
 use Rattle.tc_types.specs.declared.requests.Outcome.{Outcome}
 use Rattle.tc_types.specs.declared.requests.Outcome.TheVariants.{Completes}

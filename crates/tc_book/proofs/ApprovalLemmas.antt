@@ -16,6 +16,7 @@ use Rattle.tc_types.specs.Tests.{first_refusal}
 use Rattle.tc_stack.specs.Approvals.{ApprovalState, IsApproval, unapproved, wanted, is_complete, approved, refusal_of}
 use Rattle.tc_stack.proofs.ApprovalLemmas.{unapproved_sound, unrefused_sound}
 use Rattle.tc_types.specs.History.{AllAfter}
+use Rattle.tc_types.proofs.RideLemmas.{each_appended}
 use Rattle.tc_book.specs.Book.{Book, approvers_of, approval_of, approval_at, with_approval, is_unknown, request_in, request_at}
 use Rattle.tc_book.specs.Acts.{approval_tests}
 use Rattle.tc_book.specs.Good.{IsGoodBook, IsGoodRequest}
@@ -39,11 +40,6 @@ pub approval_of-next : (approvals : List Approval) (r : Request) (k : ℕ) → A
 approval_of-next approvals r k all next =
     ap (λ l. (let s : ApprovalState = record { author = r.author; critical = r.critical; persons = l } in s)) (nobody_approved approvals r.number k all (omega (arith, next)))
 
--- one at the end
-pub all_appended : {X : Type 0} (P : X → Type 0) (xs : List X) (y : X) → AllByRecursion P xs → P y → AllByRecursion P (xs ++ y ∷ [])
-all_appended P [] y all last = (last, tt)
-all_appended P (x ∷ xs) y all last = (all.0, all_appended P xs y all.1 last)
-
 -- what is kept, after an entry
 pub kept_entered : (approvals : List Approval) (requests : List Request) (r : Request) (kept : List ApprovalState) → AllByRecursion (λ (a : Approval). a.request ≤ length requests) approvals
     → r.number ≡ length requests + 1 → kept ≡ map (approval_of approvals) requests
@@ -57,7 +53,7 @@ kept_entered approvals requests r kept all next is =
 pub sound_entered : (approvals : List Approval) (requests : List Request) (r : Request) → AllByRecursion (λ (a : Approval). a.request ≤ length requests) approvals → r.number ≡ length requests + 1
     → AllByRecursion (λ x. IsApproval (approval_of approvals x)) requests → AllByRecursion (λ x. IsApproval (approval_of approvals x)) (requests ++ r ∷ [])
 sound_entered approvals requests r all next sound =
-    all_appended (λ x. IsApproval (approval_of approvals x)) requests r sound
+    each_appended (λ x. IsApproval (approval_of approvals x)) requests r sound
     (subst IsApproval (sym (approval_of-next approvals r (length requests) all next)) (unapproved_sound r.author r.critical))
 
 -- ---- an approval is given
@@ -237,8 +233,8 @@ approved_good book n person good is_one known single may = record {
   requests = good.requests;
   few = good.few;
   entered = good.entered;
-  named = all_appended (λ (a : Approval). a.request ≤ length book.requests) book.approvals (given_by n person) good.named within.1;
-  alone = all_appended (λ (a : Approval). came_alone book.requests a.request ≡ true) book.approvals (given_by n person) good.alone (by_itself (request_at book n) (known_found book n known) single);
+  named = each_appended (λ (a : Approval). a.request ≤ length book.requests) book.approvals (given_by n person) good.named within.1;
+  alone = each_appended (λ (a : Approval). came_alone book.requests a.request ≡ true) book.approvals (given_by n person) good.alone (by_itself (request_at book n) (known_found book n known) single);
   stacks_named = good.stacks_named;
   approved = all_before IsApproval (approval_of (with_approval book n person).approvals) book.requests (subst (AllByRecursion IsApproval) made kept_sound);
   stacks_approved = good.stacks_approved;
@@ -248,7 +244,7 @@ approved_good book n person good is_one known single may = record {
       (λ m was is. by_found (request_at book m.request) (was is)) good.complete;
   persons = record {
     authors = good.persons.authors;
-    approvers = all_appended (λ (a : Approval). IsPerson a.person) book.approvals (given_by n person) good.persons.approvers is_one;
+    approvers = each_appended (λ (a : Approval). IsPerson a.person) book.approvals (given_by n person) good.persons.approvers is_one;
     stack_approvers = good.persons.stack_approvers;
     loaders = good.persons.loaders;
     beginners = good.persons.beginners;

@@ -15,6 +15,7 @@ use Rattle.tc_types.specs.History.{AllAfter}
 use Rattle.tc_book.specs.declared.stamps.Stamp.{Stamp}
 use Rattle.tc_book.specs.Acts.{row_approved, rows_approved}
 use Rattle.tc_book.specs.Batch.{HasRoomFor, HoldsRoom, batch_rows, log_length}
+use Rattle.tc_book.specs.Cargoes.{cargo_length}
 use Rattle.tc_book.specs.Book.{Book, Want, request_in, stands, moved, want, with_approval}
 use Rattle.tc_book.specs.Good.{IsGoodRequest}
 use Rattle.tc_book.specs.Records.{Kept}
@@ -119,10 +120,12 @@ rows_leave stamp (n ∷ ns) book =
     by_place false = (refl, refl, refl, refl)
 
 -- room for so many moves, and for no more than one approval of a request and one of a stack
-moves-room : {A B : Type 0} (book new : Book) (rows : ℕ) (moves : Vec Move A) (batch : Vec Row B) → HasRoomFor rows moves → HasRoomFor (batch_rows 0 rows + 0) batch
-    → length new.requests ≡ length book.requests → length new.history ≤ length book.history + rows → length new.approvals ≤ length book.approvals + 1 → length new.stack_approvals ≤ length book.stack_approvals + 1
+moves-room : {A B : Type 0} (book new : Book) (rows : ℕ) (moves : Vec Move A) (batch : Vec Row B) → HasRoomFor rows moves → HasRoomFor (batch_rows 0 rows + 0 + 0) batch
+    → new.requests ≡ book.requests → length new.history ≤ length book.history + rows → length new.approvals ≤ length book.approvals + 1 → length new.stack_approvals ≤ length book.stack_approvals + 1
     → log_length new.log ≡ log_length book.log → HoldsRoom book new moves batch
-moves-room book new rows moves batch for_moves for_batch requests history approvals stack_approvals log =
+moves-room book new rows moves batch for_moves for_batch same history approvals stack_approvals log =
+    let requests = ap length same in
+    let cargo = ap cargo_length same in
     let m = for_moves.1 in
     let b = for_batch.1 in
     record {
@@ -131,44 +134,44 @@ moves-room book new rows moves batch for_moves for_batch requests history approv
       batch_empty = for_batch.0;
       approvals = approvals;
       stack_approvals = stack_approvals;
-      batch_room = omega (arith, requests, history, b, log);
+      batch_room = omega (arith, requests, cargo, history, b, log);
     }
 
 -- room for an approval of a stack and a move of each row
-pub approved-room : {A B : Type 0} (stamp : Stamp) (name person : List ℕ) (book new : Book) (rows : ℕ) (moves : Vec Move A) (batch : Vec Row B) → HasRoomFor rows moves → HasRoomFor (batch_rows 0 rows + 0) batch
+pub approved-room : {A B : Type 0} (stamp : Stamp) (name person : List ℕ) (book new : Book) (rows : ℕ) (moves : Vec Move A) (batch : Vec Row B) → HasRoomFor rows moves → HasRoomFor (batch_rows 0 rows + 0 + 0) batch
     → new ≡ rows_approved stamp name (with_stack_approval book name person) → length new.history ≤ length book.history + rows → HoldsRoom book new moves batch
 approved-room stamp name person book new rows moves batch for_moves for_batch is few =
     let left = rows_leave stamp (numbers_in_stack name book.requests) (with_stack_approval book name person) in
     let approvals = ap (λ (x : Book). length x.approvals) is ∙ ap length left.1 in
     let stack_approvals = ap (λ (x : Book). length x.stack_approvals) is ∙ ap length left.2 ∙ length-append book.stack_approvals _ in
-    moves-room book new rows moves batch for_moves for_batch (ap (λ (x : Book). length x.requests) is ∙ ap length left.0) few
+    moves-room book new rows moves batch for_moves for_batch (ap (λ (x : Book). x.requests) is ∙ left.0) few
     (omega (arith, approvals)) (omega (arith, stack_approvals)) (ap (λ (x : Book). log_length x.log) is ∙ ap log_length left.3)
 
-pub given-room : {A B : Type 0} (name person : List ℕ) (book new : Book) (rows : ℕ) (moves : Vec Move A) (batch : Vec Row B) → HasRoomFor rows moves → HasRoomFor (batch_rows 0 rows + 0) batch
+pub given-room : {A B : Type 0} (name person : List ℕ) (book new : Book) (rows : ℕ) (moves : Vec Move A) (batch : Vec Row B) → HasRoomFor rows moves → HasRoomFor (batch_rows 0 rows + 0 + 0) batch
     → new ≡ with_stack_approval book name person → HoldsRoom book new moves batch
 given-room name person book new rows moves batch for_moves for_batch is =
     let history = ap (λ (x : Book). length x.history) is in
     let approvals = ap (λ (x : Book). length x.approvals) is in
     let stack_approvals = ap (λ (x : Book). length x.stack_approvals) is ∙ length-append book.stack_approvals _ in
-    moves-room book new rows moves batch for_moves for_batch (ap (λ (x : Book). length x.requests) is) (omega (arith, history))
+    moves-room book new rows moves batch for_moves for_batch (ap (λ (x : Book). x.requests) is) (omega (arith, history))
     (omega (arith, approvals)) (omega (arith, stack_approvals)) (ap (λ (x : Book). log_length x.log) is)
 
 -- room for an approval of a request
-pub approval-room : {A B : Type 0} (n : ℕ) (person : List ℕ) (book new : Book) (rows : ℕ) (moves : Vec Move A) (batch : Vec Row B) → HasRoomFor rows moves → HasRoomFor (batch_rows 0 rows + 0) batch
+pub approval-room : {A B : Type 0} (n : ℕ) (person : List ℕ) (book new : Book) (rows : ℕ) (moves : Vec Move A) (batch : Vec Row B) → HasRoomFor rows moves → HasRoomFor (batch_rows 0 rows + 0 + 0) batch
     → new ≡ with_approval book n person → HoldsRoom book new moves batch
 approval-room n person book new rows moves batch for_moves for_batch is =
     let history = ap (λ (x : Book). length x.history) is in
     let approvals = ap (λ (x : Book). length x.approvals) is ∙ length-append book.approvals _ in
     let stack_approvals = ap (λ (x : Book). length x.stack_approvals) is in
-    moves-room book new rows moves batch for_moves for_batch (ap (λ (x : Book). length x.requests) is) (omega (arith, history))
+    moves-room book new rows moves batch for_moves for_batch (ap (λ (x : Book). x.requests) is) (omega (arith, history))
     (omega (arith, approvals)) (omega (arith, stack_approvals)) (ap (λ (x : Book). log_length x.log) is)
 
 -- and for the move that follows it
-pub approval_moved-room : {A B : Type 0} (stamp : Stamp) (n : ℕ) (person : List ℕ) (wanted : Want) (book new : Book) (rows : ℕ) (moves : Vec Move A) (batch : Vec Row B) → 1 ≤ rows → HasRoomFor rows moves → HasRoomFor (batch_rows 0 rows + 0) batch
+pub approval_moved-room : {A B : Type 0} (stamp : Stamp) (n : ℕ) (person : List ℕ) (wanted : Want) (book new : Book) (rows : ℕ) (moves : Vec Move A) (batch : Vec Row B) → 1 ≤ rows → HasRoomFor rows moves → HasRoomFor (batch_rows 0 rows + 0 + 0) batch
     → new ≡ moved stamp (with_approval book n person) wanted → HoldsRoom book new moves batch
 approval_moved-room stamp n person wanted book new rows moves batch one for_moves for_batch is =
     let history = ap (λ (x : Book). length x.history) is ∙ length-append book.history _ in
     let approvals = ap (λ (x : Book). length x.approvals) is ∙ length-append book.approvals _ in
     let stack_approvals = ap (λ (x : Book). length x.stack_approvals) is in
-    moves-room book new rows moves batch for_moves for_batch (ap (λ (x : Book). length x.requests) is) (omega (arith, history, one))
+    moves-room book new rows moves batch for_moves for_batch (ap (λ (x : Book). x.requests) is) (omega (arith, history, one))
     (omega (arith, approvals)) (omega (arith, stack_approvals)) (ap (λ (x : Book). log_length x.log) is)

@@ -12,13 +12,14 @@ use Rattle.tc_types.specs.Tests.{first_refusal}
 use Rattle.tc_types.specs.History.{AllAfter}
 use Rattle.tc_stack.specs.Approvals.{ApprovalState, IsApproval, approved, refusal_of, unapproved}
 use Rattle.tc_stack.proofs.ApprovalLemmas.{unrefused_sound, unapproved_sound}
+use Rattle.tc_types.proofs.RideLemmas.{each_appended}
 use Rattle.tc_book.specs.Acts.{approval_tests}
 use Rattle.tc_book.specs.Approvals.{kept_approval}
 use Rattle.tc_book.specs.Book.{approvers_of, approval_of}
 use Rattle.tc_book.specs.Good.{IsGoodRequest}
 use Rattle.tc_book.specs.GoodApprovals.{AreGoodApprovals, MayBeGiven}
 use Rattle.tc_book.specs.Stacks.{came_alone}
-use Rattle.tc_book.proofs.ApprovalLemmas.{number_at, kept_given, numbered, all_mapped, all_before, all_set, all_appended}
+use Rattle.tc_book.proofs.ApprovalLemmas.{number_at, kept_given, numbered, all_mapped, all_before, all_set}
 use Rattle.tc_book.proofs.StackLemmas.{next_may}
 
 -- ---- a request by its number
@@ -97,8 +98,8 @@ pub good_more : (requests : List Request) (approvals : List Approval) (k : ℕ) 
     → kept ≡ map (approval_of (take k approvals)) requests → MayBeGiven requests kept a → AreGoodApprovals requests (take k approvals) → AreGoodApprovals requests (take (k + 1) approvals)
 good_more requests approvals k a kept good within is kept_is may before =
     subst (AreGoodApprovals requests) (sym (front_more approvals k a within is)) (record {
-      named = all_appended (λ (x : Approval). x.request ≤ length requests) (take k approvals) a before.named (omega (arith, inside.1, long));
-      alone = all_appended (λ (x : Approval). came_alone requests x.request ≡ true) (take k approvals) a before.alone may.0;
+      named = each_appended (λ (x : Approval). x.request ≤ length requests) (take k approvals) a before.named (omega (arith, inside.1, long));
+      alone = each_appended (λ (x : Approval). came_alone requests x.request ≡ true) (take k approvals) a before.alone may.0;
       approved = subst (λ l. AllByRecursion (λ r. IsApproval (approval_of l r)) requests) (front_more approvals k a within is) (all_before IsApproval (approval_of (take (k + 1) approvals)) requests (subst (AllByRecursion IsApproval) made sound));
     })
   where

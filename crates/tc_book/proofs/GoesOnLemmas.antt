@@ -1,10 +1,11 @@
 -- What an act makes of the book goes on from the book before it.
 use Rattle.std.proofs.Common.{◌≡◌, ℕ, ◌+◌, Bool, true, false, not, ◌&&◌, ◌||◌, if◌then◌else◌, fold, Option, Some, None, List, [], ◌∷◌, ◌++◌, length, drop, refl, sym, ◌∙◌, ap, subst, append_assoc, append-nil, Vec, arith}
-use Rattle.std.specs.List.{list_all}
+use Rattle.std.specs.List.{list_all, sum_by}
 use Rattle.std.specs.Option.{option_map_or}
 use Rattle.std.proofs.Math.Seq.{drop-append_seam}
 use Rattle.std.proofs.lemmas.List.Folds.{list_all-append, list_any-append}
 use Rattle.std.proofs.lemmas.Bool.{and_parts}
+use Rattle.std.proofs.lemmas.List.{length-append}
 use Rattle.tc_types.specs.declared.history.places.Place.{Place}
 use Rattle.tc_types.specs.declared.history.places.Place.TheVariants.{Entered, Approved}
 use Rattle.tc_types.specs.declared.history.causes.Cause.{Cause}
@@ -22,11 +23,13 @@ use Rattle.tc_book.specs.Acts.{acted, row_approved, rows_approved}
 use Rattle.tc_proc.specs.declared.procedures.Step.{Step}
 use Rattle.tc_proc.specs.Logs.{LogState, with_procedure, with_execution, with_record}
 use Rattle.tc_book.specs.Batch.{HasBehind, GoesOn, LogGoesOn, is_apart_from, HasRoomFor, HoldsRoom, batch_rows}
-use Rattle.tc_book.specs.Book.{Book, stands, request_of, moved, want, with_entry, with_approval}
+use Rattle.tc_book.specs.Cargoes.{behind_first}
+use Rattle.tc_book.specs.Book.{Book, stands, request_of, row_of, moved, want, with_entry, with_approval}
 use Rattle.tc_book.specs.Logs.{procedure_loaded, record_made, recorded}
 use Rattle.tc_book.specs.Loads.{loaded, with_row, with_rows, origin_of, entry_from}
 use Rattle.tc_book.specs.Stacks.{is_row_of, is_in_stack, has_stack, numbers_in_stack, with_stack_approval}
-use Rattle.tc_book.proofs.LoadLemmas.{rows_requests, rows_history}
+use Rattle.tc_book.proofs.CarriedLemmas.{cargo_entered}
+use Rattle.tc_book.proofs.LoadLemmas.{rows_requests, rows_history, rows_cargo}
 use Rattle.tc_book.proofs.StackLemmas.{same_name, name_itself}
 
 -- one list, and more behind it
@@ -264,12 +267,32 @@ rows_on stamp name book given after on is = on_and_on book given after on (subst
 
 -- ---- room
 
+-- room for all that an entry writes
+pub entered-room : {A B : Type 0} (stamp : Stamp) (entry : Form) (book : Book) (moves : Vec Move A) (batch : Vec Row B)
+    → HasRoomFor 1 moves → HasRoomFor (batch_rows 1 1 + length (behind_first entry.command) + 0) batch → HoldsRoom book (with_entry stamp book entry) moves batch
+entered-room stamp entry book moves batch for_moves for_batch =
+    let requests = length-append book.requests (request_of stamp book.requests None entry ∷ []) in
+    let history = length-append book.history (row_of stamp book.history (want (length book.requests + 1) Entered cause.Enter) ∷ []) in
+    let cargo = cargo_entered book.requests (request_of stamp book.requests None entry) in
+    let m = for_moves.1 in
+    let b = for_batch.1 in
+    record {
+      moves_empty = for_moves.0;
+      moves_room = omega (arith, history, m);
+      batch_empty = for_batch.0;
+      approvals = omega arith;
+      stack_approvals = omega arith;
+      batch_room = omega (arith, requests, cargo, history, b);
+    }
+
 -- room for all that a load writes
 pub loaded-room : {A B : Type 0} (stamp : Stamp) (name : List ℕ) (rows : List StackRow) (book : Book) (moves : Vec Move A) (batch : Vec Row B)
-    → HasRoomFor (length rows) moves → HasRoomFor (batch_rows (length rows) (length rows) + 0) batch → HoldsRoom book (loaded stamp name rows book) moves batch
+    → HasRoomFor (length rows) moves → HasRoomFor (batch_rows (length rows) (length rows) + sum_by (λ (row : StackRow). length (behind_first row.entry.command)) rows + 0) batch
+    → HoldsRoom book (loaded stamp name rows book) moves batch
 loaded-room stamp name rows book moves batch for_moves for_batch =
     let requests = rows_requests stamp name (length book.requests + 1) 1 book rows in
     let history = rows_history stamp name (length book.requests + 1) 1 book rows in
+    let cargo = rows_cargo stamp name (length book.requests + 1) 1 book rows in
     let made = rows_made stamp name (length book.requests + 1) 1 book rows in
     let m = for_moves.1 in
     let b = for_batch.1 in
@@ -279,5 +302,5 @@ loaded-room stamp name rows book moves batch for_moves for_batch =
       batch_empty = for_batch.0;
       approvals = rw made.approvals (omega arith);
       stack_approvals = rw made.stack_approvals (omega arith);
-      batch_room = rw made.log (omega (arith, requests, history, b));
+      batch_room = rw made.log (omega (arith, requests, cargo, history, b));
     }

@@ -1,6 +1,7 @@
 pub mod HistoryLemmas
 pub mod RequestLemmas
 pub mod GoodLemmas
+pub mod CarriedLemmas
 pub mod GoesOnLemmas
 pub mod PutLemmas
 pub mod LogTableLemmas
@@ -22,6 +23,7 @@ pub mod RowLemmas
 pub mod InterlockLemmas
 pub mod ApproveLemmas
 pub mod OpeningLemmas
+pub mod CargoLemmas
 pub mod ReopenLemmas
 pub mod SoundLemmas
 pub mod GivenLemmas

@@ -1,7 +1,7 @@
 -- The rows of a stack, entered one after the other.
 use Rattle.std.proofs.Common.{◌≡◌, ◌≢◌, ℕ, ◌+◌, ◌%◌, ◌<◌, ◌≤◌, ◌==◌, Bool, true, false, not, ◌&&◌, ◌||◌, cond, Some, List, [], ◌∷◌, ◌++◌, length, get_or, take, drop, refl, sym, ◌∙◌, ap, ap₂, subst, arith}
 use Rattle.std.specs.Prelude.{count_by}
-use Rattle.std.specs.List.{AllByRecursion, list_any}
+use Rattle.std.specs.List.{AllByRecursion, list_any, sum_by}
 use Rattle.std.proofs.lemmas.List.{length-append, length-take, take_more, drop_more}
 use Rattle.std.proofs.lemmas.List.Folds.{list_any-append}
 use Rattle.std.proofs.lemmas.List.Sums.{count_by-le-length, sum_by-cons}
@@ -13,9 +13,11 @@ use Rattle.tc_types.specs.Lawful.{is_among, final_places}
 use Rattle.tc_stack.specs.declared.stacks.StackRow.{StackRow}
 use Rattle.tc_book.specs.declared.stamps.Stamp.{Stamp}
 use Rattle.tc_book.specs.Book.{Book, request_of, next_identity, same_identity, is_identity_in_use, stands}
+use Rattle.tc_book.specs.Cargoes.{behind_first, cargo_length}
 use Rattle.tc_book.specs.Good.{IsGoodBook, IsGoodRequest}
 use Rattle.tc_book.specs.Loads.{entry_from, origin_of, with_row, with_rows, identity_behind, takes_identity_in_use}
 use Rattle.tc_book.specs.Places.{count_of}
+use Rattle.tc_book.proofs.CarriedLemmas.{cargo_entered, behind_from}
 use Rattle.tc_book.proofs.CountLemmas.{count_of-append}
 use Rattle.tc_book.proofs.HistoryLemmas.{place_of-snoc}
 
@@ -44,6 +46,16 @@ rows_history stamp name start line book (row ∷ rows) =
     let more = rows_history stamp name start (line + 1) (with_row stamp name start line book row) rows in
     let one : length (with_row stamp name start line book row).history ≡ length book.history + 1 = length-append book.history _ in
     omega (arith, more, one)
+
+pub rows_cargo : (stamp : Stamp) (name : List ℕ) (start line : ℕ) (book : Book) (rows : List StackRow)
+    → cargo_length (with_rows stamp name start line book rows).requests ≡ cargo_length book.requests + sum_by (λ (row : StackRow). length (behind_first row.entry.command)) rows
+rows_cargo stamp name start line book [] = omega arith
+rows_cargo stamp name start line book (row ∷ rows) =
+    let more = rows_cargo stamp name start (line + 1) (with_row stamp name start line book row) rows in
+    let one = cargo_entered book.requests (request_of stamp book.requests (Some (origin_of name line row)) (entry_from start row.entry)) in
+    let same = behind_from start row.entry.command in
+    let all = sum_by-cons (λ (x : StackRow). length (behind_first x.entry.command)) row rows in
+    omega (arith, more, one, same, all)
 
 -- ---- identities
 

@@ -1,10 +1,10 @@
 -- What an opening makes of the requests, one after the other.
 use Rattle.std.proofs.Common.{◌≡◌, ℕ, zero, suc, ◌+◌, ◌-◌, ◌<◌, ◌≤◌, ◌==◌, Bool, true, false, ◌&&◌, ◌||◌, cond, if◌then◌else◌, is_some, Option, Some, None, Result, Ok, Err, IfOk, List, [], ◌∷◌, ◌++◌, length, take, get_or, fold, refl, sym, ◌∙◌, ap, arith}
 use Rattle.std.specs.Prelude.{count_by}
-use Rattle.std.specs.List.{list_any, filter_map, cons_option, slice_get}
-use Rattle.std.specs.Option.{option_map_or}
+use Rattle.std.specs.List.{list_any, filter_map, flat_map, cons_option, slice_get}
 use Rattle.std.proofs.lemmas.List.{length-append, take_more}
 use Rattle.std.proofs.lemmas.List.Elements.{filter_map-append}
+use Rattle.std.proofs.lemmas.List.Folds.{list_any-append}
 use Rattle.std.proofs.lemmas.Bool.Decides.{nat_tests}
 use Rattle.std.proofs.lemmas.List.Sums.{count_by_more_yes, count_by_more_no, sum_by-take-le, sum_by-cons}
 use Rattle.tc_types.specs.declared.history.places.Place.{Place}
@@ -14,6 +14,7 @@ use Rattle.tc_types.specs.declared.history.causes.Cause.TheVariants as cause
 use Rattle.tc_types.specs.declared.history.moves.Move.{Move}
 use Rattle.tc_types.specs.declared.requests.Request.{Request}
 use Rattle.tc_types.specs.Lawful.{is_lawful, is_among, is_one_of}
+use Rattle.tc_types.specs.Schedule.{inserted}
 use Rattle.tc_proc.specs.Logs.{LogState}
 use Rattle.tc_book.specs.declared.marks.Mark.{Mark}
 use Rattle.tc_book.specs.declared.stamps.Stamp.{Stamp}
@@ -21,7 +22,6 @@ use Rattle.tc_book.specs.Batch.{GoesOn, mark_of, IsBehind}
 use Rattle.tc_book.specs.Book.{Book, place_in, stands, request_at, want, moved, row_of}
 use Rattle.tc_book.specs.Held.{held_by, has_number, opened_from, looked_at}
 use Rattle.tc_book.specs.Opening.{opened_places, inserts, is_held, opened_to, desk_stamp, opened_request, opened_book, count_opened, HasNumbers}
-use Rattle.tc_book.specs.Targets.{is_insert, target_of}
 use Rattle.tc_book.proofs.GoesOnLemmas.{moved-goes_on, same-goes_on, on_and_on}
 use Rattle.tc_book.proofs.HistoryLemmas.{place_of-snoc}
 
@@ -50,24 +50,18 @@ and_false : (b : Bool) → false ≡ (b && false)
 and_false true = refl
 and_false false = refl
 
-any_option : (n : ℕ) (o : Option ℕ) (xs : List ℕ) → has_number (cons_option o xs) n ≡ (option_map_or (λ k. k == n) o false || has_number xs n)
-any_option n (Some k) xs = refl
-any_option n None xs = refl
-
 -- the numbers tell whose insert waits
 pub held_known : (book : Book) (n : ℕ) (requests : List Request)
-    → has_number (filter_map (held_by book.history) requests) n ≡ list_any (λ (r : Request). inserts n r.body.command && stands book r.number (Queued ∷ [])) requests
+    → has_number (flat_map (held_by book.history) requests) n ≡ list_any (λ (r : Request). inserts n r.body.command && stands book r.number (Queued ∷ [])) requests
 held_known book n [] = refl
 held_known book n (r ∷ requests) =
-    any_option n (held_by book.history r) (filter_map (held_by book.history) requests)
-    ∙ ap (λ t. t || has_number (filter_map (held_by book.history) requests) n) (by_tests (is_insert r.body.command) (stands book r.number (Queued ∷ [])) (target_of r.body.command))
+    list_any-append (λ k. k == n) (held_by book.history r) (flat_map (held_by book.history) requests)
+    ∙ ap (λ t. t || has_number (flat_map (held_by book.history) requests) n) (by_test (stands book r.number (Queued ∷ [])))
     ∙ ap (λ t. (inserts n r.body.command && stands book r.number (Queued ∷ [])) || t) (held_known book n requests)
   where
-    by_tests : (i t : Bool) (target : Option ℕ) → option_map_or (λ k. k == n) (if t then (if i then target else None) else None) false ≡ ((i && option_map_or (λ k. k == n) target false) && t)
-    by_tests true true target = and_true (option_map_or (λ k. k == n) target false)
-    by_tests true false target = and_false (option_map_or (λ k. k == n) target false)
-    by_tests false true target = refl
-    by_tests false false target = refl
+    by_test : (t : Bool) → has_number (if t then inserted r.body.command else []) n ≡ (inserts n r.body.command && t)
+    by_test true = and_true (inserts n r.body.command)
+    by_test false = and_false (inserts n r.body.command)
 
 -- ---- one request
 

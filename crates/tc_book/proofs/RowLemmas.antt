@@ -1,8 +1,9 @@
 -- What a row of a stack names, and where it goes: each row may follow those before it.
-use Rattle.std.proofs.Common.{◌≡◌, ◌≢◌, ℕ, zero, suc, ◌+◌, ◌-◌, ◌<◌, ◌≤◌, ◌==◌, Bool, true, false, not, ◌&&◌, ◌||◌, if◌then◌else◌, Option, Some, None, List, [], ◌∷◌, ◌++◌, length, get_or, take, inl, inr, refl, sym, ◌∙◌, ap, subst, arith}
+use Rattle.std.proofs.Common.{◌≡◌, ◌≢◌, ℕ, zero, suc, ◌+◌, ◌-◌, ◌<◌, ◌≤◌, ◌==◌, Bool, true, false, not, ◌&&◌, ◌||◌, if◌then◌else◌, Option, Some, None, List, [], ◌∷◌, ◌++◌, length, map, get_or, take, inl, inr, refl, sym, ◌∙◌, ap, ap₂, subst, arith}
 use Rattle.std.specs.Prelude.{◌⊎◌, IfSome, IsSomeAnd}
-use Rattle.std.specs.List.{AllByRecursion, slice_get}
+use Rattle.std.specs.List.{AllByRecursion, list_any, slice_get}
 use Rattle.std.proofs.lemmas.List.{append-nil, append_assoc, length-append, length-take, get_or-take}
+use Rattle.std.proofs.lemmas.Bool.{or_parts}
 use Rattle.std.proofs.lemmas.Bool.Decides.{nat_tests}
 use Rattle.tc_types.specs.declared.requests.Request.{Request}
 use Rattle.tc_types.specs.declared.requests.Form.{Form}
@@ -11,15 +12,16 @@ use Rattle.tc_types.specs.declared.requests.Command.{Command}
 use Rattle.tc_types.specs.declared.requests.Command.TheVariants as command
 use Rattle.tc_types.specs.declared.tables.rows.StackApproval.{StackApproval}
 use Rattle.tc_types.specs.Names.{IsName, is_same_name}
-use Rattle.tc_types.specs.Schedule.{is_schedule, KeepsScheduleRule}
+use Rattle.tc_types.specs.Schedule.{is_schedule, is_insert, KeepsScheduleRule, ridden, targets_of, has_twice}
+use Rattle.tc_types.specs.declared.rides.Ride.{Ride}
 use Rattle.tc_stack.specs.declared.stacks.StackRow.{StackRow}
-use Rattle.tc_stack.specs.Stacks.{IsEarlier, IsRow, AreRows, IsStack, named_line, at_line, is_barred, named_row, names_barred, first_barred}
+use Rattle.tc_stack.specs.Stacks.{IsEarlier, IsRow, AreRows, IsStack, at_line, is_barred, is_barred_line, names_barred, first_barred}
 use Rattle.tc_book.specs.declared.stamps.Stamp.{Stamp}
 use Rattle.tc_book.specs.Book.{Book, request_in, request_of}
 use Rattle.tc_book.specs.Good.{IsNextRow, IsGoodOrigin}
-use Rattle.tc_book.specs.Loads.{IsWithin, command_from, entry_from, origin_of, with_row, with_rows}
+use Rattle.tc_book.specs.Loads.{IsWithin, ride_from, command_from, entry_from, origin_of, with_row, with_rows}
 use Rattle.tc_book.specs.Stacks.{has_stack, stack_approvers_of}
-use Rattle.tc_book.specs.Targets.{HasGoodTarget, is_insert}
+use Rattle.tc_book.specs.Targets.{is_bad_activity, IsGoodTarget, HasGoodTargets}
 use Rattle.tc_book.proofs.RequestLemmas.{request_in-front, request_in-next}
 use Rattle.tc_book.proofs.LoadLemmas.{rows_requests}
 use Rattle.tc_book.proofs.StackLemmas.{same_name}
@@ -32,11 +34,55 @@ from_schedule start (command.Plain service subtype) = refl
 from_schedule start command.EnableSchedule = refl
 from_schedule start command.DisableSchedule = refl
 from_schedule start command.ResetSchedule = refl
-from_schedule start (command.InsertActivity target time) = refl
+from_schedule start (command.InsertActivities rides) = refl
 from_schedule start (command.DeleteActivity target) = refl
 from_schedule start (command.ShiftActivity target offset) = refl
 from_schedule start (command.ShiftAll offset) = refl
 from_schedule start command.SummarizeAll = refl
+
+-- and an insert
+from_insert : (start : ℕ) (given : Command) → is_insert (command_from start given) ≡ is_insert given
+from_insert start (command.Plain service subtype) = refl
+from_insert start command.EnableSchedule = refl
+from_insert start command.DisableSchedule = refl
+from_insert start command.ResetSchedule = refl
+from_insert start (command.InsertActivities rides) = refl
+from_insert start (command.DeleteActivity target) = refl
+from_insert start (command.ShiftActivity target offset) = refl
+from_insert start (command.ShiftAll offset) = refl
+from_insert start command.SummarizeAll = refl
+
+-- the number of the request that a line becomes
+abbrev pub number_from : ℕ → ℕ → ℕ
+number_from start line = start + line - 1
+
+-- it names those requests that its lines become
+from_targets : (start : ℕ) (given : Command) → targets_of (command_from start given) ≡ map (number_from start) (targets_of given)
+from_targets start (command.Plain service subtype) = refl
+from_targets start command.EnableSchedule = refl
+from_targets start command.DisableSchedule = refl
+from_targets start command.ResetSchedule = refl
+from_targets start (command.InsertActivities rides) = each rides
+  where
+    each : (xs : List Ride) → map ridden (map (ride_from start) xs) ≡ map (number_from start) (map ridden xs)
+    each [] = refl
+    each (x ∷ xs) = ap (λ l. number_from start x.target ∷ l) (each xs)
+from_targets start (command.DeleteActivity target) = refl
+from_targets start (command.ShiftActivity target offset) = refl
+from_targets start (command.ShiftAll offset) = refl
+from_targets start command.SummarizeAll = refl
+
+-- which are as many, each once where each line is named once
+twice_from : (start : ℕ) (lines : List ℕ) → 0 < start → has_twice (map (number_from start) lines) ≡ has_twice lines
+twice_from start [] some = refl
+twice_from start (line ∷ lines) some = ap₂ (λ a b. a || b) (each lines) (twice_from start lines some)
+  where
+    same : (n : ℕ) → (number_from start n == number_from start line) ≡ (n == line)
+    same n = grind (arith, nat_tests)
+
+    each : (ns : List ℕ) → list_any (λ m. m == number_from start line) (map (number_from start) ns) ≡ list_any (λ m. m == line) ns
+    each [] = refl
+    each (n ∷ ns) = ap₂ (λ a b. a || b) (same n) (each ns)
 
 pub from_keeps : (start : ℕ) (entry : Form) → KeepsScheduleRule entry → KeepsScheduleRule (entry_from start entry)
 from_keeps start entry keeps = record {
@@ -131,47 +177,57 @@ module _ (stamp : Stamp) (name : List ℕ) (book : Book) (rows : List StackRow) 
   taken = let len = length-take k rows in grind (arith, len, low)
 
   -- the request of an earlier line is among those that were entered, and may be named
-  named_there : (given : Command) (t : ℕ) → (0 < t) × (t < k + 1) → is_barred given (at_line rows t) ≡ false
-      → ((row : StackRow) → is_barred given (Some row) ≡ (is_schedule row.entry.command || (is_insert given && not row.entry.ack.acceptance)))
-      → IsSomeAnd (request_in at.requests (start + t - 1)) (λ named. (is_schedule named.body.command || (is_insert given && not named.body.ack.acceptance)) ≡ false)
-  named_there given t within may same =
+  named_there : (given : Command) (t : ℕ) → IsEarlier (1 + k) t → is_barred given (at_line rows t) ≡ false → IsGoodTarget at.requests given (start + t - 1)
+  named_there given t within may =
       let some = within.0 in
       let less = within.1 in
       let front : t - 1 < length (take k rows) = omega (arith, taken, some, less) in
       let number : length book.requests + (t - 1) + 1 ≡ start + t - 1 = omega (arith, some) in
       let row : get_or (take k rows) (t - 1) d ≡ get_or rows (t - 1) d = get_or-take k rows (t - 1) d (omega (arith, some, less)) in
       let is : is_barred given (Some (get_or rows (t - 1) d)) ≡ false = subst (λ found. is_barred given found ≡ false) (line_found rows t d some (omega (arith, less, low))) may in
-      subst (λ n. IsSomeAnd (request_in at.requests n) (λ named. (is_schedule named.body.command || (is_insert given && not named.body.ack.acceptance)) ≡ false)) number
+      subst (IsGoodTarget at.requests given) number
       (some_so (request_in at.requests (length book.requests + (t - 1) + 1)) (rows_became stamp name start 1 book (take k rows) (t - 1) d front)
-      (λ r made. may_name stamp name start (1 + (t - 1)) given (get_or (take k rows) (t - 1) d) r made (rw row (sym (same (get_or rows (t - 1) d)) ∙ is))))
+      (λ r made. may_name stamp name start (1 + (t - 1)) given (get_or (take k rows) (t - 1) d) r made (rw row is)))
     where
       some_so : {P Q : Request → Type 0} (found : Option Request) → IsSomeAnd found P → ((r : Request) → P r → Q r) → IsSomeAnd found Q
       some_so None there so = absurd there
       some_so (Some r) there so = so r there
 
+  -- so are those of earlier lines
+  all_there : (given : Command) (lines : List ℕ) → AllByRecursion (IsEarlier (1 + k)) lines → list_any (is_barred_line rows given) lines ≡ false
+      → AllByRecursion (IsGoodTarget at.requests given) (map (number_from start) lines)
+  all_there given [] before may = tt
+  all_there given (line ∷ lines) before may =
+      let parts = or_parts (is_barred_line rows given line) (list_any (is_barred_line rows given) lines) may in
+      (named_there given line before.0 parts.0, all_there given lines before.1 parts.1)
+
   -- what the next row names was entered before it, and may be named
-  pub next_target : HasGoodTarget at.requests (command_from start d.entry.command)
-  next_target = subst (λ (row : StackRow). HasGoodTarget at.requests (command_from start row.entry.command)) (sym here) (by_command (get_or rows k d).entry.command is.target may)
+  pub next_targets : HasGoodTargets at.requests (command_from start d.entry.command)
+  next_targets = subst (λ (row : StackRow). HasGoodTargets at.requests (command_from start row.entry.command)) (sym here) (record {
+    each = subst (AllByRecursion (IsGoodTarget at.requests (command_from start given))) (sym (from_targets start given)) (as_from (map (number_from start) (targets_of given)) (all_there given (targets_of given) is.targets parts.0));
+    once = ap has_twice (from_targets start given) ∙ twice_from start (targets_of given) (omega arith) ∙ parts.1;
+  })
     where
+      given : Command
+      given = (get_or rows k d).entry.command
+
       is : IsRow (1 + k) (get_or rows k d)
       is = row_at 1 rows k d low stack.each
 
-      may : is_barred (get_or rows k d).entry.command (named_row rows (named_line (get_or rows k d).entry.command)) ≡ false
-      may = all_at (λ row. names_barred rows row ≡ false) rows k d low (barred_none rows 1 rows stack.targets)
+      parts : (list_any (is_barred_line rows given) (targets_of given) ≡ false) × (has_twice (targets_of given) ≡ false)
+      parts = or_parts (list_any (is_barred_line rows given) (targets_of given)) (has_twice (targets_of given)) (all_at (λ row. names_barred rows row ≡ false) rows k d low (barred_none rows 1 rows stack.targets))
 
-      earlier : (t : ℕ) → IsEarlier (1 + k) t → (0 < t) × (t < k + 1)
-      earlier t h = let some = h.0 in let less = h.1 in (some, omega (arith, less))
+      -- who may be named by the one may be named by the other
+      may_from : (named : Request) → is_bad_activity given named ≡ false → is_bad_activity (command_from start given) named ≡ false
+      may_from named may = ap (λ t. is_schedule named.body.command || (t && not named.body.ack.acceptance)) (from_insert start given) ∙ may
 
-      by_command : (given : Command) → IfSome (named_line given) (IsEarlier (1 + k)) → is_barred given (named_row rows (named_line given)) ≡ false → HasGoodTarget at.requests (command_from start given)
-      by_command (command.Plain service subtype) before ok = tt
-      by_command command.EnableSchedule before ok = tt
-      by_command command.DisableSchedule before ok = tt
-      by_command command.ResetSchedule before ok = tt
-      by_command (command.InsertActivity target time) before ok = named_there (command.InsertActivity target time) target (earlier target before) ok (λ row. refl)
-      by_command (command.DeleteActivity target) before ok = named_there (command.DeleteActivity target) target (earlier target before) ok (λ row. refl)
-      by_command (command.ShiftActivity target offset) before ok = named_there (command.ShiftActivity target offset) target (earlier target before) ok (λ row. refl)
-      by_command (command.ShiftAll offset) before ok = tt
-      by_command command.SummarizeAll before ok = tt
+      by_found : (found : Option Request) → IsSomeAnd found (λ named. is_bad_activity given named ≡ false) → IsSomeAnd found (λ named. is_bad_activity (command_from start given) named ≡ false)
+      by_found None there = absurd there
+      by_found (Some named) there = may_from named there
+
+      as_from : (numbers : List ℕ) → AllByRecursion (IsGoodTarget at.requests given) numbers → AllByRecursion (IsGoodTarget at.requests (command_from start given)) numbers
+      as_from [] all = tt
+      as_from (n ∷ numbers) all = (by_found (request_in at.requests n) all.0, as_from numbers all.1)
 
   -- the next row goes on with its stack
   pub next_origin : has_stack name book.requests ≡ false → IsName name → IsGoodOrigin at.requests stamp.by (origin_of name (k + 1) d)
@@ -210,17 +266,27 @@ module _ (stamp : Stamp) (name : List ℕ) (book : Book) (rows : List StackRow) 
           (some_so (request_in at.requests (length book.requests + (k - 1) + 1)) (rows_became stamp name start 1 book (take k rows) (k - 1) d front)
           (λ r made. next (k - 1) (get_or (take k rows) (k - 1) d) r (omega (arith, some)) made)))
 
--- what a row names is a line that a stack can have
-pub next_named : (rows : List StackRow) → IsStack rows → (k : ℕ) (row : StackRow) → k < length rows → row ≡ get_or rows k row → IfSome (named_line row.entry.command) IsWithin
-next_named rows stack k row low here = subst (λ (r : StackRow). IfSome (named_line r.entry.command) IsWithin) (sym here) (by_line (named_line (get_or rows k row).entry.command) (row_at 1 rows k row low stack.each).target)
+-- what a row names are lines that a stack can have
+pub next_named : (rows : List StackRow) → IsStack rows → (k : ℕ) (row : StackRow) → k < length rows → row ≡ get_or rows k row → AllByRecursion IsWithin (targets_of row.entry.command)
+next_named rows stack k row low here =
+    subst (λ (r : StackRow). AllByRecursion IsWithin (targets_of r.entry.command)) (sym here) (by_lines (targets_of (get_or rows k row).entry.command) (row_at 1 rows k row low stack.each).targets)
   where
-    by_line : (line : Option ℕ) → IfSome line (IsEarlier (1 + k)) → IfSome line IsWithin
-    by_line None before = tt
-    by_line (Some t) before =
-        let some = before.0 in
-        let less = before.1 in
+    by_lines : (lines : List ℕ) → AllByRecursion (IsEarlier (1 + k)) lines → AllByRecursion IsWithin lines
+    by_lines [] before = tt
+    by_lines (line ∷ lines) before =
+        let some = before.0.0 in
+        let less = before.0.1 in
         let most = stack.few in
-        (some, omega (arith, less, most, low))
+        ((some, omega (arith, less, most, low)), by_lines lines before.1)
+
+-- an activity of a row names one of them
+pub ride_within : (rides : List Ride) (i : ℕ) (ride : Ride) → i < length rides → ride ≡ get_or rides i ride → AllByRecursion IsWithin (map ridden rides) → IsWithin ride.target
+ride_within rides i ride low is all = subst (λ (r : Ride). IsWithin r.target) (sym is) (at rides i low all)
+  where
+    at : (xs : List Ride) (j : ℕ) → j < length xs → AllByRecursion IsWithin (map ridden xs) → IsWithin (get_or xs j ride).target
+    at [] j inside each = absurd (omega arith)
+    at (x ∷ xs) zero inside each = each.0
+    at (x ∷ xs) (suc j) inside each = at xs j (omega arith) each.1
 
 -- ---- approvals
 

@@ -9,11 +9,11 @@ use Rattle.tc_types.specs.declared.requests.Request.{Request}
 use Rattle.tc_types.specs.declared.tables.rows.StackApproval.{StackApproval}
 use Rattle.tc_types.specs.Tests.{first_refusal}
 use Rattle.tc_stack.specs.Approvals.{ApprovalState, IsApproval, refusal_of}
+use Rattle.tc_types.proofs.RideLemmas.{each_appended}
 use Rattle.tc_book.specs.Acts.{approval_tests}
 use Rattle.tc_book.specs.GoodApprovals.{AreGoodStackApprovals, MayApproveStack}
 use Rattle.tc_book.specs.Known.{approved_book}
 use Rattle.tc_book.specs.Stacks.{has_critical_row, has_stack, is_in_stack, stack_approval_at, stack_approvers_of}
-use Rattle.tc_book.proofs.ApprovalLemmas.{all_appended}
 use Rattle.tc_book.proofs.StackLemmas.{name_itself, stacks_given, approvers_split, next_may}
 
 -- what is found is among them
@@ -59,7 +59,7 @@ pub stack_more : (requests : List Request) (approvals : List StackApproval) (k :
     → AreGoodStackApprovals requests (take k approvals) → AreGoodStackApprovals requests (take (k + 1) approvals)
 stack_more requests approvals k a within is may before =
     subst (AreGoodStackApprovals requests) (sym (take_more approvals k a within ∙ ap (λ (x : StackApproval). take k approvals ++ x ∷ []) (sym is))) (record {
-      named = all_appended (λ (x : StackApproval). has_stack x.stack requests ≡ true) (take k approvals) a before.named may.0;
+      named = each_appended (λ (x : StackApproval). has_stack x.stack requests ≡ true) (take k approvals) a before.named may.0;
       approved = stacks_given requests (take k approvals) a.stack a.person may.1 before.approved;
     })
 

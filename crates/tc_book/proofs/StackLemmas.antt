@@ -16,10 +16,11 @@ use Rattle.tc_types.specs.Names.{is_same_name}
 use Rattle.tc_types.specs.Tests.{first_refusal}
 use Rattle.tc_stack.specs.Approvals.{ApprovalState, IsApproval, is_same_person, is_complete, approved, unapproved, refusal_of}
 use Rattle.tc_stack.proofs.ApprovalLemmas.{neither, same_turned, unapproved_sound, unrefused_sound}
+use Rattle.tc_types.proofs.RideLemmas.{each_appended}
 use Rattle.tc_book.specs.Book.{Book}
 use Rattle.tc_book.specs.Acts.{approval_tests, completes}
 use Rattle.tc_book.specs.Stacks.{is_row_of, is_in_stack, has_critical_row, stack_approvers_of, stack_approval_at, with_stack_approval, is_stack_approved}
-use Rattle.tc_book.proofs.ApprovalLemmas.{all_appended, still_complete}
+use Rattle.tc_book.proofs.ApprovalLemmas.{still_complete}
 
 -- two names that are the same
 pub same_name : (a b : List ℕ) → is_same_name a b ≡ true → a ≡ b
@@ -181,7 +182,7 @@ sound_given (Some s) person sound may = unrefused_sound s person sound may
 pub stacks_given : (requests : List Request) (approvals : List StackApproval) (name person : List ℕ) → first_refusal (approval_tests person (state_in requests approvals name)) ≡ None
     → AllByRecursion (λ (a : StackApproval). IfSome (state_in requests approvals a.stack) IsApproval) approvals
     → AllByRecursion (λ (a : StackApproval). IfSome (state_in requests (approvals ++ given_to name person ∷ []) a.stack) IsApproval) (approvals ++ given_to name person ∷ [])
-stacks_given requests approvals name person may all = all_appended (λ (a : StackApproval). IfSome (state_in requests (approvals ++ given_to name person ∷ []) a.stack) IsApproval) approvals (given_to name person) (each approvals) (one name)
+stacks_given requests approvals name person may all = each_appended (λ (a : StackApproval). IfSome (state_in requests (approvals ++ given_to name person ∷ []) a.stack) IsApproval) approvals (given_to name person) (each approvals) (one name)
   where
     by_name : (whose : List ℕ) (t : Bool) → is_same_name name whose ≡ t
         → IfSome (if t then option_map (approved person) (state_in requests approvals whose) else state_in requests approvals whose) IsApproval

@@ -1,6 +1,7 @@
 -- Each act on the book: its tests, with the refusal that each gives, in order; what it does to the book; and the first
 -- line of its reply. An act is one case of each of these. Beside them the tests of each question.
 use Rattle.std.specs.Prelude.{ℕ, ◌+◌, Bool, false, not, ◌||◌, if◌then◌else◌, is_none, Option, Some, None, List, [], ◌∷◌, ◌++◌, length, fold}
+use Rattle.std.specs.List.{list_any}
 use Rattle.std.specs.Option.{option_map_or}
 use Rattle.tc_types.specs.declared.history.places.Place.TheVariants.{Entered, Approved, Confirmed, Riding, Scheduled, Accepted, Started, Doubtful, Withdrawn, Closed}
 use Rattle.tc_types.specs.declared.history.causes.Cause.TheVariants as cause
@@ -15,21 +16,24 @@ use Rattle.tc_book.specs.declared.stamps.Stamp.{Stamp}
 use Rattle.tc_book.specs.declared.firsts.First.{First}
 use Rattle.tc_book.specs.declared.firsts.First.TheVariants as first
 use Rattle.tc_book.specs.Book.{Book, stands, is_unknown, request_at, next_identity, is_identity_in_use, has_all_requests, has_all_rows, want, moved, with_entry, approval_at, with_approval}
+use Rattle.tc_types.specs.Schedule.{targets_of, has_twice}
 pub use Rattle.tc_types.specs.Tests.{first_refusal}
 use Rattle.tc_stack.specs.Approvals.{ApprovalState, approved, is_complete, wanted}
 use Rattle.tc_stack.specs.Approvals as approval
-use Rattle.tc_book.specs.Targets.{target_of, is_bad_activity}
+use Rattle.tc_book.specs.Targets.{is_bad_activity}
 use Rattle.tc_book.specs.Stacks.{is_loaded, came_with_stack, numbers_in_stack, stack_approval_at, with_stack_approval}
 use Rattle.tc_proc.specs.Logs.{begin_tests, with_execution, execution_at}
 
+-- one of the requests that a command names was never entered
 abbrev pub names_unknown : Book → Command → Bool
-names_unknown book given = option_map_or (is_unknown book) (target_of given) false
+names_unknown book given = list_any (is_unknown book) (targets_of given)
 
 abbrev pub bad_activity_at : Book → Command → ℕ → Bool
 bad_activity_at book given n = option_map_or (is_bad_activity given) (request_at book n) false
 
+-- one of them is not one that it may name, or it names one twice
 abbrev pub names_bad_activity : Book → Command → Bool
-names_bad_activity book given = option_map_or (bad_activity_at book given) (target_of given) false
+names_bad_activity book given = list_any (bad_activity_at book given) (targets_of given) || has_twice (targets_of given)
 
 -- who may not approve a request or a stack: its author, and who approved it already
 abbrev pub approval_tests : List ℕ → Option ApprovalState → List (Bool × Refusal)

@@ -18,7 +18,7 @@ use Rattle.tc_book.specs.Book.{Book, form_of, next_identity, request_in, approva
 use Rattle.tc_book.specs.Opening.{HasNumbers}
 use Rattle.tc_book.specs.Persons.{NamesPersons}
 use Rattle.tc_book.specs.Stacks.{has_stack, came_alone, stack_approval_at, is_fully_approved, begins_stack}
-use Rattle.tc_book.specs.Targets.{HasGoodTarget}
+use Rattle.tc_book.specs.Targets.{HasGoodTargets}
 
 -- the row on a line goes on with the stack of the request before it, by the same author
 pub record IsNextRow (author : List ℕ) (origin : Origin) (before : Request) : Type 0 where
@@ -35,13 +35,13 @@ pub record IsGoodOrigin (before : List Request) (author : List ℕ) (origin : Or
 
 -- One request that may follow these: it has the next number, and the next identity of its application process; what was
 -- written down of it is an entry: its numbers are in their ranges, and a schedule command asks for its completion and
--- completes; the request that a command names was entered before it, is plain, and asks for its acceptance where it is to
--- be inserted; and a row of a stack is the next one of it.
+-- completes; each request that a command names was entered before it, is plain, asks for its acceptance where it is to be
+-- inserted, and is named once; and a row of a stack is the next one of it.
 pub record IsGoodRequest (before : List Request) (request : Request) : Type 0 where
   pub number : request.number ≡ length before + 1
   pub identity : request.body.identity ≡ next_identity before request.body.identity.apid
   pub entry : IsEntry (form_of request)
-  pub target : HasGoodTarget before request.body.command
+  pub targets : HasGoodTargets before request.body.command
   pub origin : IfSome request.origin (IsGoodOrigin before request.author)
 
 -- The history is good; each request may follow those before it; there are no more than a desk takes; those that the history enters

@@ -1,25 +1,20 @@
 -- How an opening moves one request, by where it stands now and by which requests have an insert that never left.
-use Rattle.std.specs.Prelude.{ℕ, ◌==◌, Bool, ◌&&◌, ◌||◌, if◌then◌else◌, Option, None, List, [], ◌∷◌}
+use Rattle.std.specs.Prelude.{ℕ, ◌==◌, Bool, ◌&&◌, ◌||◌, if◌then◌else◌, Option, List, [], ◌∷◌}
 use Rattle.std.specs.List.{list_any}
 use Rattle.tc_types.specs.declared.history.places.Place.{Place}
 use Rattle.tc_types.specs.declared.history.places.Place.TheVariants.{Approved, Queued, Riding, Doubtful}
 use Rattle.tc_types.specs.declared.history.causes.Cause.TheVariants as cause
 use Rattle.tc_types.specs.declared.history.moves.Move.{Move}
-use Rattle.tc_types.specs.declared.requests.Command.{Command}
 use Rattle.tc_types.specs.declared.requests.Request.{Request}
 use Rattle.tc_types.specs.Lawful.{is_among}
 use Rattle.tc_types.specs.History.{place_of}
+use Rattle.tc_types.specs.Schedule.{inserted}
 use Rattle.tc_book.specs.Book.{Book, place_in, stands, want, moved}
 use Rattle.tc_book.specs.Opening.{opened_places, desk_stamp}
-use Rattle.tc_book.specs.Targets.{is_insert, target_of}
 
--- the request that a command inserts, if it inserts one
-abbrev pub inserted : Command → Option ℕ
-inserted given = if is_insert given then target_of given else None
-
--- the request that a request inserts, if it does and stands at Queued
-abbrev pub held_by : List Move → Request → Option ℕ
-held_by history r = if is_among (Queued ∷ []) (place_of history r.number) then inserted r.body.command else None
+-- the requests that a request inserts, where it does and stands at Queued
+abbrev pub held_by : List Move → Request → List ℕ
+held_by history r = if is_among (Queued ∷ []) (place_of history r.number) then inserted r.body.command else []
 
 -- a number is among these
 abbrev pub has_number : List ℕ → ℕ → Bool

@@ -12,11 +12,13 @@ pub mod Loads
 pub mod Interlocks
 pub mod Logs
 pub mod Steps
+pub mod Cargoes
 pub mod Tables
 pub mod Opening
 pub mod Held
 pub mod Sound
 pub mod Known
+pub mod Joining
 pub mod GoodApprovals
 pub mod SoundParts
 pub mod Answers

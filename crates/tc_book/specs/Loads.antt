@@ -1,6 +1,6 @@
 -- The load of a stack: its tests, with the refusal that each gives, in order; what it does to the book; and the first line of its
 -- reply. All rows are entered, one after the other, or none.
-use Rattle.std.specs.Prelude.{ℕ, ◌+◌, ◌-◌, ◌%◌, ◌<◌, ◌≤◌, ◌==◌, Bool, false, ◌||◌, nat_le, nat_lt, Some, List, [], ◌∷◌, length, count_by}
+use Rattle.std.specs.Prelude.{ℕ, ◌+◌, ◌-◌, ◌%◌, ◌<◌, ◌≤◌, ◌==◌, Bool, false, ◌||◌, nat_le, nat_lt, Some, List, [], ◌∷◌, length, map, count_by}
 use Rattle.tc_types.specs.declared.refusals.Refusal.{Refusal}
 use Rattle.tc_types.specs.declared.refusals.Refusal.TheVariants.{NameUsed, IdentityInUse, DeskFull}
 use Rattle.tc_types.specs.declared.requests.Command.{Command}
@@ -9,6 +9,7 @@ use Rattle.tc_types.specs.declared.requests.Form.{Form}
 use Rattle.tc_types.specs.declared.requests.Identity.{Identity}
 use Rattle.tc_types.specs.declared.requests.Origin.{Origin}
 use Rattle.tc_types.specs.declared.requests.Request.{Request}
+use Rattle.tc_types.specs.declared.rides.Ride.{Ride}
 use Rattle.tc_types.specs.Limits.{most_requests, most_stacks, most_stack_rows}
 use Rattle.tc_stack.specs.declared.stacks.StackRow.{StackRow}
 use Rattle.tc_book.specs.declared.stamps.Stamp.{Stamp}
@@ -22,9 +23,13 @@ use Rattle.tc_book.specs.Stacks.{is_loaded, begins_stack}
 abbrev pub IsWithin : ℕ → Type 0
 IsWithin line = (0 < line) × (line ≤ most_stack_rows)
 
--- a command of a row, with the number of the request that the named line becomes in place of the line; line 1 becomes this request
+-- an activity of a row, with the number of the request that the named line becomes in place of the line; line 1 becomes this request
+abbrev pub ride_from : ℕ → Ride → Ride
+ride_from start r = record r { target = start + r.target - 1 }
+
+-- a command of a row, with these numbers in place of the lines that it names
 abbrev pub command_from : ℕ → Command → Command
-command_from start (command.InsertActivity target time) = command.InsertActivity (start + target - 1) time
+command_from start (command.InsertActivities rides) = command.InsertActivities (map (ride_from start) rides)
 command_from start (command.DeleteActivity target) = command.DeleteActivity (start + target - 1)
 command_from start (command.ShiftActivity target offset) = command.ShiftActivity (start + target - 1) offset
 command_from start given = given

@@ -1,8 +1,7 @@
 -- What an opening makes of a book that was left (this desk's own): of what was on its way nobody knows any more what became of it, and
 -- what never left the desk goes back.
-use Rattle.std.specs.Prelude.{ℕ, ◌+◌, ◌<◌, ◌^◌, ◌==◌, Bool, false, ◌&&◌, ◌||◌, if◌then◌else◌, List, [], ◌∷◌, fold, length, count_by}
+use Rattle.std.specs.Prelude.{ℕ, ◌+◌, ◌<◌, ◌^◌, ◌==◌, Bool, ◌&&◌, ◌||◌, if◌then◌else◌, List, [], ◌∷◌, fold, length, count_by}
 use Rattle.std.specs.List.{list_any}
-use Rattle.std.specs.Option.{option_map_or}
 use Rattle.tc_types.specs.declared.history.places.Place.{Place}
 use Rattle.tc_types.specs.declared.history.places.Place.TheVariants.{Approved, Queued, Sent, Confirmed, Riding, Scheduled, Accepted, Started, Doubtful}
 use Rattle.tc_types.specs.declared.history.causes.Cause.TheVariants as cause
@@ -10,9 +9,9 @@ use Rattle.tc_types.specs.declared.requests.Command.{Command}
 use Rattle.tc_types.specs.declared.requests.Request.{Request}
 use Rattle.tc_types.specs.Lawful.{is_one_of}
 use Rattle.tc_types.specs.Names.{desk_name}
+use Rattle.tc_types.specs.Schedule.{inserted}
 use Rattle.tc_book.specs.declared.stamps.Stamp.{Stamp}
 use Rattle.tc_book.specs.Book.{Book, stands, want, moved}
-use Rattle.tc_book.specs.Targets.{is_insert, target_of}
 
 -- the places of what was on its way, or still waited to leave
 abbrev pub opened_places : List Place
@@ -24,7 +23,7 @@ is_opened place = is_one_of opened_places place
 
 -- this command inserts request n into the on-board schedule
 abbrev pub inserts : ℕ → Command → Bool
-inserts n given = is_insert given && option_map_or (λ target. target == n) (target_of given) false
+inserts n given = list_any (λ m. m == n) (inserted given)
 
 -- an insert of request n never left: it stands at Queued
 abbrev pub is_held : Book → ℕ → Bool

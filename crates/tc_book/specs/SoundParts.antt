@@ -1,7 +1,7 @@
 -- Which tables a desk could have written, in three parts: the history and the requests with what is read from them, the approvals and the
 -- persons, and the log.
 use Rattle.std.specs.Prelude.{◌≡◌, ◌≤◌, true, IfSome, [], length, map, count_by}
-use Rattle.std.specs.List.{AllByRecursion}
+use Rattle.std.specs.List.{AllByRecursion, flat_map}
 use Rattle.tc_types.specs.declared.history.causes.Cause.TheVariants.{Approve}
 use Rattle.tc_types.specs.declared.history.moves.Move.{Move}
 use Rattle.tc_types.specs.declared.requests.Request.{Request}
@@ -11,6 +11,7 @@ use Rattle.tc_types.specs.Tables.{Image, tallies_by}
 use Rattle.tc_types.specs.Limits.{most_requests, most_stacks}
 use Rattle.tc_stack.specs.Approvals.{IsApproval}
 use Rattle.tc_proc.specs.GoodLogs.{NamesEntered}
+use Rattle.tc_book.specs.Cargoes.{alone, cargo_of}
 use Rattle.tc_book.specs.Good.{IsGoodRequest}
 use Rattle.tc_book.specs.Opening.{HasNumbers}
 use Rattle.tc_book.specs.Persons.{NamesPersons}
@@ -21,18 +22,18 @@ use Rattle.tc_book.specs.Tables.{placed}
 -- the history is good; the requests' places and the tallies are as it leaves them; and the rows of an opening still find numbers
 pub record IsSoundPast (image : Image) : Type 0 where
   pub history : IsGoodHistory image.moves
-  pub placed : image.requests ≡ map (placed image.moves) (book_of image).requests
+  pub placed : image.requests ≡ map (placed image.moves) (map alone (book_of image).requests)
   pub tallied : image.tallies ≡ tallies_by (count_at image.moves)
   pub numbers : HasNumbers (book_of image)
 
 -- each request may follow those before it, there are no more of them, and no more stacks, than a desk takes, the table of stacks says
--- which they came with, and none has cargo
+-- which they came with, and the rows of cargo which activities they name behind the first
 pub record HasSoundRequests (image : Image) : Type 0 where
   pub requests : AllAfter IsGoodRequest [] (book_of image).requests
   pub few : length (book_of image).requests ≤ most_requests
   pub few_stacks : count_by begins_stack (book_of image).requests ≤ most_stacks
   pub stacks : image.stacks ≡ stacks_of (book_of image).requests
-  pub cargo : image.cargo ≡ []
+  pub cargo : image.cargo ≡ flat_map cargo_of (book_of image).requests
 
 -- both, and the history enters the requests
 pub record IsSoundStart (image : Image) : Type 0 where

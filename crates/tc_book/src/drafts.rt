@@ -26,6 +26,8 @@ pub struct Needs {
     pub requests: usize,
     /// How many rows of the history it writes.
     pub rows: usize,
+    /// How many activities it enters behind the first of their inserts.
+    pub cargo: usize,
     /// How many rows of the log it writes.
     pub log: usize,
 }
@@ -35,6 +37,7 @@ impl Needs {
     pub const NONE: Needs = Needs {
         requests: 0,
         rows: 0,
+        cargo: 0,
         log: 0,
     };
 }
@@ -46,20 +49,22 @@ pub fn make_room<A: Allocator + Copy + Drop>(
     first: First,
     needs: Needs,
 ) -> Result<Draft<A>, AllocError>
-    requires { needs.requests + needs.rows + needs.log < 2 ^ 32 }
+    requires { needs.requests + needs.rows + needs.cargo + needs.log < 2 ^ 32 }
     ensures same { TellsTheSame records.old records.new }
     ensures first { IfOk result (λ draft. draft.first ≡ first) }
     ensures moves { IfOk result (λ draft. HasRoomFor needs.rows draft.moves) }
-    ensures batch { IfOk result (λ draft. HasRoomFor (batch_rows needs.requests needs.rows + needs.log) draft.batch) }
+    ensures batch { IfOk result (λ draft. HasRoomFor (batch_rows needs.requests needs.rows + needs.cargo + needs.log) draft.batch) }
     ensures room { OnOk result (HasRoom needs.requests needs.rows records.new) }
 {
     let Needs {
         requests,
         rows,
+        cargo,
         log,
     } = needs;
     let moves = Vec::with_capacity(alloc, rows)?;
-    let batch = Vec::with_capacity(alloc, requests + requests + rows + rows + log + PLACES + 2)?;
+    let entered = requests + requests + cargo;
+    let batch = Vec::with_capacity(alloc, entered + rows + rows + log + PLACES + 2)?;
     records.reserve(requests, rows)?;
     Ok(Draft {
         first,

@@ -6,6 +6,7 @@
 pub mod acts;
 mod approvals;
 mod batches;
+mod cargoes;
 mod counts;
 mod drafts;
 mod firsts;

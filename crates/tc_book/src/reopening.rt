@@ -2,6 +2,7 @@
 pub(crate) mod approvals;
 pub(crate) mod complete;
 pub(crate) mod history;
+pub(crate) mod joining;
 pub(crate) mod known;
 pub(crate) mod parts;
 pub(crate) mod persons;

@@ -31,13 +31,13 @@ why_subtype Other = codes "not 1 to 255 in plain digits"
 why_subtype _ = codes "not 1, 2, 3, 4, 5, 7, 15 or 17, which service 11 has"
 
 abbrev pub why_target : Sort → List ℕ
-why_target Insert = codes "not an earlier line"
+why_target Insert = codes "not 1 to 8 earlier lines, parted by ;"
 why_target Delete = codes "not an earlier line"
 why_target Shift = codes "not an earlier line"
 why_target _ = codes "not empty"
 
 abbrev pub why_time : Sort → List ℕ
-why_time Insert = codes "not an instant of whole seconds"
+why_time Insert = codes "not as many instants as targets, parted by ;"
 why_time Shift = codes "not seconds, -4102444799 to 4102444799"
 why_time ShiftAll = codes "not seconds, -4102444799 to 4102444799"
 why_time _ = codes "not empty"
@@ -51,7 +51,7 @@ why_outcome Other = codes "not an outcome, such as ok or halt/2/17, where a code
 why_outcome _ = codes "not ok, which service 11 wants"
 
 abbrev pub why_target_row : Sort → List ℕ
-why_target_row Insert = codes "a line of service 11, or one whose ack has no a"
+why_target_row Insert = codes "a line of service 11, one whose ack has no a, or one that is named twice"
 why_target_row _ = codes "a line of service 11"
 
 -- why a text of this kind breaks a rule, at a row that commands this

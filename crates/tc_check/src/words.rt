@@ -49,7 +49,8 @@ fn why_target(sort: Sort) -> &'static str
     ensures { result.now ≡ why_target sort }
 {
     match sort {
-        Sort::Insert | Sort::Delete | Sort::Shift => "not an earlier line",
+        Sort::Insert => "not 1 to 8 earlier lines, parted by ;",
+        Sort::Delete | Sort::Shift => "not an earlier line",
         _ => "not empty",
     }
 }
@@ -58,7 +59,7 @@ fn why_time(sort: Sort) -> &'static str
     ensures { result.now ≡ why_time sort }
 {
     match sort {
-        Sort::Insert => "not an instant of whole seconds",
+        Sort::Insert => "not as many instants as targets, parted by ;",
         Sort::Shift | Sort::ShiftAll => "not seconds, -4102444799 to 4102444799",
         _ => "not empty",
     }
@@ -82,12 +83,12 @@ fn why_outcome(sort: Sort) -> &'static str
     }
 }
 
-/// Why a command may not name the row that it names.
+/// Why a command may not name a row that it names.
 fn why_target_row(sort: Sort) -> &'static str
     ensures { result.now ≡ why_target_row sort }
 {
     match sort {
-        Sort::Insert => "a line of service 11, or one whose ack has no a",
+        Sort::Insert => "a line of service 11, one whose ack has no a, or one that is named twice",
         _ => "a line of service 11",
     }
 }

@@ -24,7 +24,8 @@ use std::io::{Read, Write};
 use tc_desk::Config;
 use tc_front::write_whole;
 use tc_room::{Answer, Room, answer_line, answer_load, answer_places};
-use tc_types::{Counted, Load, read_load};
+use tc_types::read::load_reader::read_load;
+use tc_types::{Counted, Load};
 
 /// How many bytes of a file are read: one more than a stack or a procedure may have, so that a longer one is refused as too long.
 pub(crate) const MOST_FILE_BYTES: usize = 65_537;

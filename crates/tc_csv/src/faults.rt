@@ -28,9 +28,9 @@ pub enum Rule {
     Service,
     /// The field is 1 to 255; for service 11, one of 1, 2, 3, 4, 5, 7, 15 and 17.
     Subtype,
-    /// The field is an earlier line where the command names a request, else it is empty.
+    /// The field is an earlier line where the command names a request, of an insert 1 to 8 of them, parted by `;`; else it is empty.
     Target,
-    /// The field is an instant of whole seconds for an insert, seconds for a shift, else it is empty.
+    /// The field is as many instants of whole seconds as targets for an insert, parted by `;`, seconds for a shift, else it is empty.
     Time,
     /// The field is four flags, `a`, `s`, `p`, `c` or `-` for each that is not set; a schedule command has `c`.
     Ack,
@@ -40,7 +40,7 @@ pub enum Rule {
     After,
     /// The field is an outcome, as `ok` or `halt/2/17`; for a schedule command, `ok`.
     Outcome,
-    /// The row that the target names holds no schedule command and, for an insert, asks for the report of its acceptance.
+    /// Each row that the target names holds no schedule command and, for an insert, asks for the report of its acceptance; none is named twice.
     TargetRow,
     /// The field is the number of its row, counted from 1: a step of a procedure.
     StepNumber,

@@ -1,7 +1,8 @@
 -- A request that comes on board with what the book says of it is one as the desk releases it.
-use Rattle.std.proofs.Common.{◌≡◌, ℕ, zero, suc, ◌+◌, ◌-◌, ◌==◌, Bool, true, false, not, ◌&&◌, ◌||◌, if◌then◌else◌, Option, Some, None, List, [], ◌∷◌, ◌++◌, length, refl, sym, ◌∙◌, ap, subst, append_assoc, arith}
+use Rattle.std.proofs.Common.{◌≡◌, ℕ, zero, suc, ◌+◌, ◌-◌, ◌==◌, Bool, true, false, not, ◌&&◌, ◌||◌, if◌then◌else◌, Option, Some, None, List, [], ◌∷◌, ◌++◌, length, map, refl, sym, ◌∙◌, ap, subst, append_assoc, arith}
 use Rattle.std.specs.Prelude.{IsSomeAnd}
-use Rattle.std.specs.List.{slice_get, list_any, AllByRecursion, cons_option}
+use Rattle.std.specs.List.{slice_get, list_any, AllByRecursion}
+use Rattle.std.specs.Option.{option_map}
 use Rattle.std.proofs.lemmas.List.{length-append}
 use Rattle.std.proofs.lemmas.Bool.Decides.{nat_tests}
 use Rattle.tc_types.specs.declared.link.activities.Activity.{Activity}
@@ -9,18 +10,21 @@ use Rattle.tc_types.specs.declared.requests.Body.{Body}
 use Rattle.tc_types.specs.declared.requests.Command.{Command}
 use Rattle.tc_types.specs.declared.requests.Command.TheVariants as command
 use Rattle.tc_types.specs.declared.requests.Request.{Request}
+use Rattle.tc_types.specs.declared.rides.Ride.{Ride}
 use Rattle.tc_types.specs.declared.link.telecommands.Payload.{Payload}
 use Rattle.tc_types.specs.declared.link.telecommands.ScheduleCommand.{ScheduleCommand}
+use Rattle.tc_types.specs.declared.link.telecommands.ScheduleCommand.TheVariants as schedule
 use Rattle.tc_types.specs.History.{AllAfter}
-use Rattle.tc_types.specs.Schedule.{is_schedule}
+use Rattle.tc_types.specs.Schedule.{is_schedule, ridden, inserted as inserted_by}
+use Rattle.tc_world.specs.Kept.{Each}
 use Rattle.tc_world.specs.Payloads.{IsOneOf}
 use Rattle.tc_board.specs.Follows.{IsActivityOf, command_in, inserted, IsRequestOf}
 use Rattle.tc_board.specs.Names.{Knows}
 use Rattle.tc_book.specs.Book.{Book, request_in, request_at}
 use Rattle.tc_book.specs.Good.{IsGoodBook, IsGoodRequest}
-use Rattle.tc_book.specs.Targets.{HasGoodTarget, is_bad_activity}
+use Rattle.tc_book.specs.Targets.{HasGoodTargets, IsGoodTarget, is_bad_activity}
 use Rattle.tc_desk.specs.Asks.{telecommand_of}
-use Rattle.tc_desk.specs.Commands.{activity_of, insert_of, flown_command, task_of, payload_of, command_of, inserted_by, activity_in, activity_at}
+use Rattle.tc_desk.specs.Commands.{activity_of, activities_of, both_of, flown_command, task_of, payload_of, command_of, activities_in, activities_at}
 use Rattle.tc_desk.specs.Followed.{identity_in, roll_of, IsPayloadOf, IsFlown}
 use Rattle.tc_desk.specs.Riders.{carried_by, NoneIsOf}
 use Rattle.tc_desk.proofs.RollOfLemmas.{one_of_more, one_of_behind, none_both}
@@ -57,14 +61,14 @@ request_in_front xs ys n r here = by_zero (n == 0) here
     by_zero false found = slice_get_front xs ys (n - 1) r found
 
 -- A request of a good book has its own number, and whoever its command names is one that it may name.
-record IsSoundIn (book : Book) (n : ℕ) (r : Request) : Type 0 where
+pub record IsSoundIn (book : Book) (n : ℕ) (r : Request) : Type 0 where
   pub number : r.number ≡ n
   pub front : List Request
   pub rest : List Request
   pub whole : book.requests ≡ front ++ rest
   pub good : IsGoodRequest front r
 
-sound_in : (book : Book) (n : ℕ) (r : Request) → IsGoodBook book → request_at book n ≡ Some r → IsSoundIn book n r
+pub sound_in : (book : Book) (n : ℕ) (r : Request) → IsGoodBook book → request_at book n ≡ Some r → IsSoundIn book n r
 sound_in book n r good here = by_zero (n == 0) refl here
   where
     by_zero : (t : Bool) → (n == 0) ≡ t → (if t then None else slice_get book.requests (n - 1)) ≡ Some r → IsSoundIn book n r
@@ -85,7 +89,7 @@ plain_flies book (command.Plain service subtype) plain = refl
 plain_flies book command.EnableSchedule plain = cc
 plain_flies book command.DisableSchedule plain = cc
 plain_flies book command.ResetSchedule plain = cc
-plain_flies book (command.InsertActivity target time) plain = cc
+plain_flies book (command.InsertActivities rides) plain = cc
 plain_flies book (command.DeleteActivity target) plain = cc
 plain_flies book (command.ShiftActivity target offset) plain = cc
 plain_flies book (command.ShiftAll offset) plain = cc
@@ -98,53 +102,50 @@ asks_acceptance false true fit = (refl, refl)
 asks_acceptance false false fit = cc
 
 -- who is named by an insert among these is plain and asks for its acceptance
-target_fits : (book : Book) (front rest : List Request) (target time : ℕ) (named : Request) → book.requests ≡ front ++ rest
-    → IsSomeAnd (request_in front target) (λ r. is_bad_activity (command.InsertActivity target time) r ≡ false) → request_at book target ≡ Some named
+target_fits : (book : Book) (front rest : List Request) (rides : List Ride) (target : ℕ) (named : Request) → book.requests ≡ front ++ rest
+    → IsGoodTarget front (command.InsertActivities rides) target → request_at book target ≡ Some named
     → (is_schedule named.body.command ≡ false) × (named.body.ack.acceptance ≡ true)
-target_fits book front rest target time named whole fit here = by_found (request_in front target) refl fit
+target_fits book front rest rides target named whole fit here = by_found (request_in front target) refl fit
   where
     some_same : {a b : Request} → ◌≡◌ {A = Option Request} (Some a) (Some b) → a ≡ b
     some_same e = cc
 
-    by_found : (found : Option Request) → request_in front target ≡ found → IsSomeAnd found (λ r. is_bad_activity (command.InsertActivity target time) r ≡ false)
+    by_found : (found : Option Request) → request_in front target ≡ found → IsSomeAnd found (λ r. is_bad_activity (command.InsertActivities rides) r ≡ false)
         → (is_schedule named.body.command ≡ false) × (named.body.ack.acceptance ≡ true)
     by_found None e there = absurd there
     by_found (Some r) e there =
         let same : r ≡ named = some_same (sym (request_in_front front rest target r e) ∙ ap (λ requests. request_in requests target) (sym whole) ∙ here) in
-        asks_acceptance (is_schedule named.body.command) named.body.ack.acceptance (subst (λ (q : Request). is_bad_activity (command.InsertActivity target time) q ≡ false) same there)
+        asks_acceptance (is_schedule named.body.command) named.body.ack.acceptance (subst (λ (q : Request). is_bad_activity (command.InsertActivities rides) q ≡ false) same there)
 
--- the activity of one of these is carried
-carries_one : (book : Book) (xs : List ℕ) (n target : ℕ) → activity_at book n ≡ Some target → IsOneOf n xs → IsOneOf target (carried_by book xs)
-carries_one book [] n target names one = cc
-carries_one book (x ∷ xs) n target names one = by_test (x == n) refl one (carries_one book xs n target names)
+-- the activities of one of these are carried
+carries_all : (book : Book) (xs : List ℕ) (n : ℕ) (m : ℕ) → IsOneOf m (activities_at book n) → IsOneOf n xs → IsOneOf m (carried_by book xs)
+carries_all book [] n m names one = cc
+carries_all book (x ∷ xs) n m names one = by_test (x == n) refl one (carries_all book xs n m names)
   where
-    behind : (a : Option ℕ) → IsOneOf target (carried_by book xs) → IsOneOf target (cons_option a (carried_by book xs))
-    behind None h = h
-    behind (Some m) h = one_of_behind target (m ∷ []) (carried_by book xs) h
-
-    first : IsOneOf target (cons_option (Some target) (carried_by book xs))
-    first = let same : (target == target) ≡ true = grind (arith, nat_tests) in ap (λ t. t || list_any (λ (m : ℕ). m == target) (carried_by book xs)) same
-
-    by_test : (t : Bool) → (x == n) ≡ t → (t || list_any (λ (m : ℕ). m == n) xs) ≡ true → (IsOneOf n xs → IsOneOf target (carried_by book xs)) → IsOneOf target (cons_option (activity_at book x) (carried_by book xs))
+    by_test : (t : Bool) → (x == n) ≡ t → (t || list_any (λ (k : ℕ). k == n) xs) ≡ true → (IsOneOf n xs → IsOneOf m (carried_by book xs)) → IsOneOf m (activities_at book x ++ carried_by book xs)
     by_test true e h others =
-        let same : x ≡ n = grind (arith, nat_tests) in
-        subst (λ a. IsOneOf target (cons_option a (carried_by book xs))) (sym (ap (activity_at book) same ∙ names)) first
-    by_test false e h others = behind (activity_at book x) (others h)
+        let same : n ≡ x = grind (arith, nat_tests) in one_of_more m (activities_at book x) (carried_by book xs) (subst (λ k. IsOneOf m (activities_at book k)) same names)
+    by_test false e h others = one_of_behind m (activities_at book x) (carried_by book xs) (others h)
+
+-- each of these is one of them
+one_of_self : (all : List ℕ) (P : ℕ → Type 0) (xs : List ℕ) → ((m : ℕ) → IsOneOf m xs → IsOneOf m all) → ((m : ℕ) → IsOneOf m all → P m) → Each P xs
+one_of_self all P [] among holds = tt
+one_of_self all P (x ∷ xs) among holds =
+    let same : (x == x) ≡ true = grind (arith, nat_tests) in
+    (holds x (among x (ap (λ t. t || list_any (λ (m : ℕ). m == x) xs) same)), one_of_self all P xs (λ m one. among m (one_of_behind m (x ∷ []) xs one)) holds)
 
 -- ---- a request
 
 -- what is to stand in a command that flies: activities as the desk inserts them, of requests that ride
-record AreActivities (book : Book) (sent : List ℕ) (given : Option ScheduleCommand) : Type 0 where
-  pub are : AllByRecursion (IsActivityOf (roll_of book sent)) (inserted given)
-  pub flown : AllByRecursion (λ (a : Activity). IsFlown book sent a.request) (inserted given)
+record AreActivities (book : Book) (sent : List ℕ) (given : List Activity) : Type 0 where
+  pub are : AllByRecursion (IsActivityOf (roll_of book sent)) given
+  pub flown : AllByRecursion (λ (a : Activity). IsFlown book sent a.request) given
 
--- the activity of an insert
-insert_arrives : (book : Book) (sent : List ℕ) (target time : ℕ) (found : Option Request) → IsGoodBook book → request_at book target ≡ found
-    → ((named : Request) → found ≡ Some named → (is_schedule named.body.command ≡ false) × (named.body.ack.acceptance ≡ true))
-    → IsOneOf target (carried_by book sent) → AreActivities book sent (insert_of found time)
-insert_arrives book sent target time None good here fits carried = record { are = tt; flown = tt }
-insert_arrives book sent target time (Some named) good here fits carried =
-    let fit = fits named refl in
+-- one activity of an insert
+activity_arrives : (book : Book) (sent : List ℕ) (target time : ℕ) (named : Request) → IsGoodBook book → request_at book target ≡ Some named
+    → (is_schedule named.body.command ≡ false) × (named.body.ack.acceptance ≡ true)
+    → IsOneOf target (carried_by book sent) → IsActivityOf (roll_of book sent) (activity_of named time) × IsFlown book sent named.number
+activity_arrives book sent target time named good here fit carried =
     let number : named.number ≡ target = (sound_in book target named good here).number in
     let found : request_at book named.number ≡ Some named = ap (request_at book) number ∙ here in
     let rides : IsOneOf named.number (carried_by book sent) = subst (λ n. IsOneOf n (carried_by book sent)) (sym number) carried in
@@ -154,10 +155,30 @@ insert_arrives book sent target time (Some named) good here fits carried =
       plain = ap (command_of book) found ∙ plain_flies book named.body.command fit.0;
       acknowledged = fit.1;
     } in
-    record { are = (activity, tt); flown = (one_of_behind named.number sent (carried_by book sent) rides, tt) }
+    (activity, one_of_behind named.number sent (carried_by book sent) rides)
+
+-- what flies of an insert, where all of its activities do
+abbrev AreIn : Book → List ℕ → Option (List Activity) → Type 0
+AreIn book sent None = Unit {0}
+AreIn book sent (Some given) = AreActivities book sent given
+
+-- the activities of an insert, which stand among those of a whole insert
+all_arrive : (book : Book) (sent : List ℕ) (front rest : List Request) (all rides : List Ride) → IsGoodBook book → book.requests ≡ front ++ rest
+    → AllByRecursion (IsGoodTarget front (command.InsertActivities all)) (map ridden rides) → Each (λ (m : ℕ). IsOneOf m (carried_by book sent)) (map ridden rides)
+    → AreIn book sent (activities_of book rides)
+all_arrive book sent front rest all [] good whole fit carried = record { are = tt; flown = tt }
+all_arrive book sent front rest all (ride ∷ rides) good whole fit carried = by_found (request_at book ride.target) refl (activities_of book rides) (all_arrive book sent front rest all rides good whole fit.1 carried.1)
+  where
+    by_found : (found : Option Request) → request_at book ride.target ≡ found → (others : Option (List Activity)) → AreIn book sent others
+        → AreIn book sent (both_of (option_map (λ target. activity_of target ride.time) found) others)
+    by_found None e others more = tt
+    by_found (Some named) e None more = tt
+    by_found (Some named) e (Some others) more =
+        let one = activity_arrives book sent ride.target ride.time named good e (target_fits book front rest all ride.target named whole fit.0 e) carried.0 in
+        record { are = (one.0, more.are); flown = (one.1, more.flown) }
 
 -- the activities of a command that was sent
-command_arrives : (book : Book) (sent : List ℕ) (n : ℕ) (r : Request) (given : Command) → IsGoodBook book → request_at book n ≡ Some r → r.body.command ≡ given → IsOneOf n sent → AreActivities book sent (flown_command book given)
+command_arrives : (book : Book) (sent : List ℕ) (n : ℕ) (r : Request) (given : Command) → IsGoodBook book → request_at book n ≡ Some r → r.body.command ≡ given → IsOneOf n sent → AreActivities book sent (inserted (flown_command book given))
 command_arrives book sent n r (command.Plain service subtype) good here is one = record { are = tt; flown = tt }
 command_arrives book sent n r command.EnableSchedule good here is one = record { are = tt; flown = tt }
 command_arrives book sent n r command.DisableSchedule good here is one = record { are = tt; flown = tt }
@@ -166,11 +187,16 @@ command_arrives book sent n r (command.DeleteActivity target) good here is one =
 command_arrives book sent n r (command.ShiftActivity target offset) good here is one = record { are = tt; flown = tt }
 command_arrives book sent n r (command.ShiftAll offset) good here is one = record { are = tt; flown = tt }
 command_arrives book sent n r command.SummarizeAll good here is one = record { are = tt; flown = tt }
-command_arrives book sent n r (command.InsertActivity target time) good here is one =
+command_arrives book sent n r (command.InsertActivities rides) good here is one =
     let sound = sound_in book n r good here in
-    let may = subst (HasGoodTarget sound.front) is sound.good.target in
-    let names : activity_at book n ≡ Some target = ap activity_in here ∙ ap inserted_by is in
-    insert_arrives book sent target time (request_at book target) good refl (λ named e. target_fits book sound.front sound.rest target time named sound.whole may e) (carries_one book sent n target names one)
+    let may = subst (HasGoodTargets sound.front) is sound.good.targets in
+    let names : activities_at book n ≡ map ridden rides = ap activities_in here ∙ ap inserted_by is in
+    let carried = one_of_self (map ridden rides) (λ (m : ℕ). IsOneOf m (carried_by book sent)) (map ridden rides) (λ m there. there) (λ m there. carries_all book sent n m (subst (IsOneOf m) (sym names) there) one) in
+    by_flown (activities_of book rides) (all_arrive book sent sound.front sound.rest rides rides good sound.whole may.each carried)
+  where
+    by_flown : (flown : Option (List Activity)) → AreIn book sent flown → AreActivities book sent (inserted (option_map schedule.Insert flown))
+    by_flown None are = record { are = tt; flown = tt }
+    by_flown (Some given) are = are
 
 -- the command of a task is what flies
 task_command : (body : Body) (given : Option ScheduleCommand) → command_in (task_of body given) ≡ given
@@ -188,7 +214,7 @@ arrives book sent n body good apart is one = subst (λ (b : Payload). IsRequestO
     given : Option ScheduleCommand
     given = flown_command book r.body.command
 
-    activities : AreActivities book sent given
+    activities : AreActivities book sent (inserted given)
     activities = command_arrives book sent n r r.body.command good is.1 refl one
 
     request : IsRequestOf (roll_of book sent) (telecommand_of n (payload_of book r.body))

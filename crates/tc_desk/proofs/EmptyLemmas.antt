@@ -1,67 +1,76 @@
--- A reset makes at most one move for each activity that stands in the mirror, and none for one who stands nowhere in it.
-use Rattle.std.proofs.Common.{◌≡◌, ℕ, ◌+◌, ◌<◌, ◌≤◌, ◌==◌, Bool, true, false, if◌then◌else◌, ◌||◌, List, [], ◌∷◌, ◌++◌, length, take, get_or, fold, refl, ◌∙◌, ap, arith}
+-- A reset looks at all requests in turn. It makes at most one move for each activity that stands in the mirror, and none for one who
+-- stands nowhere in it.
+use Rattle.std.proofs.Common.{◌≡◌, ℕ, zero, suc, ◌+◌, ◌-◌, ◌<◌, ◌≤◌, ◌==◌, Bool, true, false, if◌then◌else◌, ◌||◌, min, List, [], ◌∷◌, length, take, get_or, fold, refl, sym, ◌∙◌, ap, subst, arith}
 use Rattle.std.proofs.lemmas.Bool.Decides.{nat_tests}
-use Rattle.std.proofs.lemmas.List.{take_more, length-take-le}
-use Rattle.std.proofs.lemmas.List.Sums.{fold-append}
 use Rattle.std.proofs.Math.Seq.{take-length}
 use Rattle.std.specs.List.{list_any}
+use Rattle.tc_types.specs.declared.history.places.Place.TheVariants as place
+use Rattle.tc_types.specs.declared.history.causes.Cause.TheVariants as cause
 use Rattle.tc_types.specs.declared.link.activities.ListedActivity.{ListedActivity}
-use Rattle.tc_world.specs.declared.events.LinkIndication.{LinkIndication}
+use Rattle.tc_types.specs.declared.requests.Request.{Request}
 use Rattle.tc_board.specs.Mirror.{MirrorState, is_listed_of}
 use Rattle.tc_book.specs.declared.stamps.Stamp.{Stamp}
-use Rattle.tc_book.specs.Book.{Book}
+use Rattle.tc_book.specs.Book.{Book, stands, want, moved}
 use Rattle.tc_book.specs.Places.{numbers_from}
-use Rattle.tc_book.proofs.KeptLemmas.{length-numbers, numbers-append}
 use Rattle.tc_book.specs.Records.{Kept}
-use Rattle.tc_desk.specs.Effects.{OnlyMoves, heard, heard_all, removed}
+use Rattle.tc_book.proofs.KeptLemmas.{length-numbers}
+use Rattle.tc_desk.specs.Effects.{MayHold, OnlyMoves, removed, emptied}
+use Rattle.tc_desk.proofs.GoesOnLemmas.{removed-goes_on}
+use Rattle.tc_desk.proofs.LoopLemmas.{grown, moved_rows, fold_more, room_in_turn}
 
--- ---- requests are moved, and then more
+-- ---- one request after the other
 
-pub moves_more : (some more most : ℕ) (old next new : Kept) → OnlyMoves some old next → OnlyMoves more next new → some + more ≤ most → OnlyMoves most old new
-moves_more some more most old next new first second within =
-    let before = first.rows in
-    let behind = second.rows in
-    let kept = first.rows_kept in
-    let still = second.rows_kept in record {
-      rows = omega (arith, before, behind, within);
-      rows_kept = omega (arith, kept, still);
-      requests = second.requests ∙ first.requests;
-      approvals = second.approvals ∙ first.approvals;
-      stack_approvals = second.stack_approvals ∙ first.stack_approvals;
-      log = second.log ∙ first.log;
-    }
+-- the book after so many requests were looked at
+abbrev pub removed_to : Stamp → MirrorState → Book → ℕ → Book
+removed_to stamp mirror book k = fold (removed stamp mirror) book (take k (numbers_from 1 book.requests))
 
-pub moves_none : (most : ℕ) (at : Kept) → OnlyMoves most at at
-moves_none most at = record { rows = omega arith; rows_kept = omega arith; requests = refl; approvals = refl; stack_approvals = refl; log = refl }
+-- the number that comes in turn
+number_at : {X : Type 0} (j : ℕ) (xs : List X) (k : ℕ) → k < length xs → get_or (numbers_from j xs) k 0 ≡ j + k
+number_at j [] k within = absurd (omega (arith, within))
+number_at j (x ∷ xs) zero within = omega arith
+number_at j (x ∷ xs) (suc k) within =
+    let others = number_at (j + 1) xs k (omega (arith, within)) in omega (arith, others)
 
-pub moves_within : (some most : ℕ) (old new : Kept) → OnlyMoves some old new → some ≤ most → OnlyMoves most old new
-moves_within some most old new moves within =
-    let rows = moves.rows in record {
-      rows = omega (arith, rows, within);
-      rows_kept = moves.rows_kept;
-      requests = moves.requests;
-      approvals = moves.approvals;
-      stack_approvals = moves.stack_approvals;
-      log = moves.log;
-    }
+number_in_turn : (requests : List Request) (n : ℕ) → 1 ≤ n → n < length requests + 1 → get_or (numbers_from 1 requests) (n - 1) 0 ≡ n
+number_in_turn requests n first on =
+    let at = number_at 1 requests (n - 1) (omega (arith, first, on)) in omega (arith, at, first)
 
--- ---- what is heard, one more in turn
+removed_grows : (stamp : Stamp) (mirror : MirrorState) (book : Book) (n : ℕ) → length book.history ≤ length (removed stamp mirror book n).history
+removed_grows stamp mirror book n = grown book (removed stamp mirror book n) (removed-goes_on stamp mirror book n)
 
-pub heard_more : (stamp : Stamp) (mirror : MirrorState) (said : List LinkIndication) (k : ℕ) (d : LinkIndication) (book : Book) → k < length said
-    → heard_all stamp mirror (take (k + 1) said) book ≡ heard stamp mirror (heard_all stamp mirror (take k said) book) (get_or said k d)
-heard_more stamp mirror said k d book within =
-    ap (λ l. heard_all stamp mirror l book) (take_more said k d within) ∙ fold-append (heard stamp mirror) book (take k said) (get_or said k d ∷ [])
+-- where there is room for all that a reset makes, there is for what it makes of the next request
+pub remove_in_turn : (stamp : Stamp) (mirror : MirrorState) (old now : Kept) (n : ℕ) → 1 ≤ n → n < length old.book.requests + 1
+    → now.book ≡ removed_to stamp mirror old.book (n - 1) → OnlyMoves old now → MayHold old (emptied stamp mirror old.book) → MayHold now (removed stamp mirror now.book n)
+remove_in_turn stamp mirror old now n first on is kept room =
+    let as_many = length-numbers 1 old.book.requests in
+    let most = kept.rows_kept in
+    let within : n - 1 < length (numbers_from 1 old.book.requests) = omega (arith, as_many, first, on) in
+    let there = room_in_turn (removed stamp mirror) (removed_grows stamp mirror) (numbers_from 1 old.book.requests) (n - 1) 0 old.book now.book now.most_rows within is (omega (arith, room, most)) in
+    subst (λ m. length (removed stamp mirror now.book m).history ≤ now.most_rows) (number_in_turn old.book.requests n first on) there
+
+-- one more was looked at
+pub removed_next : (stamp : Stamp) (mirror : MirrorState) (old now : Book) (n : ℕ) → 1 ≤ n → n < length old.requests + 1
+    → now ≡ removed_to stamp mirror old (n - 1) → removed stamp mirror now n ≡ removed_to stamp mirror old (n + 1 - 1)
+removed_next stamp mirror old now n first on is =
+    let as_many = length-numbers 1 old.requests in
+    let within : n - 1 < length (numbers_from 1 old.requests) = omega (arith, as_many, first, on) in
+    let here : n - 1 + 1 ≡ n + 1 - 1 = omega (arith, first) in
+    ap (λ b. removed stamp mirror b n) is
+    ∙ ap (removed stamp mirror (removed_to stamp mirror old (n - 1))) (sym (number_in_turn old.requests n first on))
+    ∙ sym (fold_more (removed stamp mirror) (numbers_from 1 old.requests) (n - 1) 0 old within)
+    ∙ ap (removed_to stamp mirror old) here
+
+-- all of them were looked at
+pub removed_all : (stamp : Stamp) (mirror : MirrorState) (book : Book) (k : ℕ) → k ≡ length book.requests → removed_to stamp mirror book k ≡ emptied stamp mirror book
+removed_all stamp mirror book k all =
+    ap (λ (ns : List ℕ). fold (removed stamp mirror) book ns)
+    (ap (λ n. take n (numbers_from 1 book.requests)) (all ∙ sym (length-numbers 1 book.requests)) ∙ take-length (numbers_from 1 book.requests))
 
 -- ---- how many of these numbers pass a test
 
-pub most : (ℕ → Bool) → List ℕ → ℕ
+most : (ℕ → Bool) → List ℕ → ℕ
 most test [] = 0
 most test (n ∷ ns) = (if test n then 1 else 0) + most test ns
-
-most-append : (test : ℕ → Bool) (ns : List ℕ) (n : ℕ) → most test (ns ++ n ∷ []) ≡ most test ns + (if test n then 1 else 0)
-unfolding most
-most-append test [] n = omega arith
-most-append test (m ∷ ns) n = let others = most-append test ns n in omega (arith, others)
 
 few-one : (t : Bool) → (if t then 1 else 0) ≤ 1
 few-one true = omega arith
@@ -121,39 +130,30 @@ shown_few (a ∷ activities) k xs =
     let others = shown_few activities k xs in
     omega (arith, either, first, others)
 
--- one more request
-numbers_more : {X : Type 0} (xs : List X) (k : ℕ) → k < length xs → numbers_from 1 (take (k + 1) xs) ≡ numbers_from 1 (take k xs) ++ (k + 1) ∷ []
-numbers_more [] k within = absurd (omega (arith, within))
-numbers_more (x ∷ xs) k within =
-    let long : length (take k (x ∷ xs)) ≡ k = length-take-le k (x ∷ xs) (omega (arith, within)) in
-    let last : 1 + length (take k (x ∷ xs)) ≡ k + 1 = omega (arith, long) in
-    ap (λ l. numbers_from 1 l) (take_more (x ∷ xs) k x within) ∙ numbers-append 1 (take k (x ∷ xs)) (get_or (x ∷ xs) k x)
-    ∙ ap (λ n. numbers_from 1 (take k (x ∷ xs)) ++ n ∷ []) last
+-- ---- how many rows a reset makes
 
--- the book after so many requests were looked at, and how many of them stand in the mirror
-abbrev pub removed_to : {X : Type 0} → Stamp → MirrorState → List X → ℕ → Book → Book
-removed_to stamp mirror xs k book = fold (removed stamp mirror) book (numbers_from 1 (take k xs))
+removed_rows : (stamp : Stamp) (mirror : MirrorState) (ns : List ℕ) (book : Book) → length (fold (removed stamp mirror) book ns).history ≤ length book.history + most (is_shown mirror.activities) ns
+unfolding most
+removed_rows stamp mirror [] book = omega arith
+removed_rows stamp mirror (n ∷ ns) book =
+    let own = one_row (stands book n (place.Scheduled ∷ [])) (is_shown mirror.activities n) in
+    let others = removed_rows stamp mirror ns (removed stamp mirror book n) in
+    omega (arith, own, others)
+  where
+    after : Book
+    after = moved stamp book (want n place.Deleted cause.Reset)
 
-abbrev pub shown_to : {X : Type 0} → MirrorState → List X → ℕ → ℕ
-shown_to mirror xs k = most (is_shown mirror.activities) (numbers_from 1 (take k xs))
+    one_row : (t shown : Bool) → length (if shown then (if t then after else book) else book).history ≤ length book.history + (if shown then 1 else 0)
+    one_row true true = let longer = moved_rows stamp book n place.Deleted cause.Reset in omega (arith, longer)
+    one_row false true = omega arith
+    one_row t false = omega arith
 
-pub removed_more : {X : Type 0} (stamp : Stamp) (mirror : MirrorState) (xs : List X) (k : ℕ) (book : Book) → k < length xs
-    → removed_to stamp mirror xs (k + 1) book ≡ removed stamp mirror (removed_to stamp mirror xs k book) (k + 1)
-removed_more stamp mirror xs k book within =
-    ap (λ ns. fold (removed stamp mirror) book ns) (numbers_more xs k within) ∙ fold-append (removed stamp mirror) book (numbers_from 1 (take k xs)) ((k + 1) ∷ [])
-
-pub shown_more : {X : Type 0} (mirror : MirrorState) (xs : List X) (k : ℕ) → k < length xs
-    → shown_to mirror xs (k + 1) ≡ shown_to mirror xs k + (if is_shown mirror.activities (k + 1) then 1 else 0)
-shown_more mirror xs k within = ap (λ ns. most (is_shown mirror.activities) ns) (numbers_more xs k within) ∙ most-append (is_shown mirror.activities) (numbers_from 1 (take k xs)) (k + 1)
-
--- no more than activities stand there, nor than requests were entered
-pub shown_bound : {X : Type 0} (mirror : MirrorState) (xs : List X) (k : ℕ) → k ≤ length xs → length xs ≤ 65535 → (shown_to mirror xs k ≤ length mirror.activities) × (shown_to mirror xs k ≤ 65535)
-shown_bound mirror xs k within few =
-    let long : length (take k xs) ≡ k = length-take-le k xs within in
-    let many : length (numbers_from 1 (take k xs)) ≡ length (take k xs) = length-numbers 1 (take k xs) in
-    let less = most-less (is_shown mirror.activities) (numbers_from 1 (take k xs)) in
-    (shown_few mirror.activities 1 (take k xs), omega (arith, long, many, less, within, few))
-
--- all of them were looked at
-pub removed_all : {X : Type 0} (stamp : Stamp) (mirror : MirrorState) (xs : List X) (k : ℕ) (book : Book) → k ≡ length xs → removed_to stamp mirror xs k book ≡ fold (removed stamp mirror) book (numbers_from 1 xs)
-removed_all stamp mirror xs k book all = ap (λ l. fold (removed stamp mirror) book (numbers_from 1 l)) (ap (λ n. take n xs) all ∙ take-length xs)
+-- no more than activities stand in the mirror, nor than requests were entered
+pub emptied_rows : (stamp : Stamp) (mirror : MirrorState) (book : Book) (most_requests : ℕ) → length book.requests ≤ most_requests
+    → length (emptied stamp mirror book).history ≤ length book.history + min (length mirror.activities) most_requests
+emptied_rows stamp mirror book most_requests few =
+    let rows = removed_rows stamp mirror (numbers_from 1 book.requests) book in
+    let shown = shown_few mirror.activities 1 book.requests in
+    let less = most-less (is_shown mirror.activities) (numbers_from 1 book.requests) in
+    let as_many = length-numbers 1 book.requests in
+    omega (arith, rows, shown, less, as_many, few)

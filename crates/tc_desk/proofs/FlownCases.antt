@@ -4,7 +4,7 @@ use Rattle.std.proofs.Common.{◌≡◌, ℕ, ◌+◌, true, false, Option, Some
 use Rattle.std.specs.Prelude.{codes}
 use Rattle.std.specs.Fmt.{digits}
 use Rattle.tc_types.specs.declared.requests.Form.{Form}
-use Rattle.tc_types.specs.declared.requests.Command.TheVariants.{Plain, InsertActivity}
+use Rattle.tc_types.specs.declared.requests.Command.TheVariants.{Plain, InsertActivities}
 use Rattle.tc_types.specs.declared.requests.Outcome.TheVariants.{Completes}
 use Rattle.tc_types.specs.declared.history.places.Place.TheVariants.{Approved, Queued, Sent, Withdrawn}
 use Rattle.tc_types.specs.declared.history.causes.Cause.TheVariants as cause
@@ -132,9 +132,9 @@ limit-replied = refl
 abbrev view : FopView
 view = record { state = Active; vs = 0; nn = 0; sent = 0; waiting = 0; count = 1; timer = 0; k = 10; t1 = 10; limit = 3 }
 
--- an insert that is approved, and its activity is not
+-- an insert that is approved, as the first of its activities is, and the second is not
 abbrev inserting : Book
-inserting = approved 2 (with_entry ann (with_entry ann empty_book entry) (record entry { command = InsertActivity 1 100 }))
+inserting = approved 3 (approved 1 (with_entry ann with_two (record entry { command = InsertActivities (record { target = 1; time = 100 } ∷ record { target = 2; time = 100 } ∷ []) })))
 
 abbrev refused : Book → FopView → ℕ → Option refusal.the_data
 refused book fop n = first_refusal (link_tests book fop 10 0 (link_act.Release n))
@@ -142,7 +142,7 @@ refused book fop n = first_refusal (link_tests book fop 10 0 (link_act.Release n
 pub release-refused :
     refused with_two (record view { state = Initial }) 3 ∷ refused with_two (record view { state = Initial }) 1
     ∷ refused (moved ann with_two (want 1 Withdrawn cause.Withdraw)) (record view { state = Initial }) 1
-    ∷ refused inserting (record view { state = Initial }) 2
+    ∷ refused inserting (record view { state = Initial }) 3
     ∷ refused (approved 1 with_two) (record view { state = Initial; waiting = 1 }) 1
     ∷ refused (approved 1 with_two) (record view { waiting = 1 }) 1
     ∷ refused (approved 1 with_two) view 1 ∷ [] ≡

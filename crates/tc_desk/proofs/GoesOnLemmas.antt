@@ -1,5 +1,5 @@
 -- What an act makes of the book goes on from the book before it.
-use Rattle.std.proofs.Common.{◌≡◌, ℕ, Bool, true, false, if◌then◌else◌, Option, Some, None, fold, List, [], ◌∷◌, Result, Ok, Err, sym, subst}
+use Rattle.std.proofs.Common.{◌≡◌, ℕ, Bool, true, false, if◌then◌else◌, Option, Some, None, fold, List, [], ◌∷◌, map, Result, Ok, Err, sym, subst}
 use Rattle.tc_types.specs.declared.history.places.Place.{Place}
 use Rattle.tc_types.specs.declared.history.places.Place.TheVariants as place
 use Rattle.tc_types.specs.declared.history.causes.Cause.{Cause}
@@ -21,6 +21,7 @@ use Rattle.tc_types.specs.declared.refusals.Refusal.{Refusal}
 use Rattle.tc_types.specs.declared.acts.LinkAct.TheVariants as act
 use Rattle.tc_types.specs.declared.acts.StepAct.{StepAct}
 use Rattle.tc_types.specs.Lawful.{is_lawful}
+use Rattle.tc_types.specs.Schedule.{ridden}
 use Rattle.tc_types.specs.Stages.{stage_of_verification}
 use Rattle.tc_fop.specs.declared.signals.Indication.TheVariants as signal
 use Rattle.tc_world.specs.declared.events.LinkIndication.{LinkIndication}
@@ -34,7 +35,7 @@ use Rattle.tc_book.proofs.GoesOnLemmas.{behind, same-goes_on, on_and_on, moved-g
 use Rattle.tc_world.specs.Links.{Kind}
 use Rattle.tc_desk.specs.declared.flights.Flight.{Flight}
 use Rattle.tc_desk.specs.Acts.{released, released_beside}
-use Rattle.tc_desk.specs.Commands.{activity_at}
+use Rattle.tc_desk.specs.Commands.{activities_at}
 use Rattle.tc_desk.specs.Parts.{Performs}
 use Rattle.tc_desk.specs.State.{State}
 use Rattle.tc_desk.specs.Effects.{tried, followed, tried_with, reported, is_completed, is_failed, inserted, deleted, removed, emptied, besides, besides_at, received, heard, heard_all}
@@ -44,10 +45,10 @@ by_test : (stamp : Stamp) (book : Book) (n : ℕ) (to : Place) (c : Cause) (t : 
 by_test stamp book n to c true = moved-goes_on stamp book n to c
 by_test stamp book n to c false = same-goes_on book
 
-tried-goes_on : (stamp : Stamp) (book : Book) (n : ℕ) (places : List Place) (to : Place) (c : Cause) → GoesOn book (tried stamp book n places to c)
+pub tried-goes_on : (stamp : Stamp) (book : Book) (n : ℕ) (places : List Place) (to : Place) (c : Cause) → GoesOn book (tried stamp book n places to c)
 tried-goes_on stamp book n places to c = by_test stamp book n to c (stands book n places)
 
-reported-goes_on : (stamp : Stamp) (book : Book) (n : ℕ) (to : Place) → GoesOn book (reported stamp book n to)
+pub reported-goes_on : (stamp : Stamp) (book : Book) (n : ℕ) (to : Place) → GoesOn book (reported stamp book n to)
 reported-goes_on stamp book n to = by_test stamp book n to cause.Report (is_lawful (place_in book n) to cause.Report)
 
 -- a step that is made or not
@@ -55,36 +56,38 @@ if-goes_on : (book after : Book) (t : Bool) → GoesOn book after → GoesOn boo
 if-goes_on book after true on = on
 if-goes_on book after false on = same-goes_on book
 
-followed-goes_on : (stamp : Stamp) (book : Book) (activity : Option ℕ) (places : List Place) (to : Place) (c : Cause) → GoesOn book (followed stamp book activity places to c)
-followed-goes_on stamp book None places to c = same-goes_on book
-followed-goes_on stamp book (Some n) places to c = tried-goes_on stamp book n places to c
+pub followed-goes_on : (stamp : Stamp) (book : Book) (activities : List ℕ) (places : List Place) (to : Place) (c : Cause) → GoesOn book (followed stamp book activities places to c)
+followed-goes_on stamp book [] places to c = same-goes_on book
+followed-goes_on stamp book (n ∷ activities) places to c =
+    let after : Book = tried stamp book n places to c in
+    on_and_on book after (followed stamp after activities places to c) (tried-goes_on stamp book n places to c) (followed-goes_on stamp after activities places to c)
 
 tried_with-goes_on : (stamp : Stamp) (book : Book) (n : ℕ) (places : List Place) (to : Place) (c : Cause) → GoesOn book (tried_with stamp book n places to c)
 tried_with-goes_on stamp book n places to c =
     let after : Book = moved stamp book (want n to c) in
-    let behind_it : Book = followed stamp after (activity_at book n) (place.Riding ∷ []) to c in
+    let behind_it : Book = followed stamp after (activities_at book n) (place.Riding ∷ []) to c in
     if-goes_on book behind_it (stands book n places)
-    (on_and_on book after behind_it (moved-goes_on stamp book n to c) (followed-goes_on stamp after (activity_at book n) (place.Riding ∷ []) to c))
+    (on_and_on book after behind_it (moved-goes_on stamp book n to c) (followed-goes_on stamp after (activities_at book n) (place.Riding ∷ []) to c))
 
-removed-goes_on : (stamp : Stamp) (mirror : MirrorState) (book : Book) (n : ℕ) → GoesOn book (removed stamp mirror book n)
+pub removed-goes_on : (stamp : Stamp) (mirror : MirrorState) (book : Book) (n : ℕ) → GoesOn book (removed stamp mirror book n)
 removed-goes_on stamp mirror book n =
     if-goes_on book (tried stamp book n (place.Scheduled ∷ []) place.Deleted cause.Reset) (list_any (is_listed_of n) mirror.activities)
     (tried-goes_on stamp book n (place.Scheduled ∷ []) place.Deleted cause.Reset)
 
-all_removed-goes_on : (stamp : Stamp) (mirror : MirrorState) (ns : List ℕ) (book : Book) → GoesOn book (fold (removed stamp mirror) book ns)
+pub all_removed-goes_on : (stamp : Stamp) (mirror : MirrorState) (ns : List ℕ) (book : Book) → GoesOn book (fold (removed stamp mirror) book ns)
 all_removed-goes_on stamp mirror [] book = same-goes_on book
 all_removed-goes_on stamp mirror (n ∷ ns) book =
     on_and_on book (removed stamp mirror book n) (fold (removed stamp mirror) (removed stamp mirror book n) ns) (removed-goes_on stamp mirror book n) (all_removed-goes_on stamp mirror ns (removed stamp mirror book n))
 
-inserted-goes_on : (stamp : Stamp) (v : Verification) (target : ℕ) (book : Book) → GoesOn book (inserted stamp v target book)
-inserted-goes_on stamp v target book = by_tests (is_completed v) (is_failed v)
+inserted-goes_on : (stamp : Stamp) (v : Verification) (activities : List ℕ) (book : Book) → GoesOn book (inserted stamp v activities book)
+inserted-goes_on stamp v activities book = by_tests (is_completed v) (is_failed v)
   where
     places : List Place
     places = place.Riding ∷ place.Doubtful ∷ []
 
-    by_tests : (done fails : Bool) → GoesOn book (if done then tried stamp book target places place.Scheduled cause.Insert else (if fails then tried stamp book target places place.Failed cause.Insert else book))
-    by_tests true fails = tried-goes_on stamp book target places place.Scheduled cause.Insert
-    by_tests false true = tried-goes_on stamp book target places place.Failed cause.Insert
+    by_tests : (done fails : Bool) → GoesOn book (if done then followed stamp book activities places place.Scheduled cause.Insert else (if fails then followed stamp book activities places place.Failed cause.Insert else book))
+    by_tests true fails = followed-goes_on stamp book activities places place.Scheduled cause.Insert
+    by_tests false true = followed-goes_on stamp book activities places place.Failed cause.Insert
     by_tests false false = same-goes_on book
 
 besides-goes_on : (stamp : Stamp) (mirror : MirrorState) (v : Verification) (given : Command) (book : Book) → GoesOn book (besides stamp mirror v given book)
@@ -93,14 +96,14 @@ besides-goes_on stamp mirror v command.EnableSchedule book = same-goes_on book
 besides-goes_on stamp mirror v command.DisableSchedule book = same-goes_on book
 besides-goes_on stamp mirror v command.ResetSchedule book =
     if-goes_on book (emptied stamp mirror book) (is_completed v) (all_removed-goes_on stamp mirror (numbers_from 1 book.requests) book)
-besides-goes_on stamp mirror v (command.InsertActivity target time) book = inserted-goes_on stamp v target book
+besides-goes_on stamp mirror v (command.InsertActivities rides) book = inserted-goes_on stamp v (map ridden rides) book
 besides-goes_on stamp mirror v (command.DeleteActivity target) book =
     if-goes_on book (deleted stamp target book) (is_completed v) (tried-goes_on stamp book target (place.Riding ∷ place.Scheduled ∷ place.Doubtful ∷ []) place.Deleted cause.Delete)
 besides-goes_on stamp mirror v (command.ShiftActivity target offset) book = same-goes_on book
 besides-goes_on stamp mirror v (command.ShiftAll offset) book = same-goes_on book
 besides-goes_on stamp mirror v command.SummarizeAll book = same-goes_on book
 
-besides_at-goes_on : (stamp : Stamp) (mirror : MirrorState) (v : Verification) (request : Option Request) (book : Book) → GoesOn book (besides_at stamp mirror v request book)
+pub besides_at-goes_on : (stamp : Stamp) (mirror : MirrorState) (v : Verification) (request : Option Request) (book : Book) → GoesOn book (besides_at stamp mirror v request book)
 besides_at-goes_on stamp mirror v None book = same-goes_on book
 besides_at-goes_on stamp mirror v (Some request) book = besides-goes_on stamp mirror v request.body.command book
 
@@ -111,7 +114,7 @@ received-goes_on stamp mirror book (report.Telemetry (telemetry.Verification v n
     on_and_on book after (besides_at stamp mirror v (request_at book n) after) (reported-goes_on stamp book n (stage_of_verification v)) (besides_at-goes_on stamp mirror v (request_at book n) after)
 received-goes_on stamp mirror book (report.Telemetry (telemetry.Summary summary)) = same-goes_on book
 
-heard-goes_on : (stamp : Stamp) (mirror : MirrorState) (book : Book) (i : LinkIndication) → GoesOn book (heard stamp mirror book i)
+pub heard-goes_on : (stamp : Stamp) (mirror : MirrorState) (book : Book) (i : LinkIndication) → GoesOn book (heard stamp mirror book i)
 heard-goes_on stamp mirror book (said.Fop (signal.Sent n)) = tried-goes_on stamp book n (place.Queued ∷ []) place.Sent cause.Transmit
 heard-goes_on stamp mirror book (said.Fop (signal.Confirmed n)) = tried-goes_on stamp book n (place.Sent ∷ []) place.Confirmed cause.Confirm
 heard-goes_on stamp mirror book (said.Fop (signal.GivenBack n)) = tried_with-goes_on stamp book n (place.Queued ∷ []) place.Approved cause.GiveBack
@@ -122,15 +125,15 @@ heard-goes_on stamp mirror book (said.Farm v) = same-goes_on book
 heard-goes_on stamp mirror book (said.Received item) = received-goes_on stamp mirror book item
 heard-goes_on stamp mirror book said.Lost = same-goes_on book
 
-heard_all-goes_on : (stamp : Stamp) (mirror : MirrorState) (all : List LinkIndication) (book : Book) → GoesOn book (heard_all stamp mirror all book)
+pub heard_all-goes_on : (stamp : Stamp) (mirror : MirrorState) (all : List LinkIndication) (book : Book) → GoesOn book (heard_all stamp mirror all book)
 heard_all-goes_on stamp mirror [] book = same-goes_on book
 heard_all-goes_on stamp mirror (i ∷ all) book =
     on_and_on book (heard stamp mirror book i) (heard_all stamp mirror all (heard stamp mirror book i)) (heard-goes_on stamp mirror book i) (heard_all-goes_on stamp mirror all (heard stamp mirror book i))
 
-released-goes_on : (stamp : Stamp) (given : LinkAct) (book : Book) → GoesOn book (released stamp given book)
+pub released-goes_on : (stamp : Stamp) (given : LinkAct) (book : Book) → GoesOn book (released stamp given book)
 released-goes_on stamp (act.Release n) book =
     let after : Book = moved stamp book (want n place.Queued cause.Release) in
-    on_and_on book after (followed stamp after (activity_at book n) (place.Approved ∷ []) place.Riding cause.Release) (moved-goes_on stamp book n place.Queued cause.Release) (followed-goes_on stamp after (activity_at book n) (place.Approved ∷ []) place.Riding cause.Release)
+    on_and_on book after (followed stamp after (activities_at book n) (place.Approved ∷ []) place.Riding cause.Release) (moved-goes_on stamp book n place.Queued cause.Release) (followed-goes_on stamp after (activities_at book n) (place.Approved ∷ []) place.Riding cause.Release)
 released-goes_on stamp (act.Direct given) book = same-goes_on book
 released-goes_on stamp act.Tick book = same-goes_on book
 released-goes_on stamp act.Up book = same-goes_on book

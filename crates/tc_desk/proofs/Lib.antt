@@ -2,7 +2,10 @@ pub mod StatusLemmas
 pub mod GoesOnLemmas
 pub mod StillLemmas
 pub mod PutLemmas
+pub mod LoopLemmas
 pub mod EmptyLemmas
+pub mod RidingLemmas
+pub mod RoomLemmas
 pub mod BoardingLemmas
 pub mod TiedLemmas
 pub mod PlaceLemmas

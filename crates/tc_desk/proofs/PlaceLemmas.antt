@@ -28,6 +28,15 @@ either p q good (Some at) to here a b there = by_test (place_number p == place_n
     by_test true e = not_there p good (Some at) to (ap (λ t. t || false) e) a there
     by_test false e = not_there q good (Some at) to (subst (λ t. (t || ((place_number q == place_number at) || false)) ≡ true) e here) b there
 
+-- who stands at a place or among others, and not at that place
+pub among_others : (q : Place) (others : List Place) (at : Option Place) → is_among (q ∷ others) at ≡ true → is_among (q ∷ []) at ≡ false → is_among others at ≡ true
+among_others q others None here out = cc
+among_others q others (Some at) here out = by_test (place_number q == place_number at) out here
+  where
+    by_test : (t : Bool) → (t || false) ≡ false → (t || is_one_of others at) ≡ true → is_one_of others at ≡ true
+    by_test true none there = cc
+    by_test false none there = there
+
 -- ---- lists of requests
 
 -- who is not among these is none of them

@@ -13,8 +13,8 @@ use Rattle.tc_board.specs.Mirror.{MirrorState}
 use Rattle.tc_book.specs.declared.stamps.Stamp.{Stamp}
 use Rattle.tc_book.specs.Book.{Book, stands, moved, want}
 use Rattle.tc_desk.specs.Acts.{released, released_beside}
-use Rattle.tc_desk.specs.Commands.{activity_at}
-use Rattle.tc_desk.specs.Effects.{followed, tried_with, heard, heard_all}
+use Rattle.tc_desk.specs.Commands.{activities_at}
+use Rattle.tc_desk.specs.Effects.{tried, followed, tried_with, heard, heard_all}
 use Rattle.tc_desk.proofs.RiderMoves.{received_riders, sent_riders, confirmed_riders, doubted_riders}
 
 -- a step that is made or not
@@ -22,14 +22,15 @@ if_requests : (book after : Book) (t : Bool) → after.requests ≡ book.request
 if_requests book after true same = same
 if_requests book after false same = refl
 
-followed_requests : (stamp : Stamp) (book : Book) (activity : Option ℕ) (places : List Place) (to : Place) (c : Cause) → (followed stamp book activity places to c).requests ≡ book.requests
-followed_requests stamp book None places to c = refl
-followed_requests stamp book (Some n) places to c = if_requests book (moved stamp book (want n to c)) (stands book n places) refl
+pub followed_requests : (stamp : Stamp) (book : Book) (activities : List ℕ) (places : List Place) (to : Place) (c : Cause) → (followed stamp book activities places to c).requests ≡ book.requests
+followed_requests stamp book [] places to c = refl
+followed_requests stamp book (n ∷ activities) places to c =
+    followed_requests stamp (tried stamp book n places to c) activities places to c ∙ if_requests book (moved stamp book (want n to c)) (stands book n places) refl
 
 tried_with_requests : (stamp : Stamp) (book : Book) (n : ℕ) (places : List Place) (to : Place) (c : Cause) → (tried_with stamp book n places to c).requests ≡ book.requests
 tried_with_requests stamp book n places to c =
     let after : Book = moved stamp book (want n to c) in
-    if_requests book (followed stamp after (activity_at book n) (place.Riding ∷ []) to c) (stands book n places) (followed_requests stamp after (activity_at book n) (place.Riding ∷ []) to c)
+    if_requests book (followed stamp after (activities_at book n) (place.Riding ∷ []) to c) (stands book n places) (followed_requests stamp after (activities_at book n) (place.Riding ∷ []) to c)
 
 heard_requests : (stamp : Stamp) (mirror : MirrorState) (book : Book) (i : LinkIndication) → (heard stamp mirror book i).requests ≡ book.requests
 heard_requests stamp mirror book (said.Fop (signal.Sent n)) = (sent_riders stamp book n).requests
@@ -49,7 +50,7 @@ heard_all_requests stamp mirror (i ∷ all) book = heard_all_requests stamp mirr
 
 -- so do an act's own rows
 pub released_requests : (stamp : Stamp) (given : LinkAct) (book : Book) → (released stamp given book).requests ≡ book.requests
-released_requests stamp (act.Release n) book = followed_requests stamp (moved stamp book (want n place.Queued cause.Release)) (activity_at book n) (place.Approved ∷ []) place.Riding cause.Release
+released_requests stamp (act.Release n) book = followed_requests stamp (moved stamp book (want n place.Queued cause.Release)) (activities_at book n) (place.Approved ∷ []) place.Riding cause.Release
 released_requests stamp (act.Direct given) book = refl
 released_requests stamp act.Tick book = refl
 released_requests stamp act.Up book = refl

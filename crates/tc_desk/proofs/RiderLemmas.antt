@@ -1,9 +1,9 @@
 -- Who flies on its own and who rides inside an insert stay apart, whatever the book hears.
 use Rattle.std.proofs.Common.{◌≡◌, ◌≢◌, ℕ, ◌+◌, ◌<◌, ◌≤◌, ◌==◌, Bool, true, false, if◌then◌else◌, Option, Some, None, List, [], ◌∷◌, ◌++◌, length, refl, sym, ◌∙◌, ap, subst, append-nil, arith}
-use Rattle.std.specs.List.{list_any, filter_map, cons_option}
+use Rattle.std.specs.List.{list_any, flat_map}
 use Rattle.std.proofs.lemmas.Bool.{or_parts, or_from}
 use Rattle.std.proofs.lemmas.Bool.Decides.{nat_tests}
-use Rattle.std.proofs.lemmas.List.Elements.{filter_map-append}
+use Rattle.std.proofs.lemmas.Grind.{flat_map-append}
 use Rattle.std.proofs.lemmas.List.Folds.{list_any-append}
 use Rattle.tc_types.specs.declared.history.places.Place.{Place}
 use Rattle.tc_types.specs.declared.history.places.Place.TheVariants as place
@@ -25,13 +25,13 @@ use Rattle.tc_book.proofs.GoodLemmas.{next_nowhere}
 use Rattle.tc_book.proofs.PassingLemmas.{not_false}
 use Rattle.tc_board.specs.Mirror.{MirrorState}
 use Rattle.tc_desk.specs.Acts.{released}
-use Rattle.tc_desk.specs.Commands.{activity_at, activity_in, may_not_ride}
+use Rattle.tc_desk.specs.Commands.{activities_at, activities_in, may_not_ride}
 use Rattle.tc_desk.specs.Effects.{tried, followed, tried_with, heard}
 use Rattle.tc_desk.specs.Places.{gone_places, StandsAt}
 use Rattle.tc_desk.specs.Riders.{riding_places, carried_by, NoneIsOf, AreApart}
-use Rattle.tc_desk.proofs.TiedLemmas.{each_map, each_behind, nothing_behind, place_moved, only, tried_there, Waits, Gone}
-use Rattle.tc_desk.proofs.PlaceLemmas.{none_of, any_behind}
-use Rattle.tc_desk.proofs.TargetLemmas.{entered_keeps_activity}
+use Rattle.tc_desk.proofs.TiedLemmas.{each_map, each_behind, nothing_behind, place_moved, only, moved_there, tried_keeps, Waits, Gone}
+use Rattle.tc_desk.proofs.PlaceLemmas.{none_of, any_behind, among_others}
+use Rattle.tc_desk.proofs.TargetLemmas.{entered_keeps_activities}
 use Rattle.tc_desk.proofs.RiderMoves.{RidersKept, then_riders, away_riders, follow_riding, received_riders, sent_riders, confirmed_riders, doubted_riders}
 
 -- ---- lists of requests
@@ -60,15 +60,19 @@ second_none test xs ys none = (or_parts (list_any test xs) (list_any test ys) (s
 
 -- by a book with the same requests
 pub same_carried : (old new : Book) (xs : List ℕ) → new.requests ≡ old.requests → carried_by new xs ≡ carried_by old xs
-same_carried old new xs same = ap (λ requests. filter_map (λ n. activity_in (request_in requests n)) xs) same
+same_carried old new xs same = ap (λ requests. flat_map (λ n. activities_in (request_in requests n)) xs) same
 
--- where each of these has the same activity
-carried_alike : (old new : Book) (xs : List ℕ) → Each (λ n. activity_at new n ≡ activity_at old n) xs → carried_by new xs ≡ carried_by old xs
+-- where each of these has the same activities
+carried_alike : (old new : Book) (xs : List ℕ) → Each (λ n. activities_at new n ≡ activities_at old n) xs → carried_by new xs ≡ carried_by old xs
 carried_alike old new [] all = refl
-carried_alike old new (x ∷ xs) all = ap (λ a. cons_option a (carried_by new xs)) all.0 ∙ ap (cons_option (activity_at old x)) (carried_alike old new xs all.1)
+carried_alike old new (x ∷ xs) all = ap (λ l. l ++ carried_by new xs) all.0 ∙ ap (λ l. activities_at old x ++ l) (carried_alike old new xs all.1)
 
 pub carried_append : (book : Book) (xs ys : List ℕ) → carried_by book (xs ++ ys) ≡ carried_by book xs ++ carried_by book ys
-carried_append book xs ys = filter_map-append (activity_at book) xs ys
+carried_append book xs ys = flat_map-append (activities_at book) xs ys
+
+-- by one alone
+pub carried_alone : (book : Book) (n : ℕ) → carried_by book (n ∷ []) ≡ activities_at book n
+carried_alone book n = append-nil (activities_at book n)
 
 -- they are apart in another book too, where the same are carried and each of them rides still
 pub apart_stays : (old new : Book) (waits sent : List ℕ) → carried_by new waits ≡ carried_by old waits → carried_by new sent ≡ carried_by old sent
@@ -133,19 +137,22 @@ tried_other stamp book n places to c good m other here = by_test (stands book n 
     by_test true = moved_other stamp book n to c good m other here
     by_test false = here
 
--- these ride still, where the activity that goes back is none of them
-follow_others : (stamp : Stamp) (book : Book) (activity : Option ℕ) (places : List Place) (to : Place) (c : Cause) (sent xs : List ℕ)
-    → NoneIsOf (sent ++ xs) (cons_option activity []) → Each (StandsAt riding_places book) xs
-    → ((followed stamp book activity places to c).requests ≡ book.requests) × Each (StandsAt riding_places (followed stamp book activity places to c)) xs
-follow_others stamp book None places to c sent xs none all = (refl, all)
-follow_others stamp book (Some m) places to c sent xs none all =
-    (requests_stay (stands book m places), each_other _ _ m xs (second_none (λ (k : ℕ). k == m) sent xs none.0) (λ n other. tried_other stamp book m places to c riding_places n other) all)
+-- these ride still, where the activities that go back are none of them
+follow_others : (stamp : Stamp) (book : Book) (activities : List ℕ) (places : List Place) (to : Place) (c : Cause) (sent xs : List ℕ)
+    → NoneIsOf (sent ++ xs) activities → Each (StandsAt riding_places book) xs
+    → ((followed stamp book activities places to c).requests ≡ book.requests) × Each (StandsAt riding_places (followed stamp book activities places to c)) xs
+follow_others stamp book [] places to c sent xs none all = (refl, all)
+follow_others stamp book (m ∷ activities) places to c sent xs none all =
+    let after : Book = tried stamp book m places to c in
+    let still : Each (StandsAt riding_places after) xs = each_other _ _ m xs (second_none (λ (k : ℕ). k == m) sent xs none.0) (λ n other. tried_other stamp book m places to c riding_places n other) all in
+    let others = follow_others stamp after activities places to c sent xs none.1 still in
+    (others.0 ∙ requests_stay (stands book m places), others.1)
   where
     requests_stay : (t : Bool) → (if t then moved stamp book (want m to c) else book).requests ≡ book.requests
     requests_stay true = refl
     requests_stay false = refl
 
--- one that is given back: its activity is none of those that ride in others
+-- one that is given back: its activities are none of those that ride in others
 given_back_apart : (stamp : Stamp) (book : Book) (n : ℕ) (sent : List ℕ) → AreApart book (n ∷ []) sent → AreApart (tried_with stamp book n (place.Queued ∷ []) place.Approved cause.GiveBack) [] sent
 given_back_apart stamp book n sent apart = by_test (stands book n (place.Queued ∷ [])) refl
   where
@@ -153,12 +160,12 @@ given_back_apart stamp book n sent apart = by_test (stands book n (place.Queued 
     after = moved stamp book (want n place.Approved cause.GiveBack)
 
     behind_it : Book
-    behind_it = followed stamp after (activity_at book n) (place.Riding ∷ []) place.Approved cause.GiveBack
+    behind_it = followed stamp after (activities_at book n) (place.Riding ∷ []) place.Approved cause.GiveBack
 
     by_test : (t : Bool) → stands book n (place.Queued ∷ []) ≡ t → AreApart (if t then behind_it else book) [] sent
     by_test true e =
         let own = away_riders stamp book n place.Queued place.Approved cause.GiveBack refl e in
-        let others = follow_others stamp after (activity_at book n) (place.Riding ∷ []) place.Approved cause.GiveBack sent (carried_by book sent) apart.next_apart (each_map _ _ (carried_by book sent) own.riders apart.riders) in
+        let others = follow_others stamp after (activities_at book n) (place.Riding ∷ []) place.Approved cause.GiveBack sent (carried_by book sent) (subst (NoneIsOf (sent ++ carried_by book sent)) (carried_alone book n) apart.next_apart) (each_map _ _ (carried_by book sent) own.riders apart.riders) in
         alone_apart book behind_it (n ∷ []) sent (others.0 ∙ own.requests) others.1 apart
     by_test false e = alone_apart book book (n ∷ []) sent refl apart.riders apart
 
@@ -194,40 +201,70 @@ hears_apart stamp mirror (said.Fop (signal.Sent n)) book waits sent few w g apar
 
 -- ---- a release
 
--- the activity of a request that is released rides: it is approved, and not the request itself
-next_rides : (stamp : Stamp) (book : Book) (n : ℕ) (activity : Option ℕ) → may_not_ride book activity ≡ false → ((m : ℕ) → activity ≡ Some m → m < n)
-    → Each (StandsAt riding_places (followed stamp (moved stamp book (want n place.Queued cause.Release)) activity (place.Approved ∷ []) place.Riding cause.Release)) (cons_option activity [])
-next_rides stamp book n None may before = tt
-next_rides stamp book n (Some m) may before =
-    let after : Book = moved stamp book (want n place.Queued cause.Release) in
-    let low : m < n = before m refl in
-    let other : (n == m) ≡ false = grind (arith, nat_tests) in
-    let here : StandsAt (place.Approved ∷ []) after m = moved_other stamp book n place.Queued cause.Release (place.Approved ∷ []) m other (not_false _ may) in
-    (tried_there stamp after m place.Approved place.Riding cause.Release riding_places refl here, tt)
+-- where an activity stands that is about to ride, or rides
+abbrev boarding_places : List Place
+boarding_places = place.Approved ∷ riding_places
+
+-- where none may not ride, each is approved
+all_approved : (book : Book) (activities : List ℕ) → list_any (may_not_ride book) activities ≡ false → Each (StandsAt (place.Approved ∷ []) book) activities
+all_approved book [] may = tt
+all_approved book (m ∷ activities) may =
+    let parts = or_parts (may_not_ride book m) (list_any (may_not_ride book) activities) may in (not_false _ parts.0, all_approved book activities parts.1)
+
+-- these ride once each of them was moved that was approved
+all_ride : (stamp : Stamp) (book : Book) (activities : List ℕ) → Each (StandsAt boarding_places book) activities
+    → Each (StandsAt riding_places (followed stamp book activities (place.Approved ∷ []) place.Riding cause.Release)) activities
+all_ride stamp book [] all = tt
+all_ride stamp book (m ∷ activities) all =
+    (others.riders m first, all_ride stamp after activities (each_map _ _ activities (λ k. tried_keeps stamp book m place.Approved place.Riding cause.Release boarding_places k (λ h. refl)) all.1))
+  where
+    after : Book
+    after = tried stamp book m (place.Approved ∷ []) place.Riding cause.Release
+
+    others : RidersKept after (followed stamp after activities (place.Approved ∷ []) place.Riding cause.Release)
+    others = follow_riding stamp after activities (place.Approved ∷ []) place.Riding cause.Release refl
+
+    first : StandsAt riding_places after m
+    first = by_test (stands book m (place.Approved ∷ [])) refl
+      where
+        by_test : (t : Bool) → stands book m (place.Approved ∷ []) ≡ t → StandsAt riding_places (if t then moved stamp book (want m place.Riding cause.Release) else book) m
+        by_test true e = moved_there stamp book m place.Riding cause.Release riding_places refl
+        by_test false e = among_others place.Approved riding_places (place_in book m) all.0 e
+
+-- the activities of a request that is released ride: each is approved, and not the request itself
+next_rides : (stamp : Stamp) (book : Book) (n : ℕ) (activities : List ℕ) → list_any (may_not_ride book) activities ≡ false → Each (λ (m : ℕ). m < n) activities
+    → Each (StandsAt riding_places (followed stamp (moved stamp book (want n place.Queued cause.Release)) activities (place.Approved ∷ []) place.Riding cause.Release)) activities
+next_rides stamp book n activities may before =
+    all_ride stamp (moved stamp book (want n place.Queued cause.Release)) activities (each_of_two _ _ _ activities still before (all_approved book activities may))
+  where
+    still : (m : ℕ) → m < n → StandsAt (place.Approved ∷ []) book m → StandsAt boarding_places (moved stamp book (want n place.Queued cause.Release)) m
+    still m low here =
+        let other : (n == m) ≡ false = grind (arith, nat_tests) in
+        moved_other stamp book n place.Queued cause.Release boarding_places m other (only place.Approved boarding_places (place_in book m) here)
 
 -- who is approved was not sent, and does not ride
-next_is_apart : (book : Book) (activity : Option ℕ) (sent carried : List ℕ) → may_not_ride book activity ≡ false → Gone book sent → Each (StandsAt riding_places book) carried → NoneIsOf (sent ++ carried) (cons_option activity [])
-next_is_apart book None sent carried may gone riders = tt
-next_is_apart book (Some m) sent carried may gone riders =
-    let here : StandsAt (place.Approved ∷ []) book m = not_false _ may in (
-      any_behind (λ (k : ℕ). k == m) sent carried
-          (none_of gone_places book m sent (only place.Approved gone_places (place_in book m) here) gone)
-          (none_of riding_places book m carried (only place.Approved riding_places (place_in book m) here) riders),
-      tt,
-    )
+next_is_apart : (book : Book) (activities : List ℕ) (sent carried : List ℕ) → list_any (may_not_ride book) activities ≡ false → Gone book sent → Each (StandsAt riding_places book) carried
+    → NoneIsOf (sent ++ carried) activities
+next_is_apart book activities sent carried may gone riders = each_map _ _ activities none (all_approved book activities may)
+  where
+    none : (m : ℕ) → StandsAt (place.Approved ∷ []) book m → list_any (λ (k : ℕ). k == m) (sent ++ carried) ≡ false
+    none m here =
+        any_behind (λ (k : ℕ). k == m) sent carried
+        (none_of gone_places book m sent (only place.Approved gone_places (place_in book m) here) gone)
+        (none_of riding_places book m carried (only place.Approved riding_places (place_in book m) here) riders)
 
 -- a request that is released is the one that waits
-pub released_apart : (stamp : Stamp) (book : Book) (n : ℕ) (sent : List ℕ) → ((m : ℕ) → activity_at book n ≡ Some m → m < n)
-    → StandsAt (place.Approved ∷ []) book n → may_not_ride book (activity_at book n) ≡ false → Gone book sent
+pub released_apart : (stamp : Stamp) (book : Book) (n : ℕ) (sent : List ℕ) → Each (λ (m : ℕ). m < n) (activities_at book n)
+    → StandsAt (place.Approved ∷ []) book n → list_any (may_not_ride book) (activities_at book n) ≡ false → Gone book sent
     → AreApart book [] sent
     → AreApart (released stamp (link_act.Release n) book) (n ∷ []) sent
 released_apart stamp book n sent before here may gone apart = record {
   riders = still.riders;
-  next_riders = subst (Each (StandsAt riding_places new)) (sym (same_carried book new (n ∷ []) kept.requests)) (next_rides stamp book n (activity_at book n) may before);
+  next_riders = subst (Each (StandsAt riding_places new)) (sym next) (next_rides stamp book n (activities_at book n) may before);
   apart = still.apart;
   next_apart =
       subst (λ l. NoneIsOf (sent ++ l) (carried_by new (n ∷ []))) (sym (same_carried book new sent kept.requests))
-      (subst (NoneIsOf (sent ++ carried_by book sent)) (sym (same_carried book new (n ∷ []) kept.requests)) (next_is_apart book (activity_at book n) sent (carried_by book sent) may gone apart.riders));
+      (subst (NoneIsOf (sent ++ carried_by book sent)) (sym next) (next_is_apart book (activities_at book n) sent (carried_by book sent) may gone apart.riders));
 }
   where
     after : Book
@@ -237,18 +274,21 @@ released_apart stamp book n sent before here may gone apart = record {
     new = released stamp (link_act.Release n) book
 
     kept : RidersKept book new
-    kept = then_riders book after new (away_riders stamp book n place.Approved place.Queued cause.Release refl here) (follow_riding stamp after (activity_at book n) (place.Approved ∷ []) place.Riding cause.Release refl)
+    kept = then_riders book after new (away_riders stamp book n place.Approved place.Queued cause.Release refl here) (follow_riding stamp after (activities_at book n) (place.Approved ∷ []) place.Riding cause.Release refl)
 
     still : AreApart new [] sent
     still = kept_apart book new [] sent kept apart
 
+    next : carried_by new (n ∷ []) ≡ activities_at book n
+    next = same_carried book new (n ∷ []) kept.requests ∙ carried_alone book n
+
 -- ---- one request more
 
--- who stands somewhere is not the next request, so an entry leaves its activity
+-- who stands somewhere is not the next request, so an entry leaves its activities
 pub entered_carried : (stamp : Stamp) (book : Book) (origin : Option Origin) (entry : Form) (good : List Place) (xs : List ℕ) → IsGoodBook book → Each (StandsAt good book) xs
     → carried_by (with_request stamp book origin entry) xs ≡ carried_by book xs
 entered_carried stamp book origin entry good xs is_good all =
-    carried_alike book (with_request stamp book origin entry) xs (each_map _ _ xs (λ n here. entered_keeps_activity stamp book origin entry n (known n here)) all)
+    carried_alike book (with_request stamp book origin entry) xs (each_map _ _ xs (λ n here. entered_keeps_activities stamp book origin entry n (known n here)) all)
   where
     known : (n : ℕ) → StandsAt good book n → n ≢ length book.requests + 1
     known n here next =

@@ -1,5 +1,5 @@
--- What the book hears leaves who rides where they ride, and no request changes its activity.
-use Rattle.std.proofs.Common.{◌≡◌, ℕ, Bool, true, false, if◌then◌else◌, Option, Some, None, fold, List, [], ◌∷◌, refl, sym, ◌∙◌}
+-- What the book hears leaves who rides where they ride, and no request changes its activities.
+use Rattle.std.proofs.Common.{◌≡◌, ℕ, Bool, true, false, if◌then◌else◌, Option, Some, None, fold, List, [], ◌∷◌, map, refl, sym, ◌∙◌}
 use Rattle.std.specs.List.{list_any}
 use Rattle.tc_types.specs.declared.history.places.Place.{Place}
 use Rattle.tc_types.specs.declared.history.places.Place.TheVariants as place
@@ -14,12 +14,13 @@ use Rattle.tc_types.specs.declared.link.reports.Telemetry.TheVariants as telemet
 use Rattle.tc_types.specs.declared.link.reports.Verification.{Verification}
 use Rattle.tc_types.specs.declared.link.reports.Verification.TheVariants as verification
 use Rattle.tc_types.specs.Lawful.{is_one_of, is_lawful}
+use Rattle.tc_types.specs.Schedule.{ridden}
 use Rattle.tc_types.specs.Stages.{stage_of_verification}
 use Rattle.tc_book.specs.declared.stamps.Stamp.{Stamp}
 use Rattle.tc_book.specs.Book.{Book, place_in, stands, request_at, moved, want}
 use Rattle.tc_book.specs.Places.{numbers_from}
 use Rattle.tc_board.specs.Mirror.{MirrorState, is_listed_of}
-use Rattle.tc_desk.specs.Commands.{activity_at}
+use Rattle.tc_desk.specs.Commands.{activities_at}
 use Rattle.tc_desk.specs.Effects.{tried, followed, tried_with, reported, is_completed, is_failed, inserted, deleted, removed, emptied, besides, besides_at, received}
 use Rattle.tc_desk.specs.Places.{StandsAt}
 use Rattle.tc_desk.specs.Riders.{riding_places}
@@ -62,10 +63,12 @@ tried_away stamp book n q to c out = by_test (stands book n (q ∷ [])) refl
 tried_riding : (stamp : Stamp) (book : Book) (n : ℕ) (places : List Place) (to : Place) (c : Cause) → is_one_of riding_places to ≡ true → RidersKept book (tried stamp book n places to c)
 tried_riding stamp book n places to c rides = if_riders book (moved stamp book (want n to c)) (stands book n places) (moved_riders stamp book n to c (λ h. rides))
 
--- an activity that goes there too
-pub follow_riding : (stamp : Stamp) (book : Book) (activity : Option ℕ) (places : List Place) (to : Place) (c : Cause) → is_one_of riding_places to ≡ true → RidersKept book (followed stamp book activity places to c)
-follow_riding stamp book None places to c rides = same_riders book
-follow_riding stamp book (Some n) places to c rides = tried_riding stamp book n places to c rides
+-- activities that go there too
+pub follow_riding : (stamp : Stamp) (book : Book) (activities : List ℕ) (places : List Place) (to : Place) (c : Cause) → is_one_of riding_places to ≡ true → RidersKept book (followed stamp book activities places to c)
+follow_riding stamp book [] places to c rides = same_riders book
+follow_riding stamp book (n ∷ activities) places to c rides =
+    let after : Book = tried stamp book n places to c in
+    then_riders book after (followed stamp after activities places to c) (tried_riding stamp book n places to c rides) (follow_riding stamp after activities places to c rides)
 
 -- ---- reports
 
@@ -95,15 +98,15 @@ all_removed_riders stamp mirror [] book = same_riders book
 all_removed_riders stamp mirror (n ∷ ns) book =
     then_riders book (removed stamp mirror book n) (fold (removed stamp mirror) (removed stamp mirror book n) ns) (removed_riders stamp mirror book n) (all_removed_riders stamp mirror ns (removed stamp mirror book n))
 
-inserted_riders : (stamp : Stamp) (v : Verification) (target : ℕ) (book : Book) → RidersKept book (inserted stamp v target book)
-inserted_riders stamp v target book = by_tests (is_completed v) (is_failed v)
+inserted_riders : (stamp : Stamp) (v : Verification) (activities : List ℕ) (book : Book) → RidersKept book (inserted stamp v activities book)
+inserted_riders stamp v activities book = by_tests (is_completed v) (is_failed v)
   where
     places : List Place
     places = place.Riding ∷ place.Doubtful ∷ []
 
-    by_tests : (done fails : Bool) → RidersKept book (if done then tried stamp book target places place.Scheduled cause.Insert else (if fails then tried stamp book target places place.Failed cause.Insert else book))
-    by_tests true fails = tried_riding stamp book target places place.Scheduled cause.Insert refl
-    by_tests false true = tried_riding stamp book target places place.Failed cause.Insert refl
+    by_tests : (done fails : Bool) → RidersKept book (if done then followed stamp book activities places place.Scheduled cause.Insert else (if fails then followed stamp book activities places place.Failed cause.Insert else book))
+    by_tests true fails = follow_riding stamp book activities places place.Scheduled cause.Insert refl
+    by_tests false true = follow_riding stamp book activities places place.Failed cause.Insert refl
     by_tests false false = same_riders book
 
 besides_riders : (stamp : Stamp) (mirror : MirrorState) (v : Verification) (given : Command) (book : Book) → RidersKept book (besides stamp mirror v given book)
@@ -111,7 +114,7 @@ besides_riders stamp mirror v (command.Plain service subtype) book = same_riders
 besides_riders stamp mirror v command.EnableSchedule book = same_riders book
 besides_riders stamp mirror v command.DisableSchedule book = same_riders book
 besides_riders stamp mirror v command.ResetSchedule book = if_riders book (emptied stamp mirror book) (is_completed v) (all_removed_riders stamp mirror (numbers_from 1 book.requests) book)
-besides_riders stamp mirror v (command.InsertActivity target time) book = inserted_riders stamp v target book
+besides_riders stamp mirror v (command.InsertActivities rides) book = inserted_riders stamp v (map ridden rides) book
 besides_riders stamp mirror v (command.DeleteActivity target) book =
     if_riders book (deleted stamp target book) (is_completed v) (tried_riding stamp book target (place.Riding ∷ place.Scheduled ∷ place.Doubtful ∷ []) place.Deleted cause.Delete refl)
 besides_riders stamp mirror v (command.ShiftActivity target offset) book = same_riders book
@@ -139,10 +142,10 @@ sent_riders stamp book n = tried_away stamp book n place.Queued place.Sent cause
 pub confirmed_riders : (stamp : Stamp) (book : Book) (n : ℕ) → RidersKept book (tried stamp book n (place.Sent ∷ []) place.Confirmed cause.Confirm)
 confirmed_riders stamp book n = tried_away stamp book n place.Sent place.Confirmed cause.Confirm refl
 
--- an activity in doubt rides still
+-- activities in doubt ride still
 pub doubted_riders : (stamp : Stamp) (book : Book) (n : ℕ) → RidersKept book (tried_with stamp book n (place.Sent ∷ []) place.Doubtful cause.Doubt)
 doubted_riders stamp book n =
     let after : Book = moved stamp book (want n place.Doubtful cause.Doubt) in
-    let behind_it : Book = followed stamp after (activity_at book n) (place.Riding ∷ []) place.Doubtful cause.Doubt in
+    let behind_it : Book = followed stamp after (activities_at book n) (place.Riding ∷ []) place.Doubtful cause.Doubt in
     if_riders book behind_it (stands book n (place.Sent ∷ []))
-    (then_riders book after behind_it (moved_riders stamp book n place.Doubtful cause.Doubt (λ h. refl)) (follow_riding stamp after (activity_at book n) (place.Riding ∷ []) place.Doubtful cause.Doubt refl))
+    (then_riders book after behind_it (moved_riders stamp book n place.Doubtful cause.Doubt (λ h. refl)) (follow_riding stamp after (activities_at book n) (place.Riding ∷ []) place.Doubtful cause.Doubt refl))

@@ -1,5 +1,5 @@
 -- What the book says of a request that was sent, or rides inside one, stays as it was; so what is known of each may grow.
-use Rattle.std.proofs.Common.{◌≡◌, ◌≢◌, ℕ, ◌+◌, ◌<◌, ◌≤◌, ◌==◌, Bool, true, false, ◌||◌, Option, Some, None, List, [], ◌∷◌, ◌++◌, length, refl, sym, ◌∙◌, ap, subst, arith}
+use Rattle.std.proofs.Common.{◌≡◌, ◌≢◌, ℕ, ◌+◌, ◌==◌, Bool, true, false, ◌||◌, Option, Some, None, List, [], ◌∷◌, ◌++◌, length, refl, sym, ◌∙◌, ap, subst, arith}
 use Rattle.std.specs.List.{list_any}
 use Rattle.std.proofs.lemmas.Bool.Decides.{nat_tests}
 use Rattle.std.proofs.lemmas.List.Folds.{list_any-append}
@@ -9,21 +9,20 @@ use Rattle.tc_types.specs.declared.requests.Origin.{Origin}
 use Rattle.tc_types.specs.declared.requests.Request.{Request}
 use Rattle.tc_types.specs.declared.link.telecommands.Payload.{Payload}
 use Rattle.tc_types.specs.Lawful.{is_among}
+use Rattle.tc_types.specs.Schedule.{targets_of}
 use Rattle.tc_world.specs.Kept.{Each}
 use Rattle.tc_world.specs.Payloads.{IsOneOf}
 use Rattle.tc_board.specs.Names.{Agrees}
 use Rattle.tc_book.specs.declared.stamps.Stamp.{Stamp}
 use Rattle.tc_book.specs.Book.{Book, place_in, request_in, request_at, with_request}
 use Rattle.tc_book.specs.Good.{IsGoodBook}
-use Rattle.tc_book.specs.Targets.{target_of}
 use Rattle.tc_book.proofs.GoodLemmas.{next_nowhere}
-use Rattle.tc_book.proofs.RequestLemmas.{number_low}
 use Rattle.tc_desk.specs.Commands.{command_of, command_at, flown_command}
 use Rattle.tc_desk.specs.Followed.{identity_in, roll_of, IsPayloadOf, IsFlown}
 use Rattle.tc_desk.specs.Places.{gone_places, StandsAt}
 use Rattle.tc_desk.specs.Riders.{riding_places, carried_by, NoneIsOf}
-use Rattle.tc_desk.proofs.TiedLemmas.{Gone}
-use Rattle.tc_desk.proofs.TargetLemmas.{named_before, flown_stays, same_payload, entered_payload, entered_keeps_request}
+use Rattle.tc_desk.proofs.TiedLemmas.{each_map, Gone}
+use Rattle.tc_desk.proofs.TargetLemmas.{each_any, named_before, flown_stays, same_payload, entered_payload, entered_keeps_request, entered_keeps_before}
 use Rattle.tc_desk.proofs.RiderLemmas.{same_carried, carried_append, entered_carried}
 
 -- ---- who is one of these
@@ -82,7 +81,7 @@ command_stays old new n same flies = ap (command_of new) same ∙ by_found (requ
 
 -- where all requests of a book stand in another, each has the command that it had
 pub same_command : (old new : Book) (n : ℕ) → new.requests ≡ old.requests → command_at new n ≡ command_at old n
-same_command old new n same = command_stays old new n (here n) (λ r e. flown_stays new old r.body.command (λ m names. here m))
+same_command old new n same = command_stays old new n (here n) (λ r e. flown_stays new old r.body.command (each_any _ (targets_of r.body.command) here))
   where
     here : (m : ℕ) → request_at new m ≡ request_at old m
     here m = ap (λ requests. request_in requests m) same
@@ -119,7 +118,7 @@ pub entered_stays : (stamp : Stamp) (origin : Option Origin) (entry : Form) (boo
     → BookStays book (with_request stamp book origin entry) sent
 entered_stays stamp origin entry book sent good gone rides = record {
   request = λ n flown. entered_keeps_request stamp book origin entry n (flown_known book sent n good gone rides flown);
-  command = λ n flown. command_stays book new n (entered_keeps_request stamp book origin entry n (flown_known book sent n good gone rides flown)) (λ r e. flown_stays new book r.body.command (λ m names. before n r m e names));
+  command = λ n flown. command_stays book new n (entered_keeps_request stamp book origin entry n (flown_known book sent n good gone rides flown)) (λ r e. flown_stays new book r.body.command (before n r e));
   carried = entered_carried stamp book origin entry gone_places sent good gone;
   payload = λ n body is. let stays = entered_payload stamp origin entry book n is.0 good is.1 in (is.0, stays.0, is.2 ∙ sym stays.1);
 }
@@ -127,11 +126,8 @@ entered_stays stamp origin entry book sent good gone rides = record {
     new : Book
     new = with_request stamp book origin entry
 
-    before : (n : ℕ) (r : Request) (m : ℕ) → request_at book n ≡ Some r → target_of r.body.command ≡ Some m → request_at new m ≡ request_at book m
-    before n r m here names =
-        let less : m < n = named_before book good n r m here names in
-        let last : n ≤ length book.requests = (number_low book.requests n r here).1 in
-        entered_keeps_request stamp book origin entry m (λ is. absurd (omega (arith, last, is, less)))
+    before : (n : ℕ) (r : Request) → request_at book n ≡ Some r → Each (λ (m : ℕ). request_at new m ≡ request_at book m) (targets_of r.body.command)
+    before n r here = each_map _ _ (targets_of r.body.command) (λ m less. entered_keeps_before stamp book origin entry n r m here less) (named_before book good n r here)
 
 -- so step by step
 pub then_stays : (a b c : Book) (sent : List ℕ) → BookStays a b sent → BookStays b c sent → BookStays a c sent

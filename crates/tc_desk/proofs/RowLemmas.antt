@@ -18,6 +18,7 @@ use Rattle.tc_types.specs.declared.link.reports.Report.TheVariants as report
 use Rattle.tc_types.specs.declared.link.reports.Telemetry.TheVariants as telemetry
 use Rattle.tc_types.specs.declared.link.reports.Verification.{Verification}
 use Rattle.tc_types.specs.Lawful.{is_lawful, cause_number}
+use Rattle.tc_types.specs.Schedule.{ridden}
 use Rattle.tc_types.specs.Stages.{stage_of_verification}
 use Rattle.tc_fop.specs.declared.signals.Indication.TheVariants as signal
 use Rattle.tc_world.specs.declared.events.LinkIndication.{LinkIndication}
@@ -29,7 +30,7 @@ use Rattle.tc_book.specs.declared.stamps.Stamp.{Stamp}
 use Rattle.tc_book.specs.Book.{Book, place_in, stands, request_at, moved, want, row_of, with_request}
 use Rattle.tc_book.specs.Places.{numbers_from}
 use Rattle.tc_board.specs.Mirror.{MirrorState, is_listed_of}
-use Rattle.tc_desk.specs.Commands.{activity_at}
+use Rattle.tc_desk.specs.Commands.{activities_at}
 use Rattle.tc_desk.specs.Effects.{tried, followed, tried_with, reported, is_completed, is_failed, inserted, deleted, removed, emptied, besides, besides_at, heard}
 use Rattle.tc_desk.specs.Rows.{moved_for, transmit_rows, confirm_rows, AreTold}
 use Rattle.tc_desk.proofs.TiedLemmas.{Waits}
@@ -94,15 +95,17 @@ entered_still o stamp book origin entry =
 tried_still : (o : ℕ) (stamp : Stamp) (book : Book) (n : ℕ) (places : List Place) (to : Place) (why : Cause) → IsQuiet why → StillTold o book (tried stamp book n places to why)
 tried_still o stamp book n places to why quiet = if_still o book (moved stamp book (want n to why)) (stands book n places) (moved_still o stamp book n to why quiet)
 
-pub followed_still : (o : ℕ) (stamp : Stamp) (book : Book) (activity : Option ℕ) (places : List Place) (to : Place) (why : Cause) → IsQuiet why → StillTold o book (followed stamp book activity places to why)
-followed_still o stamp book None places to why quiet = same_still o book
-followed_still o stamp book (Some n) places to why quiet = tried_still o stamp book n places to why quiet
+pub followed_still : (o : ℕ) (stamp : Stamp) (book : Book) (activities : List ℕ) (places : List Place) (to : Place) (why : Cause) → IsQuiet why → StillTold o book (followed stamp book activities places to why)
+followed_still o stamp book [] places to why quiet = same_still o book
+followed_still o stamp book (n ∷ activities) places to why quiet =
+    let after : Book = tried stamp book n places to why in
+    then_still o book after (followed stamp after activities places to why) (tried_still o stamp book n places to why quiet) (followed_still o stamp after activities places to why quiet)
 
 tried_with_still : (o : ℕ) (stamp : Stamp) (book : Book) (n : ℕ) (places : List Place) (to : Place) (why : Cause) → IsQuiet why → StillTold o book (tried_with stamp book n places to why)
 tried_with_still o stamp book n places to why quiet =
     let after : Book = moved stamp book (want n to why) in
-    if_still o book (followed stamp after (activity_at book n) (place.Riding ∷ []) to why) (stands book n places)
-    (then_still o book after (followed stamp after (activity_at book n) (place.Riding ∷ []) to why) (moved_still o stamp book n to why quiet) (followed_still o stamp after (activity_at book n) (place.Riding ∷ []) to why quiet))
+    if_still o book (followed stamp after (activities_at book n) (place.Riding ∷ []) to why) (stands book n places)
+    (then_still o book after (followed stamp after (activities_at book n) (place.Riding ∷ []) to why) (moved_still o stamp book n to why quiet) (followed_still o stamp after (activities_at book n) (place.Riding ∷ []) to why quiet))
 
 -- ---- reports
 
@@ -128,15 +131,15 @@ removed_still o stamp mirror (n ∷ ns) book =
     (if_still o book (tried stamp book n (place.Scheduled ∷ []) place.Deleted cause.Reset) (list_any (is_listed_of n) mirror.activities) (tried_still o stamp book n (place.Scheduled ∷ []) place.Deleted cause.Reset quiet_reset))
     (removed_still o stamp mirror ns (removed stamp mirror book n))
 
-inserted_still : (o : ℕ) (stamp : Stamp) (v : Verification) (target : ℕ) (book : Book) → StillTold o book (inserted stamp v target book)
-inserted_still o stamp v target book = by_tests (is_completed v) (is_failed v)
+inserted_still : (o : ℕ) (stamp : Stamp) (v : Verification) (activities : List ℕ) (book : Book) → StillTold o book (inserted stamp v activities book)
+inserted_still o stamp v activities book = by_tests (is_completed v) (is_failed v)
   where
     places : List Place
     places = place.Riding ∷ place.Doubtful ∷ []
 
-    by_tests : (done fails : Bool) → StillTold o book (if done then tried stamp book target places place.Scheduled cause.Insert else (if fails then tried stamp book target places place.Failed cause.Insert else book))
-    by_tests true fails = tried_still o stamp book target places place.Scheduled cause.Insert quiet_insert
-    by_tests false true = tried_still o stamp book target places place.Failed cause.Insert quiet_insert
+    by_tests : (done fails : Bool) → StillTold o book (if done then followed stamp book activities places place.Scheduled cause.Insert else (if fails then followed stamp book activities places place.Failed cause.Insert else book))
+    by_tests true fails = followed_still o stamp book activities places place.Scheduled cause.Insert quiet_insert
+    by_tests false true = followed_still o stamp book activities places place.Failed cause.Insert quiet_insert
     by_tests false false = same_still o book
 
 besides_still : (o : ℕ) (stamp : Stamp) (mirror : MirrorState) (v : Verification) (given : Command) (book : Book) → StillTold o book (besides stamp mirror v given book)
@@ -144,7 +147,7 @@ besides_still o stamp mirror v (command.Plain service subtype) book = same_still
 besides_still o stamp mirror v command.EnableSchedule book = same_still o book
 besides_still o stamp mirror v command.DisableSchedule book = same_still o book
 besides_still o stamp mirror v command.ResetSchedule book = if_still o book (emptied stamp mirror book) (is_completed v) (removed_still o stamp mirror (numbers_from 1 book.requests) book)
-besides_still o stamp mirror v (command.InsertActivity target time) book = inserted_still o stamp v target book
+besides_still o stamp mirror v (command.InsertActivities rides) book = inserted_still o stamp v (map ridden rides) book
 besides_still o stamp mirror v (command.DeleteActivity target) book =
     if_still o book (deleted stamp target book) (is_completed v) (tried_still o stamp book target (place.Riding ∷ place.Scheduled ∷ place.Doubtful ∷ []) place.Deleted cause.Delete quiet_delete)
 besides_still o stamp mirror v (command.ShiftActivity target offset) book = same_still o book

@@ -1,5 +1,5 @@
--- The on-board schedule at the desk, carried out on cases that were worked by hand: an insert is released with its activity, and
--- reports say what became of both.
+-- The on-board schedule at the desk, carried out on cases that were worked by hand: an insert is released with its activities, and
+-- reports say what became of all.
 use Rattle.std.proofs.Common.{◌≡◌, ℕ, true, false, Some, None, List, [], ◌∷◌, ◌++◌, drop, length, refl}
 use Rattle.std.specs.Prelude.{codes}
 use Rattle.std.specs.Fmt.{digits}
@@ -50,13 +50,20 @@ entry given = record {
 -- request 1 is plain, 2 inserts it, 3 deletes it, 4 resets the schedule, 5 is plain: all are approved
 abbrev entered : Book
 entered =
-    with_entry ann (with_entry ann (with_entry ann (with_entry ann (with_entry ann empty_book (entry (command.Plain 8 1))) (entry (command.InsertActivity 1 1060)))
+    with_entry ann (with_entry ann (with_entry ann (with_entry ann (with_entry ann empty_book (entry (command.Plain 8 1))) (entry (command.InsertActivities (record { target = 1; time = 1060 } ∷ []))))
     (entry (command.DeleteActivity 1))) (entry command.ResetSchedule)) (entry (command.Plain 8 1))
 
+-- and 6 inserts 5 and 1, in this order
+abbrev listing : Book
+listing = with_entry ann entered (entry (command.InsertActivities (record { target = 5; time = 1100 } ∷ record { target = 1; time = 1060 } ∷ [])))
+
 -- requests that stand there, one by one
+abbrev standing_in : Book → List (ℕ × Place) → Book
+standing_in book [] = book
+standing_in book ((n, at) ∷ others) = moved ann (standing_in book others) (want n at cause.Report)
+
 abbrev standing : List (ℕ × Place) → Book
-standing [] = entered
-standing ((n, at) ∷ others) = moved ann (standing others) (want n at cause.Report)
+standing places = standing_in entered places
 
 -- a link with nothing in flight
 abbrev idle : {T : Type 0} → InFlight T
@@ -118,6 +125,31 @@ pub late-insert : flown (standing ((1, place.Doubtful) ∷ (2, place.Closed) ∷
 unfolding digits
 late-insert = refl
 
+-- an insert of two is released: a row for each of its activities, in its order
+pub list-released : flown (standing_in listing ((1, place.Approved) ∷ (5, place.Approved) ∷ (6, place.Approved) ∷ [])) no_mirror (link_act.Release 6) (Fop (signal.Sent 6) ∷ []) ≡
+    codes "ok" ∷ codes "move 10 0 ann 6 Approved Queued release" ∷ codes "move 11 0 ann 5 Approved Riding release" ∷ codes "move 12 0 ann 1 Approved Riding release"
+    ∷ codes "move 13 0 ann 6 Queued Sent transmit" ∷ []
+unfolding digits
+list-released = refl
+
+-- and given back, each by its own place: one that was closed meanwhile stays
+pub list-returned :
+    flown (standing_in listing ((1, place.Riding) ∷ (5, place.Riding) ∷ (6, place.Queued) ∷ [])) no_mirror link_act.Tick (Fop (signal.GivenBack 6) ∷ [])
+    ++ flown (standing_in listing ((1, place.Riding) ∷ (5, place.Closed) ∷ (6, place.Queued) ∷ [])) no_mirror link_act.Tick (Fop (signal.GivenBack 6) ∷ []) ≡
+    codes "ok" ∷ codes "move 10 0 ann 6 Queued Approved giveback" ∷ codes "move 11 0 ann 5 Riding Approved giveback" ∷ codes "move 12 0 ann 1 Riding Approved giveback"
+    ∷ codes "ok" ∷ codes "move 10 0 ann 6 Queued Approved giveback" ∷ codes "move 11 0 ann 1 Riding Approved giveback" ∷ []
+unfolding digits
+list-returned = refl
+
+-- where it completes, all that ride or are in doubt are scheduled; where it fails, they fail, and no other does
+pub list-reported :
+    flown (standing_in listing ((1, place.Riding) ∷ (5, place.Doubtful) ∷ (6, place.Sent) ∷ [])) no_mirror link_act.Down (reports verification.Completed 6 5)
+    ++ flown (standing_in listing ((1, place.Riding) ∷ (5, place.Accepted) ∷ (6, place.Sent) ∷ [])) no_mirror link_act.Down (reports (verification.StartFailed 2) 6 5) ≡
+    codes "ok tm 1,7 5/5 step 0 code 0" ∷ codes "move 10 0 ann 6 Sent Completed report" ∷ codes "move 11 0 ann 5 Doubtful Scheduled insert" ∷ codes "move 12 0 ann 1 Riding Scheduled insert"
+    ∷ codes "ok tm 1,4 5/5 step 0 code 2" ∷ codes "move 10 0 ann 6 Sent Failed report" ∷ codes "move 11 0 ann 1 Riding Failed insert" ∷ []
+unfolding digits
+list-reported = refl
+
 -- a delete that completes deletes its target
 pub deleted-reported : flown (standing ((1, place.Scheduled) ∷ (3, place.Confirmed) ∷ [])) both_listed link_act.Down (reports verification.Completed 3 2) ≡
     codes "ok tm 1,7 5/2 step 0 code 0" ∷ codes "move 8 0 ann 3 Confirmed Completed report" ∷ codes "move 9 0 ann 1 Scheduled Deleted delete" ∷ []
@@ -135,11 +167,11 @@ pub reset-reported :
 unfolding digits
 reset-reported = refl
 
--- the mirror, as the command that flew says: an insert with its activity's name and time, and a report of an activity takes it out
+-- the mirror, as the command that flew says: an insert with the name and time of each activity, and a report of an activity takes it out
 pub mirror-read :
-    mirror_by entered (reports verification.Completed 2 1) no_mirror ∷ mirror_by entered (reports verification.Completed 4 3) both_listed
+    mirror_by entered (reports verification.Completed 2 1) no_mirror ∷ mirror_by listing (reports verification.Completed 6 5) no_mirror ∷ mirror_by entered (reports verification.Completed 4 3) both_listed
     ∷ mirror_by entered (reports verification.Accepted 5 4) both_listed ∷ mirror_by entered (reports (verification.StartFailed 2) 2 1) both_listed ∷ [] ≡
-    record { enabled = false; activities = first_listed ∷ [] } ∷ no_mirror ∷ record { enabled = true; activities = first_listed ∷ [] } ∷ both_listed ∷ []
+    record { enabled = false; activities = first_listed ∷ [] } ∷ record { enabled = false; activities = fifth_listed ∷ first_listed ∷ [] } ∷ no_mirror ∷ record { enabled = true; activities = first_listed ∷ [] } ∷ both_listed ∷ []
 mirror-read = refl
 
 -- the spacecraft's time does not go back

@@ -25,6 +25,7 @@ use Rattle.tc_world.specs.World.{refusal_of as link_refusal_of}
 use Rattle.tc_book.specs.declared.stamps.Stamp.{Stamp}
 use Rattle.tc_book.specs.Acts.{first_refusal}
 use Rattle.tc_book.specs.Batch.{batch_rows, log_length, HasRoomFor, HoldsRoom}
+use Rattle.tc_book.specs.Cargoes.{cargo_length}
 use Rattle.tc_book.specs.Book.{Book, request_at}
 use Rattle.tc_book.specs.Logs.{step_tests, recorded, released_with}
 use Rattle.tc_book.specs.Steps.{HasNoted}
@@ -71,6 +72,7 @@ pub record_room : {A B : Type 0} (old new : Book) (r : StepRecord) (rows : ℕ) 
     → new.log ≡ with_record old.log r → length new.history ≤ length old.history + rows → HasRoomFor rows moves → HasRoomFor (batch_rows 0 rows + 1) batch → HoldsRoom old new moves batch
 record_room old new r rows moves batch requests approvals stack_approvals log few moves_room batch_room =
     let so_many : length new.requests ≡ length old.requests = ap (λ (l : List Request). length l) requests in
+    let cargo : cargo_length new.requests ≡ cargo_length old.requests = ap (λ (l : List Request). cargo_length l) requests in
     let approved : length new.approvals ≡ length old.approvals = ap (λ (l : List Approval). length l) approvals in
     let stacks_approved : length new.stack_approvals ≡ length old.stack_approvals = ap (λ (l : List StackApproval). length l) stack_approvals in
     let longer : log_length new.log ≡ log_length old.log + 1 = ap (λ (l : LogState). log_length l) log ∙ one_longer old.log r in
@@ -82,7 +84,7 @@ record_room old new r rows moves batch requests approvals stack_approvals log fe
       batch_empty = batch_room.0;
       approvals = omega (arith, approved);
       stack_approvals = omega (arith, stacks_approved);
-      batch_room = omega (arith, so_many, longer, few, b);
+      batch_room = omega (arith, so_many, cargo, longer, few, b);
     }
 
 -- it is of an execution that was begun, where no test refuses it

@@ -16,6 +16,7 @@ use Rattle.tc_fop.specs.Requests.{waiting_requests}
 use Rattle.tc_world.specs.declared.events.Event.{Event}
 use Rattle.tc_world.specs.declared.events.Event.TheVariants as event
 use Rattle.tc_world.specs.declared.events.LinkIndication.{LinkIndication}
+use Rattle.tc_world.specs.Kept.{Each}
 use Rattle.tc_world.specs.Links.{Kind}
 use Rattle.tc_world.specs.Telling.{TellsRequests, offered_by, sent_said}
 use Rattle.tc_world.specs.Window.{all_confirmed}
@@ -27,7 +28,7 @@ use Rattle.tc_book.specs.Acts.{first_refusal, acted as book_acted}
 use Rattle.tc_book.specs.Logs.{step_tests, recorded, released_with}
 use Rattle.tc_desk.specs.declared.firsts.FirstLine.{FirstLine}
 use Rattle.tc_board.specs.Mirror.{MirrorState, no_mirror}
-use Rattle.tc_desk.specs.Commands.{activity_at, payload_of}
+use Rattle.tc_desk.specs.Commands.{activities_at, payload_of}
 use Rattle.tc_desk.specs.State.{State, widest_k}
 use Rattle.tc_desk.specs.Asks.{offer_at, has_buffer, taken_in, reports_after}
 use Rattle.tc_desk.specs.Effects.{heard_all}
@@ -39,7 +40,7 @@ use Rattle.tc_desk.proofs.HeardLemmas.{heard_tied, waits_no_more}
 use Rattle.tc_desk.proofs.BookSteps.{noted_tied, book_tied}
 use Rattle.tc_desk.proofs.OwnLemmas.{released_tied}
 use Rattle.tc_desk.proofs.StepLemmas.{none_behind, record_noted}
-use Rattle.tc_desk.proofs.TargetLemmas.{target_is_before}
+use Rattle.tc_desk.proofs.TargetLemmas.{activities_before}
 
 -- ---- the wait queue
 
@@ -125,7 +126,7 @@ release_tied o up down stamp n old v all (Some request) passes none tied =
 
 -- a release that no test refuses
 left_tied : {U D : Type 0} (o : ℕ) (up : Kind U Frame) (down : Kind D Report) (stamp : Stamp) (n : ℕ) (old new : State U D) (all : List LinkIndication)
-    → ((m : ℕ) → activity_at old.book n ≡ Some m → m < n) → first_refusal (link_tests old.book (view_of old.world.fop) (widest_k old.world.farm.window) old.board.time (link_act.Release n)) ≡ None
+    → Each (λ (m : ℕ). m < n) (activities_at old.book n) → first_refusal (link_tests old.book (view_of old.world.fop) (widest_k old.world.farm.window) old.board.time (link_act.Release n)) ≡ None
     → Flies up down (link_act.Release n) old new all → IsTied o old → AreTiedTo o (heard_all stamp old.mirror all (released stamp (link_act.Release n) old.book)) new.world
 left_tied o up down stamp n old new all before passes flies tied =
     let tests = none_holds (link_tests old.book (view_of old.world.fop) (widest_k old.world.farm.window) old.board.time (link_act.Release n)) passes in
@@ -137,7 +138,7 @@ left_tied o up down stamp n old new all before passes flies tied =
 flight_tied : {U D : Type 0} (o : ℕ) (up : Kind U Frame) (down : Kind D Report) (stamp : Stamp) (given : LinkAct) (old new : State U D) (all : List LinkIndication)
     → IsGoodBook old.book → refusal_of stamp old (act.Link given) ≡ None → Flies up down given old new all → IsTied o old
     → AreTiedTo o (heard_all stamp old.mirror all (released stamp given old.book)) new.world
-flight_tied o up down stamp (link_act.Release n) old new all good passes flies tied = left_tied o up down stamp n old new all (target_is_before old.book good n) passes flies tied
+flight_tied o up down stamp (link_act.Release n) old new all good passes flies tied = left_tied o up down stamp n old new all (activities_before old.book good n) passes flies tied
 flight_tied o up down stamp (link_act.Direct given) old new all good passes flies tied = told_tied_alone o stamp old.mirror (event.Directive given) old.world new.world all old.book refl flies.0.tells tied
 flight_tied o up down stamp link_act.Tick old new all good passes flies tied = told_tied_alone o stamp old.mirror event.Tick old.world new.world all old.book refl flies.0.tells tied
 flight_tied o up down stamp link_act.Up old new all good passes flies tied = boards_tied o up down stamp old new all flies tied
@@ -164,7 +165,7 @@ beside_tied : {U D : Type 0} (o : ℕ) (up : Kind U Frame) (down : Kind D Report
 beside_tied o up down stamp given None old new all good passes stands tied = alone_tied o stamp old.mirror old.world new.world all (recorded stamp given old.book) (stands.0, stands.3) (record_tied o stamp given old tied)
 beside_tied {U} {D} o up down stamp given (Some n) old new all good passes flies tied =
     let noted : State U D = record old { book = recorded stamp given old.book } in
-    left_tied o up down stamp n noted new all (target_is_before old.book good n) passes flies (record_tied o stamp given old tied)
+    left_tied o up down stamp n noted new all (activities_before old.book good n) passes flies (record_tied o stamp given old tied)
 
 -- an act keeps it
 went_tied : {U D : Type 0} (o : ℕ) (up : Kind U Frame) (down : Kind D Report) (stamp : Stamp) (given : Act) (old new : State U D) (all : List LinkIndication) (first : FirstLine)

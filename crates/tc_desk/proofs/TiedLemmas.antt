@@ -1,5 +1,5 @@
 -- The tie between book and link is kept by what the book hears.
-use Rattle.std.proofs.Common.{◌≡◌, ℕ, ◌+◌, ◌≤◌, ◌==◌, Bool, true, false, if◌then◌else◌, Option, Some, None, List, [], ◌∷◌, ◌++◌, length, fold, refl, sym, ◌∙◌, ap, subst, append-nil, arith}
+use Rattle.std.proofs.Common.{◌≡◌, ℕ, ◌+◌, ◌≤◌, ◌==◌, Bool, true, false, if◌then◌else◌, Option, Some, None, List, [], ◌∷◌, ◌++◌, length, map, fold, refl, sym, ◌∙◌, ap, subst, append-nil, arith}
 use Rattle.std.proofs.lemmas.Bool.Decides.{nat_tests}
 use Rattle.std.specs.List.{list_any}
 use Rattle.tc_types.specs.declared.history.places.Place.{Place}
@@ -14,6 +14,7 @@ use Rattle.tc_types.specs.declared.link.reports.Telemetry.TheVariants as telemet
 use Rattle.tc_types.specs.declared.link.reports.Verification.{Verification}
 use Rattle.tc_types.specs.declared.link.reports.Verification.TheVariants as verification
 use Rattle.tc_types.specs.Lawful.{is_among, is_one_of, is_lawful, place_number}
+use Rattle.tc_types.specs.Schedule.{ridden}
 use Rattle.tc_types.specs.Stages.{stage_of_verification}
 use Rattle.tc_fop.specs.declared.signals.Indication.TheVariants as signal
 use Rattle.tc_world.specs.declared.events.LinkIndication.{LinkIndication}
@@ -25,7 +26,7 @@ use Rattle.tc_book.specs.Book.{Book, place_in, stands, request_at, moved, want, 
 use Rattle.tc_book.specs.Places.{numbers_from}
 use Rattle.tc_book.proofs.HistoryLemmas.{place_of-snoc}
 use Rattle.tc_board.specs.Mirror.{MirrorState, is_listed_of}
-use Rattle.tc_desk.specs.Commands.{activity_at}
+use Rattle.tc_desk.specs.Commands.{activities_at}
 use Rattle.tc_desk.specs.Effects.{tried, followed, tried_with, reported, is_completed, is_failed, inserted, deleted, removed, emptied, besides, besides_at, heard}
 use Rattle.tc_desk.specs.Places.{gone_places, StandsAt}
 
@@ -79,7 +80,7 @@ only q good (Some p) h =
     let e : place_number p ≡ place_number q = grind (arith, nat_tests) in
     ap (λ k. list_any (λ place. place_number place == k) good) e
 
-tried_keeps : (stamp : Stamp) (book : Book) (n : ℕ) (q to : Place) (c : Cause) (good : List Place) (m : ℕ)
+pub tried_keeps : (stamp : Stamp) (book : Book) (n : ℕ) (q to : Place) (c : Cause) (good : List Place) (m : ℕ)
     → (is_one_of good q ≡ true → is_one_of good to ≡ true) → StandsAt good book m → StandsAt good (tried stamp book n (q ∷ []) to c) m
 tried_keeps stamp book n q to c good m may stands = by_test (is_among (q ∷ []) (place_in book n)) refl
   where
@@ -164,11 +165,13 @@ apart_kept stamp book n q to c waits sent = record {
   sent = λ m. tried_keeps stamp book n q to c gone_places m (λ h. let no : true ≡ false = sym h ∙ sent in cc);
 }
 
--- an activity that rides, or is to ride
-pub follow_kept : (stamp : Stamp) (book : Book) (activity : Option ℕ) (q to : Place) (c : Cause) → is_one_of (place.Queued ∷ []) q ≡ false → is_one_of gone_places q ≡ false
-    → BothKept book (followed stamp book activity (q ∷ []) to c)
-follow_kept stamp book None q to c waits sent = same_kept book
-follow_kept stamp book (Some n) q to c waits sent = apart_kept stamp book n q to c waits sent
+-- activities that ride, or are to ride
+pub follow_kept : (stamp : Stamp) (book : Book) (activities : List ℕ) (q to : Place) (c : Cause) → is_one_of (place.Queued ∷ []) q ≡ false → is_one_of gone_places q ≡ false
+    → BothKept book (followed stamp book activities (q ∷ []) to c)
+follow_kept stamp book [] q to c waits sent = same_kept book
+follow_kept stamp book (n ∷ activities) q to c waits sent =
+    let after : Book = tried stamp book n (q ∷ []) to c in
+    then_kept book after (followed stamp after activities (q ∷ []) to c) (apart_kept stamp book n q to c waits sent) (follow_kept stamp after activities q to c waits sent)
 
 -- ---- reports of commands of the schedule
 
@@ -182,15 +185,23 @@ all_removed_kept stamp mirror [] book = same_kept book
 all_removed_kept stamp mirror (n ∷ ns) book =
     then_kept book (removed stamp mirror book n) (fold (removed stamp mirror) (removed stamp mirror book n) ns) (removed_kept stamp mirror book n) (all_removed_kept stamp mirror ns (removed stamp mirror book n))
 
-inserted_kept : (stamp : Stamp) (v : Verification) (target : ℕ) (book : Book) → BothKept book (inserted stamp v target book)
-inserted_kept stamp v target book = by_tests (is_completed v) (is_failed v)
+-- one after the other, not from Queued, and to where those are that were sent
+all_gone_kept : (stamp : Stamp) (book : Book) (activities : List ℕ) (places : List Place) (to : Place) (c : Cause) → is_one_of places place.Queued ≡ false → is_one_of gone_places to ≡ true
+    → BothKept book (followed stamp book activities places to c)
+all_gone_kept stamp book [] places to c out gone = same_kept book
+all_gone_kept stamp book (n ∷ activities) places to c out gone =
+    let after : Book = tried stamp book n places to c in
+    then_kept book after (followed stamp after activities places to c) (gone_kept stamp book n places to c out gone) (all_gone_kept stamp after activities places to c out gone)
+
+inserted_kept : (stamp : Stamp) (v : Verification) (activities : List ℕ) (book : Book) → BothKept book (inserted stamp v activities book)
+inserted_kept stamp v activities book = by_tests (is_completed v) (is_failed v)
   where
     places : List Place
     places = place.Riding ∷ place.Doubtful ∷ []
 
-    by_tests : (done fails : Bool) → BothKept book (if done then tried stamp book target places place.Scheduled cause.Insert else (if fails then tried stamp book target places place.Failed cause.Insert else book))
-    by_tests true fails = gone_kept stamp book target places place.Scheduled cause.Insert refl refl
-    by_tests false true = gone_kept stamp book target places place.Failed cause.Insert refl refl
+    by_tests : (done fails : Bool) → BothKept book (if done then followed stamp book activities places place.Scheduled cause.Insert else (if fails then followed stamp book activities places place.Failed cause.Insert else book))
+    by_tests true fails = all_gone_kept stamp book activities places place.Scheduled cause.Insert refl refl
+    by_tests false true = all_gone_kept stamp book activities places place.Failed cause.Insert refl refl
     by_tests false false = same_kept book
 
 besides_kept : (stamp : Stamp) (mirror : MirrorState) (v : Verification) (given : Command) (book : Book) → BothKept book (besides stamp mirror v given book)
@@ -198,7 +209,7 @@ besides_kept stamp mirror v (command.Plain service subtype) book = same_kept boo
 besides_kept stamp mirror v command.EnableSchedule book = same_kept book
 besides_kept stamp mirror v command.DisableSchedule book = same_kept book
 besides_kept stamp mirror v command.ResetSchedule book = if_kept book (emptied stamp mirror book) (is_completed v) (all_removed_kept stamp mirror (numbers_from 1 book.requests) book)
-besides_kept stamp mirror v (command.InsertActivity target time) book = inserted_kept stamp v target book
+besides_kept stamp mirror v (command.InsertActivities rides) book = inserted_kept stamp v (map ridden rides) book
 besides_kept stamp mirror v (command.DeleteActivity target) book =
     if_kept book (deleted stamp target book) (is_completed v) (gone_kept stamp book target (place.Riding ∷ place.Scheduled ∷ place.Doubtful ∷ []) place.Deleted cause.Delete refl refl)
 besides_kept stamp mirror v (command.ShiftActivity target offset) book = same_kept book
@@ -220,7 +231,7 @@ told_kept stamp mirror book n v =
     then_kept book (reported stamp book n (stage_of_verification v)) (besides_at stamp mirror v (request_at book n) (reported stamp book n (stage_of_verification v)))
     (reported_kept stamp book n v) (besides_at_kept stamp mirror v (request_at book n) (reported stamp book n (stage_of_verification v)))
 
--- ---- an insert that is in doubt or given back, and its activity
+-- ---- an insert that is in doubt or given back, and its activities
 
 doubted_kept : (stamp : Stamp) (book : Book) (n : ℕ) → BothKept book (tried_with stamp book n (place.Sent ∷ []) place.Doubtful cause.Doubt)
 doubted_kept stamp book n = by_test (stands book n (place.Sent ∷ [])) refl
@@ -229,7 +240,7 @@ doubted_kept stamp book n = by_test (stands book n (place.Sent ∷ [])) refl
     after = moved stamp book (want n place.Doubtful cause.Doubt)
 
     behind_it : Book
-    behind_it = followed stamp after (activity_at book n) (place.Riding ∷ []) place.Doubtful cause.Doubt
+    behind_it = followed stamp after (activities_at book n) (place.Riding ∷ []) place.Doubtful cause.Doubt
 
     own : is_among (place.Sent ∷ []) (place_in book n) ≡ true → BothKept book after
     own e = record {
@@ -238,7 +249,7 @@ doubted_kept stamp book n = by_test (stands book n (place.Sent ∷ [])) refl
     }
 
     by_test : (t : Bool) → stands book n (place.Sent ∷ []) ≡ t → BothKept book (if t then behind_it else book)
-    by_test true e = then_kept book after behind_it (own e) (follow_kept stamp after (activity_at book n) place.Riding place.Doubtful cause.Doubt refl refl)
+    by_test true e = then_kept book after behind_it (own e) (follow_kept stamp after (activities_at book n) place.Riding place.Doubtful cause.Doubt refl refl)
     by_test false e = same_kept book
 
 -- of one that is given back only that those that were sent do not return
@@ -249,13 +260,13 @@ given_back_kept stamp book n m h = by_test (stands book n (place.Queued ∷ []))
     after = moved stamp book (want n place.Approved cause.GiveBack)
 
     behind_it : Book
-    behind_it = followed stamp after (activity_at book n) (place.Riding ∷ []) place.Approved cause.GiveBack
+    behind_it = followed stamp after (activities_at book n) (place.Riding ∷ []) place.Approved cause.GiveBack
 
     own : is_among (place.Queued ∷ []) (place_in book n) ≡ true → StandsAt gone_places after m
     own e = moved_keeps stamp book n place.Approved cause.GiveBack gone_places m (λ s. let no : true ≡ false = sym s ∙ only place.Queued gone_places (place_in book n) e in cc) h
 
     rides : BothKept after behind_it
-    rides = follow_kept stamp after (activity_at book n) place.Riding place.Approved cause.GiveBack refl refl
+    rides = follow_kept stamp after (activities_at book n) place.Riding place.Approved cause.GiveBack refl refl
 
     by_test : (t : Bool) → stands book n (place.Queued ∷ []) ≡ t → StandsAt gone_places (if t then behind_it else book) m
     by_test true e = rides.sent m (own e)

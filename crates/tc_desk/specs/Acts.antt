@@ -1,7 +1,7 @@
 -- What each kind of act is refused for, what it makes of the book by itself, and how its reply begins. An act on the book
 -- alone is the book's matter.
 use Rattle.std.specs.Prelude.{ℕ, ◌==◌, nat_lt, Bool, true, false, not, ◌&&◌, ◌||◌, Option, Some, None, is_some, List, [], ◌∷◌, ◌++◌, count_by}
-use Rattle.std.specs.Option.{option_map_or}
+use Rattle.std.specs.List.{list_any}
 use Rattle.tc_types.specs.declared.link.activities.ListedActivity.{ListedActivity}
 use Rattle.tc_types.specs.declared.history.places.Place.TheVariants.{Entered, Approved, Queued, Riding}
 use Rattle.tc_types.specs.declared.history.causes.Cause.TheVariants as cause
@@ -36,18 +36,18 @@ use Rattle.tc_book.specs.Logs.{step_tests, recorded, released_with}
 use Rattle.tc_desk.specs.declared.firsts.FirstLine.{FirstLine}
 use Rattle.tc_desk.specs.declared.firsts.FirstLine.TheVariants as first
 use Rattle.tc_desk.specs.State.{State, widest_k}
-use Rattle.tc_desk.specs.Commands.{activity_at, may_not_ride}
+use Rattle.tc_desk.specs.Commands.{activities_at, may_not_ride}
 use Rattle.tc_desk.specs.Effects.{followed}
 
 -- ---- the tests of each act, in order, with the refusal that each gives
 
--- the request is an insert whose activity is not approved
+-- the request is an insert of which an activity is not approved
 abbrev pub has_bad_activity : Book → ℕ → Bool
-has_bad_activity book n = may_not_ride book (activity_at book n)
+has_bad_activity book n = list_any (may_not_ride book) (activities_at book n)
 
--- the request, or its activity where it is an insert, came with a stack and waits there for a line that is not completed
+-- the request, or one of its activities where it is an insert, came with a stack and waits there for a line that is not completed
 abbrev pub is_locked : Book → ℕ → Bool
-is_locked book n = is_interlocked book n || option_map_or (is_interlocked book) (activity_at book n) false
+is_locked book n = is_interlocked book n || list_any (is_interlocked book) (activities_at book n)
 
 -- an initiation and a new V(S) are taken in S6 alone, 0 is no setting, and K is at most the widest that fits
 abbrev pub is_bad_directive : FopState → ℕ → Directive → Bool
@@ -105,7 +105,7 @@ question_refusal at asked = on_book.first_refusal (on_book.query_tests at.book a
 -- ---- the act's own rows
 
 abbrev pub released : Stamp → LinkAct → Book → Book
-released stamp (link_act.Release n) book = followed stamp (moved stamp book (want n Queued cause.Release)) (activity_at book n) (Approved ∷ []) Riding cause.Release
+released stamp (link_act.Release n) book = followed stamp (moved stamp book (want n Queued cause.Release)) (activities_at book n) (Approved ∷ []) Riding cause.Release
 released stamp (link_act.Direct given) book = book
 released stamp link_act.Tick book = book
 released stamp link_act.Up book = book

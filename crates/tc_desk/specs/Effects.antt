@@ -1,6 +1,6 @@
 -- What the book hears of the link: each indication, and each report that was read, is one equation. Where an insert moves, its
--- activity follows.
-use Rattle.std.specs.Prelude.{◌≡◌, ◌≢◌, ◌⊎◌, ℕ, ◌+◌, ◌≤◌, Bool, true, false, if◌then◌else◌, Option, Some, None, List, [], ◌∷◌, length, fold}
+-- activities follow.
+use Rattle.std.specs.Prelude.{◌≡◌, ◌≢◌, ◌⊎◌, ℕ, ◌≤◌, Bool, true, false, if◌then◌else◌, Option, Some, None, List, [], ◌∷◌, length, map, fold}
 use Rattle.std.specs.List.{list_any}
 use Rattle.tc_types.specs.declared.history.places.Place.{Place}
 use Rattle.tc_types.specs.declared.history.places.Place.TheVariants as place
@@ -14,7 +14,9 @@ use Rattle.tc_types.specs.declared.link.reports.Verification.{Verification}
 use Rattle.tc_types.specs.declared.requests.Command.{Command}
 use Rattle.tc_types.specs.declared.requests.Command.TheVariants as command
 use Rattle.tc_types.specs.declared.requests.Request.{Request}
+use Rattle.tc_types.specs.History.{count_at}
 use Rattle.tc_types.specs.Lawful.{is_among, is_lawful, is_one_of}
+use Rattle.tc_types.specs.Schedule.{ridden}
 use Rattle.tc_types.specs.Stages.{stage_of_verification}
 use Rattle.tc_fop.specs.declared.signals.Indication.TheVariants as signal
 use Rattle.tc_world.specs.declared.events.LinkIndication.{LinkIndication}
@@ -24,18 +26,23 @@ use Rattle.tc_book.specs.declared.stamps.Stamp.{Stamp}
 use Rattle.tc_book.specs.Book.{Book, place_in, stands, request_at, want, moved}
 use Rattle.tc_book.specs.Places.{numbers_from}
 use Rattle.tc_book.specs.Records.{Kept}
-use Rattle.tc_desk.specs.Commands.{activity_at}
+use Rattle.tc_desk.specs.Commands.{activities_at}
 
--- there is room for so many rows more, and from each of these places a move to this one is lawful for this cause; only its approvers move a
--- request with the cause `approve`
-pub record MayMove (most : ℕ) (at : Kept) (places : List Place) (to : Place) (why : Cause) : Type 0 where
-  pub room : length at.book.history + most ≤ at.most_rows
+-- how many requests ride inside an insert
+unfoldable pub riding : Book → ℕ
+riding book = count_at book.history place.Riding
+
+-- there is room for the rows of this book
+abbrev pub MayHold : Kept → Book → Type 0
+MayHold at book = length book.history ≤ at.most_rows
+
+-- from each of these places a move to this one is lawful for this cause; only its approvers move a request with the cause `approve`
+pub record MayMove (places : List Place) (to : Place) (why : Cause) : Type 0 where
   pub lawful : (from : Option Place) → is_among places from ≡ true → is_lawful from to why ≡ true
   pub own : why ≢ cause.Approve
 
--- requests were moved, so many times at most: all but the history stays, and there is room for as many rows as there was at least
-pub record OnlyMoves (most : ℕ) (old new : Kept) : Type 0 where
-  pub rows : length new.book.history ≤ length old.book.history + most
+-- requests were moved: all but the history stays, and there is room for as many rows as there was at least
+pub record OnlyMoves (old new : Kept) : Type 0 where
   pub rows_kept : old.most_rows ≤ new.most_rows
   pub requests : new.book.requests ≡ old.book.requests
   pub approvals : new.book.approvals ≡ old.book.approvals
@@ -46,15 +53,14 @@ pub record OnlyMoves (most : ℕ) (old new : Kept) : Type 0 where
 abbrev pub tried : Stamp → Book → ℕ → List Place → Place → Cause → Book
 tried stamp book n places to why = if stands book n places then moved stamp book (want n to why) else book
 
--- the same of an activity, where there is one
-abbrev pub followed : Stamp → Book → Option ℕ → List Place → Place → Cause → Book
-followed stamp book None places to why = book
-followed stamp book (Some n) places to why = tried stamp book n places to why
+-- the same of each activity of an insert, in the insert's order, each by its own place
+abbrev pub followed : Stamp → Book → List ℕ → List Place → Place → Cause → Book
+followed stamp book activities places to why = fold (λ (b : Book) (n : ℕ). tried stamp b n places to why) book activities
 
--- the request is moved, if it stands at one of these places; and its activity, if it rides with it
+-- the request is moved, if it stands at one of these places; and each of its activities, if it rides with it
 abbrev pub tried_with : Stamp → Book → ℕ → List Place → Place → Cause → Book
 tried_with stamp book n places to why =
-    if stands book n places then followed stamp (moved stamp book (want n to why)) (activity_at book n) (place.Riding ∷ []) to why
+    if stands book n places then followed stamp (moved stamp book (want n to why)) (activities_at book n) (place.Riding ∷ []) to why
     else book
 
 -- ---- reports
@@ -69,11 +75,11 @@ is_completed v = is_one_of (place.Completed ∷ []) (stage_of_verification v)
 abbrev pub is_failed : Verification → Bool
 is_failed v = is_one_of (place.Failed ∷ []) (stage_of_verification v)
 
--- a completed insert schedules its activity, a failed one fails it
-abbrev pub inserted : Stamp → Verification → ℕ → Book → Book
-inserted stamp v target book =
-    if is_completed v then tried stamp book target (place.Riding ∷ place.Doubtful ∷ []) place.Scheduled cause.Insert
-    else if is_failed v then tried stamp book target (place.Riding ∷ place.Doubtful ∷ []) place.Failed cause.Insert
+-- a completed insert schedules its activities, a failed one fails them
+abbrev pub inserted : Stamp → Verification → List ℕ → Book → Book
+inserted stamp v activities book =
+    if is_completed v then followed stamp book activities (place.Riding ∷ place.Doubtful ∷ []) place.Scheduled cause.Insert
+    else if is_failed v then followed stamp book activities (place.Riding ∷ place.Doubtful ∷ []) place.Failed cause.Insert
     else book
 
 -- a completed delete deletes its target
@@ -94,7 +100,7 @@ besides stamp mirror v (command.Plain service subtype) book = book
 besides stamp mirror v command.EnableSchedule book = book
 besides stamp mirror v command.DisableSchedule book = book
 besides stamp mirror v command.ResetSchedule book = if is_completed v then emptied stamp mirror book else book
-besides stamp mirror v (command.InsertActivity target time) book = inserted stamp v target book
+besides stamp mirror v (command.InsertActivities rides) book = inserted stamp v (map ridden rides) book
 besides stamp mirror v (command.DeleteActivity target) book = if is_completed v then deleted stamp target book else book
 besides stamp mirror v (command.ShiftActivity target offset) book = book
 besides stamp mirror v (command.ShiftAll offset) book = book

@@ -1,11 +1,11 @@
 -- Who flies on its own and who rides inside an insert: no request does both.
 use Rattle.std.specs.Prelude.{◌≡◌, ℕ, ◌==◌, false, List, [], ◌∷◌, ◌++◌}
-use Rattle.std.specs.List.{list_any, filter_map}
+use Rattle.std.specs.List.{list_any, flat_map}
 use Rattle.tc_types.specs.declared.history.places.Place.{Place}
 use Rattle.tc_types.specs.declared.history.places.Place.TheVariants.{Riding, Scheduled, Accepted, Started, Completed, Failed, Doubtful, Deleted, Closed}
 use Rattle.tc_world.specs.Kept.{Each}
 use Rattle.tc_book.specs.Book.{Book}
-use Rattle.tc_desk.specs.Commands.{activity_at}
+use Rattle.tc_desk.specs.Commands.{activities_at}
 use Rattle.tc_desk.specs.Places.{StandsAt}
 
 -- the places of an activity whose insert has left the desk
@@ -14,7 +14,7 @@ riding_places = Riding ∷ Scheduled ∷ Accepted ∷ Started ∷ Completed ∷ 
 
 -- the activities of those of these requests that are inserts
 abbrev pub carried_by : Book → List ℕ → List ℕ
-carried_by book requests = filter_map (activity_at book) requests
+carried_by book requests = flat_map (activities_at book) requests
 
 -- none of these is one of those
 abbrev pub NoneIsOf : List ℕ → List ℕ → Type 0

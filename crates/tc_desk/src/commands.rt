@@ -1,12 +1,14 @@
 //! The commands of the on-board schedule at the desk: which requests they name, and what flies of them.
-ghost use Rattle.std.specs.Prelude.{◌≡◌, Some, None, [], ◌∷◌};
+ghost use Rattle.std.specs.Prelude.{◌≡◌};
 ghost use Rattle.tc_types.specs.declared.link.telecommands.ScheduleCommand.TheVariants as schedule;
-ghost use Rattle.tc_desk.specs.Commands.{activity_of, insert_of, flown_command, task_of, payload_of, command_at, inserted_by, activity_at};
+ghost use Rattle.tc_types.specs.Inserts.{IsInsert};
+ghost use Rattle.tc_desk.specs.Commands.{activity_of, flown_activity, insert_of, flown_command, task_of, payload_of, command_at, activities_at};
 
 use std::alloc::Allocator;
 use tc_book::Records;
 use tc_types::{
-    Activities, Activity, Body, Command, Moment, Payload, Request, ScheduleCommand, Task,
+    Activities, Activity, Body, Command, MOST_INSERTED, Moment, Payload, Request, Ride, Rides,
+    ScheduleCommand, Targets, Task,
 };
 
 /// A request as an activity that is released at this time.
@@ -22,21 +24,37 @@ fn activity_of(target: &Request, time: Moment) -> Activity
     }
 }
 
-/// An insert of this activity alone.
-fn insert_one(activity: Activity) -> ScheduleCommand
-    ensures { result ≡ schedule.Insert (activity ∷ []) }
+/// What an insert names at one of its places, as the activity that flies with it; `None` where that request is not there.
+fn flown_activity<A: Allocator + Copy + Drop>(records: &Records<A>, ride: &Ride) -> Option<Activity>
+    ensures { result ≡ flown_activity records.now.book ride.now }
 {
-    ScheduleCommand::Insert(Activities::of(&[activity]).unwrap())
+    match records.request(ride.target) {
+        None => None,
+        Some(target) => Some(activity_of(&target, ride.time)),
+    }
 }
 
-/// An insert of this request, which carries it as its one activity.
-fn insert_of(target: Option<Request>, time: Moment) -> Option<ScheduleCommand>
-    ensures { result ≡ insert_of target time }
+/// An insert of these activities.
+fn insert(activities: &[Activity]) -> ScheduleCommand
+    requires { IsInsert activities.now }
+    ensures { result ≡ schedule.Insert activities.now }
 {
-    match target {
-        None => None,
-        Some(target) => Some(insert_one(activity_of(&target, time))),
+    ScheduleCommand::Insert(Activities::of(activities).unwrap())
+}
+
+/// What an insert names, as an insert that flies; `None` where a request is not there.
+fn insert_of<A: Allocator + Copy + Drop>(
+    records: &Records<A>,
+    rides: &Rides,
+) -> Option<ScheduleCommand>
+    ensures { result ≡ insert_of records.now.book rides.now }
+{
+    let mut places = [flown_activity(records, &rides.first())?; MOST_INSERTED];
+    let named = rides.as_slice();
+    for (index, ride) in named.iter().enumerate() {
+        places[index] = flown_activity(records, ride)?;
     }
+    Some(insert(&places[..named.len()]))
 }
 
 /// A command of the schedule as it flies; `None` for a plain one.
@@ -51,7 +69,7 @@ fn flown_command<A: Allocator + Copy + Drop>(
         Command::EnableSchedule => Some(ScheduleCommand::Enable),
         Command::DisableSchedule => Some(ScheduleCommand::Disable),
         Command::ResetSchedule => Some(ScheduleCommand::Reset),
-        Command::InsertActivity { target, time } => insert_of(records.request(*target), *time),
+        Command::InsertActivities(rides) => insert_of(records, rides),
         Command::DeleteActivity { target } => Some(ScheduleCommand::Delete { target: *target }),
         Command::ShiftActivity { target, offset } => Some(ScheduleCommand::Shift {
             target: *target,
@@ -96,29 +114,12 @@ pub(crate) fn command_at<A: Allocator + Copy + Drop>(
     }
 }
 
-/// The request that a command puts into the schedule.
-fn inserted_by(command: &Command) -> Option<u32>
-    ensures { result ≡ inserted_by command.now }
-{
-    match command {
-        Command::InsertActivity { target, .. } => Some(*target),
-        Command::Plain { .. }
-        | Command::EnableSchedule
-        | Command::DisableSchedule
-        | Command::ResetSchedule
-        | Command::DeleteActivity { .. }
-        | Command::ShiftActivity { .. }
-        | Command::ShiftAll { .. }
-        | Command::SummarizeAll => None,
-    }
-}
-
-/// The activity of request `n`, where that is an insert.
-pub(crate) fn activity_at<A: Allocator + Copy + Drop>(records: &Records<A>, n: u32) -> Option<u32>
-    ensures { result ≡ activity_at records.now.book n }
+/// The activities of request `n`, where that is an insert, in its order.
+pub(crate) fn activities_at<A: Allocator + Copy + Drop>(records: &Records<A>, n: u32) -> Targets
+    ensures { result ≡ activities_at records.now.book n }
 {
     match records.request(n) {
-        None => None,
-        Some(request) => inserted_by(&request.body.command),
+        None => Targets::of(&[]).unwrap(),
+        Some(request) => request.body.command.inserted(),
     }
 }

@@ -1,9 +1,8 @@
 //! What the book hears of the link.
-ghost use Rattle.std.specs.Prelude.{◌≡◌, ◌+◌, ◌≤◌, false, min, length};
+ghost use Rattle.std.specs.Prelude.{◌≡◌, false};
 ghost use Rattle.std.specs.List.{list_any};
-ghost use Rattle.tc_types.specs.Limits.{most_requests};
-ghost use Rattle.tc_board.specs.Mirror.{MirrorState};
-ghost use Rattle.tc_desk.specs.Effects.{ComesAlone, OnlyMoves, heard, heard_all, tells_report, told};
+ghost use Rattle.tc_board.specs.Mirror.{MirrorState, no_mirror};
+ghost use Rattle.tc_desk.specs.Effects.{ComesAlone, MayHold, OnlyMoves, heard, heard_all, tells_report, told};
 
 use crate::moving::{report, try_move, try_move_with};
 use crate::reporting::hear_besides;
@@ -16,10 +15,10 @@ use tc_world::LinkIndication;
 
 /// What the link told moves, where it is no report.
 fn hear<A: Allocator + Copy + Drop>(records: &mut Records<A>, stamp: &Stamp, said: &LinkIndication)
-    requires room { length records.old.book.history + 2 ≤ records.old.most_rows }
+    requires room { MayHold records.old (heard stamp.now no_mirror records.old.book said.now) }
     requires no_report { tells_report said.now ≡ false }
     ensures book { (mirror : MirrorState) → records.new.book ≡ heard stamp.now mirror records.old.book said.now }
-    ensures only { OnlyMoves 2 records.old records.new }
+    ensures only { OnlyMoves records.old records.new }
 {
     match said {
         LinkIndication::Fop(signals::Indication::Sent(n)) => {
@@ -53,11 +52,10 @@ pub(crate) fn hear_all<A: Allocator + Copy + Drop>(
     stamp: &Stamp,
     said: &[LinkIndication],
 )
-    requires few { length said.now ≤ 258 }
-    requires room { length records.old.book.history + 516 ≤ records.old.most_rows }
+    requires room { MayHold records.old (heard_all stamp.now no_mirror said.now records.old.book) }
     requires no_report { list_any tells_report said.now ≡ false }
     ensures book { (mirror : MirrorState) → records.new.book ≡ heard_all stamp.now mirror said.now records.old.book }
-    ensures only { OnlyMoves 516 records.old records.new }
+    ensures only { OnlyMoves records.old records.new }
 {
     for told in said {
         hear(records, stamp, told);
@@ -72,9 +70,9 @@ pub(crate) fn hear_telemetry<A: Allocator + Copy + Drop>(
     mirror: &Mirror<A>,
     item: &Telemetry,
 )
-    requires room { length records.old.book.history + 2 + min (length mirror.now.told.activities) most_requests ≤ records.old.most_rows }
+    requires { MayHold records.old (told stamp.now mirror.now.told records.old.book item.now) }
     ensures book { records.new.book ≡ told stamp.now mirror.now.told records.old.book item.now }
-    ensures only { OnlyMoves (2 + min (length mirror.now.told.activities) most_requests) records.old records.new }
+    ensures only { OnlyMoves records.old records.new }
 {
     match item {
         Telemetry::Summary(_) => {}
@@ -97,11 +95,10 @@ pub(crate) fn hear_down<A: Allocator + Copy + Drop>(
     mirror: &Mirror<A>,
     said: &[LinkIndication],
 )
-    requires few { length said.now ≤ 258 }
-    requires room { length records.old.book.history + 516 + min (length mirror.now.told.activities) most_requests ≤ records.old.most_rows }
+    requires room { MayHold records.old (heard_all stamp.now mirror.now.told said.now records.old.book) }
     requires alone { ComesAlone said.now }
     ensures book { records.new.book ≡ heard_all stamp.now mirror.now.told said.now records.old.book }
-    ensures only { OnlyMoves (516 + min (length mirror.now.told.activities) most_requests) records.old records.new }
+    ensures only { OnlyMoves records.old records.new }
 {
     match said.first() {
         Some(LinkIndication::Received(Report::Telemetry(item))) => {

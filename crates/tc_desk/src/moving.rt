@@ -1,11 +1,9 @@
 //! Moves that are made only where they may be: what the link tells, and what follows from it.
-ghost use Rattle.std.specs.Prelude.{◌≡◌, ◌<◌, [], ◌∷◌, Option, true, length};
-ghost use Rattle.tc_types.specs.declared.history.places.Place.{Place};
+ghost use Rattle.std.specs.Prelude.{◌≡◌, [], ◌∷◌};
 ghost use Rattle.tc_types.specs.declared.history.places.Place.TheVariants.{Riding};
-ghost use Rattle.tc_types.specs.Lawful.{is_among, is_lawful};
-ghost use Rattle.tc_desk.specs.Effects.{MayMove, OnlyMoves, tried, followed, tried_with, reported};
+ghost use Rattle.tc_desk.specs.Effects.{MayHold, MayMove, OnlyMoves, tried, followed, tried_with, reported};
 
-use crate::commands::activity_at;
+use crate::commands::activities_at;
 use std::alloc::Allocator;
 use tc_book::{Records, Stamp};
 use tc_types::{Cause, Place, RequestNumber, is_lawful};
@@ -19,9 +17,10 @@ pub(crate) fn try_move<A: Allocator + Copy + Drop>(
     to: Place,
     cause: Cause,
 )
-    requires may { MayMove 1 records.old places.now to cause }
+    requires room { MayHold records.old (tried stamp.now records.old.book n places.now to cause) }
+    requires may { MayMove places.now to cause }
     ensures book { records.new.book ≡ tried stamp.now records.old.book n places.now to cause }
-    ensures only { OnlyMoves 1 records.old records.new }
+    ensures only { OnlyMoves records.old records.new }
 {
     let Some(request) = records.number_of(n) else {
         return;
@@ -31,25 +30,26 @@ pub(crate) fn try_move<A: Allocator + Copy + Drop>(
     }
 }
 
-/// Moves an activity, where there is one, if it stands at one of these places.
+/// Moves each of these activities, in their order, if it stands at one of these places.
 pub(crate) fn follow<A: Allocator + Copy + Drop>(
     records: &mut Records<A>,
     stamp: &Stamp,
-    activity: Option<u32>,
+    activities: &[u32],
     places: &[Place],
     to: Place,
     cause: Cause,
 )
-    requires may { MayMove 1 records.old places.now to cause }
-    ensures book { records.new.book ≡ followed stamp.now records.old.book activity places.now to cause }
-    ensures only { OnlyMoves 1 records.old records.new }
+    requires room { MayHold records.old (followed stamp.now records.old.book activities.now places.now to cause) }
+    requires may { MayMove places.now to cause }
+    ensures book { records.new.book ≡ followed stamp.now records.old.book activities.now places.now to cause }
+    ensures only { OnlyMoves records.old records.new }
 {
-    if let Some(n) = activity {
-        try_move(records, stamp, n, places, to, cause);
+    for activity in activities {
+        try_move(records, stamp, *activity, places, to, cause);
     }
 }
 
-/// Moves a request, if it stands at one of these places; and its activity, if it rides with it.
+/// Moves a request, if it stands at one of these places; and each of its activities, if it rides with it.
 pub(crate) fn try_move_with<A: Allocator + Copy + Drop>(
     records: &mut Records<A>,
     stamp: &Stamp,
@@ -58,15 +58,17 @@ pub(crate) fn try_move_with<A: Allocator + Copy + Drop>(
     to: Place,
     cause: Cause,
 )
-    requires may { MayMove 2 records.old places.now to cause }
-    requires rides { (at : Option Place) → is_among (Riding ∷ []) at ≡ true → is_lawful at to cause ≡ true }
+    requires room { MayHold records.old (tried_with stamp.now records.old.book request places.now to cause) }
+    requires may { MayMove places.now to cause }
+    requires rides { MayMove (Riding ∷ []) to cause }
     ensures book { records.new.book ≡ tried_with stamp.now records.old.book request places.now to cause }
-    ensures only { OnlyMoves 2 records.old records.new }
+    ensures only { OnlyMoves records.old records.new }
 {
     if records.stands(request.get(), places) {
-        let activity = activity_at(records, request.get());
+        let activities = activities_at(records, request.get());
         records.record(*stamp, request, to, cause);
-        follow(records, stamp, activity, &[Place::Riding], to, cause);
+        let from = [Place::Riding];
+        follow(records, stamp, activities.as_slice(), &from, to, cause);
     }
 }
 
@@ -77,9 +79,9 @@ pub(crate) fn report<A: Allocator + Copy + Drop>(
     request: RequestNumber,
     to: Place,
 )
-    requires room { length records.old.book.history < records.old.most_rows }
+    requires { MayHold records.old (reported stamp.now records.old.book request to) }
     ensures book { records.new.book ≡ reported stamp.now records.old.book request to }
-    ensures only { OnlyMoves 1 records.old records.new }
+    ensures only { OnlyMoves records.old records.new }
 {
     if is_lawful(records.place_of(request.get()), to, Cause::Report) {
         records.record(*stamp, request, to, Cause::Report);

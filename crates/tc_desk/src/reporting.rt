@@ -1,11 +1,8 @@
 //! What a report on a command of the on-board schedule moves besides its own request.
-ghost use Rattle.std.specs.Prelude.{◌≡◌, ◌+◌, ◌<◌, ◌≤◌, true, min, if◌then◌else◌, length};
-ghost use Rattle.std.specs.List.{list_any};
-ghost use Rattle.tc_types.specs.Limits.{most_requests};
-ghost use Rattle.tc_board.specs.Mirror.{is_listed_of};
-ghost use Rattle.tc_desk.specs.Effects.{OnlyMoves, is_completed, is_failed, inserted, removed, emptied, besides_at};
+ghost use Rattle.std.specs.Prelude.{◌≡◌};
+ghost use Rattle.tc_desk.specs.Effects.{MayHold, OnlyMoves, is_completed, is_failed, inserted, removed, emptied, besides_at};
 
-use crate::moving::try_move;
+use crate::moving::{follow, try_move};
 use std::alloc::Allocator;
 use tc_board::Mirror;
 use tc_book::{Records, Stamp};
@@ -43,29 +40,23 @@ fn is_failed(verification: &Verification) -> bool
     }
 }
 
-/// A completed insert schedules its activity, a failed one fails it.
+/// A completed insert schedules its activities, a failed one fails them.
 fn insert<A: Allocator + Copy + Drop>(
     records: &mut Records<A>,
     stamp: &Stamp,
     verification: &Verification,
-    target: u32,
+    activities: &[u32],
 )
-    requires room { length records.old.book.history < records.old.most_rows }
-    ensures book { records.new.book ≡ inserted stamp.now verification.now target records.old.book }
-    ensures only { OnlyMoves 1 records.old records.new }
+    requires { MayHold records.old (inserted stamp.now verification.now activities.now records.old.book) }
+    ensures book { records.new.book ≡ inserted stamp.now verification.now activities.now records.old.book }
+    ensures only { OnlyMoves records.old records.new }
 {
     let from = [Place::Riding, Place::Doubtful];
+    let why = Cause::Insert;
     if is_completed(verification) {
-        try_move(
-            records,
-            stamp,
-            target,
-            &from,
-            Place::Scheduled,
-            Cause::Insert,
-        );
+        follow(records, stamp, activities, &from, Place::Scheduled, why);
     } else if is_failed(verification) {
-        try_move(records, stamp, target, &from, Place::Failed, Cause::Insert);
+        follow(records, stamp, activities, &from, Place::Failed, why);
     }
 }
 
@@ -76,9 +67,9 @@ fn remove<A: Allocator + Copy + Drop>(
     mirror: &Mirror<A>,
     n: u32,
 )
-    requires room { list_any (is_listed_of n) mirror.now.told.activities ≡ true → length records.old.book.history < records.old.most_rows }
+    requires { MayHold records.old (removed stamp.now mirror.now.told records.old.book n) }
     ensures book { records.new.book ≡ removed stamp.now mirror.now.told records.old.book n }
-    ensures only { OnlyMoves (if list_any (is_listed_of n) mirror.now.told.activities then 1 else 0) records.old records.new }
+    ensures only { OnlyMoves records.old records.new }
 {
     if mirror.is_there(n) {
         try_move(
@@ -94,9 +85,9 @@ fn remove<A: Allocator + Copy + Drop>(
 
 /// A completed reset deletes what stood in the mirror and is scheduled, in order of number.
 fn empty<A: Allocator + Copy + Drop>(records: &mut Records<A>, stamp: &Stamp, mirror: &Mirror<A>)
-    requires room { length records.old.book.history + min (length mirror.now.told.activities) most_requests ≤ records.old.most_rows }
+    requires { MayHold records.old (emptied stamp.now mirror.now.told records.old.book) }
     ensures book { records.new.book ≡ emptied stamp.now mirror.now.told records.old.book }
-    ensures only { OnlyMoves (min (length mirror.now.told.activities) most_requests) records.old records.new }
+    ensures only { OnlyMoves records.old records.new }
 {
     for n in 1..records.count() + 1 {
         remove(records, stamp, mirror, n);
@@ -111,15 +102,18 @@ pub(crate) fn hear_besides<A: Allocator + Copy + Drop>(
     verification: &Verification,
     request: &Option<Request>,
 )
-    requires room { length records.old.book.history + 1 + min (length mirror.now.told.activities) most_requests ≤ records.old.most_rows }
+    requires { MayHold records.old (besides_at stamp.now mirror.now.told verification.now request.now records.old.book) }
     ensures book { records.new.book ≡ besides_at stamp.now mirror.now.told verification.now request.now records.old.book }
-    ensures only { OnlyMoves (1 + min (length mirror.now.told.activities) most_requests) records.old records.new }
+    ensures only { OnlyMoves records.old records.new }
 {
     let Some(request) = request else {
         return;
     };
     match &request.body.command {
-        Command::InsertActivity { target, .. } => insert(records, stamp, verification, *target),
+        Command::InsertActivities(_) => {
+            let activities = request.body.command.inserted();
+            insert(records, stamp, verification, activities.as_slice());
+        }
         Command::DeleteActivity { target } => {
             if is_completed(verification) {
                 let from = [Place::Riding, Place::Scheduled, Place::Doubtful];

@@ -1,5 +1,5 @@
 -- The Sent_Queue as the machine has it: flags, numbers, fronts and ends.
-use Rattle.std.proofs.Common.{◌≡◌, ℕ, zero, suc, ◌+◌, ◌%◌, ◌<◌, ◌≤◌, ◌⊎◌, inl, inr, Option, Some, None, List, [], ◌∷◌, ◌++◌, map, length, drop, take, slice_get, refl, sym, ◌∙◌, ap, subst, ⊎_elim, zero-add, arith}
+use Rattle.std.proofs.Common.{◌≡◌, ℕ, zero, suc, ◌+◌, ◌%◌, ◌⊎◌, inl, inr, Some, List, [], ◌∷◌, ◌++◌, map, length, drop, slice_get, refl, sym, ◌∙◌, ap, ⊎_elim, zero-add, arith}
 use Rattle.std.proofs.lemmas.List.{append_assoc, append-nil, length-append, map-append, drop-map, take-map}
 use Rattle.tc_types.specs.declared.link.frames.Frame.TheVariants.{Ad}
 use Rattle.tc_fop.specs.declared.queues.Outstanding.{Outstanding}

@@ -1,25 +1,41 @@
--- The columns of a good book's tables tell their rows: each number and name is in form.
+-- The columns of a good book's tables tell their rows: each number and name is in form, and the row of an insert has its first activity alone.
 use Rattle.std.proofs.Common.{◌≡◌, ◌≢◌, ℕ, ◌<◌, ◌≤◌, Option, Some, None, List, [], ◌∷◌, ◌++◌, length, map, ap, arith}
 use Rattle.std.specs.Prelude.{IfSome}
 use Rattle.std.specs.List.{AllByRecursion}
 use Rattle.tc_types.specs.declared.history.moves.Move.{Move}
+use Rattle.tc_types.specs.declared.requests.Command.{Command}
+use Rattle.tc_types.specs.declared.requests.Command.TheVariants as command
 use Rattle.tc_types.specs.declared.requests.Origin.{Origin}
 use Rattle.tc_types.specs.declared.requests.Request.{Request}
 use Rattle.tc_types.specs.declared.tables.rows.ProcedureStep.{ProcedureStep}
 use Rattle.tc_types.specs.declared.tables.rows.StepRecord.{StepRecord}
+use Rattle.tc_types.specs.Grammar.{IsCommand}
 use Rattle.tc_types.specs.History.{AllAfter}
 use Rattle.tc_types.specs.Names.{IsPerson}
 use Rattle.tc_stack.specs.Stacks.{IsEarlier}
 use Rattle.tc_book.specs.Book.{Book}
+use Rattle.tc_book.specs.Cargoes.{alone, first_alone}
 use Rattle.tc_book.specs.Good.{IsGoodBook, IsGoodOrigin, IsGoodRequest}
 use Rattle.tc_book.specs.Persons.{NamesRecorders}
 use Rattle.tc_book.specs.Tables.{image_of, placed}
-use Rattle.tc_store.specs.Told.{IsTold, IsToldOrigin, IsToldRecord, IsToldRequest, IsToldStep}
+use Rattle.tc_store.specs.Told.{IsTold, IsToldCommand, IsToldOrigin, IsToldRecord, IsToldRequest, IsToldStep}
 
-requests_told : (history : List Move) (before xs : List Request) → AllAfter IsGoodRequest before xs → AllByRecursion IsToldRequest (map (placed history) xs)
+command_told : (c : Command) → IsCommand c → IsToldCommand (first_alone c)
+command_told (command.Plain service subtype) known = record { known = known; alone = omega arith }
+command_told command.EnableSchedule known = record { known = known; alone = omega arith }
+command_told command.DisableSchedule known = record { known = known; alone = omega arith }
+command_told command.ResetSchedule known = record { known = known; alone = omega arith }
+command_told (command.InsertActivities []) known = absurd (omega (arith, known.0.some))
+command_told (command.InsertActivities (ride ∷ rides)) known = record { known = (record { some = omega arith; few = omega arith }, (known.1.0, tt)); alone = omega arith }
+command_told (command.DeleteActivity target) known = record { known = known; alone = omega arith }
+command_told (command.ShiftActivity target offset) known = record { known = known; alone = omega arith }
+command_told (command.ShiftAll offset) known = record { known = known; alone = omega arith }
+command_told command.SummarizeAll known = record { known = known; alone = omega arith }
+
+requests_told : (history : List Move) (before xs : List Request) → AllAfter IsGoodRequest before xs → AllByRecursion IsToldRequest (map (placed history) (map alone xs))
 requests_told history before [] all = tt
 requests_told history before (r ∷ xs) all = (
-  record { command = all.0.entry.command; outcome = all.0.entry.outcome; origin = by_origin r.origin all.0.origin },
+  record { command = command_told r.body.command all.0.entry.command; outcome = all.0.entry.outcome; origin = by_origin r.origin all.0.origin },
   requests_told history (before ++ r ∷ []) xs all.1,
 )
   where

@@ -3,17 +3,19 @@ use Rattle.std.proofs.Common.{◌≡◌, inl, inr, ℕ, true, Option, Some, None
 use Rattle.tc_types.specs.declared.requests.Command.{Command}
 use Rattle.tc_types.specs.declared.requests.Command.TheVariants as command
 use Rattle.tc_types.specs.Grammar.{Reads, IsCommand}
-use Rattle.tc_types.specs.Schedule.{is_schedule}
-use Rattle.std.specs.Prelude.{◌<◌, IfSome}
+use Rattle.tc_types.specs.Schedule.{is_schedule, targets_of}
+use Rattle.std.specs.List.{AllByRecursion}
+use Rattle.std.specs.Prelude.{◌<◌}
 use Rattle.std.specs.Fmt.{decimal}
 use Rattle.std.proofs.lemmas.Fmt.{decimal_injective}
 use Rattle.tc_csv.specs.declared.faults.Rule.{Rule}
 use Rattle.tc_csv.specs.Faults.{KeepsAll, FirstBroken}
 use Rattle.tc_csv.specs.Rows.{IsOnly}
 use Rattle.tc_stack.specs.declared.commands.CommandKind.{CommandKind}
-use Rattle.tc_stack.specs.Stacks.{named_line, IsEarlier}
+use Rattle.tc_stack.specs.Stacks.{IsEarlier}
 use Rattle.tc_stack.specs.StackTexts.{kind_of, kind_words, IsKind, IsScheduling, IsTargetField, IsTimeField, SpellsCommand, SpellsKind, KeepsRow}
 use Rattle.tc_stack.specs.CommandTexts.{IsCommandAt, SpellsRest, KeepsRest, rest_rules, command_rules}
+use Rattle.tc_stack.proofs.InsertLemmas.{insert_target, insert_time}
 
 -- a command's kind is in range where it is
 kind_in : (c : Command) → IsCommand c → IsKind (kind_of c)
@@ -21,7 +23,7 @@ kind_in (command.Plain service subtype) is = is
 kind_in command.EnableSchedule is = tt
 kind_in command.DisableSchedule is = tt
 kind_in command.ResetSchedule is = tt
-kind_in (command.InsertActivity target time) is = tt
+kind_in (command.InsertActivities rides) is = tt
 kind_in (command.DeleteActivity target) is = tt
 kind_in (command.ShiftActivity target offset) is = tt
 kind_in (command.ShiftAll offset) is = tt
@@ -57,7 +59,7 @@ command_broken line fields read service broken any reads first = inr ((service, 
 
     by_rule : FirstBroken (KeepsRest line read (get_or fields 4 []) (get_or fields 5 [])) rest_rules broken → FirstBroken (KeepsRow line fields) rest_rules broken
     by_rule (inl target) = inl (λ is. other_kind (λ k. IsTargetField line k (get_or fields 4 [])) target.0 is.0 is.1 is.2, target.1)
-    by_rule (inr (kept, inl time)) = inr ((read, (reads.found.0, reads.found.1), kept), inl (λ is. other_kind (λ k. IsTimeField k (get_or fields 5 [])) time.0 is.0 is.1 is.2, time.1))
+    by_rule (inr (kept, inl time)) = inr ((read, (reads.found.0, reads.found.1), kept), inl (λ is. other_kind (λ k. IsTimeField k (get_or fields 4 []) (get_or fields 5 [])) time.0 is.0 is.1 is.2, time.1))
     by_rule (inr (kept, inr (also, none))) = absurd none
 
 abbrev first_word : List (List ℕ) → List ℕ
@@ -69,7 +71,7 @@ schedule_service fields (command.Plain service subtype) spelled is = cc
 schedule_service fields command.EnableSchedule spelled is = ap first_word spelled.kind
 schedule_service fields command.DisableSchedule spelled is = ap first_word spelled.kind
 schedule_service fields command.ResetSchedule spelled is = ap first_word spelled.kind
-schedule_service fields (command.InsertActivity target time) spelled is = ap first_word spelled.kind
+schedule_service fields (command.InsertActivities rides) spelled is = ap first_word spelled.kind
 schedule_service fields (command.DeleteActivity target) spelled is = ap first_word spelled.kind
 schedule_service fields (command.ShiftActivity target offset) spelled is = ap first_word spelled.kind
 schedule_service fields (command.ShiftAll offset) spelled is = ap first_word spelled.kind
@@ -84,30 +86,30 @@ scheduled fields (command.Plain service subtype) spelled is range =
 scheduled fields command.EnableSchedule spelled is range = refl
 scheduled fields command.DisableSchedule spelled is range = refl
 scheduled fields command.ResetSchedule spelled is range = refl
-scheduled fields (command.InsertActivity target time) spelled is range = refl
+scheduled fields (command.InsertActivities rides) spelled is range = refl
 scheduled fields (command.DeleteActivity target) spelled is range = refl
 scheduled fields (command.ShiftActivity target offset) spelled is range = refl
 scheduled fields (command.ShiftAll offset) spelled is range = refl
 scheduled fields command.SummarizeAll spelled is range = refl
 
 -- a command that is spelled keeps the rules of target and time
-target_kept : (line : ℕ) (fields : List (List ℕ)) (c : Command) → SpellsCommand fields c → IfSome (named_line c) (IsEarlier line) → IsTargetField line (kind_of c) (get_or fields 4 [])
-target_kept line fields (command.Plain service subtype) spelled earlier = spelled.target
-target_kept line fields command.EnableSchedule spelled earlier = spelled.target
-target_kept line fields command.DisableSchedule spelled earlier = spelled.target
-target_kept line fields command.ResetSchedule spelled earlier = spelled.target
-target_kept line fields (command.InsertActivity target time) spelled earlier = (target, earlier, spelled.target)
-target_kept line fields (command.DeleteActivity target) spelled earlier = (target, earlier, spelled.target)
-target_kept line fields (command.ShiftActivity target offset) spelled earlier = (target, earlier, spelled.target)
-target_kept line fields (command.ShiftAll offset) spelled earlier = spelled.target
-target_kept line fields command.SummarizeAll spelled earlier = spelled.target
+target_kept : (line : ℕ) (fields : List (List ℕ)) (c : Command) → SpellsCommand fields c → IsCommand c → AllByRecursion (IsEarlier line) (targets_of c) → IsTargetField line (kind_of c) (get_or fields 4 [])
+target_kept line fields (command.Plain service subtype) spelled range earlier = spelled.target
+target_kept line fields command.EnableSchedule spelled range earlier = spelled.target
+target_kept line fields command.DisableSchedule spelled range earlier = spelled.target
+target_kept line fields command.ResetSchedule spelled range earlier = spelled.target
+target_kept line fields (command.InsertActivities rides) spelled range earlier = insert_target line (get_or fields 4 []) rides range earlier spelled.target
+target_kept line fields (command.DeleteActivity target) spelled range earlier = (target, earlier.0, spelled.target)
+target_kept line fields (command.ShiftActivity target offset) spelled range earlier = (target, earlier.0, spelled.target)
+target_kept line fields (command.ShiftAll offset) spelled range earlier = spelled.target
+target_kept line fields command.SummarizeAll spelled range earlier = spelled.target
 
-time_kept : (fields : List (List ℕ)) (c : Command) → SpellsCommand fields c → IsCommand c → IsTimeField (kind_of c) (get_or fields 5 [])
+time_kept : (fields : List (List ℕ)) (c : Command) → SpellsCommand fields c → IsCommand c → IsTimeField (kind_of c) (get_or fields 4 []) (get_or fields 5 [])
 time_kept fields (command.Plain service subtype) spelled range = spelled.time
 time_kept fields command.EnableSchedule spelled range = spelled.time
 time_kept fields command.DisableSchedule spelled range = spelled.time
 time_kept fields command.ResetSchedule spelled range = spelled.time
-time_kept fields (command.InsertActivity target time) spelled range = (time, range.1, spelled.time)
+time_kept fields (command.InsertActivities rides) spelled range = insert_time (get_or fields 4 []) (get_or fields 5 []) rides range spelled.target spelled.time
 time_kept fields (command.DeleteActivity target) spelled range = spelled.time
 time_kept fields (command.ShiftActivity target offset) spelled range = (offset, range.1, spelled.time)
 time_kept fields (command.ShiftAll offset) spelled range = (offset, range, spelled.time)
@@ -119,14 +121,14 @@ service_in fields (command.Plain service subtype) spelled range = (service, (ran
 service_in fields command.EnableSchedule spelled range = (11, (omega arith, omega arith), ap first_word spelled.kind)
 service_in fields command.DisableSchedule spelled range = (11, (omega arith, omega arith), ap first_word spelled.kind)
 service_in fields command.ResetSchedule spelled range = (11, (omega arith, omega arith), ap first_word spelled.kind)
-service_in fields (command.InsertActivity target time) spelled range = (11, (omega arith, omega arith), ap first_word spelled.kind)
+service_in fields (command.InsertActivities rides) spelled range = (11, (omega arith, omega arith), ap first_word spelled.kind)
 service_in fields (command.DeleteActivity target) spelled range = (11, (omega arith, omega arith), ap first_word spelled.kind)
 service_in fields (command.ShiftActivity target offset) spelled range = (11, (omega arith, omega arith), ap first_word spelled.kind)
 service_in fields (command.ShiftAll offset) spelled range = (11, (omega arith, omega arith), ap first_word spelled.kind)
 service_in fields command.SummarizeAll spelled range = (11, (omega arith, omega arith), ap first_word spelled.kind)
 
 -- a command that is spelled keeps all rules of one
-pub command_keeps : (line : ℕ) (fields : List (List ℕ)) (c : Command) → SpellsCommand fields c → IsCommand c → IfSome (named_line c) (IsEarlier line) → KeepsAll (KeepsRow line fields) command_rules
+pub command_keeps : (line : ℕ) (fields : List (List ℕ)) (c : Command) → SpellsCommand fields c → IsCommand c → AllByRecursion (IsEarlier line) (targets_of c) → KeepsAll (KeepsRow line fields) command_rules
 command_keeps line fields c spelled range earlier =
     let kind : SpellsKind fields (kind_of c) = (spelled.kind, kind_in c range) in
-    (service_in fields c spelled range, ((kind_of c, kind), ((kind_of c, kind, target_kept line fields c spelled earlier), ((kind_of c, kind, time_kept fields c spelled range), tt))))
+    (service_in fields c spelled range, ((kind_of c, kind), ((kind_of c, kind, target_kept line fields c spelled range earlier), ((kind_of c, kind, time_kept fields c spelled range), tt))))

@@ -1,5 +1,6 @@
 pub mod ApprovalLemmas
 pub mod CommandLemmas
+pub mod InsertLemmas
 mod StackCases
 pub mod StackRowLemmas
 pub mod TextLemmas

@@ -45,7 +45,7 @@ row_only line fields apid c conduct place command reads = (
         outcome = reads.outcome.found.1.0;
         schedule = schedule_kept line fields c conduct form command.0.0 reads refl refl refl;
       };
-      target = command.0.1.1;
+      targets = command.0.1.1;
       after = reads.after.found.1;
     };
   },
@@ -58,7 +58,7 @@ row_only line fields apid c conduct place command reads = (
     only : (other : StackRow) → SpellsRow line fields other → record { entry = form; after = conduct.after } ≡ other
     only other is =
         let same_apid = some_same apid other.entry.apid (place.apid.only other.entry.apid is.stands.entry.apid is.apid) in
-        let same_command = command.1 other.entry.command (is.command, (is.stands.entry.command, is.stands.target)) in
+        let same_command = command.1 other.entry.command (is.command, (is.stands.entry.command, is.stands.targets)) in
         let completion : IsScheduling (get_or fields 2 []) → other.entry.ack.completion ≡ true = λ scheduling. is.stands.entry.schedule.completion (scheduled fields other.entry.command is.command scheduling is.stands.entry.command) in
         let completes : IsScheduling (get_or fields 2 []) → other.entry.outcome ≡ Completes = λ scheduling. is.stands.entry.schedule.completes (scheduled fields other.entry.command is.command scheduling is.stands.entry.command) in
         let same_ack = some_same conduct.ack other.entry.ack (reads.ack.only other.entry.ack completion is.ack) in

@@ -19,7 +19,7 @@ use Rattle.tc_stack.proofs.CommandLemmas.{scheduled, command_keeps}
 row_keeps : (line : ℕ) (fields : List (List ℕ)) (row : StackRow) → SpellsRow line fields row → KeepsAll (KeepsRow line fields) row_rules
 row_keeps line fields row is =
     let entry = is.stands.entry in
-    let command = command_keeps line fields row.entry.command is.command entry.command is.stands.target in (
+    let command = command_keeps line fields row.entry.command is.command entry.command is.stands.targets in (
       is.count,
       (
         is.number,

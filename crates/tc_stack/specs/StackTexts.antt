@@ -1,6 +1,7 @@
 -- The text of a stack: a row in each record, under a header (this desk's own). Instants are those of RFC 3339 and RFC 9557, as the
 -- crate jiff reads them.
-use Rattle.std.specs.Prelude.{◌≡◌, ◌⊎◌, ⊤, ℕ, ℤ, ◌*◌, ◌<◌, pos, Bool, true, false, Option, Some, None, Ok, IfSome, List, [], ◌∷◌, length, get_or, drop}
+use Rattle.std.specs.Prelude.{◌≡◌, ◌⊎◌, ⊤, ℕ, ℤ, ◌*◌, ◌<◌, pos, Bool, true, false, Option, Some, None, Ok, IfSome, List, [], ◌∷◌, length, map, get_or, drop}
+use Rattle.std.specs.List.{AllByRecursion}
 use Rattle.std.specs.Fmt.{decimal, signed_decimal}
 use Rattle.std.specs.Str.{IsUtf8}
 use Rattle.jiff.specs.Words.{parse_timestamp}
@@ -11,7 +12,10 @@ use Rattle.tc_types.specs.declared.requests.Command.{Command}
 use Rattle.tc_types.specs.declared.requests.Command.TheVariants as command
 use Rattle.tc_types.specs.Limits.{most_stack_rows}
 use Rattle.tc_types.specs.Numbers.{IsMoment, IsOffset, IsApid, IsService, IsSubtype}
-use Rattle.tc_types.specs.Grammar.{ack_word, yes_no, outcome_word, IsOutcome}
+use Rattle.tc_types.specs.Grammar.{ack_word, yes_no, outcome_word, IsOutcome, listed}
+use Rattle.tc_types.specs.Inserts.{IsInsert}
+use Rattle.tc_types.specs.Schedule.{released_at, targets_of}
+use Rattle.tc_types.specs.Words.{words}
 use Rattle.tc_csv.specs.declared.columns.Column.{Column}
 use Rattle.tc_csv.specs.declared.columns.Column.TheVariants as column
 use Rattle.tc_csv.specs.declared.faults.Rule.{Rule}
@@ -23,7 +27,7 @@ use Rattle.tc_csv.specs.Tables.{records_of, number_field, KeepsTable, table_rule
 use Rattle.tc_stack.specs.declared.commands.CommandKind.{CommandKind}
 use Rattle.tc_stack.specs.declared.commands.CommandKind.TheVariants as kind
 use Rattle.tc_stack.specs.declared.stacks.StackRow.{StackRow}
-use Rattle.tc_stack.specs.Stacks.{IsEarlier, IsRow, IsStack, named_line, first_barred}
+use Rattle.tc_stack.specs.Stacks.{IsEarlier, IsRow, IsStack, first_barred}
 
 abbrev pub stack_columns : List Column
 stack_columns =
@@ -37,7 +41,7 @@ kind_of (command.Plain service subtype) = kind.Plain service subtype
 kind_of command.EnableSchedule = kind.Enable
 kind_of command.DisableSchedule = kind.Disable
 kind_of command.ResetSchedule = kind.Reset
-kind_of (command.InsertActivity target time) = kind.Insert
+kind_of (command.InsertActivities rides) = kind.Insert
 kind_of (command.DeleteActivity target) = kind.Delete
 kind_of (command.ShiftActivity target offset) = kind.Shift
 kind_of (command.ShiftAll offset) = kind.ShiftAll
@@ -67,9 +71,19 @@ is_plain other = false
 abbrev pub IsInstant : ℕ → List ℕ → Type 0
 IsInstant seconds field = IsUtf8 field × (parse_timestamp field ≡ Ok (pos (seconds * 1000000000)))
 
--- the time of a command: of an insert an instant, of a shift seconds, else nothing
+-- instants, each of one of these moments, in their order
+abbrev pub AreInstants : List ℕ → List (List ℕ) → Type 0
+AreInstants [] [] = ⊤
+AreInstants (seconds ∷ others) (field ∷ fields) = IsInstant seconds field × AreInstants others fields
+AreInstants other fields = ⊥
+
+-- what stands in a field between its semicolons
+abbrev pub parts : List ℕ → List (List ℕ)
+parts field = words 59 field
+
+-- the time of a command: of an insert an instant for each activity, of a shift seconds, else nothing
 abbrev pub SpellsTime : Command → List ℕ → Type 0
-SpellsTime (command.InsertActivity target time) field = IsInstant time field
+SpellsTime (command.InsertActivities rides) field = AreInstants (map released_at rides) (parts field)
 SpellsTime (command.ShiftActivity target offset) field = field ≡ signed_decimal offset
 SpellsTime (command.ShiftAll offset) field = field ≡ signed_decimal offset
 SpellsTime other field = field ≡ []
@@ -77,7 +91,7 @@ SpellsTime other field = field ≡ []
 -- these fields, the third to the sixth of a row, spell a command
 pub record SpellsCommand (fields : List (List ℕ)) (given : Command) : Type 0 where
   pub kind : get_or fields 2 [] ∷ get_or fields 3 [] ∷ [] ≡ kind_words (kind_of given)
-  pub target : get_or fields 4 [] ≡ number_field (named_line given)
+  pub target : get_or fields 4 [] ≡ listed decimal (targets_of given)
   pub time : SpellsTime given (get_or fields 5 [])
 
 -- ---- rows
@@ -112,19 +126,20 @@ row_rules =
 abbrev pub SpellsKind : List (List ℕ) → CommandKind → Type 0
 SpellsKind fields given = (get_or fields 2 [] ∷ get_or fields 3 [] ∷ [] ≡ kind_words given) × IsKind given
 
--- a target of a command of this kind, on this line: an earlier line, or nothing
+-- a target of a command of this kind, on this line: of an insert 1 to 8 earlier lines, parted by semicolons; else an earlier line, or nothing
 abbrev pub IsTargetField : ℕ → CommandKind → List ℕ → Type 0
-IsTargetField line kind.Insert field = (named : ℕ) × IsEarlier line named × (field ≡ decimal named)
+IsTargetField line kind.Insert field = (lines : List ℕ) × (IsInsert lines × AllByRecursion (IsEarlier line) lines) × (field ≡ listed decimal lines)
 IsTargetField line kind.Delete field = (named : ℕ) × IsEarlier line named × (field ≡ decimal named)
 IsTargetField line kind.Shift field = (named : ℕ) × IsEarlier line named × (field ≡ decimal named)
 IsTargetField line other field = field ≡ []
 
--- a time of a command of this kind: an instant, seconds, or nothing
-abbrev pub IsTimeField : CommandKind → List ℕ → Type 0
-IsTimeField kind.Insert field = (time : ℕ) × IsMoment time × IsInstant time field
-IsTimeField kind.Shift field = (offset : ℤ) × IsOffset offset × (field ≡ signed_decimal offset)
-IsTimeField kind.ShiftAll field = (offset : ℤ) × IsOffset offset × (field ≡ signed_decimal offset)
-IsTimeField other field = field ≡ []
+-- a time of a command of this kind with this target: of an insert as many instants as the target has parts; else seconds, or nothing
+abbrev pub IsTimeField : CommandKind → List ℕ → List ℕ → Type 0
+IsTimeField kind.Insert target field =
+    (times : List ℕ) × (length times ≡ length (parts target)) × AllByRecursion IsMoment times × AreInstants times (parts field)
+IsTimeField kind.Shift target field = (offset : ℤ) × IsOffset offset × (field ≡ signed_decimal offset)
+IsTimeField kind.ShiftAll target field = (offset : ℤ) × IsOffset offset × (field ≡ signed_decimal offset)
+IsTimeField other target field = field ≡ []
 
 -- the service of a schedule command
 abbrev pub IsScheduling : List ℕ → Type 0
@@ -138,7 +153,7 @@ KeepsRow line fields rule.Apid = (apid : ℕ) × IsApid apid × (get_or fields 1
 KeepsRow line fields rule.Service = (service : ℕ) × ((0 < service) × (service < 256)) × (get_or fields 2 [] ≡ decimal service)
 KeepsRow line fields rule.Subtype = (given : CommandKind) × SpellsKind fields given
 KeepsRow line fields rule.Target = (given : CommandKind) × SpellsKind fields given × IsTargetField line given (get_or fields 4 [])
-KeepsRow line fields rule.Time = (given : CommandKind) × SpellsKind fields given × IsTimeField given (get_or fields 5 [])
+KeepsRow line fields rule.Time = (given : CommandKind) × SpellsKind fields given × IsTimeField given (get_or fields 4 []) (get_or fields 5 [])
 KeepsRow line fields rule.Ack = (ack : Ack) × (IsScheduling (get_or fields 2 []) → ack.completion ≡ true) × (get_or fields 6 [] ≡ ack_word ack)
 KeepsRow line fields rule.Critical = (critical : Bool) × (get_or fields 7 [] ≡ yes_no critical)
 KeepsRow line fields rule.After = (after : Option ℕ) × IfSome after (IsEarlier line) × (get_or fields 8 [] ≡ number_field after)

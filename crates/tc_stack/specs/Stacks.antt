@@ -1,12 +1,12 @@
 -- A stack: rows that name earlier lines, and which of them one may name (this desk's own).
 use Rattle.std.specs.Prelude.{◌≡◌, ⊤, ℕ, ◌+◌, ◌-◌, ◌<◌, ◌≤◌, ◌==◌, Bool, true, false, not, ◌&&◌, ◌||◌, if◌then◌else◌, Option, Some, None, IfSome, List, [], ◌∷◌, length, slice_get}
+use Rattle.std.specs.List.{list_any, AllByRecursion}
 use Rattle.tc_types.specs.declared.requests.Command.{Command}
-use Rattle.tc_types.specs.declared.requests.Command.TheVariants as command
 use Rattle.tc_types.specs.declared.history.places.Place.{Place}
 use Rattle.tc_types.specs.declared.history.places.Place.TheVariants as place
 use Rattle.tc_types.specs.Limits.{most_stack_rows}
 use Rattle.tc_types.specs.Grammar.{IsEntry}
-use Rattle.tc_types.specs.Schedule.{is_schedule}
+use Rattle.tc_types.specs.Schedule.{is_schedule, is_insert, targets_of, has_twice}
 use Rattle.tc_stack.specs.declared.stacks.StackRow.{StackRow}
 
 -- ---- lines
@@ -19,28 +19,12 @@ IsEarlier line named = (0 < named) × (named < line)
 abbrev pub at_line : {X : Type 0} → List X → ℕ → Option X
 at_line items line = if line == 0 then None else slice_get items (line - 1)
 
--- the line that a command names, if it names one
-abbrev pub named_line : Command → Option ℕ
-named_line (command.Plain service subtype) = None
-named_line command.EnableSchedule = None
-named_line command.DisableSchedule = None
-named_line command.ResetSchedule = None
-named_line (command.InsertActivity target time) = Some target
-named_line (command.DeleteActivity target) = Some target
-named_line (command.ShiftActivity target offset) = Some target
-named_line (command.ShiftAll offset) = None
-named_line command.SummarizeAll = None
-
-abbrev pub is_insert : Command → Bool
-is_insert (command.InsertActivity target time) = true
-is_insert other = false
-
 -- ---- rows
 
 -- a row as it may stand on this line
 pub record IsRow (line : ℕ) (row : StackRow) : Type 0 where
   pub entry : IsEntry row.entry
-  pub target : IfSome (named_line row.entry.command) (IsEarlier line)
+  pub targets : AllByRecursion (IsEarlier line) (targets_of row.entry.command)
   pub after : IfSome row.after (IsEarlier line)
 
 -- these rows may stand on the lines from this one on
@@ -53,21 +37,21 @@ abbrev pub is_barred : Command → Option StackRow → Bool
 is_barred given None = false
 is_barred given (Some row) = is_schedule row.entry.command || (is_insert given && not row.entry.ack.acceptance)
 
--- the row that a command names, if it names one
-abbrev pub named_row : List StackRow → Option ℕ → Option StackRow
-named_row rows None = None
-named_row rows (Some line) = at_line rows line
+-- a command may not name what stands on this line
+abbrev pub is_barred_line : List StackRow → Command → ℕ → Bool
+is_barred_line rows given line = is_barred given (at_line rows line)
 
--- the command of a row names one that it may not name
+-- the command of a row names one that it may not name, or one twice
 abbrev pub names_barred : List StackRow → StackRow → Bool
-names_barred rows row = is_barred row.entry.command (named_row rows (named_line row.entry.command))
+names_barred rows row =
+    list_any (is_barred_line rows row.entry.command) (targets_of row.entry.command) || has_twice (targets_of row.entry.command)
 
 -- the first line from this one on whose command does so, among all rows
 abbrev pub first_barred : List StackRow → ℕ → List StackRow → Option ℕ
 first_barred all line [] = None
 first_barred all line (row ∷ rows) = if names_barred all row then Some line else first_barred all (line + 1) rows
 
--- one row or more, as many as a stack has at most, each with earlier lines, and none that names one that it may not name
+-- one row or more, as many as a stack has at most, each with earlier lines, and none that names one that it may not name, or one twice
 pub record IsStack (rows : List StackRow) : Type 0 where
   pub some : 0 < length rows
   pub few : length rows ≤ most_stack_rows

@@ -1,17 +1,16 @@
 //! What a row of a stack commands, read from four of its fields: service, subtype, target and time.
-ghost use Rattle.std.specs.Prelude.{◌≡◌, ◌<◌, ℕ, true, false, IfOk, IfErr, IfSome, Some, [], ◌∷◌};
+ghost use Rattle.std.specs.Prelude.{◌≡◌, ◌<◌, true, false, IfOk, IfErr, Some, [], ◌∷◌};
 ghost use Rattle.std.specs.Fmt.{decimal};
 ghost use Rattle.csv.specs.Records.{fields_of};
-ghost use Rattle.tc_types.specs.Numbers.{IsMoment};
 ghost use Rattle.tc_types.specs.Grammar.{Reads};
 ghost use Rattle.tc_csv.specs.Faults.{FirstBroken};
 ghost use Rattle.tc_csv.specs.Rows.{IsOnly};
 ghost use Rattle.tc_stack.specs.Stacks.{IsEarlier};
 ghost use Rattle.tc_stack.specs.declared.commands.CommandKind.TheVariants.{Insert, Delete, Shift, ShiftAll};
-ghost use Rattle.tc_stack.specs.StackTexts.{kind_words, IsKind, is_plain, IsInstant, SpellsCommand, KeepsRow};
+ghost use Rattle.tc_stack.specs.StackTexts.{kind_words, IsKind, is_plain, SpellsCommand, KeepsRow};
 ghost use Rattle.tc_stack.specs.CommandTexts.{IsCommandAt, SpellsRest, KeepsPair, KeepsRest, rest_rules, command_rules};
 
-use crate::instants::instant;
+use crate::inserts::{earlier_lines, instants};
 use csv::ByteRecord;
 use tc_csv::{Rule, field};
 use tc_types::read::readers::{number, offset, service, subtype};
@@ -115,9 +114,10 @@ fn insert(line: u32, target: &[u8], time: &[u8]) -> Result<Command, Rule>
     ensures found { IfOk result (IsOnly (λ c. SpellsRest Insert target.now time.now c × IsCommandAt line c)) }
     ensures broken { IfErr result (FirstBroken (KeepsRest line Insert target.now time.now) rest_rules) }
 {
-    let target = earlier(line, target).ok_or(Rule::Target)?;
-    let time = instant(time).ok_or(Rule::Time)?;
-    Ok(Command::InsertActivity { target, time })
+    let lines = earlier_lines(line, target).ok_or(Rule::Target)?;
+    let rides = instants(lines.as_slice(), time).ok_or(Rule::Time)?;
+    rides.keep_ranges();
+    Ok(Command::InsertActivities(rides))
 }
 
 /// A deletion.

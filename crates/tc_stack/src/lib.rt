@@ -3,6 +3,7 @@
 
 mod approvals;
 mod commands;
+mod inserts;
 mod instants;
 mod interlocks;
 mod readers;

@@ -1,5 +1,6 @@
 //! The text of a stack, read.
 ghost use Rattle.std.specs.Prelude.{◌≡◌, ◌⊎◌, ◌≤◌, List, Some, length, map, IfOk, IfErr};
+ghost use Rattle.std.specs.List.{list_any};
 ghost use Rattle.csv.specs.Records.{fields_of};
 ghost use Rattle.tc_types.specs.declared.refusals.Refusal.TheVariants.{Memory};
 ghost use Rattle.tc_types.specs.Limits.{most_stack_rows};
@@ -7,7 +8,7 @@ ghost use Rattle.tc_csv.specs.declared.faults.Fault.{Fault as SomeFault};
 ghost use Rattle.tc_csv.specs.Faults.{Judged, FirstBrokenRow, rule_refusal};
 ghost use Rattle.tc_csv.specs.Rows.{SpellRows};
 ghost use Rattle.tc_stack.specs.declared.stacks.StackRow.{StackRow as SomeRow};
-ghost use Rattle.tc_stack.specs.Stacks.{named_line, is_barred, names_barred, first_barred};
+ghost use Rattle.tc_stack.specs.Stacks.{is_barred, is_barred_line, names_barred, first_barred};
 ghost use Rattle.tc_stack.specs.StackTexts.{KeepsRow, row_rules, SpellsStack, IsStackFault, Tells};
 ghost use Rattle.tc_stack.specs.RowTexts.{SpellsOnlyRow, IsOnlyStack};
 
@@ -48,37 +49,39 @@ fn rows_of(alloc: Global, records: &[ByteRecord]) -> Result<Vec<StackRow>, NotRe
     Ok(rows)
 }
 
-/// The line that a command names, if it names one.
-fn named_line(command: Command) -> Option<u32>
-    ensures { result ≡ named_line command }
+/// Whether a command may not name this row.
+fn is_barred(command: &Command, entry: Entry) -> bool
+    ensures { (row : SomeRow) → row.entry ≡ entry → result ≡ is_barred command.now (Some row) }
 {
-    match command {
-        Command::InsertActivity { target, .. }
-        | Command::DeleteActivity { target }
-        | Command::ShiftActivity { target, .. } => Some(target),
-        _ => None,
+    entry.command().is_schedule() || (command.is_insert() && !entry.form().ack.acceptance)
+}
+
+/// Whether a command may not name what stands on this line.
+fn is_barred_line(rows: &[StackRow], command: &Command, line: u32) -> bool
+    ensures { result ≡ is_barred_line rows.now command.now line }
+{
+    match row_at(rows, line) {
+        Some(named) => is_barred(command, named.entry),
+        None => false,
     }
 }
 
-/// Whether a command may not name this row.
-fn is_barred(command: Command, entry: Entry) -> bool
-    ensures { (row : SomeRow) → row.entry ≡ entry → result ≡ is_barred command (Some row) }
+/// Whether a command may not name one of these lines.
+fn bars_one(rows: &[StackRow], command: &Command, lines: &[u32]) -> bool
+    ensures { result ≡ list_any (is_barred_line rows.now command.now) lines.now }
 {
-    let is_insert = matches!(command, Command::InsertActivity { .. });
-    entry.command().is_schedule() || (is_insert && !entry.form().ack.acceptance)
+    lines
+        .iter()
+        .any(|line| is_barred_line(rows, command, *line))
 }
 
-/// Whether the command of a row names one that it may not name.
+/// Whether the command of a row names one that it may not name, or one twice.
 fn names_barred(rows: &[StackRow], row: &StackRow) -> bool
     ensures { result ≡ names_barred rows.now row.now }
 {
-    let Some(line) = named_line(row.entry.command()) else {
-        return false;
-    };
-    match row_at(rows, line) {
-        Some(named) => is_barred(row.entry.command(), named.entry),
-        None => false,
-    }
+    let command = row.entry.command();
+    let targets = command.targets();
+    bars_one(rows, &command, targets.as_slice()) || targets.has_twice()
 }
 
 /// The first line whose command does so.

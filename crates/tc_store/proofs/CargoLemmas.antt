@@ -1,25 +1,67 @@
--- What the text that reads `cargo` shows, in a version that has the table; and that which version tables are of is told by the row of `meta`.
-use Rattle.std.proofs.Common.{◌≡◌, ℕ, zero, suc, true, List, [], ◌∷◌, map, refl, sym, ap, subst, ◌∙◌}
+-- What the texts of `cargo` mean: one row more, behind those that stand, none of which is at the same position of its insert; and what is read, in a version that has the table. Which version
+-- tables are of is told by the row of `meta`.
+use Rattle.std.proofs.Common.{◌≡◌, ℕ, zero, suc, pos, true, List, [], ◌∷◌, map, Result, Ok, Err, OnOk, IfOk, refl, sym, ap, subst, ◌∙◌, eqb-true}
+use Rattle.sqlite_value.specs.declared.value.Value.TheVariants.{Int}
 use Rattle.sqlite_value.specs.Order.{Row}
 use Rattle.sqlite_trees.specs.Tree.{IsTable}
+use Rattle.sqlite_trees.specs.declared.store.Store.{Ghosts}
+use Rattle.sqlite_keyed.proofs.RuleLemmas.{first_of_both, second_of_both}
 use Rattle.sqlite_tied.specs.Compute.{everything}
 use Rattle.sqlite.specs.Effect.{Database}
 use Rattle.sqlite.specs.Listing.{understood, listing_schema}
-use Rattle.sqlite.specs.State.{State, Shown}
+use Rattle.sqlite.specs.State.{State, Executes, Shown}
+use Rattle.sqlite.specs.Held.{Held, state}
+use Rattle.sqlite.specs.declared.error.Error.{Error}
+use Rattle.tc_types.specs.declared.tables.cargo.Cargo.{Cargo}
+use Rattle.tc_types.specs.declared.tables.rows.Row.TheVariants.{Carried}
 use Rattle.tc_store.specs.declared.versions.Version.{Version}
 use Rattle.tc_store.specs.declared.versions.Version.TheVariants.{First, Second, Third}
 use Rattle.tc_store.specs.Ledgers.{Ledger}
 use Rattle.tc_sql.specs.Contents.{has_tree, rows_in}
 use Rattle.tc_sql.specs.Lists.{ListsFrom, no_limit}
-use Rattle.tc_sql.specs.Numbered.{numbered}
+use Rattle.tc_sql.specs.Numbered.{numbered, IsKeyedAt, AreAlike, HasAppended}
+use Rattle.tc_sql.specs.Puts.{PutsInto}
+use Rattle.tc_sql.proofs.Appends.{appends}
 use Rattle.tc_sql.proofs.Changes.{matches_at}
-use Rattle.tc_store.specs.Cargo.{cargo_tree, cargo_values}
+use Rattle.tc_store.specs.Cargo.{cargo_tree, cargo_places, cargo_form, cargo_put, cargo_terms, cargo_values, is_same_cargo}
 use Rattle.tc_store.specs.Meta.{meta_tree, version_number, version_shown}
 use Rattle.tc_store.specs.Loads.{all_cargo_text, all_cargo_columns, all_version_columns}
-use Rattle.tc_store.specs.Schema.{HasCargo, schema_of, contents_of, HoldsAs}
+use Rattle.tc_store.specs.Schema.{HasCargo, newest_schema, schema_of, contents_of, HoldsAs}
 use Rattle.tc_store.specs.Shows.{shown_of, ShowsRows}
 use Rattle.tc_store.specs.Reads.{IsQuiet}
+use Rattle.tc_store.specs.Steps.{Ran, Step}
+use Rattle.tc_store.proofs.SchemaLemmas.{stepped_last}
 use Rattle.tc_store.proofs.LoadLemmas.{rows_numbered_in}
+
+-- ---- a row that is written
+
+cargo_puts : PutsInto newest_schema cargo_form cargo_tree cargo_put cargo_terms
+unfolding understood everything
+cargo_puts = record { at = 12; listed = refl; command = refl; plain = (refl, refl); single = refl; quiet = λ _ _. refl }
+
+cargo_keyed : IsKeyedAt newest_schema cargo_form cargo_tree cargo_places
+cargo_keyed = record { at = 9; index = _; listed = refl; guarded = refl; columns = refl; order = refl }
+
+-- two rows at one position of an insert have the same key
+tells : (y x : Cargo) (m n : ℕ) → is_same_cargo y x ≡ true → AreAlike cargo_places (Int (pos m) ∷ cargo_values y) (Int (pos n) ∷ cargo_values x)
+tells y x m n h = (
+  (ap (λ k. Int (pos k)) (eqb-true y.request x.request (first_of_both _ _ h)), refl),
+  ((ap (λ k. Int (pos k)) (eqb-true y.position x.position (second_of_both _ _ h)), refl), tt),
+)
+
+appended : (a : Cargo) (old new : State) (count : ℕ) → Executes cargo_put (cargo_values a) old new (Ok count) → (xs : List Cargo) → old.now.schema ≡ newest_schema
+    → old.now.trees cargo_tree ≡ numbered (map cargo_values xs) → HasAppended cargo_tree cargo_values is_same_cargo a xs old.now new.now
+appended a old new count h xs has held =
+    appends cargo_values is_same_cargo cargo_places tells cargo_puts cargo_keyed a xs (cargo_values a) old new (Ok count) has refl refl held h
+
+pub carried : {S : Type 0} (g : Ghosts S) (a : Cargo) (old new : Held S) (r : Result ℕ Error) → IfOk r (λ count. Ran g cargo_put (cargo_values a) count old new)
+    → OnOk r (Step g (Carried a ∷ []) old new)
+carried g a old new (Err e) h = tt
+carried g a old new (Ok count) h =
+    stepped_last g cargo_values is_same_cargo a (λ image. image.cargo) cargo_tree (Carried a) old new (λ image. refl) (λ image. refl) (λ image. refl) (λ image none. none)
+    (appended a (state g old) (state g new) count h.executes) h.goes
+
+-- ---- the rows that are read
 
 pub all_cargo_is : (version : Version) → HasCargo version → ListsFrom (schema_of version) cargo_tree all_cargo_text [] all_cargo_columns no_limit
 unfolding understood everything

@@ -52,7 +52,7 @@ request_again = col 1 0 ∷ col 1 0 ∷ lit Null ∷ col 0 18 ∷ col 0 19 ∷ c
 abbrev pub ack_number : Ack → ℕ
 ack_number ack = (if ack.acceptance then 8 else 0) + (if ack.start then 4 else 0) + (if ack.progress then 2 else 0) + (if ack.completion then 1 else 0)
 
--- service, subtype, target and time of a command, 0 where it has none
+-- service, subtype, target and time of a command, 0 where it has none; of an insert those of its first activity
 abbrev pub service_of : Command → ℕ
 service_of (command.Plain service subtype) = service
 service_of _ = 11
@@ -62,20 +62,20 @@ subtype_of (command.Plain service subtype) = subtype
 subtype_of command.EnableSchedule = 1
 subtype_of command.DisableSchedule = 2
 subtype_of command.ResetSchedule = 3
-subtype_of (command.InsertActivity target time) = 4
+subtype_of (command.InsertActivities rides) = 4
 subtype_of (command.DeleteActivity target) = 5
 subtype_of (command.ShiftActivity target offset) = 7
 subtype_of (command.ShiftAll offset) = 15
 subtype_of command.SummarizeAll = 17
 
 abbrev pub target_of : Command → ℕ
-target_of (command.InsertActivity target time) = target
+target_of (command.InsertActivities (ride ∷ others)) = ride.target
 target_of (command.DeleteActivity target) = target
 target_of (command.ShiftActivity target offset) = target
 target_of _ = 0
 
 abbrev pub time_of : Command → ℤ
-time_of (command.InsertActivity target time) = pos time
+time_of (command.InsertActivities (ride ∷ others)) = pos ride.time
 time_of (command.ShiftActivity target offset) = offset
 time_of (command.ShiftAll offset) = offset
 time_of _ = pos 0

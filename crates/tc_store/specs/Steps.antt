@@ -23,8 +23,9 @@ use Rattle.tc_types.specs.declared.tables.rows.LoadedProcedure.{LoadedProcedure}
 use Rattle.tc_types.specs.declared.tables.rows.ProcedureStep.{ProcedureStep}
 use Rattle.tc_types.specs.declared.tables.rows.BegunExecution.{BegunExecution}
 use Rattle.tc_types.specs.declared.tables.rows.StepRecord.{StepRecord}
+use Rattle.tc_types.specs.declared.tables.cargo.Cargo.{Cargo}
 use Rattle.tc_types.specs.declared.tables.rows.Row.{Row}
-use Rattle.tc_types.specs.declared.tables.rows.Row.TheVariants.{Entered, Placed, Moved, Tallied, Approved, Loaded, StackApproved, ProcedureLoaded, StepLoaded, Begun, Recorded}
+use Rattle.tc_types.specs.declared.tables.rows.Row.TheVariants.{Entered, Placed, Moved, Tallied, Approved, Loaded, StackApproved, ProcedureLoaded, StepLoaded, Begun, Recorded, Carried}
 use Rattle.tc_store.specs.declared.versions.Version.{Version}
 use Rattle.tc_store.specs.declared.batches.Batch.{Batch}
 use Rattle.tc_types.specs.Tables.{Image, with_row}
@@ -37,6 +38,7 @@ use Rattle.tc_store.specs.StackApprovals.{is_same_stack_approval}
 use Rattle.tc_store.specs.Procedures.{is_same_procedure}
 use Rattle.tc_store.specs.ProcedureSteps.{is_same_step}
 use Rattle.tc_store.specs.Records.{is_same_record}
+use Rattle.tc_store.specs.Cargo.{is_same_cargo}
 use Rattle.tc_store.specs.Schema.{newest_schema, contents, HoldsAs, Holds}
 use Rattle.tc_store.specs.declared.faults.StoreFault.{StoreFault}
 use Rattle.tc_store.specs.declared.faults.StoreFault.TheVariants.{Commit}
@@ -115,6 +117,7 @@ IsNewIn image (ProcedureLoaded procedure) = list_any (λ (p : LoadedProcedure). 
 IsNewIn image (StepLoaded step) = list_any (λ (s : ProcedureStep). is_same_step s step) image.steps ≡ false
 IsNewIn image (Begun execution) = list_any (λ (e : BegunExecution). e.execution == execution.execution) image.executions ≡ false
 IsNewIn image (Recorded given) = list_any (λ (r : StepRecord). is_same_record r given) image.records ≡ false
+IsNewIn image (Carried cargo) = list_any (λ (c : Cargo). is_same_cargo c cargo) image.cargo ≡ false
 
 -- so it is of each row of a batch, where those before it stand too
 abbrev pub AreNew : Image → List Row → Type 0

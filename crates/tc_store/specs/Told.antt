@@ -1,5 +1,5 @@
 -- Which rows are told from any other by what their columns hold: a value that stands for none is nowhere the value itself.
-use Rattle.std.specs.Prelude.{◌≡◌, ◌≢◌, ◌==◌, ℕ, ℤ, [], Some, IfSome}
+use Rattle.std.specs.Prelude.{◌≡◌, ◌≢◌, ◌==◌, ◌≤◌, ℕ, ℤ, [], length, Some, IfSome}
 use Rattle.std.specs.List.{AllByRecursion}
 use Rattle.tc_types.specs.declared.requests.Origin.{Origin}
 use Rattle.tc_types.specs.declared.requests.Command.{Command}
@@ -7,7 +7,7 @@ use Rattle.tc_types.specs.declared.tables.rows.PlacedRequest.{PlacedRequest}
 use Rattle.tc_types.specs.declared.tables.rows.ProcedureStep.{ProcedureStep}
 use Rattle.tc_types.specs.declared.tables.rows.StepRecord.{StepRecord}
 use Rattle.tc_types.specs.Grammar.{IsCommand, IsOutcome}
-use Rattle.tc_types.specs.Schedule.{is_schedule}
+use Rattle.tc_types.specs.Schedule.{is_schedule, inserted}
 use Rattle.tc_types.specs.Tables.{Image}
 use Rattle.tc_store.specs.Requests.{service_of, subtype_of, target_of, time_of}
 
@@ -16,8 +16,13 @@ pub record IsToldOrigin (o : Origin) : Type 0 where
   pub stack : o.stack ≢ []
   pub after : o.after ≢ Some 0
 
+-- an insert has one activity in the row of its request: those behind it stand in the table of cargo
+pub record IsToldCommand (c : Command) : Type 0 where
+  pub known : IsCommand c
+  pub alone : length (inserted c) ≤ 1
+
 pub record IsToldRequest (p : PlacedRequest) : Type 0 where
-  pub command : IsCommand p.request.body.command
+  pub command : IsToldCommand p.request.body.command
   pub outcome : IsOutcome p.request.body.outcome
   pub origin : IfSome p.request.origin IsToldOrigin
 

@@ -1,13 +1,14 @@
 //! The table `request`.
 ghost use Rattle.std.specs.Prelude.{◌≡◌, [], ◌∷◌};
 ghost use Rattle.tc_types.specs.declared.tables.rows.Row.TheVariants.{Entered, Placed};
+ghost use Rattle.tc_types.specs.declared.requests.Command.TheVariants.{InsertActivities};
 ghost use Rattle.tc_store.specs.Requests.{ack_number, service_of, subtype_of, target_of, time_of, stack_of, line_of, prior_of, request_given};
 ghost use Rattle.tc_store.specs.Steps.{Ran, Does, Puts};
 
 use crate::steps::run;
 use sqlite::{Alter, Error, Transaction, params};
 use std::alloc::Global;
-use tc_types::{Ack, Body, Command, Origin, Place, PlacedRequest, Request};
+use tc_types::{Ack, Body, Command, Origin, Place, PlacedRequest, Request, Rides};
 
 /// The text that makes the table.
 pub(crate) const CREATE: &str =
@@ -55,6 +56,17 @@ fn schedule(subtype: u32, target: u32, time: i64) -> Columns
     }
 }
 
+/// The columns of an insert: those of its first activity. Those behind it stand in the table `cargo`.
+fn insert(rides: &Rides) -> Columns
+    ensures service { result.service ≡ 11 }
+    ensures subtype { result.subtype ≡ 4 }
+    ensures target { result.target ≡ target_of (InsertActivities rides.now) }
+    ensures time { result.time ≡ time_of (InsertActivities rides.now) }
+{
+    let first = rides.first();
+    schedule(4, first.target, i64::from(first.time.get()))
+}
+
 /// The columns that hold a command.
 fn columns_of(command: &Command) -> Columns
     ensures service { result.service ≡ service_of command.now }
@@ -72,7 +84,7 @@ fn columns_of(command: &Command) -> Columns
         Command::EnableSchedule => schedule(1, 0, 0),
         Command::DisableSchedule => schedule(2, 0, 0),
         Command::ResetSchedule => schedule(3, 0, 0),
-        Command::InsertActivity { target, time } => schedule(4, *target, i64::from(time.get())),
+        Command::InsertActivities(rides) => insert(rides),
         Command::DeleteActivity { target } => schedule(5, *target, 0),
         Command::ShiftActivity { target, offset } => schedule(7, *target, offset.get()),
         Command::ShiftAll { offset } => schedule(15, 0, offset.get()),

@@ -1,5 +1,6 @@
 pub mod NameLaws
 pub mod InsertLaws
+pub mod RideLemmas
 pub mod StepTextLaws
 pub mod WordLaws
 pub mod NumberLaws

@@ -1,6 +1,6 @@
 -- No spelling has a word with the byte that parts it from the next.
-use Rattle.std.proofs.Common.{◌≡◌, ℕ, ℤ, pos, negsuc, suc, ◌<◌, ◌≤◌, ◌^◌, Bool, true, false, not, ◌&&◌, ◌||◌, eqb, Option, Some, None, List, [], ◌∷◌, length, refl, ap, ◌∙◌, sym, arith, rules, option_map, Bor}
-use Rattle.std.specs.List.{list_all, list_any}
+use Rattle.std.proofs.Common.{◌≡◌, ℕ, ℤ, pos, negsuc, suc, ◌<◌, ◌≤◌, ◌^◌, Bool, true, false, not, ◌&&◌, ◌||◌, eqb, Option, Some, None, List, [], ◌∷◌, length, map, refl, ap, ◌∙◌, sym, arith, rules, option_map, Bor}
+use Rattle.std.specs.List.{list_all, list_any, AllByRecursion}
 use Rattle.std.specs.Fmt.{decimal, signed_decimal}
 use Rattle.std.specs.Str.Parse.{AllDigits}
 use Rattle.std.proofs.lemmas.Str.Parse.{digit_from_value}
@@ -18,6 +18,7 @@ use Rattle.tc_types.specs.declared.requests.Ack.{Ack}
 use Rattle.tc_types.specs.declared.requests.Command.{Command}
 use Rattle.tc_types.specs.declared.requests.Command.TheVariants as command
 use Rattle.tc_types.specs.declared.requests.Form.{Form}
+use Rattle.tc_types.specs.declared.rides.Ride.{Ride}
 use Rattle.tc_types.specs.declared.acts.BookAct.{BookAct}
 use Rattle.tc_types.specs.declared.acts.BookAct.TheVariants as book_act
 use Rattle.tc_types.specs.declared.link.directives.Directive.{Directive}
@@ -29,7 +30,7 @@ use Rattle.tc_types.specs.declared.acts.Act.TheVariants as act
 use Rattle.tc_types.specs.declared.acts.Query.TheVariants as query
 use Rattle.tc_types.specs.declared.acts.Line.{Line}
 use Rattle.tc_types.specs.Lines.{spaced}
-use Rattle.tc_types.specs.Grammar.{flag, ack_word, yes_no, outcome_words, outcome_word, IsOutcome, command_words, IsCommand, entry_words, IsEntry}
+use Rattle.tc_types.specs.Grammar.{flag, ack_word, yes_no, outcome_words, outcome_word, IsOutcome, command_words, IsCommand, listed, target_word, time_word, IsRide, entry_words, IsEntry}
 use Rattle.tc_types.specs.ActGrammar.{book_act_words, IsBookAct, act_words, IsAct, act_text, SpellsLine, after_two, act_part, HasLongAct, line_words, IsLine}
 use Rattle.tc_types.specs.LinkGrammar.{directive_words, IsDirective, link_act_words, IsLinkAct}
 use Rattle.tc_types.specs.Loads.{LoadLine, kind_word, load_words, IsLoad}
@@ -43,15 +44,37 @@ use Rattle.tc_types.specs.Words.{words, words_left}
 use Rattle.tc_types.proofs.WordLaws.{lacks, lacks_joined, words_joined, words_nonempty}
 use Rattle.tc_types.proofs.NumberLaws.{numeral, small_offset}
 
-digits_lack : (c : ℕ) → c < 48 → (digits : List ℕ) → AllDigits 10 digits → lacks c digits ≡ true
-digits_lack c low [] h = refl
-digits_lack c low (d ∷ digits) h =
+digits_lack : (c : ℕ) → ((48 ≤ c) × (c ≤ 57) → ⊥) → (digits : List ℕ) → AllDigits 10 digits → lacks c digits ≡ true
+digits_lack c none [] h = refl
+digits_lack c none (d ∷ digits) h =
     let range = digit_from_value d h.0 in
-    let other : eqb d c ≡ false = ne_eqb d c (λ e. omega (arith, range)) in
-    rw (other, digits_lack c low digits h.1) refl
+    let other : eqb d c ≡ false = ne_eqb d c (λ e. none (omega (arith, range, e), omega (arith, range, e))) in
+    rw (other, digits_lack c none digits h.1) refl
 
 pub decimal_lacks : (c n : ℕ) → c < 48 → n < 2 ^ 64 → lacks c (decimal n) ≡ true
-decimal_lacks c n low small = digits_lack c low (decimal n) (digits_decimal numeral n small)
+decimal_lacks c n low small = digits_lack c (λ digit. omega (arith, low, digit.0)) (decimal n) (digits_decimal numeral n small)
+
+-- what stands in a list has no semicolon
+decimal_parted : (n : ℕ) → n < 2 ^ 32 → lacks 59 (decimal n) ≡ true
+decimal_parted n small = digits_lack 59 (λ digit. omega (arith, digit.1)) (decimal n) (digits_decimal numeral n (omega arith))
+
+each_lacks : (c : ℕ) (word : Ride → List ℕ) → ((r : Ride) → IsRide r → lacks c (word r) ≡ true) → (rides : List Ride) → AllByRecursion IsRide rides → list_all (lacks c) (map word rides) ≡ true
+each_lacks c word lack [] are = refl
+each_lacks c word lack (r ∷ rides) are = rw (lack r are.0, each_lacks c word lack rides are.1) refl
+
+pub targets_parted : (rides : List Ride) → AllByRecursion IsRide rides → list_all (lacks 59) (map target_word rides) ≡ true
+targets_parted rides are = each_lacks 59 target_word (λ r is. decimal_parted r.target is.0) rides are
+
+pub times_parted : (rides : List Ride) → AllByRecursion IsRide rides → list_all (lacks 59) (map time_word rides) ≡ true
+times_parted rides are = each_lacks 59 time_word (λ r is. decimal_parted r.time (omega (arith, is.1))) rides are
+
+-- a list has no byte but digits and semicolons
+pub lists_lack : (c : ℕ) → c < 48 → (rides : List Ride) → AllByRecursion IsRide rides → (lacks c (listed target_word rides) ≡ true) × (lacks c (listed time_word rides) ≡ true)
+lists_lack c low rides are =
+    let apart : eqb 59 c ≡ false = ne_eqb 59 c (λ e. omega (arith, low, e)) in (
+      lacks_joined 59 c (map target_word rides) apart (each_lacks c target_word (λ r is. decimal_lacks c r.target low (omega (arith, is.0))) rides are),
+      lacks_joined 59 c (map time_word rides) apart (each_lacks c time_word (λ r is. decimal_lacks c r.time low (omega (arith, is.1))) rides are),
+    )
 
 -- the words of an outcome have no slash
 pub outcome_parted : (o : Outcome) → IsOutcome o → (list_all (lacks 47) (outcome_words o) ≡ true) × (0 < length (outcome_words o))
@@ -96,8 +119,9 @@ command_lacks (command.Plain service subtype) h = rw (number_lacks service (omeg
 command_lacks command.EnableSchedule h = rw (eleven, number_lacks 1 (omega arith)) refl
 command_lacks command.DisableSchedule h = rw (eleven, number_lacks 2 (omega arith)) refl
 command_lacks command.ResetSchedule h = rw (eleven, number_lacks 3 (omega arith)) refl
-command_lacks (command.InsertActivity target time) h =
-    rw (eleven, number_lacks 4 (omega arith), number_lacks target h.0, number_lacks time (omega arith)) refl
+command_lacks (command.InsertActivities rides) h =
+    let lists = lists_lack 32 (omega arith) rides h.1 in
+    rw (eleven, number_lacks 4 (omega arith), lists.0, lists.1) refl
 command_lacks (command.DeleteActivity target) h = rw (eleven, number_lacks 5 (omega arith), number_lacks target h) refl
 command_lacks (command.ShiftActivity target offset) h =
     rw (eleven, number_lacks 7 (omega arith), number_lacks target h.0, offset_lacks offset h.1) refl

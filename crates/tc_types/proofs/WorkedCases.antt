@@ -1,6 +1,6 @@
 -- The definitions carried out on values whose texts were written by hand: acts, a script line, and the lines that are
 -- printed; and the limits, as numbers. (`negsuc n` is the number below zero by n + 1.)
-use Rattle.std.proofs.Common.{◌≡◌, pos, negsuc, Bool, true, false, Some, None, [], ◌∷◌, map, refl}
+use Rattle.std.proofs.Common.{◌≡◌, ℕ, pos, negsuc, Bool, true, false, Some, None, [], ◌∷◌, map, refl}
 use Rattle.std.specs.Prelude.{codes}
 use Rattle.std.specs.Fmt.{digits}
 use Rattle.tc_types.specs.declared.history.places.Place.TheVariants.{Confirmed, Entered, Riding, Withdrawn}
@@ -10,6 +10,7 @@ use Rattle.tc_types.specs.declared.history.moves.Move.{Move}
 use Rattle.tc_types.specs.declared.requests.Ack.{Ack}
 use Rattle.tc_types.specs.declared.requests.Identity.{Identity}
 use Rattle.tc_types.specs.declared.requests.Request.{Request}
+use Rattle.tc_types.specs.declared.rides.Ride.{Ride}
 use Rattle.tc_types.specs.declared.requests.Outcome.{Outcome}
 use Rattle.tc_types.specs.declared.requests.Outcome.TheVariants as outcome
 use Rattle.tc_types.specs.declared.requests.Command.{Command}
@@ -98,11 +99,16 @@ pub plain_entries-spelled : map act_text (
 unfolding digits
 plain_entries-spelled = refl
 
+-- an activity of a list
+abbrev ride : ℕ → ℕ → Ride
+ride target time = record { target = target; time = time }
+
 pub schedule_entries-spelled : map (λ given. act_text (scheduling given)) (
     command.EnableSchedule
     ∷ command.DisableSchedule
     ∷ command.ResetSchedule
-    ∷ command.InsertActivity 1 1060
+    ∷ command.InsertActivities (ride 1 1060 ∷ [])
+    ∷ command.InsertActivities (ride 1 1060 ∷ ride 2 0 ∷ ride 4294967295 4102444799 ∷ [])
     ∷ command.DeleteActivity 4294967295
     ∷ command.ShiftActivity 0 (negsuc 59)
     ∷ command.ShiftAll (negsuc 4102444798)
@@ -113,6 +119,7 @@ pub schedule_entries-spelled : map (λ given. act_text (scheduling given)) (
     ∷ codes "enter 5 ---c no 11 2 - - ok"
     ∷ codes "enter 5 ---c no 11 3 - - ok"
     ∷ codes "enter 5 ---c no 11 4 1 1060 ok"
+    ∷ codes "enter 5 ---c no 11 4 1;2;4294967295 1060;0;4102444799 ok"
     ∷ codes "enter 5 ---c no 11 5 4294967295 - ok"
     ∷ codes "enter 5 ---c no 11 7 0 -60 ok"
     ∷ codes "enter 5 ---c no 11 15 - -4102444799 ok"
@@ -265,7 +272,8 @@ pub commands-printed : map (λ given. request_line (entered_by_bob given) (Some 
     command.EnableSchedule
     ∷ command.DisableSchedule
     ∷ command.ResetSchedule
-    ∷ command.InsertActivity 1 1060
+    ∷ command.InsertActivities (ride 1 1060 ∷ [])
+    ∷ command.InsertActivities (ride 2 1060 ∷ ride 1 1070 ∷ [])
     ∷ command.DeleteActivity 1
     ∷ command.ShiftActivity 1 (negsuc 59)
     ∷ command.ShiftAll (pos 60)
@@ -275,6 +283,7 @@ pub commands-printed : map (λ given. request_line (entered_by_bob given) (Some 
     ∷ codes "request 2 5/16383 11/2 aspc yes - - halt/9/16 bob Riding"
     ∷ codes "request 2 5/16383 11/3 aspc yes - - halt/9/16 bob Riding"
     ∷ codes "request 2 5/16383 11/4 aspc yes 1 1060 halt/9/16 bob Riding"
+    ∷ codes "request 2 5/16383 11/4 aspc yes 2;1 1060;1070 halt/9/16 bob Riding"
     ∷ codes "request 2 5/16383 11/5 aspc yes 1 - halt/9/16 bob Riding"
     ∷ codes "request 2 5/16383 11/7 aspc yes 1 -60 halt/9/16 bob Riding"
     ∷ codes "request 2 5/16383 11/15 aspc yes - 60 halt/9/16 bob Riding"

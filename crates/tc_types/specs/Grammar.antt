@@ -1,6 +1,6 @@
 -- The spelling of what acts are made of: an entry, and its parts. Each has one spelling: the words of it, parted by one space each.
-use Rattle.std.specs.Prelude.{◌≡◌, ℕ, Bool, true, false, if◌then◌else◌, Option, Some, IfSome, List, [], ◌∷◌, ◌++◌, codes}
-use Rattle.std.specs.List.{join_with_byte}
+use Rattle.std.specs.Prelude.{◌≡◌, ℕ, Bool, true, false, if◌then◌else◌, Option, Some, IfSome, List, [], ◌∷◌, ◌++◌, map, codes}
+use Rattle.std.specs.List.{join_with_byte, AllByRecursion}
 use Rattle.std.specs.Fmt.{decimal, signed_decimal}
 use Rattle.tc_types.specs.declared.requests.Ack.{Ack}
 use Rattle.tc_types.specs.declared.requests.Outcome.{Outcome}
@@ -8,6 +8,8 @@ use Rattle.tc_types.specs.declared.requests.Outcome.TheVariants as outcome
 use Rattle.tc_types.specs.declared.requests.Command.{Command}
 use Rattle.tc_types.specs.declared.requests.Command.TheVariants as command
 use Rattle.tc_types.specs.declared.requests.Form.{Form}
+use Rattle.tc_types.specs.declared.rides.Ride.{Ride}
+use Rattle.tc_types.specs.Inserts.{IsInsert}
 pub use Rattle.tc_types.specs.Numbers.{IsNumber}
 use Rattle.tc_types.specs.Numbers.{IsMoment, IsOffset, IsApid, IsSteps, IsFailureCode, IsService, IsSubtype}
 use Rattle.tc_types.specs.Schedule.{KeepsScheduleRule}
@@ -50,25 +52,43 @@ IsOutcome (outcome.StartFails code) = IsFailureCode code
 IsOutcome (outcome.Halts steps code) = IsSteps steps × IsFailureCode code
 IsOutcome (outcome.Fails code) = IsFailureCode code
 
--- SERVICE SUBTYPE TARGET TIME, with - for a target or time that the subtype does not take (ECSS-E-ST-70-41C,
+-- what a list has, each as this text, parted by semicolons
+abbrev pub listed : {X : Type 0} → (X → List ℕ) → List X → List ℕ
+listed text items = join_with_byte 59 (map text items)
+
+abbrev pub target_word : Ride → List ℕ
+target_word r = decimal r.target
+
+abbrev pub time_word : Ride → List ℕ
+time_word r = decimal r.time
+
+-- SERVICE SUBTYPE TARGET TIME, of an insert a list of targets and one of times, with - for a target or time that the subtype does not take (ECSS-E-ST-70-41C,
 -- service 11, for the subtypes)
 abbrev pub command_words : Command → List (List ℕ)
 command_words (command.Plain service subtype) = decimal service ∷ decimal subtype ∷ codes "-" ∷ codes "-" ∷ []
 command_words command.EnableSchedule = decimal 11 ∷ decimal 1 ∷ codes "-" ∷ codes "-" ∷ []
 command_words command.DisableSchedule = decimal 11 ∷ decimal 2 ∷ codes "-" ∷ codes "-" ∷ []
 command_words command.ResetSchedule = decimal 11 ∷ decimal 3 ∷ codes "-" ∷ codes "-" ∷ []
-command_words (command.InsertActivity target time) = decimal 11 ∷ decimal 4 ∷ decimal target ∷ decimal time ∷ []
+command_words (command.InsertActivities rides) = decimal 11 ∷ decimal 4 ∷ listed target_word rides ∷ listed time_word rides ∷ []
 command_words (command.DeleteActivity target) = decimal 11 ∷ decimal 5 ∷ decimal target ∷ codes "-" ∷ []
 command_words (command.ShiftActivity target offset) = decimal 11 ∷ decimal 7 ∷ decimal target ∷ signed_decimal offset ∷ []
 command_words (command.ShiftAll offset) = decimal 11 ∷ decimal 15 ∷ codes "-" ∷ signed_decimal offset ∷ []
 command_words command.SummarizeAll = decimal 11 ∷ decimal 17 ∷ codes "-" ∷ codes "-" ∷ []
+
+-- an activity that an insert names
+abbrev pub IsRide : Ride → Type 0
+IsRide r = IsNumber r.target × IsMoment r.time
+
+-- 1 to 8 of them
+abbrev pub AreRides : List Ride → Type 0
+AreRides rides = IsInsert rides × AllByRecursion IsRide rides
 
 abbrev pub IsCommand : Command → Type 0
 IsCommand (command.Plain service subtype) = IsService service × IsSubtype subtype
 IsCommand command.EnableSchedule = Unit {0}
 IsCommand command.DisableSchedule = Unit {0}
 IsCommand command.ResetSchedule = Unit {0}
-IsCommand (command.InsertActivity target time) = IsNumber target × IsMoment time
+IsCommand (command.InsertActivities rides) = AreRides rides
 IsCommand (command.DeleteActivity target) = IsNumber target
 IsCommand (command.ShiftActivity target offset) = IsNumber target × IsOffset offset
 IsCommand (command.ShiftAll offset) = IsOffset offset

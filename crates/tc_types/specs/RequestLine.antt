@@ -1,5 +1,5 @@
 -- The line that tells a request. What an entry spells is spelled as there.
-use Rattle.std.specs.Prelude.{ℕ, Option, List, [], ◌∷◌, codes, take, drop}
+use Rattle.std.specs.Prelude.{ℕ, ◌==◌, if◌then◌else◌, Option, List, [], ◌∷◌, ◌++◌, codes, take, drop}
 use Rattle.std.specs.List.{join_with_byte}
 use Rattle.std.specs.Fmt.{decimal}
 use Rattle.tc_types.specs.declared.history.places.Place.{Place}
@@ -11,6 +11,10 @@ use Rattle.tc_types.specs.Lines.{from_word, identity_word, spaced}
 -- SERVICE/SUBTYPE
 abbrev pub kind_word : Command → List ℕ
 kind_word c = join_with_byte 47 (take 2 (command_words c))
+
+-- a text with one more word of a list behind, the word at this place from 0
+abbrev pub with_word : List ℕ → ℕ → List ℕ → List ℕ
+with_word text at word = if at == 0 then text ++ word else text ++ 59 ∷ word
 
 -- TARGET TIME
 abbrev pub target_words : Command → List ℕ

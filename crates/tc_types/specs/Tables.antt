@@ -85,6 +85,7 @@ with_row image (row.ProcedureLoaded procedure) = record image { procedures = ima
 with_row image (row.StepLoaded step) = record image { steps = image.steps ++ step ∷ [] }
 with_row image (row.Begun execution) = record image { executions = put_by execution_key execution image.executions }
 with_row image (row.Recorded given) = record image { records = image.records ++ given ∷ [] }
+with_row image (row.Carried cargo) = record image { cargo = image.cargo ++ cargo ∷ [] }
 
 -- the tables with all rows of a batch, in order
 abbrev pub applied : List Row → Image → Image

@@ -19,8 +19,10 @@ mod print;
 pub mod read;
 mod refusals;
 mod requests;
+mod rides;
 mod step_texts;
 mod tables;
+mod targets;
 mod verdicts;
 
 pub use acts::{Act, BookAct, Line, LinkAct, Query, StepAct};
@@ -52,10 +54,10 @@ pub use print::request_texts::{mark, request_text};
 pub use print::texts::{approvals_text, entered_text, history_text, places_text, stack_text};
 pub use read::act_reader::{LONGEST_ACT, read_act};
 pub use read::line_reader::read_line;
-pub use read::load_reader::read_load;
 pub use read::words::cut;
 pub use refusals::Refusal;
 pub use requests::{Ack, Body, Command, Form, Identity, Origin, Outcome, Request};
+pub use rides::{Ride, Rides};
 pub use step_texts::StepText;
 pub use tables::cargo::Cargo;
 pub use tables::images::Image;
@@ -63,4 +65,5 @@ pub use tables::rows::{
     Approval, BegunExecution, LoadedProcedure, LoadedStack, PlacedRequest, ProcedureStep, Row,
     StackApproval, StepRecord, Tally,
 };
+pub use targets::Targets;
 pub use verdicts::Verdict;

@@ -8,8 +8,9 @@ ghost use Rattle.tc_types.specs.Words.{is_one_line};
 
 use crate::names::Name;
 use crate::numbers::{
-    Apid, FailureCode, Moment, Offset, RequestNumber, SequenceCount, Service, Steps, Subtype,
+    Apid, FailureCode, Offset, RequestNumber, SequenceCount, Service, Steps, Subtype,
 };
+use crate::rides::Rides;
 use std::alloc::{AllocError, Allocator};
 
 /// Which success reports a request asks for (ECSS-E-ST-70-41C, 5.4.11.2.1): failures are always reported.
@@ -53,8 +54,8 @@ pub enum Command {
     DisableSchedule,
     /// TC[11,3] reset the schedule.
     ResetSchedule,
-    /// TC[11,4] insert the request `target` as an activity at `time`.
-    InsertActivity { target: u32, time: Moment },
+    /// TC[11,4] insert these requests as activities, each at its time.
+    InsertActivities(Rides),
     /// TC[11,5] delete the activity `target`.
     DeleteActivity { target: u32 },
     /// TC[11,7] shift the activity `target` in time.
@@ -145,9 +146,7 @@ impl Command {
             Command::Plain { service, subtype } => {
                 let _numbers = (service.get(), subtype.get());
             }
-            Command::InsertActivity { target, time } => {
-                let _numbers = (*target, time.get());
-            }
+            Command::InsertActivities(rides) => rides.keep_ranges(),
             Command::DeleteActivity { target } => {
                 let _target = *target;
             }

@@ -1,38 +1,67 @@
 //! The load of a stack: all its rows are entered, or none.
-ghost use Rattle.std.specs.Prelude.{◌≡◌, ◌+◌, ◌<◌, ◌≤◌, ◌==◌, ◌||◌, ℕ, List, [], length, count_by, false, IfSome};
+ghost use Rattle.std.specs.Prelude.{◌≡◌, ◌+◌, ◌*◌, ◌<◌, ◌≤◌, ◌==◌, ◌||◌, ℕ, List, [], length, map, count_by, false};
+ghost use Rattle.std.specs.List.{AllByRecursion, sum_by};
 ghost use Rattle.tc_types.specs.Limits.{most_requests};
+ghost use Rattle.tc_types.specs.Schedule.{targets_of, ridden};
 ghost use Rattle.tc_stack.specs.declared.stacks.StackRow.{StackRow as SomeRow};
-ghost use Rattle.tc_stack.specs.Stacks.{IsStack, named_line};
+ghost use Rattle.tc_stack.specs.Stacks.{IsStack};
 ghost use Rattle.tc_book.specs.declared.stamps.Stamp.{Stamp as SomeStamp};
 ghost use Rattle.tc_book.specs.Answers.{LoadAnswers, IsLoaded};
 ghost use Rattle.tc_book.specs.Book.{is_identity_in_use, has_all_rows};
+ghost use Rattle.tc_book.specs.Cargoes.{behind_first};
 ghost use Rattle.tc_book.specs.Good.{IsGoodBook, IsGoodOrigin};
-ghost use Rattle.tc_book.specs.Loads.{IsWithin, command_from, entry_from, origin_of, with_row, loaded, identity_behind, takes_identity_in_use, has_all_stacks, passes_requests};
+ghost use Rattle.tc_book.specs.Loads.{IsWithin, ride_from, command_from, entry_from, origin_of, with_row, loaded, identity_behind, takes_identity_in_use, has_all_stacks, passes_requests};
 ghost use Rattle.tc_book.specs.Places.{stack_names};
 ghost use Rattle.tc_book.specs.Records.{Becomes};
 ghost use Rattle.tc_book.specs.Stacks.{has_stack, stack_approvers_of};
 ghost use Rattle.tc_book.specs.Steps.{HasSteps};
-ghost use Rattle.tc_book.specs.Targets.{HasGoodTarget};
+ghost use Rattle.tc_book.specs.Targets.{HasGoodTargets};
 
+use crate::cargoes::behind_first;
 use crate::drafts::{Draft, Needs, make_room};
 use crate::firsts::First;
 use crate::records::Records;
 use crate::stamps::Stamp;
 use std::alloc::Allocator;
 use tc_stack::{Stack, StackRow};
-use tc_types::{Apid, Command, Entry, Form, MOST_REQUESTS, Name, Origin, Refusal};
+use tc_types::{
+    Apid, Command, Entry, Form, MOST_INSERTED, MOST_REQUESTS, Name, Origin, Refusal, Ride, Rides,
+};
 
-/// The command of a row, where line 1 becomes request `start`: what it names is a request then.
+/// An activity of a row, where line 1 becomes request `start`: what it names is a request then.
+fn ride_from(start: u32, ride: &Ride) -> Ride
+    requires few { start ≤ most_requests }
+    requires line { IsWithin ride.now.target }
+    ensures { result ≡ ride_from start ride.now }
+{
+    Ride {
+        target: start + ride.target - 1,
+        time: ride.time,
+    }
+}
+
+/// The activities of a row, each so.
+#[tactic(auto, using(crate::proofs::RowLemmas::ride_within))]
+fn rides_from(start: u32, rides: &Rides) -> Rides
+    requires few { start ≤ most_requests }
+    requires lines { AllByRecursion IsWithin (map ridden rides.now) }
+    ensures { result ≡ map (ride_from start) rides.now }
+{
+    let mut places = [rides.first(); MOST_INSERTED];
+    for (at, ride) in rides.as_slice().iter().enumerate() {
+        places[at] = ride_from(start, ride);
+    }
+    Rides::of(&places[..rides.len()]).unwrap()
+}
+
+/// The command of a row, where line 1 becomes request `start`: what it names are requests then.
 fn command_from(start: u32, command: Command) -> Command
     requires few { start ≤ most_requests }
-    requires line { IfSome (named_line command) IsWithin }
+    requires lines { AllByRecursion IsWithin (targets_of command) }
     ensures { result ≡ command_from start command }
 {
     match command {
-        Command::InsertActivity { target, time } => Command::InsertActivity {
-            target: start + target - 1,
-            time,
-        },
+        Command::InsertActivities(rides) => Command::InsertActivities(rides_from(start, &rides)),
         Command::DeleteActivity { target } => Command::DeleteActivity {
             target: start + target - 1,
         },
@@ -47,7 +76,7 @@ fn command_from(start: u32, command: Command) -> Command
 /// The entry of a row, where line 1 becomes request `start`.
 fn entry_from(start: u32, entry: &Entry) -> Entry
     requires few { start ≤ most_requests }
-    requires line { IfSome (named_line entry.now.command) IsWithin }
+    requires lines { AllByRecursion IsWithin (targets_of entry.now.command) }
     ensures { result ≡ entry_from start entry.now }
 {
     let form = entry.form();
@@ -106,6 +135,19 @@ fn has_no_room<A: Allocator + Copy + Drop>(records: &Records<A>, rows: &[StackRo
     records.has_all_stacks() || requests > MOST_REQUESTS as usize || records.has_all_rows()
 }
 
+/// How many activities these rows name behind the first of each.
+fn count_cargo(rows: &[StackRow]) -> usize
+    requires { length rows.now ≤ 200 }
+    ensures count { result ≡ sum_by (λ (row : SomeRow). length (behind_first row.entry.command)) rows.now }
+    ensures few { result ≤ 7 * length rows.now }
+{
+    let mut count = 0;
+    for row in rows {
+        count += behind_first(&row.entry.command()).len();
+    }
+    count
+}
+
 /// Enters the row on this line, where line 1 becomes request `start`.
 fn enter_row<A: Allocator + Copy + Drop>(
     records: &mut Records<A>,
@@ -116,11 +158,11 @@ fn enter_row<A: Allocator + Copy + Drop>(
     row: &StackRow,
 )
     requires few { start ≤ most_requests }
-    requires named { IfSome (named_line row.now.entry.command) IsWithin }
+    requires named { AllByRecursion IsWithin (targets_of row.now.entry.command) }
     requires request_room { length records.old.book.requests < records.old.most_requests }
     requires room { length records.old.book.history < records.old.most_rows }
     requires stack_room { line ≡ 1 → length (stack_names records.old.book.requests) < records.old.most_stacks }
-    requires target { HasGoodTarget records.old.book.requests (command_from start row.now.entry.command) }
+    requires targets { HasGoodTargets records.old.book.requests (command_from start row.now.entry.command) }
     requires origin { IsGoodOrigin records.old.book.requests stamp.by (origin_of name line row.now) }
     requires unapproved { stack_approvers_of records.old.book.stack_approvals name ≡ [] }
     ensures good { IsGoodBook records.old.book }
@@ -187,6 +229,7 @@ pub fn load<A: Allocator + Copy + Drop>(
     let needs = Needs {
         requests: rows.len(),
         rows: rows.len(),
+        cargo: count_cargo(rows),
         ..Needs::NONE
     };
     let draft = make_room(records, alloc, first, needs)?;

@@ -1,31 +1,31 @@
 //! The requests of the tables that were left.
-ghost use Rattle.std.specs.Prelude.{◌≡◌, ◌↔◌, ℕ, List, ◌≤◌, ◌<◌, ◌++◌, ◌∷◌, [], length, map, vec_capacity, IfSome, IsSomeAnd, IsTrue, IfOk, IfErr, false};
-ghost use Rattle.std.specs.List.{list_any};
+ghost use Rattle.std.specs.Prelude.{◌≡◌, ◌↔◌, ℕ, List, ◌≤◌, ◌<◌, ◌++◌, ◌∷◌, [], length, vec_capacity, IfSome, IsSomeAnd, IsTrue, IfOk, IfErr, OnOk, false};
+ghost use Rattle.std.specs.List.{list_any, flat_map};
 ghost use Rattle.tc_proc.specs.declared.faults.ReopenFault.TheVariants.{Unsound};
 ghost use Rattle.tc_types.specs.declared.requests.Request.{Request as SomeRequest};
-ghost use Rattle.tc_types.specs.declared.tables.rows.PlacedRequest.{PlacedRequest as SomePlaced};
-ghost use Rattle.tc_types.specs.History.{AllAfter};
 ghost use Rattle.tc_types.specs.Names.{is_same_name};
 ghost use Rattle.tc_types.specs.Grammar.{IsEntry};
 ghost use Rattle.tc_types.specs.Limits.{most_requests};
 ghost use Rattle.tc_stack.specs.Stacks.{IsEarlier};
 ghost use Rattle.tc_book.specs.Book.{form_of, next_identity, request_in};
 ghost use Rattle.tc_book.specs.Good.{IsNextRow, IsGoodOrigin, IsGoodRequest};
-ghost use Rattle.tc_book.specs.Known.{AreTakenRequests, AreKnown, KnowsRequests};
+ghost use Rattle.tc_book.specs.Cargoes.{cargo_of};
+ghost use Rattle.tc_book.specs.Known.{told_requests, AreTakenRows, AreKnown, KnowsRequests};
 ghost use Rattle.tc_book.specs.Places.{AreCounted};
 ghost use Rattle.tc_book.specs.Stacks.{has_stack};
-ghost use Rattle.tc_book.specs.Targets.{HasGoodTarget};
+ghost use Rattle.tc_book.specs.Targets.{IsGoodTarget, HasGoodTargets};
 
-use crate::acts::enter::{is_bad_activity, target_of};
+use crate::acts::enter::is_bad_activity;
 use crate::counts::{count_one, next_identity, reserve_counts};
 use crate::pushes::push_within;
 use crate::reading::{is_same_identity, request_in};
+use crate::reopening::joining::join_next;
 use crate::stacks::{has_name, push_name};
 use std::alloc::{AllocError, Allocator};
 use tc_proc::ReopenFault;
 use tc_types::limits::MOST_STACK_ROWS;
 use tc_types::{
-    Command, Entry, Form, Identity, MOST_REQUESTS, Name, Origin, PlacedRequest, Request,
+    Cargo, Command, Entry, Form, Identity, MOST_REQUESTS, Name, Origin, PlacedRequest, Request,
     is_same_name,
 };
 
@@ -62,17 +62,27 @@ fn is_entered(request: &Request) -> bool
     Entry::new(form).is_some()
 }
 
-/// Whether the request that a command names, where it names one, is among these, and is one that it may name.
-fn has_good_target(requests: &[Request], command: &Command) -> bool
-    ensures { IsTrue result ↔ HasGoodTarget requests.now command.now }
+/// Whether the request with this number is among these, and is one that a command may name.
+fn is_good_target(requests: &[Request], command: &Command, target: u32) -> bool
+    ensures { IsTrue result ↔ IsGoodTarget requests.now command.now target }
 {
-    let Some(target) = target_of(command) else {
-        return true;
-    };
     match request_in(requests, target) {
         Some(named) => !is_bad_activity(command, &named),
         None => false,
     }
+}
+
+/// Whether each request that a command names is among these, and is one that it may name, and none is named twice.
+fn has_good_targets(requests: &[Request], command: &Command) -> bool
+    ensures { IsTrue result ↔ HasGoodTargets requests.now command.now }
+{
+    let targets = command.targets();
+    for target in targets.as_slice() {
+        if !is_good_target(requests, command, *target) {
+            return false;
+        }
+    }
+    !targets.has_twice()
 }
 
 /// Whether a row goes on with the stack of this request, by the same author.
@@ -139,7 +149,7 @@ fn may_follow(requests: &[Request], counts: &[u32], stacks: &[Name], request: &R
 {
     let is_numbered = request.number.get() as usize == requests.len() + 1;
     let is_named = is_next_identity(counts, &request.body.identity);
-    let is_fit = is_entered(request) && has_good_target(requests, &request.body.command);
+    let is_fit = is_entered(request) && has_good_targets(requests, &request.body.command);
     is_numbered && is_named && is_fit && may_come_from(requests, stacks, request)
 }
 
@@ -169,12 +179,14 @@ fn push_known<A: Allocator + Copy + Drop>(
     push_within(requests, *request);
 }
 
-/// Appends the requests of these rows to none, as long as each may follow those before it: whether all may.
+/// Appends the requests of these rows to none, each with the rows of cargo in front of what is left, as long as each may follow
+/// those before it: whether all may, and no row of cargo is left.
 fn push_all<A: Allocator + Copy + Drop>(
     requests: &mut Vec<Request, A>,
     counts: &mut Vec<u32, A>,
     stacks: &mut Vec<Name, A>,
     rows: &[PlacedRequest],
+    cargo: &[Cargo],
 ) -> bool
     requires empty { requests.old.items ≡ [] }
     requires few { length rows.now ≤ most_requests }
@@ -182,17 +194,23 @@ fn push_all<A: Allocator + Copy + Drop>(
     requires room { length rows.now ≤ vec_capacity requests.old }
     requires stack_room { length rows.now ≤ vec_capacity stacks.old }
     requires counts { 2048 ≤ length counts.old.items }
-    ensures requests { IsTrue result → requests.new.items ≡ map (λ (p : SomePlaced). p.request) rows.now }
+    ensures requests { IsTrue result → requests.new.items ≡ told_requests cargo.now rows.now }
+    ensures carried { IsTrue result → cargo.now ≡ flat_map cargo_of (told_requests cargo.now rows.now) }
     ensures known { AreKnown requests.new.items counts.new.items stacks.new.items }
-    ensures bad { result ≡ false → ¬ AllAfter IsGoodRequest [] (map (λ (p : SomePlaced). p.request) rows.now) }
+    ensures bad { result ≡ false → ¬ AreTakenRows cargo.now rows.now }
 {
+    let mut rest = cargo;
     for row in rows {
-        if !may_follow(requests, counts, stacks, &row.request) {
+        let Some(joined) = join_next(&row.request, rest) else {
+            return false;
+        };
+        if !may_follow(requests, counts, stacks, &joined.request) {
             return false;
         }
-        push_known(requests, counts, stacks, &row.request);
+        push_known(requests, counts, stacks, &joined.request);
+        rest = joined.rest;
     }
-    true
+    rest.is_empty()
 }
 
 /// Room for so many requests, and none there yet.
@@ -216,14 +234,17 @@ fn known_none<A: Allocator + Copy + Drop>(
     })
 }
 
-/// The requests of these rows. Answers `Unsound` where no desk could have written them, and `Memory` where that is refused.
+/// The requests of these rows of their own, and of these of cargo. Answers `Unsound` where no desk could have written them, and `Memory` where
+/// that is refused.
 pub(crate) fn requests_of<A: Allocator + Copy + Drop>(
     alloc: A,
     rows: &[PlacedRequest],
+    cargo: &[Cargo],
 ) -> Result<KnownRequests<A>, ReopenFault>
-    ensures known { IfOk result (KnowsRequests (map (λ (p : SomePlaced). p.request) rows.now)) }
+    ensures known { IfOk result (KnowsRequests (told_requests cargo.now rows.now)) }
     ensures few { IfOk result (λ known. length known.requests.items ≤ most_requests) }
-    ensures bad { IfErr result (λ why. why ≡ Unsound → ¬ AreTakenRequests (map (λ (p : SomePlaced). p.request) rows.now)) }
+    ensures carried { OnOk result (cargo.now ≡ flat_map cargo_of (told_requests cargo.now rows.now)) }
+    ensures bad { IfErr result (λ why. why ≡ Unsound → ¬ AreTakenRows cargo.now rows.now) }
 {
     if rows.len() > MOST_REQUESTS as usize {
         return Err(ReopenFault::Unsound);
@@ -233,7 +254,7 @@ pub(crate) fn requests_of<A: Allocator + Copy + Drop>(
         mut counts,
         mut stacks,
     } = known_none(alloc, rows.len())?;
-    if push_all(&mut requests, &mut counts, &mut stacks, rows) {
+    if push_all(&mut requests, &mut counts, &mut stacks, rows, cargo) {
         Ok(KnownRequests {
             requests,
             counts,

@@ -1,10 +1,13 @@
 //! The tables that say again what others tell: where each request stands, how many stand at each place, and which stacks were loaded.
 ghost use Rattle.std.specs.Prelude.{◌≡◌, ◌↔◌, ◌+◌, ◌<◌, ◌≤◌, ◌^◌, List, length, map, count_by, MatchOption, IsTrue};
-ghost use Rattle.std.specs.List.{list_all, cons_option};
+ghost use Rattle.std.specs.List.{cons_option};
+ghost use Rattle.tc_types.specs.declared.rides.Ride.{Ride as SomeRide};
+ghost use Rattle.tc_types.specs.declared.tables.cargo.Cargo.{Cargo as SomeCargo};
 ghost use Rattle.tc_types.specs.declared.tables.rows.PlacedRequest.{PlacedRequest as SomePlaced};
 ghost use Rattle.tc_types.specs.declared.tables.rows.LoadedStack.{LoadedStack as SomeStack};
 ghost use Rattle.tc_book.specs.Batch.{tally_of, tallies_of};
-ghost use Rattle.tc_book.specs.Known.{is_placed};
+ghost use Rattle.tc_book.specs.Cargoes.{first_alone, with_rides, alone};
+ghost use Rattle.tc_book.specs.Known.{told_requests, IsPlaced};
 ghost use Rattle.tc_book.specs.Opening.{is_opened};
 ghost use Rattle.tc_book.specs.Stacks.{stacks_of};
 ghost use Rattle.tc_book.specs.Tables.{placed};
@@ -14,35 +17,44 @@ use crate::records::openings::OPENED;
 use crate::stacks::begun_by;
 use std::alloc::Allocator;
 use tc_types::{
-    ALL_PLACES, LoadedStack, PLACES, Place, PlacedRequest, Request, Tally, is_same_name,
+    ALL_PLACES, Command, LoadedStack, PLACES, Place, PlacedRequest, Request, Tally, is_same_name,
 };
 
 /// How many rows have a number.
 const NUMBERS: usize = 4_294_967_295;
 
-/// Whether the row of a request says the place where the history leaves it.
+/// Whether a command is as the row of its request tells it: an insert names one activity there.
+fn is_first_alone(command: &Command) -> bool
+    ensures { (more : List SomeRide) → IsTrue result ↔ (first_alone (with_rides more command.now) ≡ command.now) }
+{
+    match command {
+        Command::InsertActivities(rides) => rides.len() == 1,
+        _ => true,
+    }
+}
+
+/// Whether the row of a request says the place where the history leaves it, and of an insert the first activity alone.
 fn is_placed<A: Allocator + Copy + Drop>(history: &History<A>, row: &PlacedRequest) -> bool
-    ensures { result ≡ is_placed history.now.rows row.now }
+    ensures { (cargo : List SomeCargo) → IsTrue result ↔ IsPlaced history.now.rows cargo row.now }
 {
     let at = history.place_of(row.request.number.get());
     at.unwrap_or(Place::Entered).is_one_of(&[row.place])
+        && is_first_alone(&row.request.body.command)
 }
 
-/// Whether each of these rows passes.
-fn all_placed<A: Allocator + Copy + Drop>(history: &History<A>, rows: &[PlacedRequest]) -> bool
-    ensures { result ≡ list_all (is_placed history.now.rows) rows.now }
-{
-    rows.iter().all(|row| is_placed(history, row))
-}
-
-/// Whether each request's row says the place where the history leaves it.
+/// Whether each request's row says the place where the history leaves it, and of an insert the first activity alone.
 pub(crate) fn are_placed<A: Allocator + Copy + Drop>(
     history: &History<A>,
     rows: &[PlacedRequest],
 ) -> bool
-    ensures { IsTrue result ↔ (rows.now ≡ map (placed history.now.rows) (map (λ (p : SomePlaced). p.request) rows.now)) }
+    ensures { (cargo : List SomeCargo) → IsTrue result ↔ (rows.now ≡ map (placed history.now.rows) (map alone (told_requests cargo rows.now))) }
 {
-    all_placed(history, rows)
+    for row in rows {
+        if !is_placed(history, row) {
+            return false;
+        }
+    }
+    true
 }
 
 /// Whether two tallies are the same.

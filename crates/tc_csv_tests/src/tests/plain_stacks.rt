@@ -4,7 +4,7 @@ use super::Told;
 use super::written::{Fields, at, number_of};
 use tc_csv::Rule;
 use tc_stack::StackRow;
-use tc_types::Command;
+use tc_types::{Command, Ride};
 
 /// Texts that stand in the column of times, and the second that each says, if it says a whole one that the desk knows.
 pub const INSTANTS: [(&[u8], Option<u32>); 9] = [
@@ -70,38 +70,79 @@ fn is_among(field: &[u8], words: &[&[u8]]) -> bool {
     words.iter().any(|word| *word == field)
 }
 
+/// How many words a field has, which semicolons part.
+fn word_count(field: &[u8]) -> usize {
+    field
+        .iter()
+        .filter(|byte| **byte == b';')
+        .count()
+        .saturating_add(1)
+}
+
+/// The word of a field at a place, empty where it has none there.
+fn word(field: &[u8], place: usize) -> &[u8] {
+    field.split(|byte| *byte == b';').nth(place).unwrap_or(b"")
+}
+
+/// Whether a field is 1 to 8 lines before this one.
+fn are_lines(line: u32, field: &[u8]) -> bool {
+    for place in 0..word_count(field) {
+        if !is_within(word(field, place), 1, line.saturating_sub(1)) {
+            return false;
+        }
+    }
+    word_count(field) <= 8
+}
+
+/// Whether a field is an instant for each word of another.
+fn are_instants(target: &[u8], field: &[u8]) -> bool {
+    for place in 0..word_count(field) {
+        if instant(word(field, place)).is_none() {
+            return false;
+        }
+    }
+    word_count(field) == word_count(target)
+}
+
+/// Whether the target of a row is one that its command may have.
+fn is_target(line: u32, fields: &Fields) -> bool {
+    let target = at(fields, 4);
+    if is_schedule(fields, b"4") {
+        are_lines(line, target)
+    } else if names_a_line(fields) {
+        is_within(target, 1, line.saturating_sub(1))
+    } else {
+        target.is_empty()
+    }
+}
+
+/// Whether the time of a row is one that its command may have.
+fn is_time(fields: &Fields) -> bool {
+    let time = at(fields, 5);
+    if is_schedule(fields, b"4") {
+        are_instants(at(fields, 4), time)
+    } else if is_schedule(fields, b"7") || is_schedule(fields, b"15") {
+        seconds(time).is_some()
+    } else {
+        time.is_empty()
+    }
+}
+
 /// The first rule of service, subtype, target and time that a row breaks.
 fn command_rule(line: u32, fields: &Fields) -> Option<Rule> {
     let scheduled: [&[u8]; 8] = [b"1", b"2", b"3", b"4", b"5", b"7", b"15", b"17"];
     let subtype = at(fields, 3);
-    let target = at(fields, 4);
-    let time = at(fields, 5);
     let is_eleven = at(fields, 2) == b"11".as_slice();
-    let is_shift = is_schedule(fields, b"7") || is_schedule(fields, b"15");
     if !is_within(at(fields, 2), 1, 255) {
         Some(Rule::Service)
     } else if !is_within(subtype, 1, 255) || (is_eleven && !is_among(subtype, &scheduled)) {
         Some(Rule::Subtype)
-    } else if names_a_line(fields) && !is_within(target, 1, line.saturating_sub(1)) {
+    } else if !is_target(line, fields) {
         Some(Rule::Target)
-    } else if !names_a_line(fields) && !target.is_empty() {
-        Some(Rule::Target)
-    } else if is_schedule(fields, b"4") {
-        if instant(time).is_some() {
-            None
-        } else {
-            Some(Rule::Time)
-        }
-    } else if is_shift {
-        if seconds(time).is_some() {
-            None
-        } else {
-            Some(Rule::Time)
-        }
-    } else if time.is_empty() {
-        None
-    } else {
+    } else if !is_time(fields) {
         Some(Rule::Time)
+    } else {
+        None
     }
 }
 
@@ -167,12 +208,9 @@ fn row_rule(line: u32, fields: &Fields) -> Option<Rule> {
     }
 }
 
-/// Whether the target of a row is one that may not be one.
-fn is_barred(rows: &[Fields], fields: &Fields) -> bool {
-    if !names_a_line(fields) {
-        return false;
-    }
-    let place = number_of(at(fields, 4)).unwrap_or(0).saturating_sub(1);
+/// Whether the command of a row may not name the line that this word is.
+fn is_barred_line(rows: &[Fields], fields: &Fields, line: &[u8]) -> bool {
+    let place = number_of(line).unwrap_or(0).saturating_sub(1);
     match rows.get(place as usize) {
         Some(named) => {
             let is_asked = at(named, 6).first() == Some(&b'a');
@@ -180,6 +218,30 @@ fn is_barred(rows: &[Fields], fields: &Fields) -> bool {
         }
         None => false,
     }
+}
+
+/// Whether the word of a field at a place stands there once more behind it.
+fn is_twice(field: &[u8], place: usize) -> bool {
+    for other in place.saturating_add(1)..word_count(field) {
+        if word(field, other) == word(field, place) {
+            return true;
+        }
+    }
+    false
+}
+
+/// Whether the target of a row has a line that may not be one, or one twice.
+fn is_barred(rows: &[Fields], fields: &Fields) -> bool {
+    if !names_a_line(fields) {
+        return false;
+    }
+    let target = at(fields, 4);
+    for place in 0..word_count(target) {
+        if is_barred_line(rows, fields, word(target, place)) || is_twice(target, place) {
+            return true;
+        }
+    }
+    false
 }
 
 /// The first row that breaks a rule of its own.
@@ -223,6 +285,20 @@ pub fn fault(has_header: bool, rows: &[Fields]) -> Option<Told> {
     }
 }
 
+/// Whether activities are those that the target and the time of a row say.
+fn are_rides(rides: &[Ride], fields: &Fields) -> bool {
+    let target = at(fields, 4);
+    let time = at(fields, 5);
+    for place in 0..rides.len() {
+        let ride = rides[place];
+        let is_line = number_of(word(target, place)) == Some(ride.target);
+        if !is_line || instant(word(time, place)) != Some(ride.time.get()) {
+            return false;
+        }
+    }
+    rides.len() == word_count(target)
+}
+
 /// Whether a command is what a row says.
 fn is_command(command: Command, fields: &Fields) -> bool {
     let line = number_of(at(fields, 4));
@@ -234,10 +310,8 @@ fn is_command(command: Command, fields: &Fields) -> bool {
         Command::EnableSchedule => is_schedule(fields, b"1"),
         Command::DisableSchedule => is_schedule(fields, b"2"),
         Command::ResetSchedule => is_schedule(fields, b"3"),
-        Command::InsertActivity { target, time } => {
-            is_schedule(fields, b"4")
-                && line == Some(target)
-                && instant(at(fields, 5)) == Some(time.get())
+        Command::InsertActivities(rides) => {
+            is_schedule(fields, b"4") && are_rides(rides.as_slice(), fields)
         }
         Command::DeleteActivity { target } => is_schedule(fields, b"5") && line == Some(target),
         Command::ShiftActivity { target, offset } => {

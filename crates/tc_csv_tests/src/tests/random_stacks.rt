@@ -69,27 +69,92 @@ fn instant(dice: &mut Dice) -> &'static [u8] {
     }
 }
 
-/// The four fields of a schedule command.
-fn scheduling(alloc: Global, dice: &mut Dice, line: u32, fields: &mut Fields) -> Option<()> {
-    let subtype = dice.pick(&SUBTYPES, if line == 1 { 0 } else { 8 });
-    let names_a_line = is(subtype, b"4") || is(subtype, b"5") || is(subtype, b"7");
-    fields.push(field(alloc, b"11")?).ok()?;
-    fields.push(field(alloc, subtype)?).ok()?;
-    fields
-        .push(if names_a_line {
-            line_field(alloc, dice, line)?
-        } else {
-            field(alloc, b"")?
-        })
-        .ok()?;
-    let time = if is(subtype, b"4") {
-        instant(dice)
-    } else if is(subtype, b"7") || is(subtype, b"15") {
+/// One word more of a list.
+fn append(dice: &mut Dice, list: &mut Vec<u8>, word: &[u8]) -> Option<()> {
+    if !list.is_empty() {
+        list.push(b';').ok()?;
+    }
+    if dice.one_in(400) {
+        list.push(b' ').ok()?;
+    }
+    list.extend_from_slice(word).ok()
+}
+
+/// So many lines as a list.
+fn line_list(alloc: Global, dice: &mut Dice, line: u32, count: u32) -> Option<Vec<u8>> {
+    let mut list = Vec::new(alloc);
+    for _ in 0..count {
+        let word = line_field(alloc, dice, line)?;
+        append(dice, &mut list, word.as_slice())?;
+    }
+    Some(list)
+}
+
+/// So many instants as a list.
+fn instant_list(alloc: Global, dice: &mut Dice, count: u32) -> Option<Vec<u8>> {
+    let mut list = Vec::new(alloc);
+    for _ in 0..count {
+        let word = instant(dice);
+        append(dice, &mut list, word)?;
+    }
+    Some(list)
+}
+
+/// How many activities an insert has: mostly one or a few, now and then about as many as it may have.
+fn ride_count(dice: &mut Dice) -> u32 {
+    if dice.one_in(20) {
+        dice.roll(3).saturating_add(7)
+    } else if dice.one_in(3) {
+        dice.roll(3).saturating_add(1)
+    } else {
+        1
+    }
+}
+
+/// The target and the time of an insert: mostly as many instants as lines.
+fn rides(alloc: Global, dice: &mut Dice, line: u32, fields: &mut Fields) -> Option<()> {
+    let count = ride_count(dice);
+    let times = if dice.one_in(60) {
+        ride_count(dice)
+    } else {
+        count
+    };
+    fields.push(line_list(alloc, dice, line, count)?).ok()?;
+    fields.push(instant_list(alloc, dice, times)?).ok()
+}
+
+/// The target and the time of another schedule command.
+fn one_target(
+    alloc: Global,
+    dice: &mut Dice,
+    line: u32,
+    subtype: &[u8],
+    fields: &mut Fields,
+) -> Option<()> {
+    let is_shift = is(subtype, b"7") || is(subtype, b"15");
+    let time = if is_shift {
         dice.pick(&OFFSETS, 4)
     } else {
         b""
     };
+    if is(subtype, b"5") || is(subtype, b"7") {
+        fields.push(line_field(alloc, dice, line)?).ok()?;
+    } else {
+        fields.push(field(alloc, b"")?).ok()?;
+    }
     fields.push(field(alloc, time)?).ok()
+}
+
+/// The four fields of a schedule command.
+fn scheduling(alloc: Global, dice: &mut Dice, line: u32, fields: &mut Fields) -> Option<()> {
+    let subtype = dice.pick(&SUBTYPES, if line == 1 { 0 } else { 8 });
+    fields.push(field(alloc, b"11")?).ok()?;
+    fields.push(field(alloc, subtype)?).ok()?;
+    if is(subtype, b"4") {
+        rides(alloc, dice, line, fields)
+    } else {
+        one_target(alloc, dice, line, subtype, fields)
+    }
 }
 
 /// Texts of stacks.

@@ -4,7 +4,7 @@ use std::alloc::Global;
 use std::test::Fail;
 use tc_csv::Rule;
 use tc_stack::{Stack, read_stack, why_no_stack};
-use tc_types::Command;
+use tc_types::{Command, Ride};
 
 /// The stack that a text spells, if it spells one.
 fn stack(alloc: Global, text: &[u8]) -> Option<Stack> {
@@ -28,7 +28,7 @@ struct Case {
 }
 
 /// The rows.
-const CASES: [Case; 66] = [
+const CASES: [Case; 86] = [
     Case {
         rows: b"1,5,8,1,,,---c,no,,ok\n2,5,8,2,,,---c,no,1,ok\n",
         told: None,
@@ -293,6 +293,86 @@ const CASES: [Case; 66] = [
         rows: b"1,5,11,1,,,a--c,no,,ok\n2,5,11,5,1,,---c,no,,ok\n3,5,8,1,,,---c,no,,no\n",
         told: Some((3, Rule::Outcome)),
     },
+    Case {
+        rows: b"1,5,8,1,,,a--c,no,,ok\n2,5,8,1,,,a--c,no,,ok\n3,5,11,4,1;2,1970-01-01T00:20:00Z;1970-01-01T00:21:00Z,---c,no,,ok\n",
+        told: None,
+    },
+    Case {
+        rows: b"1,5,8,1,,,a--c,no,,ok\n2,5,8,1,,,a--c,no,,ok\n3,5,11,4,\"1;2\",\"1970-01-01T00:20:00Z;1970-01-01T01:21:00+01:00\",---c,no,,ok\n",
+        told: None,
+    },
+    Case {
+        rows: b"1,5,8,1,,,a--c,no,,ok\n2,5,8,1,,,a--c,no,,ok\n3,5,11,4,2;1,1970-01-01T01:20:00+01:00[Europe/Paris];19700101T002100Z,---c,no,,ok\n",
+        told: None,
+    },
+    Case {
+        rows: b"1,5,8,1,,,a--c,no,,ok\n2,5,8,1,,,a--c,no,,ok\n3,5,8,1,,,a--c,no,,ok\n4,5,8,1,,,a--c,no,,ok\n5,5,8,1,,,a--c,no,,ok\n6,5,8,1,,,a--c,no,,ok\n7,5,8,1,,,a--c,no,,ok\n8,5,8,1,,,a--c,no,,ok\n9,5,11,4,1;2;3;4;5;6;7;8,1970-01-01T00:20:00Z;1970-01-01T00:20:00Z;1970-01-01T00:20:00Z;1970-01-01T00:20:00Z;1970-01-01T00:20:00Z;1970-01-01T00:20:00Z;1970-01-01T00:20:00Z;1970-01-01T00:20:00Z,---c,no,,ok\n",
+        told: None,
+    },
+    Case {
+        rows: b"1,5,8,1,,,a--c,no,,ok\n2,5,8,1,,,a--c,no,,ok\n3,5,8,1,,,a--c,no,,ok\n4,5,8,1,,,a--c,no,,ok\n5,5,8,1,,,a--c,no,,ok\n6,5,8,1,,,a--c,no,,ok\n7,5,8,1,,,a--c,no,,ok\n8,5,8,1,,,a--c,no,,ok\n9,5,8,1,,,a--c,no,,ok\n10,5,11,4,1;2;3;4;5;6;7;8;9,1970-01-01T00:20:00Z;1970-01-01T00:20:00Z;1970-01-01T00:20:00Z;1970-01-01T00:20:00Z;1970-01-01T00:20:00Z;1970-01-01T00:20:00Z;1970-01-01T00:20:00Z;1970-01-01T00:20:00Z;1970-01-01T00:20:00Z,---c,no,,ok\n",
+        told: Some((10, Rule::Target)),
+    },
+    Case {
+        rows: b"1,5,8,1,,,a--c,no,,ok\n2,5,8,1,,,a--c,no,,ok\n3,5,11,4,1; 2,1970-01-01T00:20:00Z;1970-01-01T00:21:00Z,---c,no,,ok\n",
+        told: Some((3, Rule::Target)),
+    },
+    Case {
+        rows: b"1,5,8,1,,,a--c,no,,ok\n2,5,8,1,,,a--c,no,,ok\n3,5,11,4,1;2;,1970-01-01T00:20:00Z;1970-01-01T00:21:00Z,---c,no,,ok\n",
+        told: Some((3, Rule::Target)),
+    },
+    Case {
+        rows: b"1,5,8,1,,,a--c,no,,ok\n2,5,8,1,,,a--c,no,,ok\n3,5,11,4,1;3,1970-01-01T00:20:00Z;1970-01-01T00:21:00Z,---c,no,,ok\n4,5,8,1,,,a--c,no,,ok\n",
+        told: Some((3, Rule::Target)),
+    },
+    Case {
+        rows: b"1,5,8,1,,,a--c,no,,ok\n2,5,8,1,,,a--c,no,,ok\n3,5,11,4,1;4,1970-01-01T00:20:00Z;1970-01-01T00:21:00Z,---c,no,,ok\n4,5,8,1,,,a--c,no,,ok\n",
+        told: Some((3, Rule::Target)),
+    },
+    Case {
+        rows: b"1,5,8,1,,,a--c,no,,ok\n2,5,8,1,,,a--c,no,,ok\n3,5,11,4,4;1,1970-01-01T00:20:00Z,---c,no,,ok\n4,5,8,1,,,a--c,no,,ok\n",
+        told: Some((3, Rule::Target)),
+    },
+    Case {
+        rows: b"1,5,8,1,,,a--c,no,,ok\n2,5,8,1,,,a--c,no,,ok\n3,5,11,5,1;2,,---c,no,,ok\n",
+        told: Some((3, Rule::Target)),
+    },
+    Case {
+        rows: b"1,5,8,1,,,a--c,no,,ok\n2,5,8,1,,,a--c,no,,ok\n3,5,11,4,1;2,1970-01-01T00:20:00Z,---c,no,,ok\n",
+        told: Some((3, Rule::Time)),
+    },
+    Case {
+        rows: b"1,5,8,1,,,a--c,no,,ok\n2,5,8,1,,,a--c,no,,ok\n3,5,11,4,1;2,1970-01-01T00:20:00Z;1970-01-01T00:21:00Z;1970-01-01T00:21:00Z,---c,no,,ok\n",
+        told: Some((3, Rule::Time)),
+    },
+    Case {
+        rows: b"1,5,8,1,,,a--c,no,,ok\n2,5,8,1,,,a--c,no,,ok\n3,5,11,4,1;2,1970-01-01T00:20:00Z; 1970-01-01T00:21:00Z,---c,no,,ok\n",
+        told: Some((3, Rule::Time)),
+    },
+    Case {
+        rows: b"1,5,8,1,,,a--c,no,,ok\n2,5,8,1,,,a--c,no,,ok\n3,5,11,4,1;2,1970-01-01T00:20:00Z;,---c,no,,ok\n",
+        told: Some((3, Rule::Time)),
+    },
+    Case {
+        rows: b"1,5,8,1,,,a--c,no,,ok\n2,5,8,1,,,a--c,no,,ok\n3,5,11,4,1;2,1970-01-01T00:20:00Z;1970-01-01T00:21:00.5Z,---c,no,,ok\n",
+        told: Some((3, Rule::Time)),
+    },
+    Case {
+        rows: b"1,5,8,1,,,a--c,no,,ok\n2,5,8,1,,,a--c,no,,ok\n3,5,11,4,1;1,1970-01-01T00:20:00Z;1970-01-01T00:21:00Z,---c,no,,ok\n",
+        told: Some((3, Rule::TargetRow)),
+    },
+    Case {
+        rows: b"1,5,8,1,,,a--c,no,,ok\n2,5,8,1,,,---c,no,,ok\n3,5,11,4,1;2,1970-01-01T00:20:00Z;1970-01-01T00:21:00Z,---c,no,,ok\n",
+        told: Some((3, Rule::TargetRow)),
+    },
+    Case {
+        rows: b"1,5,8,1,,,a--c,no,,ok\n2,5,11,1,,,a--c,no,,ok\n3,5,11,4,1;2,1970-01-01T00:20:00Z;1970-01-01T00:21:00Z,---c,no,,ok\n",
+        told: Some((3, Rule::TargetRow)),
+    },
+    Case {
+        rows: b"1,5,8,1,,,a--c,no,,ok\n2,5,11,4,1;1,1970-01-01T00:20:00Z;1970-01-01T00:21:00Z,---c,no,,ok\n3,5,8,1,,,a-c,no,,ok\n",
+        told: Some((3, Rule::Ack)),
+    },
 ];
 
 /// The header with these rows behind it; none where memory was refused.
@@ -395,28 +475,49 @@ fn reads_the_two(alloc: Global) -> bool {
     }
 }
 
-/// Whether the insert of a text is read with this line and this time.
-fn reads_the_insert(alloc: Global) -> bool {
-    let rows = b"1,5,8,1,,,a--c,no,,ok\n2,5,11,4,1,2031-05-04T12:00:00+02:00,---c,no,,ok\n";
+/// Whether the last row of a text is read as an insert of these lines, each at its second.
+fn reads_the_insert(alloc: Global, rows: &[u8], rides: &[(u32, u32)]) -> bool {
     let Some(text) = text(alloc, rows) else {
         return false;
     };
     let Some(read) = stack(alloc, text.as_slice()) else {
         return false;
     };
-    match read.rows() {
-        [_, second] => match second.entry.command() {
-            Command::InsertActivity { target, time } => target == 1 && time.get() == 1_935_655_200,
+    match read.rows().last() {
+        Some(row) => match row.entry.command() {
+            Command::InsertActivities(read) => are_rides(read.as_slice(), rides),
             _ => false,
         },
-        _ => false,
+        None => false,
     }
+}
+
+/// Whether activities are these: a line and a second each.
+fn are_rides(read: &[Ride], rides: &[(u32, u32)]) -> bool {
+    if read.len() != rides.len() {
+        return false;
+    }
+    for place in 0..read.len() {
+        if (read[place].target, read[place].time.get()) != rides[place] {
+            return false;
+        }
+    }
+    true
 }
 
 #[test]
 fn two_rows_are_read(rt: HostRuntime) -> Result<(), Fail> {
     assert!(rt; reads_the_two(rt.alloc()));
-    assert!(rt; reads_the_insert(rt.alloc()));
+    let one = b"1,5,8,1,,,a--c,no,,ok\n2,5,11,4,1,2031-05-04T12:00:00+02:00,---c,no,,ok\n";
+    assert!(rt; reads_the_insert(rt.alloc(), one, &[(1, 1_935_655_200)]));
+    Ok(())
+}
+
+#[test]
+fn a_list_is_read_in_its_order(rt: HostRuntime) -> Result<(), Fail> {
+    let rows =
+        b"1,5,8,1,,,a--c,no,,ok\n2,5,8,1,,,a--c,no,,ok\n3,5,11,4,2;1,1970-01-01T01:21:00+01:00;1970-01-01T00:20:00Z,---c,no,,ok\n";
+    assert!(rt; reads_the_insert(rt.alloc(), rows, &[(2, 1260), (1, 1200)]));
     Ok(())
 }
 

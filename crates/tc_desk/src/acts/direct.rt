@@ -7,7 +7,7 @@ ghost use Rattle.tc_world.specs.World.{is_terminate};
 ghost use Rattle.tc_desk.specs.Acts.{is_bad_directive};
 ghost use Rattle.tc_desk.specs.Parts.{Performs};
 
-use crate::flights::{Flight, MOST_ROWS, ask, pass};
+use crate::flights::{Flight, ask, most_rows, pass};
 use crate::hearing::hear_all;
 use crate::parts::Parts;
 use std::alloc::Allocator;
@@ -62,14 +62,9 @@ impl<U: Carrier<Frame> + Drop, D: Carrier<Report> + Drop, A: Allocator + Copy + 
         if self.records.has_all_rows() {
             return Err(Refusal::DeskFull);
         }
+        let most = most_rows(&self.records);
         let event = Event::Directive(Directive::Terminate);
-        let flight = ask(
-            &mut self.records,
-            &mut self.world,
-            self.alloc,
-            event,
-            MOST_ROWS,
-        )?;
+        let flight = ask(&mut self.records, &mut self.world, self.alloc, event, most)?;
         hear_all(&mut self.records, &stamp, flight.said.as_slice());
         Ok(flight)
     }

@@ -9,7 +9,7 @@ ghost use Rattle.tc_desk.specs.Parts.{Performs};
 
 use crate::commands::command_at;
 use crate::firsts::FirstLine;
-use crate::flights::{Flight, MOST_ROWS, ask};
+use crate::flights::{Flight, ask, most_rows};
 use crate::hearing::hear_down;
 use crate::parts::Parts;
 use std::alloc::Allocator;
@@ -118,14 +118,10 @@ impl<U: Carrier<Frame> + Drop, D: Carrier<Report> + Drop, A: Allocator + Copy + 
             return Err(Refusal::DeskFull);
         }
         self.mirror.reserve()?;
-        let most = MOST_ROWS + self.mirror.count().min(MOST_REQUESTS as usize);
-        let flight = ask(
-            &mut self.records,
-            &mut self.world,
-            self.alloc,
-            Event::Downlink,
-            most,
-        )?;
+        let shown = self.mirror.count().min(MOST_REQUESTS as usize);
+        let most = most_rows(&self.records) + shown;
+        let event = Event::Downlink;
+        let flight = ask(&mut self.records, &mut self.world, self.alloc, event, most)?;
         let first = first_of_down(flight.said.as_slice());
         let command = command_down(&self.records, flight.said.as_slice());
         hear_down(

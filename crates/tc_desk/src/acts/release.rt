@@ -1,23 +1,24 @@
 //! The act `release`: an approved request leaves the desk.
-ghost use Rattle.std.specs.Prelude.{◌≡◌, ◌+◌, ◌≤◌, ◌||◌, true, false, IfErr, IfOk, None, Some, [], ◌∷◌, length};
+ghost use Rattle.std.specs.Prelude.{◌≡◌, ◌+◌, ◌≤◌, ◌||◌, true, false, IfErr, IfOk, None, Some, [], ◌∷◌};
 ghost use Rattle.std.specs.List.{list_any};
-ghost use Rattle.std.specs.Option.{option_map_or};
+ghost use Rattle.tc_types.specs.Limits.{most_requests};
 ghost use Rattle.tc_types.specs.declared.acts.Act.TheVariants as act;
 ghost use Rattle.tc_types.specs.declared.acts.LinkAct.TheVariants as link_act;
 ghost use Rattle.tc_types.specs.declared.history.places.Place.TheVariants.{Approved};
-ghost use Rattle.tc_board.specs.Mirror.{MirrorState};
+ghost use Rattle.tc_board.specs.Mirror.{MirrorState, no_mirror};
 ghost use Rattle.tc_book.specs.Acts.{first_refusal};
 ghost use Rattle.tc_book.specs.Book.{stands, request_at, has_all_rows};
+ghost use Rattle.tc_book.specs.Good.{IsGoodBook};
 ghost use Rattle.tc_book.specs.Stacks.{is_interlocked};
 ghost use Rattle.tc_fop.specs.Calls.{is_taking};
 ghost use Rattle.tc_desk.specs.Acts.{link_tests, released};
 ghost use Rattle.tc_desk.specs.Asks.{brings_down, offer_at};
-ghost use Rattle.tc_desk.specs.Commands.{activity_at, may_not_ride};
-ghost use Rattle.tc_desk.specs.Effects.{OnlyMoves, heard_all, tells_report};
+ghost use Rattle.tc_desk.specs.Commands.{activities_at, may_not_ride};
+ghost use Rattle.tc_desk.specs.Effects.{MayHold, OnlyMoves, riding, heard_all, tells_report};
 ghost use Rattle.tc_desk.specs.Parts.{Performs};
 
-use crate::commands::{activity_at, payload_of};
-use crate::flights::{Flight, ask};
+use crate::commands::{activities_at, payload_of};
+use crate::flights::{Flight, MOST_TOLD, ask, most_rows};
 use crate::hearing::hear_all;
 use crate::moving::follow;
 use crate::parts::Parts;
@@ -25,11 +26,12 @@ use std::alloc::Allocator;
 use tc_book::{Records, Stamp};
 use tc_fop::FopView;
 use tc_fop::signals::FopState;
-use tc_types::{Cause, Frame, Place, Refusal, Report, RequestNumber};
+use tc_types::{Cause, Frame, Place, Refusal, Report, RequestNumber, Targets};
 use tc_world::{Carrier, Event, LinkIndication};
 
-/// The most rows that a release makes: the request's own, that of its activity, and the 516 of what the link tells.
-pub(crate) const MOST_RELEASE_ROWS: usize = 518;
+/// The most rows that a release makes beside those of what the link tells of those that ride already: its own, and two for each of its
+/// activities, which may come back at once.
+const MOST_RELEASED: usize = 17;
 
 /// A request that may be released.
 #[derive(Drop)]
@@ -38,8 +40,8 @@ pub(crate) struct Departure {
     pub(crate) number: RequestNumber,
     /// How it is offered to the FOP.
     pub(crate) event: Event,
-    /// The activity that rides with it, where it is an insert.
-    pub(crate) activity: Option<u32>,
+    /// The activities that ride with it, where it is an insert.
+    pub(crate) activities: Targets,
 }
 
 /// The service takes requests in S1, S2 and S3.
@@ -52,29 +54,29 @@ fn is_taking(state: FopState) -> bool
     )
 }
 
-/// Whether a request, or the activity that rides with it, waits for a line of its stack that is not completed.
-fn is_locked<A: Allocator + Copy + Drop>(
-    records: &Records<A>,
-    n: u32,
-    activity: Option<u32>,
-) -> bool
-    ensures { result ≡ (is_interlocked records.now.book n || option_map_or (is_interlocked records.now.book) activity false) }
+/// Whether one of these activities waits for a line of its stack that is not completed.
+fn has_locked_activity<A: Allocator + Copy + Drop>(records: &Records<A>, activities: &[u32]) -> bool
+    ensures { result ≡ list_any (is_interlocked records.now.book) activities.now }
 {
-    records.is_interlocked(n)
-        || match activity {
-            None => false,
-            Some(target) => records.is_interlocked(target),
-        }
+    activities
+        .iter()
+        .any(|target| records.is_interlocked(*target))
 }
 
-/// Whether an activity may not ride: there is one, and it is not approved.
-fn may_not_ride<A: Allocator + Copy + Drop>(records: &Records<A>, activity: Option<u32>) -> bool
-    ensures { result ≡ may_not_ride records.now.book activity }
+/// Whether a request waits so, or one of the activities that ride with it.
+fn is_locked<A: Allocator + Copy + Drop>(records: &Records<A>, n: u32, activities: &[u32]) -> bool
+    ensures { result ≡ (is_interlocked records.now.book n || list_any (is_interlocked records.now.book) activities.now) }
 {
-    match activity {
-        None => false,
-        Some(target) => !records.stands(target, &[Place::Approved]),
-    }
+    records.is_interlocked(n) || has_locked_activity(records, activities)
+}
+
+/// Whether one of these activities may not ride: it is not approved.
+fn has_bad_activity<A: Allocator + Copy + Drop>(records: &Records<A>, activities: &[u32]) -> bool
+    ensures { result ≡ list_any (may_not_ride records.now.book) activities.now }
+{
+    activities
+        .iter()
+        .any(|target| !records.stands(*target, &[Place::Approved]))
 }
 
 /// The departure of request `n`; or why it may not be released, where the FOP stands so.
@@ -88,7 +90,7 @@ pub(crate) fn prepare<A: Allocator + Copy + Drop>(
     ensures number { IfOk result (λ departure. departure.number ≡ n) }
     ensures event { IfOk result (λ departure. offer_at records.now.book n (request_at records.now.book n) ≡ Some departure.event) }
     ensures quiet { IfOk result (λ departure. brings_down departure.event ≡ false) }
-    ensures activity { IfOk result (λ departure. departure.activity ≡ activity_at records.now.book n) }
+    ensures activities { IfOk result (λ departure. departure.activities ≡ activities_at records.now.book n) }
     ensures here { IfOk result (λ departure. stands records.now.book n (Approved ∷ []) ≡ true) }
     ensures rows { IfOk result (λ departure. has_all_rows records.now.book ≡ false) }
 {
@@ -100,11 +102,11 @@ pub(crate) fn prepare<A: Allocator + Copy + Drop>(
     if !records.stands(n, &[Place::Approved]) {
         return Err(Refusal::WrongPlace);
     }
-    let activity = activity_at(records, n);
-    if is_locked(records, n, activity) {
+    let activities = activities_at(records, n);
+    if is_locked(records, n, activities.as_slice()) {
         return Err(Refusal::Interlock);
     }
-    if may_not_ride(records, activity) {
+    if has_bad_activity(records, activities.as_slice()) {
         return Err(Refusal::BadActivity);
     }
     if !is_taking(view.state) {
@@ -123,35 +125,38 @@ pub(crate) fn prepare<A: Allocator + Copy + Drop>(
     Ok(Departure {
         number,
         event,
-        activity,
+        activities,
     })
 }
 
-/// A request that was offered leaves the desk: its row, that of the activity that rides with it, and those of what the link told.
+/// The most rows that the release of a request makes.
+pub(crate) fn most_departing<A: Allocator + Copy + Drop>(records: &Records<A>) -> usize
+    ensures rows { result ≡ MOST_RELEASED + MOST_TOLD + riding records.now.book }
+    ensures few { result ≤ MOST_RELEASED + MOST_TOLD + most_requests }
+    ensures good { IsGoodBook records.now.book }
+{
+    MOST_RELEASED + most_rows(records)
+}
+
+/// A request that was offered leaves the desk: its row, those of the activities that ride with it, and those of what the link told.
 pub(crate) fn depart<A: Allocator + Copy + Drop>(
     records: &mut Records<A>,
     stamp: &Stamp,
     number: RequestNumber,
-    activity: Option<u32>,
+    activities: &[u32],
     said: &[LinkIndication],
 )
-    requires few { length said.now ≤ 258 }
-    requires room { length records.old.book.history + 518 ≤ records.old.most_rows }
+    requires room { MayHold records.old (heard_all stamp.now no_mirror said.now (released stamp.now (link_act.Release number) records.old.book)) }
     requires no_report { list_any tells_report said.now ≡ false }
     requires here { stands records.old.book number (Approved ∷ []) ≡ true }
-    requires rides { activity ≡ activity_at records.old.book number }
+    requires ride { activities.now ≡ activities_at records.old.book number }
     ensures book { (mirror : MirrorState) → records.new.book ≡ heard_all stamp.now mirror said.now (released stamp.now (link_act.Release number) records.old.book) }
-    ensures only { OnlyMoves 518 records.old records.new }
+    ensures only { OnlyMoves records.old records.new }
 {
     records.record(*stamp, number, Place::Queued, Cause::Release);
-    follow(
-        records,
-        stamp,
-        activity,
-        &[Place::Approved],
-        Place::Riding,
-        Cause::Release,
-    );
+    let from = [Place::Approved];
+    let why = Cause::Release;
+    follow(records, stamp, activities, &from, Place::Riding, why);
     hear_all(records, stamp, said);
 }
 
@@ -167,20 +172,15 @@ impl<U: Carrier<Frame> + Drop, D: Carrier<Report> + Drop, A: Allocator + Copy + 
         let Departure {
             number,
             event,
-            activity,
+            activities,
         } = prepare(&self.records, self.world.fop_view(), n)?;
-        let flight = ask(
-            &mut self.records,
-            &mut self.world,
-            self.alloc,
-            event,
-            MOST_RELEASE_ROWS,
-        )?;
+        let most = most_departing(&self.records);
+        let flight = ask(&mut self.records, &mut self.world, self.alloc, event, most)?;
         depart(
             &mut self.records,
             &stamp,
             number,
-            activity,
+            activities.as_slice(),
             flight.said.as_slice(),
         );
         Ok(flight)

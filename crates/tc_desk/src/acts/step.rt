@@ -5,7 +5,7 @@ ghost use Rattle.tc_book.specs.Acts.{first_refusal};
 ghost use Rattle.tc_book.specs.Logs.{step_tests, released_with};
 ghost use Rattle.tc_desk.specs.Parts.{Performs};
 
-use crate::acts::release::{Departure, MOST_RELEASE_ROWS, depart, prepare};
+use crate::acts::release::{Departure, depart, most_departing, prepare};
 use crate::flights::{Flight, PLAIN, ask};
 use crate::parts::Parts;
 use std::alloc::Allocator;
@@ -56,22 +56,17 @@ impl<U: Carrier<Frame> + Drop, D: Carrier<Report> + Drop, A: Allocator + Copy + 
         let Departure {
             number,
             event,
-            activity,
+            activities,
         } = prepare(&self.records, self.world.fop_view(), n)?;
+        let most = most_departing(&self.records);
         self.records.reserve_record(given.execution)?;
-        let flight = ask(
-            &mut self.records,
-            &mut self.world,
-            self.alloc,
-            event,
-            MOST_RELEASE_ROWS,
-        )?;
+        let flight = ask(&mut self.records, &mut self.world, self.alloc, event, most)?;
         self.records.record_step(stamp, given);
         depart(
             &mut self.records,
             stamp,
             number,
-            activity,
+            activities.as_slice(),
             flight.said.as_slice(),
         );
         Ok(flight)

@@ -3,7 +3,7 @@ ghost use Rattle.tc_types.specs.declared.acts.Act.TheVariants as act;
 ghost use Rattle.tc_types.specs.declared.acts.LinkAct.TheVariants as link_act;
 ghost use Rattle.tc_desk.specs.Parts.{Performs};
 
-use crate::flights::{Flight, MOST_ROWS, ask};
+use crate::flights::{Flight, ask, most_rows};
 use crate::hearing::hear_all;
 use crate::parts::Parts;
 use std::alloc::Allocator;
@@ -23,12 +23,13 @@ impl<U: Carrier<Frame> + Drop, D: Carrier<Report> + Drop, A: Allocator + Copy + 
         if self.records.has_all_rows() {
             return Err(Refusal::DeskFull);
         }
+        let most = most_rows(&self.records);
         let flight = ask(
             &mut self.records,
             &mut self.world,
             self.alloc,
             Event::Tick,
-            MOST_ROWS,
+            most,
         )?;
         hear_all(&mut self.records, &stamp, flight.said.as_slice());
         Ok(flight)

@@ -5,9 +5,9 @@ ghost use Rattle.sqlite_value.specs.Order.{column};
 ghost use Rattle.tc_types.specs.declared.requests.Ack.{Ack as SomeAck};
 ghost use Rattle.tc_types.specs.declared.requests.Outcome.{Outcome as SomeOutcome};
 ghost use Rattle.tc_types.specs.declared.tables.rows.PlacedRequest.{PlacedRequest as Was};
-ghost use Rattle.tc_types.specs.Grammar.{IsCommand, IsOutcome, outcome_word};
+ghost use Rattle.tc_types.specs.Grammar.{IsOutcome, outcome_word};
 ghost use Rattle.tc_store.specs.Requests.{ack_number, stack_of, line_of, prior_of, request_given};
-ghost use Rattle.tc_store.specs.Told.{IsToldOrigin, IsToldRequest};
+ghost use Rattle.tc_store.specs.Told.{IsToldCommand, IsToldOrigin, IsToldRequest};
 ghost use Rattle.tc_store.specs.Shows.{ShowsNumber, ShowsBody};
 
 use crate::cells::{flag_at, name_at, number_at, place_at, request_at, second_at, text_at};
@@ -101,7 +101,7 @@ fn origin_in(row: &Row) -> Result<Option<Origin>, ReadFault>
 fn body_in(row: &Row) -> Result<Body, ReadFault>
     ensures same { IfOk result (λ body. (was : Was) → IsToldRequest was → row.now ≡ request_given was → body ≡ was.request.body) }
     ensures reads { IfOk result (λ body. ShowsBody row.now body) }
-    ensures told { IfOk result (λ body. IsCommand body.command × IsOutcome body.outcome) }
+    ensures told { IfOk result (λ body. IsToldCommand body.command × IsOutcome body.outcome) }
 {
     Ok(Body {
         identity: identity_in(row)?,

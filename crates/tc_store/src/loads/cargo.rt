@@ -8,7 +8,7 @@ ghost use Rattle.tc_store.specs.Ledgers.{Ledger};
 ghost use Rattle.tc_store.specs.Cargo.{cargo_tree, cargo_values};
 ghost use Rattle.tc_store.specs.Schema.{HasCargo, schema_of, HoldsAs};
 ghost use Rattle.tc_store.specs.Loads.{all_cargo_columns};
-ghost use Rattle.tc_store.specs.Shows.{ShowsRows, ShowsCargo};
+ghost use Rattle.tc_store.specs.Shows.{ShowsNumber, ShowsRows, ShowsCargo};
 ghost use Rattle.tc_store.specs.Reads.{Reads};
 
 use crate::cells::{moment_at, number_at, position_at, request_at};
@@ -17,10 +17,20 @@ use crate::loads::table_rows::{Loads, read_all, rows_of};
 use crate::versions::Version;
 use sqlite::{Alter, Connection, Row};
 use std::alloc::Global;
-use tc_types::Cargo;
+use tc_types::{Cargo, Ride};
 
 /// The text that reads them all.
 const ALL: &str = "SELECT request, position, target, at_time FROM cargo ORDER BY rowid";
+
+/// What is named there, in the columns 2 and 3.
+fn ride_in(row: &Row) -> Result<Ride, ReadFault>
+    ensures reads { IfOk result (λ ride. ShowsNumber row.now 2 ride.target × ShowsNumber row.now 3 ride.time) }
+{
+    Ok(Ride {
+        target: number_at(row, 2)?,
+        time: moment_at(row, 3)?,
+    })
+}
 
 impl Loads for Cargo {
     ghost shown = { cargo_values };
@@ -31,8 +41,7 @@ impl Loads for Cargo {
         Ok(Cargo {
             request: request_at(row, 0)?,
             position: position_at(row, 1)?,
-            target: number_at(row, 2)?,
-            time: moment_at(row, 3)?,
+            ride: ride_in(row)?,
         })
     }
 }

@@ -3,14 +3,13 @@ ghost use Rattle.std.specs.Prelude.{◌≡◌, pos, IfOk, IfSome};
 ghost use Rattle.tc_types.specs.declared.tables.rows.PlacedRequest.{PlacedRequest as Was};
 ghost use Rattle.sqlite_value.specs.declared.value.Value.TheVariants.{Int};
 ghost use Rattle.sqlite_value.specs.Order.{column};
-ghost use Rattle.tc_types.specs.Grammar.{IsCommand};
 ghost use Rattle.tc_store.specs.Requests.{request_given, service_of, subtype_of, target_of, time_of};
-ghost use Rattle.tc_store.specs.Told.{IsToldRequest, ShowsCommand};
+ghost use Rattle.tc_store.specs.Told.{IsToldCommand, IsToldRequest, ShowsCommand};
 
 use crate::cells::{number_at, signed_at};
 use crate::faults::ReadFault;
 use sqlite::Row;
-use tc_types::{Command, Moment, Offset, Service, Subtype};
+use tc_types::{Command, Moment, Offset, Ride, Rides, Service, Subtype};
 
 /// A moment, by a number of either sign.
 fn moment_of(seconds: i64) -> Option<Moment>
@@ -25,7 +24,7 @@ fn moment_of(seconds: i64) -> Option<Moment>
 /// A command of any service but 11.
 fn plain_of(service: u32, subtype: u32, target: u32, time: i64) -> Option<Command>
     ensures shows { IfSome result (ShowsCommand service subtype target time) }
-    ensures told { IfSome result IsCommand }
+    ensures told { IfSome result IsToldCommand }
 {
     if target != 0 || time != 0 {
         return None;
@@ -42,7 +41,7 @@ fn plain_of(service: u32, subtype: u32, target: u32, time: i64) -> Option<Comman
 /// A command of service 11 that names neither a request nor a time.
 fn bare_of(subtype: u32) -> Option<Command>
     ensures shows { IfSome result (ShowsCommand 11 subtype 0 (pos 0)) }
-    ensures told { IfSome result IsCommand }
+    ensures told { IfSome result IsToldCommand }
 {
     match subtype {
         1 => Some(Command::EnableSchedule),
@@ -53,14 +52,23 @@ fn bare_of(subtype: u32) -> Option<Command>
     }
 }
 
+/// An insert of one activity.
+fn insert_of(target: u32, time: i64) -> Option<Command>
+    ensures shows { IfSome result (ShowsCommand 11 4 target time) }
+    ensures told { IfSome result IsToldCommand }
+{
+    let time = moment_of(time)?;
+    let rides = Rides::of(&[Ride { target, time }])?;
+    Some(Command::InsertActivities(rides))
+}
+
 /// A command of service 11.
 fn schedule_of(subtype: u32, target: u32, time: i64) -> Option<Command>
     ensures shows { IfSome result (ShowsCommand 11 subtype target time) }
-    ensures told { IfSome result IsCommand }
+    ensures told { IfSome result IsToldCommand }
 {
     if subtype == 4 {
-        let time = moment_of(time)?;
-        return Some(Command::InsertActivity { target, time });
+        return insert_of(target, time);
     }
     if subtype == 7 {
         let offset = Offset::new(time)?;
@@ -85,7 +93,7 @@ fn schedule_of(subtype: u32, target: u32, time: i64) -> Option<Command>
 /// The command with these columns, if there is one.
 fn command_of(service: u32, subtype: u32, target: u32, time: i64) -> Option<Command>
     ensures shows { IfSome result (ShowsCommand service subtype target time) }
-    ensures told { IfSome result IsCommand }
+    ensures told { IfSome result IsToldCommand }
 {
     if service == 11 {
         schedule_of(subtype, target, time)
@@ -98,7 +106,7 @@ fn command_of(service: u32, subtype: u32, target: u32, time: i64) -> Option<Comm
 pub(crate) fn command_in(row: &Row) -> Result<Command, ReadFault>
     ensures same { IfOk result (λ command. (was : Was) → IsToldRequest was → row.now ≡ request_given was → command ≡ was.request.body.command) }
     ensures reads { IfOk result (λ command. (column row.now 5 ≡ Int (pos (service_of command))) × (column row.now 6 ≡ Int (pos (subtype_of command))) × (column row.now 7 ≡ Int (pos (target_of command))) × (column row.now 8 ≡ Int (time_of command))) }
-    ensures told { IfOk result (λ command. IsCommand command) }
+    ensures told { IfOk result (λ command. IsToldCommand command) }
 {
     let service = number_at(row, 5)?;
     let subtype = number_at(row, 6)?;

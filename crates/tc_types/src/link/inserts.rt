@@ -20,15 +20,15 @@ pub struct Activities {
 impl Model for Activities {
     ghost use Rattle.std.specs.Prelude.{◌≡◌, ◌≤◌, List, length, take};
     ghost use Rattle.tc_types.specs.declared.link.activities.Activity.{Activity};
-    ghost use Rattle.tc_types.specs.Inserts.{most_inserted, IsInsert, padded_activities};
+    ghost use Rattle.tc_types.specs.Inserts.{most_inserted, IsInsert, padded};
 
     ghost Value = { List Activity };
 
     ghost view = { λ a. take a.count a.places };
 
-    ghost invariant = { λ a. (a.count ≤ most_inserted) × IsInsert (take a.count a.places) × (a.places ≡ padded_activities (take a.count a.places)) × (length a.places ≡ 8) };
+    ghost invariant = { λ a. (a.count ≤ most_inserted) × IsInsert (take a.count a.places) × (a.places ≡ padded (take a.count a.places)) × (length a.places ≡ 8) };
 
-    ghost inverse = { λ activities. record { places = padded_activities activities; count = length activities } };
+    ghost inverse = { λ activities. record { places = padded activities; count = length activities } };
 }
 
 impl Activities {

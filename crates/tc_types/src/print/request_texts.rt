@@ -2,14 +2,15 @@
 ghost use Rattle.std.specs.Prelude.{◌≡◌, [], ◌∷◌, ◌++◌, if◌then◌else◌, IfOk, OnOk, codes, IsTrue};
 ghost use Rattle.std.specs.Fmt.{decimal};
 ghost use Rattle.std.specs.String.{string_bytes};
-ghost use Rattle.tc_types.specs.Grammar.{ack_word, yes_no};
+ghost use Rattle.tc_types.specs.Grammar.{ack_word, yes_no, listed, target_word, time_word};
 ghost use Rattle.tc_types.specs.Lines.{spaced};
-ghost use Rattle.tc_types.specs.RequestLine.{kind_word, target_words, request_line};
+ghost use Rattle.tc_types.specs.RequestLine.{kind_word, with_word, target_words, request_line};
 ghost use Rattle.tc_types.specs.Words.{is_one_line};
 
 use crate::history::moves::from_name;
 use crate::history::places::Place;
 use crate::requests::{Ack, Command, Request};
+use crate::rides::{Ride, Rides};
 use std::alloc::{AllocError, Allocator};
 use std::fmt::Write;
 
@@ -22,7 +23,7 @@ fn kind(command: Command) -> (u8, u8)
         Command::EnableSchedule => (11, 1),
         Command::DisableSchedule => (11, 2),
         Command::ResetSchedule => (11, 3),
-        Command::InsertActivity { .. } => (11, 4),
+        Command::InsertActivities(_) => (11, 4),
         Command::DeleteActivity { .. } => (11, 5),
         Command::ShiftActivity { .. } => (11, 7),
         Command::ShiftAll { .. } => (11, 15),
@@ -38,15 +39,77 @@ fn kind_text<A: Allocator + Copy>(alloc: A, command: Command) -> Result<String<A
     format!(in alloc; "{service}/{subtype}")
 }
 
+/// Adds the request that an activity is of, behind a semicolon where it is not the first.
+fn push_target<A: Allocator + Copy>(
+    text: &mut String<A>,
+    at: usize,
+    ride: &Ride,
+) -> Result<(), AllocError>
+    ensures { OnOk result (string_bytes text.new ≡ with_word (string_bytes text.old) at (target_word ride.now)) }
+{
+    let target = ride.target;
+    if at == 0 {
+        write!(text, "{target}")
+    } else {
+        write!(text, ";{target}")
+    }
+}
+
+/// Adds the time of an activity, behind a semicolon where it is not the first.
+fn push_time<A: Allocator + Copy>(
+    text: &mut String<A>,
+    at: usize,
+    ride: &Ride,
+) -> Result<(), AllocError>
+    ensures { OnOk result (string_bytes text.new ≡ with_word (string_bytes text.old) at (time_word ride.now)) }
+{
+    let time = ride.time.get();
+    if at == 0 {
+        write!(text, "{time}")
+    } else {
+        write!(text, ";{time}")
+    }
+}
+
+/// The list of the requests that an insert names. Fails where memory is refused.
+fn targets_text<A: Allocator + Copy>(alloc: A, rides: &[Ride]) -> Result<String<A>, AllocError>
+    ensures { IfOk result (λ t. string_bytes t ≡ listed target_word rides.now) }
+{
+    let mut text = String::new(alloc);
+    for (at, ride) in rides.iter().enumerate() {
+        push_target(&mut text, at, ride)?;
+    }
+    Ok(text)
+}
+
+/// The list of their times. Fails where memory is refused.
+fn times_text<A: Allocator + Copy>(alloc: A, rides: &[Ride]) -> Result<String<A>, AllocError>
+    ensures { IfOk result (λ t. string_bytes t ≡ listed time_word rides.now) }
+{
+    let mut text = String::new(alloc);
+    for (at, ride) in rides.iter().enumerate() {
+        push_time(&mut text, at, ride)?;
+    }
+    Ok(text)
+}
+
+/// The two lists of an insert. Fails where memory is refused.
+fn rides_text<A: Allocator + Copy>(alloc: A, rides: &Rides) -> Result<String<A>, AllocError>
+    ensures { IfOk result (λ t. string_bytes t ≡ spaced (listed target_word rides.now ∷ listed time_word rides.now ∷ [])) }
+{
+    let targets = targets_text(alloc, rides.as_slice())?;
+    let times = times_text(alloc, rides.as_slice())?;
+    let targets = targets.as_str();
+    let times = times.as_str();
+    format!(in alloc; "{targets} {times}")
+}
+
 /// A command's target and time, as an entry spells them. Fails where memory is refused.
 fn target_text<A: Allocator + Copy>(alloc: A, command: Command) -> Result<String<A>, AllocError>
     ensures { IfOk result (λ t. string_bytes t ≡ target_words command) }
 {
     match command {
-        Command::InsertActivity { target, time } => {
-            let time = time.get();
-            format!(in alloc; "{target} {time}")
-        }
+        Command::InsertActivities(rides) => rides_text(alloc, &rides),
         Command::DeleteActivity { target } => format!(in alloc; "{target} -"),
         Command::ShiftActivity { target, offset } => {
             let offset = offset.get();

@@ -9,8 +9,9 @@ ghost use Rattle.tc_types.specs.Schedule.{is_schedule};
 use crate::entries::Entry;
 use crate::numbers::FailureCode;
 use crate::read::readers::{
-    ack, apid, failure_code, is, moment, number, offset, service, steps, subtype, yes_or_no,
+    ack, apid, failure_code, is, number, offset, service, steps, subtype, yes_or_no,
 };
+use crate::read::ride_reader::rides;
 use crate::read::words::Words;
 use crate::requests::{Command, Form, Outcome};
 
@@ -96,10 +97,7 @@ fn scheduling(subtype_word: &[u8], target: &[u8], time: &[u8]) -> Option<Command
     ensures { Reads command_words (λ c. IsCommand c × (is_schedule c ≡ true)) (decimal 11 ∷ subtype_word.now ∷ target.now ∷ time.now ∷ []) result }
 {
     match number(subtype_word)? {
-        4 => Some(Command::InsertActivity {
-            target: number(target)?,
-            time: moment(time)?,
-        }),
+        4 => Some(Command::InsertActivities(rides(target, time)?)),
         5 => {
             let target = number(target)?;
             dash(time)?;

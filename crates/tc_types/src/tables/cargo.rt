@@ -1,5 +1,6 @@
 //! The rows of the table `cargo`.
-use crate::numbers::{Moment, RequestNumber};
+use crate::numbers::RequestNumber;
+use crate::rides::Ride;
 
 /// A row of the table `cargo`: what an insert names at one of the positions behind the first. The first stands in the row of the
 /// request itself.
@@ -9,8 +10,6 @@ pub struct Cargo {
     pub request: RequestNumber,
     /// The position in its list, from 1.
     pub position: u8,
-    /// The request that is released there.
-    pub target: u32,
-    /// When.
-    pub time: Moment,
+    /// The request that is named there, and when it is released.
+    pub ride: Ride,
 }

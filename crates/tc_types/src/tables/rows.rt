@@ -5,6 +5,7 @@ use crate::names::Name;
 use crate::numbers::{Moment, RequestNumber};
 use crate::requests::Request;
 use crate::step_texts::StepText;
+use crate::tables::cargo::Cargo;
 use crate::verdicts::Verdict;
 
 /// A row of the table `request`: a request, and where it stands.
@@ -133,4 +134,6 @@ pub enum Row {
     Begun(BegunExecution),
     /// A new row of the table `record`.
     Recorded(StepRecord),
+    /// A new row of the table `cargo`.
+    Carried(Cargo),
 }

@@ -6,6 +6,7 @@ use Rattle.tc_book.specs.declared.marks.Mark.{Mark}
 use Rattle.tc_book.specs.Batch.{GoesOn}
 use Rattle.tc_book.specs.Book.{Book, stands}
 use Rattle.tc_book.specs.Opening.{opened_places, opened_book}
+use Rattle.tc_book.proofs.CarriedLemmas.{cargo_past}
 use Rattle.tc_book.proofs.OpeningLemmas.{opened-goes_on, fits_mark, same_mark}
 use Rattle.tc_book.proofs.openings.write_opening.Goals as goal
 
@@ -29,9 +30,10 @@ fill-requires-clause-room g c =
     let records = same.records in
     let moves = c.in_ok-draft.ensures.moves.1 in
     let batch = c.in_ok-draft.ensures.batch.1 in
+    let none = cargo_past c.mark-mark.result.requests c.open_again.new.self.book.requests (omega (arith, requests)) in
     record {
       of_moves = (c.in_ok-draft.ensures.moves.0, omega (arith, rows, count, before, moves));
-      of_batch = (c.in_ok-draft.ensures.batch.0, omega (arith, rows, count, before, requests, procedures, steps, executions, records, batch));
+      of_batch = (c.in_ok-draft.ensures.batch.0, omega (arith, rows, count, before, requests, procedures, steps, executions, records, batch, none));
     }
 
 pub returns-clause-batch : goal.returns-clause-batch

@@ -1,5 +1,5 @@
 -- What stays is a schedule.
-use Rattle.std.proofs.Common.{not, ◌≡◌, sym, subst}
+use Rattle.std.proofs.Common.{not, sym, subst}
 use Rattle.tc_board.specs.Schedule.{IsSchedule, is_of}
 use Rattle.tc_board.proofs.SoundLemmas.{schedule_filtered}
 use Rattle.tc_board.proofs.schedules.Schedule.delete.Goals as goal

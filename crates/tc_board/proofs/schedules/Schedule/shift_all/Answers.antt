@@ -1,5 +1,5 @@
 -- A shift leaves each identity.
-use Rattle.std.proofs.Common.{◌≡◌, sym, subst, refl}
+use Rattle.std.proofs.Common.{sym, subst, refl}
 use Rattle.tc_board.specs.Schedule.{IsSchedule, shifted}
 use Rattle.tc_board.proofs.SoundLemmas.{schedule_mapped}
 use Rattle.tc_board.proofs.schedules.Schedule.shift_all.Goals as goal

@@ -5,7 +5,7 @@ use Rattle.tc_book.specs.Loads.{with_row, origin_of, entry_from}
 use Rattle.tc_book.proofs.CountLemmas.{kept_on}
 use Rattle.tc_book.proofs.LoadLemmas.{rows_requests, rows_history, next_rows}
 use Rattle.tc_book.proofs.GoesOnLemmas.{rows_made}
-use Rattle.tc_book.proofs.RowLemmas.{next_named, next_target, next_origin}
+use Rattle.tc_book.proofs.RowLemmas.{next_named, next_targets, next_origin}
 use Rattle.tc_book.proofs.StepLemmas.{entered_more}
 use Rattle.tc_book.proofs.acts.load.enter_rows.Goals as goal
 
@@ -37,10 +37,10 @@ enter_row-requires-clause-stack_room g c = λ first.
     let wider = c.loop-at.invariant.1.stacks in
     rw (c.loop-at.invariant.0, at) (omega (arith, room, wider))
 
-pub enter_row-requires-clause-target : goal.enter_row-requires-clause-target
-enter_row-requires-clause-target g c =
+pub enter_row-requires-clause-targets : goal.enter_row-requires-clause-targets
+enter_row-requires-clause-targets g c =
     rw (c.loop-at.invariant.0, c.count-start.ensures.count)
-    (next_target c.args.stamp.now c.args.name.now c.args.records.now.book c.args.rows.now c.requires.stack c.loop-at.at c.index-rows-at.result c.loop-at-test.true c.index-rows-at.is)
+    (next_targets c.args.stamp.now c.args.name.now c.args.records.now.book c.args.rows.now c.requires.stack c.loop-at.at c.index-rows-at.result c.loop-at-test.true c.index-rows-at.is)
 
 pub enter_row-requires-clause-origin : goal.enter_row-requires-clause-origin
 enter_row-requires-clause-origin g c =

@@ -8,7 +8,7 @@ pub returns : goal.returns
 returns g c = record {
   answers = search rules;
   room = rw (c.enter_rows.ensures.book, c.make_room.ensures.same.book)
-      (loaded-room c.args.stamp c.args.name c.rows-rows.result.now c.args.records.now.book c.in_ok-draft.draft.moves c.in_ok-draft.draft.batch c.in_ok-draft.ensures.moves c.in_ok-draft.ensures.batch);
+      (loaded-room c.args.stamp c.args.name c.rows-rows.result.now c.args.records.now.book c.in_ok-draft.draft.moves c.in_ok-draft.draft.batch c.in_ok-draft.ensures.moves (rw (c.count_cargo.ensures.count) at c.in_ok-draft.ensures.batch));
   goes_on = rw (c.enter_rows.ensures.book, c.make_room.ensures.same.book) (loaded-goes_on c.args.stamp c.args.name c.rows-rows.result.now c.args.records.now.book (sym c.is_loaded.ensures.loaded ∙ c.if-is_loaded.false));
   steps = search rules;
 }

@@ -6,7 +6,12 @@ use Rattle.tc_book.specs.Good.{IsGoodBook}
 use Rattle.tc_book.specs.Steps.{HasSteps}
 use Rattle.tc_book.specs.Tables.{image_of}
 use Rattle.tc_desk.specs.State.{State}
+use Rattle.tc_desk.proofs.RoomLemmas.{room_behind}
 use Rattle.tc_desk.proofs.parts.Parts.load_stack.Goals as goal
+
+pub fill-filled-requires-clause-room : goal.fill-filled-requires-clause-room
+fill-filled-requires-clause-room g c =
+    room_behind c.mark-mark.result c.self.inside.records.book c.load.new.records.book c.in_ok-draft.draft.moves c.in_ok-draft.draft.batch c.mark-mark.ensures.mark c.in_ok-draft.ensures.goes_on c.in_ok-draft.ensures.room
 
 pub returns : goal.returns
 returns g c =
