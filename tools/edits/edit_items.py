@@ -381,7 +381,7 @@ class AnttFile:
         pieces = self.pieces.setdefault(name, [])
         pieces += [it for it in [" ".join(header.split())] if it and it not in pieces]
         pieces.append(text)
-        self.words.setdefault(name, set()).update(*map(parted, names))
+        self.words.setdefault(name, set()).update(*(parted(it.strip("«»")) for it in names))
 
 
 def contents_of(file: File, path: str) -> Contents:

@@ -60,7 +60,7 @@ class Names:
         scope = self.scopes.setdefault(file, {})
         self.globs[file] = [Import(it.path[:-1], "*") for it in contents.imports if it.name == "*"]
         for it in contents.imports:
-            for word in parted(it.name):
+            for word in parted(it.name) if it.name != "*" else ():
                 scope.setdefault(word, set()).add(it)
 
     def place(self, file: File, path: Parts) -> tuple[str, Parts] | None:
@@ -119,28 +119,25 @@ class Names:
                 at, name = todo.pop()
                 seen.add((at, name))
                 found |= self.by_word[at].get(name, set())
-                for it in [*self.scopes[at].get(name, ()), *(Import((*it.path, name), name) for it in self.globs[at])]:
-                    more, next_ones = self.followed(at, it)
+                for it in [*self.scopes[at].get(name, ()), *self.globs[at]]:
+                    more, next_ones = self.followed(at, it, name)
                     found |= more
                     todo |= next_ones - seen
             self.looked[file, word] = frozenset(found)
         return self.looked[file, word]
 
-    def followed(self, file: File, it: Import) -> tuple[set[int], set[tuple[File, str]]]:
-        """What an import leads to: items that are taken for more, and words of other files."""
+    def followed(self, file: File, it: Import, name: str) -> tuple[set[int], set[tuple[File, str]]]:
+        """What this name leads to by an import: items that are taken for more, and words of other files."""
         place = self.place(file, it.path)
         if not place:
             return {self.from_outside(file, it)}, set()
-        items, words = set[int](), set[tuple[File, str]]()
         places = self.led(*place)
-        for at, left in places:
-            if left and self.has(at, left[0]):
-                words |= {(at, word) for word in parted(left[0])}
+        if it.name == "*" and places and not any(left for _, left in places):
+            return set(), {(at, name) for at, _ in places}
+        words = {(at, word) for at, left in places if left and self.has(at, left[0]) for word in parted(left[0])}
         if not places:
-            items |= {*self.all_of(place[0])}
-        elif not words:
-            items |= {n for at, left in places if left for n in self.of_file[at]}
-        return items, words
+            return {*self.all_of(place[0])}, set()
+        return set() if words else {n for at, left in places if left for n in self.of_file[at]}, words
 
     def from_outside(self, file: File, it: Import) -> int:
         """What a file imports from elsewhere, as an item: its path."""
@@ -157,8 +154,11 @@ class Names:
             found = set[int]()
             for it in paths:
                 if self.place(file, it.path):
-                    items, words = self.followed(file, it)
+                    items, words = self.followed(file, it, path[-1])
                     found |= {*items, *(n for at, word in words for n in self.lookup(at, word))}
+            for place in (self.place(file, (*it.path, *path)) for it in self.globs[file]):
+                for at, left in self.led(*place) if place else ():
+                    found |= {n for it in left[:1] for word in parted(it) for n in self.lookup(at, word)}
             self.placed[file, path] = frozenset(found)
         return self.placed[file, path]
 
