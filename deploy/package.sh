@@ -75,7 +75,7 @@ put 755 "$from/serve" usr/libexec/tcdesk/serve
 put 644 "$from/tcdesk@.service" usr/lib/systemd/system/tcdesk@.service
 put 644 "$from/sysusers" usr/lib/sysusers.d/tcdesk.conf
 put 644 "$from/completion" usr/share/bash-completion/completions/tcdesk
-put 644 "$top/tools/views.sql" usr/share/tcdesk/views.sql
+put 644 "$top/examples/views.sql" usr/share/tcdesk/views.sql
 for file in "$top"/examples/*; do put 644 "$file" "$doc/examples/${file##*/}"; done
 page >"$work/page" && packed "$work/page" usr/share/man/man1/tcdesk.1.gz
 changelog >"$work/changelog" && packed "$work/changelog" "$doc/changelog.gz"

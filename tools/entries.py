@@ -43,6 +43,8 @@ ENTRIES = (
     Entry("plain-link", "the link: each printed line beside the plain desk; each cell of FOP-1 and FARM-1; the promise by what is printed",
           modules=("tests.test_plain_link",), takes_seed=True),
     Entry("written", "what lies in each column of each table, written out by hand", modules=("tests.test_written",)),
+    Entry("views", "what the views of examples/views.sql tell of a file: what waits for a person, beside the plain desk and by hand",
+          modules=("tests.test_views",), needs="sqlite3 for the stock shell, or that is not tried", takes_seed=True),
     Entry("versions", "files of each earlier version of the schema: worked, opened again and reported beside the same desks of the newest, and their kept replies",
           modules=("tests.test_versions",)),
     Entry("changed", "files that were left and changed, with what each opening answers written by hand", modules=("tests.test_changed",)),
