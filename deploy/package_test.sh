@@ -359,8 +359,8 @@ service_cases() {
     tell "a desk is served as soon as it is started"
     machine_says "by whom, and with what" $'tcdesk\n0000000000000000\n0000000000000000\n1\n2' \
         "stat -c %U /proc/\$($id); awk '/^(CapEff|CapBnd|NoNewPrivs|Seccomp):/ { print \$2 }' /proc/\$($id)/status"
-    machine_says "of all the system it may write its own folder alone, also root there" $'written: /var/lib/tcdesk' \
-        "for it in / /boot /etc /home /opt /root /srv /usr /usr/local /var /var/cache /var/lib /var/lib/tcdesk /var/log /run; do
+    machine_says "of the disk it may write its own folder alone, also root there" $'written: /var/lib/tcdesk' \
+        "for it in / /boot /etc /home /opt /root /srv /usr /usr/local /var /var/cache /var/lib /var/lib/tcdesk /var/log; do
             ! nsenter -t \$($id) -m touch \$it/probe 2>/dev/null || { echo written: \$it; nsenter -t \$($id) -m rm \$it/probe; }; done"
     machine_says "whose its file is" $'700 tcdesk:tcdesk /var/lib/tcdesk\n600 tcdesk:tcdesk /var/lib/tcdesk/one.db' \
         "stat -c '%a %U:%G %n' /var/lib/tcdesk /var/lib/tcdesk/one.db"

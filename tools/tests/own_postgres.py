@@ -81,6 +81,13 @@ class Postgres:
             for path in (at, *(f"{at}/{name}" for name in names)):
                 os.chown(path, self.user["user"], self.user["group"])
 
+    def processor_seconds(self) -> float:
+        """What the server took of processors by now, with those of its processes that have ended: a connection's ends soon behind it."""
+        assert self.process
+        with open(f"/proc/{self.process.pid}/stat", encoding="ascii") as file:
+            spent = file.read().rpartition(")")[2].split()[11:15]
+        return sum(map(int, spent)) / os.sysconf("SC_CLK_TCK")
+
     def log(self) -> str:
         """What the server said."""
         with open(f"{self.folder}/said", encoding="utf-8", errors="replace") as file:

@@ -1,8 +1,9 @@
 """What the loader of deploy/postgres takes of full desks: `tools/run.py --only postgres-full`, by hand.
 
 Four desks, or so many as --count says, of 990,000 moves each, come into a real PostgreSQL, set up as Debian does it: the first once more, and one whose copy
-of before lacks the last day. All that is then there of the first is compared with its file. Each step is timed by the clock, and so are some questions.
+of before lacks the last day. All that is then there of the first is compared with its file. Of each step, and of some questions, it is told what they took by the clock, and of processors.
 """
+import os
 import tempfile
 import time
 import unittest
@@ -48,9 +49,16 @@ class FullLoads(unittest.TestCase):
 
     def timed(self, what: str, does: Callable[[], object]) -> None:
         """Does something, and tells how long that took."""
-        began = time.monotonic()
+        began, spent = time.monotonic(), self.processor_seconds()
         does()
-        print(f"postgres full: {what}: {time.monotonic() - began:.2f} s", flush=True)
+        clock = time.monotonic() - began
+        time.sleep(1)
+        print(f"postgres full: {what}: {clock:.1f} s, {self.processor_seconds() - spent:.1f} of processors", flush=True)
+
+    def processor_seconds(self) -> float:
+        """What the server, and the programs that were run here, took by now."""
+        it = os.times()
+        return self.postgres.processor_seconds() + it.children_user + it.children_system
 
     def load(self, desk: str, path: str, moves: int, new: int) -> None:
         """Loads a copy, of which so many moves are new."""
