@@ -76,11 +76,11 @@ CREATE TEMP VIEW locks AS
 CREATE TEMP VIEW waiting AS
     WITH waits(kind, number, waits_for, what, author, critical, given, wanted, persons, told) AS (
         SELECT 1, num, 'approval', 'request ' || num, author, critical, (SELECT count(*) FROM request_approval WHERE request = num), 1 + critical,
-            (SELECT group_concat(person, ' ') FROM (SELECT person FROM request_approval WHERE request = num ORDER BY rowid)), ''
+            (SELECT group_concat(person, ' ') FROM request_approval WHERE request = num), ''
         FROM request WHERE place = 1 AND stack = ''
         UNION ALL
         SELECT 1, first, 'approval', 'stack ' || name, author, critical, (SELECT count(*) FROM stack_approval WHERE stack_approval.stack = name), 1 + critical,
-            (SELECT group_concat(person, ' ') FROM (SELECT person FROM stack_approval WHERE stack_approval.stack = name ORDER BY rowid)),
+            (SELECT group_concat(person, ' ') FROM stack_approval WHERE stack_approval.stack = name),
             rows || ' of its requests, from ' || first || ' on'
         FROM (SELECT stack, count(*) AS rows, min(num) AS first FROM request WHERE place = 1 AND stack <> '' GROUP BY stack) AS at_entered
             JOIN stack ON name = at_entered.stack

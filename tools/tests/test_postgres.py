@@ -189,13 +189,15 @@ class Loads(unittest.TestCase):
     def test_stopped(self) -> None:
         """Loads whose connection the server ends while they wait in the middle: nothing of them is there."""
         holder = self.postgres.start(["psql", "-X", "-q", "-c", "BEGIN", "-c", "INSERT INTO tcdesk.desk VALUES ('north', 0, now())", "-c", "SELECT pg_sleep(600)"])
+        self.addCleanup(holder.communicate)
+        self.addCleanup(self.postgres.ask, "SELECT pg_terminate_backend(pid) FROM pg_stat_activity WHERE wait_event = 'PgSleep'")
         self.wait_for("SELECT FROM pg_stat_activity WHERE wait_event = 'PgSleep'")
         loader = self.postgres.start([f"{LOADER}/load.sh", "north", self.next.path])
+        self.addCleanup(loader.kill)
         self.wait_for("SELECT FROM pg_stat_activity WHERE application_name = 'tcdesk' AND wait_event_type = 'Lock'")
         self.postgres.ask("SELECT pg_terminate_backend(pid) FROM pg_stat_activity WHERE application_name = 'tcdesk'")
         _, err = loader.communicate(timeout=60)
         self.postgres.ask("SELECT pg_terminate_backend(pid) FROM pg_stat_activity WHERE wait_event = 'PgSleep'")
-        holder.communicate(timeout=60)
         self.assertEqual(1, loader.returncode)
         self.assertIn("terminating connection", err)
         self.assertEqual([], self.postgres.ask("TABLE tcdesk.move") + self.postgres.ask("TABLE tcdesk.desk"))
