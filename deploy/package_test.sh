@@ -307,7 +307,7 @@ boot() {
     systemd-nspawn -D "$root" --boot --register=no "${more[@]}" --private-network --console=pipe </dev/null >"$work/console" 2>&1 &
     machine=$!
     why="systemd does not begin in it"
-    for ((turn = 0; turn < 120; turn++)); do
+    for ((turn = 0; turn < 360; turn++)); do
         sleep 0.5
         leader=$(pgrep -P "$machine") || continue
         in_machine "systemctl is-system-running"
@@ -382,11 +382,12 @@ service_cases() {
         sed 's/\"\$PORT\"/& 2/' /usr/libexec/tcdesk/serve >/usr/local/bin/few && chmod 755 /usr/local/bin/few
         systemctl daemon-reload && systemctl start tcdesk@one && for it in 1 2; do curl -s http://127.0.0.1:8080/places >/dev/null; done
         sleep 8; $said | tail -n 1; systemctl is-active tcdesk@one"
-    in_machine "rm -r /run/systemd/system/tcdesk@one.service.d /usr/local/bin/few; systemctl daemon-reload; systemctl restart tcdesk@one"
+    # its next starts are no more than a person may make
+    in_machine "rm -r /run/systemd/system/tcdesk@one.service.d /usr/local/bin/few; systemctl daemon-reload; systemctl reset-failed tcdesk@one; systemctl restart tcdesk@one"
 
     machine_says "a file that is no desk's: the start fails, says why, and stays down after 5 starts" $'status 1\n5 tcdesk: cannot use /var/lib/tcdesk/two.db\nfailed' \
         "echo PORT=8082 >/etc/default/tcdesk-two; install -o tcdesk -g tcdesk -m 600 /etc/hostname /var/lib/tcdesk/two.db
-        systemctl start tcdesk@two 2>/dev/null; echo status \$?; for it in {1..90}; do sleep 1; [[ \$(systemctl is-active tcdesk@two) != failed ]] || break; done
+        systemctl start tcdesk@two 2>/dev/null; echo status \$?; for it in {1..240}; do sleep 1; [[ \$(systemctl is-active tcdesk@two) != failed ]] || break; done
         journalctl -t tcdesk -o cat -u tcdesk@two | uniq -c | sed 's/^ *//'; systemctl is-active tcdesk@two"
     machine_says "no port: the start fails, and says why" $'status 1\nis not set, so /etc/default/tcdesk-three has to say PORT=N' \
         "touch /etc/default/tcdesk-three; systemctl start tcdesk@three 2>/dev/null; echo status \$?; systemctl stop tcdesk@three
@@ -394,7 +395,7 @@ service_cases() {
     in_machine "post() { curl -s --json \"{\\\"by\\\":\\\"\$1\\\",\\\"number\\\":\$2,\\\"act\\\":\\\"\$3\\\",\\\"moment\\\":7}\" http://127.0.0.1:8080/acts; }
         post ann 1 'enter 5 ---c no 8 1 - - ok'; post bob 1 'approve 1'; post ann 2 'initiate none'; post ann 3 'release 1'
         from=\$(date +%s); systemctl restart tcdesk@one
-        read -r _ _ at rest < <($said | grep ^move); echo; echo \$((at >= from && at <= from + 9)) \$rest"
+        read -r _ _ at rest < <($said | grep ^move); echo; echo \$((at >= from && at <= \$(date +%s))) \$rest"
     same "a restart puts in doubt what is on its way, at the moment of the start" "1 desk 1 Sent Doubtful open" "$(tail -n 1 "$work/out")"
     machine_says "its options are those of the file" "tcdesk: connection 1: answered" \
         "echo 'OPTIONS=\"--w 10 --verbose\"' >>/etc/default/tcdesk-one; systemctl restart tcdesk@one; curl -s http://127.0.0.1:8080/places >/dev/null; sleep 1
