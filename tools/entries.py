@@ -73,6 +73,8 @@ ENTRIES = (
     Entry("curl", "the manual's lines for curl, and what a server says", command=("pages/curl_cases.sh", "PROGRAM"), needs="curl 7.82, python3"),
     Entry("proxy", "the manual's text for nginx before a served desk", modules=("pages.proxy_cases",),
           needs="nginx and openssl, or that is not tried"),
+    Entry("login", "the proxy of deploy/nginx, which holds each login to its own name, before a served desk",
+          command=("../deploy/nginx/login_test.py", "--program", "PROGRAM"), needs="nginx with njs, and openssl, or that is not tried"),
     Entry("soak", "ten good clients beside rude peers for five minutes, or --count of them", modules=("bench.http_soak",), takes_seed=True,
           by_hand=True),
     Entry("full-stops", "a desk of 65,535 requests and 989,000 rows, stopped at 200 random calls, or --count of them", modules=("faults.stop_full",),

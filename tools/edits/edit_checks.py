@@ -95,6 +95,12 @@ class Report:
         found = (re.match(r"fn (\S+): ((?:not proved|no proof).*)", line) for line in self.lines)
         return {it[1]: it[2] for it in found if it}
 
+    @property
+    def misnamed(self) -> str | None:
+        """The word of `--only` that names no function, or several."""
+        found = re.match(r"rattle: error: .*(?:has no function|functions are named) `([^`]+)`", self.last)
+        return found[1] if found else None
+
     def unread(self, files: Container[str]) -> list[str]:
         """The lines that tell of a text which the prover cannot read, as rt takes them: of these files, src/ or specs/."""
         found: list[str] = []
@@ -109,10 +115,10 @@ class Report:
 
 
 def check(
-    crate: Crate, texts: Mapping[str, str], kept: str, only: Sequence[str] = (), logs: str | None = None
+    crate: Crate, texts: Mapping[str, str], kept: str | None, only: Sequence[str] = (), logs: str | None = None
 ) -> Report:
-    """Checks a copy of the crate with these texts, over what is kept, which stays as it is where `only` names functions
-    or texts are given: rattle replaces the files that it keeps, so hard links to them serve a copy."""
+    """Checks a copy of the crate with these texts, from nothing or over what is kept, which stays as it is where `only` names
+    functions or texts are given: rattle replaces the files that it keeps, so hard links to them serve a copy."""
     began = time.time()
     with tempfile.TemporaryDirectory(prefix="edits-") as room:
         for part in PARTS:
@@ -121,9 +127,9 @@ def check(
         for file, text in texts.items():
             with open(f"{room}/{file}", "w", encoding="utf-8") as it:
                 it.write(text)
-        if texts:
+        if texts and kept:
             kept = shutil.copytree(kept, f"{room}/kept", copy_function=os.link)
-        words = [*crate.words(), "--incremental", kept]
+        words = [*crate.words(), *(["--incremental", kept] if kept else [])]
         for name in only:
             words += ["--only", name]
         ran = subprocess.Popen(
@@ -150,11 +156,21 @@ class Fault:
     is_searched: bool
 
 
-def path_of(function: Function, crate: str, names: set[str]) -> str | None:
-    """The name by which a check reports the function, or None where that is not plain: what stands in an impl is named
-    by the module of its type."""
+def home_of(function: Function, crate: str) -> str:
+    """The function's name behind that of the module it stands in."""
     module = function.file.removeprefix("src/").removesuffix(".rt").replace("/", "::")
-    own = "::".join([crate, *([] if module in ("lib", "main") else [module]), function.name])
+    return "::".join([crate, *([] if module in ("lib", "main") else [module]), function.name])
+
+
+def word_of(function: Function, crate: str) -> str:
+    """What asks a check for the function: its name, and of what stands in an impl the end of it, since it is named by the
+    module of its type."""
+    return function.name if "::" in function.name else home_of(function, crate)
+
+
+def path_of(function: Function, crate: str, names: set[str]) -> str | None:
+    """The name by which a check reports the function, or None where that is not plain."""
+    own = home_of(function, crate)
     if own in names:
         return own
     ends = [it for it in names if "::" in function.name and it.endswith(f"::{function.name}")]

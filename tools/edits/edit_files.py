@@ -192,6 +192,32 @@ class Edit:
         self.functions = frozenset(changed)
 
 
+def constant_of(edit: Edit, folder: str) -> str | None:
+    """The constant that the edit changes, if it stands outside all functions, and behind the head of one."""
+    names: set[str] = set()
+    for it in edit.splices:
+        text = text_of(f"{folder}/{it.file}")
+        is_inside = any(of.holds(it.at, len(it.old)) for of in functions_of(it.file, text))
+        found = re.findall(r"^[^\n\S]*(?:pub(?:\([^)]*\))? )?(?:const|static) (\w+):", text[: it.at + len(it.old)], re.M)
+        if it.at < 0 or is_inside or not found:
+            return None
+        names.add(found[-1])
+    return names.pop() if len(names) == 1 else None
+
+
+def who_names(word: str, folder: str) -> list[Function]:
+    """The functions of a crate whose clauses or bodies name this word."""
+    found: list[Function] = []
+    for place, _, files in os.walk(f"{folder}/src"):
+        for name in sorted(it for it in files if it.endswith(".rt")):
+            path = f"{place}/{name}"
+            text = text_of(path)
+            for it in functions_of(os.path.relpath(path, folder), text):
+                if re.search(rf"\b{word}\b", it.head + text[it.begins : it.ends]):
+                    found.append(it)
+    return found
+
+
 def joined(edits: Sequence[Edit], folder: str) -> dict[str, str]:
     """The texts of a crate with all these edits, which change different functions' bodies."""
     texts = {it.file: text_of(f"{folder}/{it.file}") for edit in edits for it in edit.splices}

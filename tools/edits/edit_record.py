@@ -13,6 +13,9 @@ So while no file that is reached changes, the goal is the same one. Nor can a ne
 name: a lemma that a proof cites has to be imported too. How a function of a lower crate is proved does not matter, nor do
 the lemmas that such proofs alone cite: a check above loads them, and can cite only what is stated of the function.
 
+That the crate as it stands is proved is no part of a line: the gate's `rt ci` proves these very texts, and from nothing, before
+it looks at the record.
+
 What stays is the prover's search. It may look through what stands in scope of a library though nothing imports it, and
 has limits. A lemma more there cannot prove what is false: an edit whose goal is false stays refused. It can at most find
 a proof of a goal that is true and was not found before; that edit was harmless from the start, and was refused for the

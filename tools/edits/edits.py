@@ -4,8 +4,12 @@
 An edit is a file crates/CRATE/wrong/NAME.edit that makes a crate wrong, in the format of `rt must-fail`. Edits of the
 bodies of different functions go into one copy of the crate, and the prover is asked for those functions alone. An edit
 is refused where its own function, or a closure in it, has a goal of its own that is not proved: not because of what the
-function calls, and not because a proof file names what is gone. What is not clear from a group is tried alone, by a
-whole check, and judged as `rt must-fail` does.
+function calls, and not because a proof file names what is gone. An edit of a constant is refused where a function that
+names it has such a goal. What is not clear so is tried alone, by a whole check, and judged as `rt must-fail` does.
+
+A crate that is not proved as it stands shows nothing of its edits. So each is checked first, whole, and its edits are tried over
+what that check proved. With --proved it is not, where `rt ci` has proved these very texts before; then each group proves what its
+functions call anew, so that is shorter only for a crate with few edits.
 
 Where no crate is named, a crate is passed over whose edits were all refused for the very texts that stand: tools/edits.tried
 has the digests, and tools/edits/edit_record.py says what they cover and what is trusted. --record writes that file after a run.
@@ -24,8 +28,8 @@ import time
 from collections.abc import Mapping, Sequence
 from concurrent.futures import ThreadPoolExecutor
 
-from edit_checks import Crate, Kit, Report, check, crates_of, fault_of, path_of, told
-from edit_files import Edit, Function, edits_in, joined
+from edit_checks import Crate, Kit, Report, check, crates_of, fault_of, path_of, told, word_of
+from edit_files import Edit, Function, constant_of, edits_in, joined, who_names
 from edit_record import Record, digest_of
 
 
@@ -46,12 +50,15 @@ class Trial:
         self.reports: list[Report] = []
         self.by_hand = 0
         self.names: set[str] = set()
-        # Where its first check keeps what it proved.
+        # Where its first whole check keeps what it proved, once there was one, and whether it proved the crate.
         self.kept = ""
+        self.alone_first = threading.Lock()
+        self.is_proved: bool | None = None
 
     def check(self, label: str, texts: Mapping[str, str], only: Sequence[str] = ()) -> Report:
         with self.cores:
-            report = check(self.crate, texts, self.kept, only, self.asked.logs)
+            kept = None if only and self.is_proved is None else self.kept
+            report = check(self.crate, texts, kept, only, self.asked.logs)
         self.reports.append(report)
         took = f"{report.seconds:.0f} s, of a processor {report.processor:.0f}"
         say(f"     {self.crate.name}: {label}: {took}; {report.last[:60]}")
@@ -61,9 +68,39 @@ class Trial:
         self.verdicts.append(is_refused)
         say(f"{'ok  ' if is_refused else 'FAIL'} {self.crate.name}/{edit.name}: {why[:240]}")
 
+    def base(self) -> bool:
+        """Whether the crate is proved as it stands, by one whole check."""
+        with self.alone_first:
+            if self.is_proved is None:
+                report = self.check("as it stands", {})
+                self.names = {*report.proved()}
+                self.is_proved = report.is_proved
+        return self.is_proved
+
+    def by_readers(self, edit: Edit) -> bool:
+        """Tries an edit of a constant by the functions that name it, and says whether one refuses it."""
+        constant = constant_of(edit, self.crate.folder)
+        readers = who_names(constant, self.crate.folder) if constant else []
+        words = sorted({word for it in readers if (word := self.word(it))})
+        if not words:
+            return False
+        report = self.check(f"who names it, {edit.name}", edit.texts, words)
+        if report.unread({it.file for it in edit.splices}) or not report.last.startswith("only="):
+            return False
+        paths = {it: path for it in readers if (path := path_of(it, self.crate.name, self.reported(report)))}
+        fault = next((it for reader, path in paths.items() if (it := fault_of(reader, path, report))), None)
+        if fault:
+            self.tell(edit, True, f"refused, by who names {constant}: {fault.text}")
+        return bool(fault)
+
     def alone(self, edit: Edit) -> None:
         """Tries an edit by a whole check, and judges it as `rt must-fail` does, or harder: where only a proof file names
         what the edit took away, that is no refusal."""
+        if self.by_readers(edit):
+            return
+        if not self.base():
+            self.tell(edit, False, "the crate itself is not proved")
+            return
         report = self.check(f"alone, {edit.name}", edit.texts)
         unread = report.unread(edit.texts)
         line, is_more = told(report)
@@ -80,13 +117,19 @@ class Trial:
 
     def group(self, edits: list[Edit]) -> list[Edit]:
         """Tries edits of different functions in one check, and returns those of which it says nothing clear."""
-        paths = {it: path for edit in edits for it in edit.functions if (path := self.path(it))}
-        report = self.check(f"{len(edits)} edits", joined(edits, self.crate.folder), sorted({*paths.values()}))
+        words = {it: word for edit in edits for it in edit.functions if (word := self.word(it))}
+        report = self.check(f"{len(edits)} edits", joined(edits, self.crate.folder), sorted({*words.values()}))
+        if report.misnamed:
+            odd = [it for it in edits if any(words[of] == report.misnamed for of in it.functions)]
+            rest = [it for it in edits if it not in odd]
+            return odd + (self.group(rest) if rest and odd else rest)
+        names = self.reported(report)
         if report.unread({it.file for edit in edits for it in edit.splices}) or not report.last.startswith("only="):
             return self.without_unread(edits, report)
         unclear = []
         for edit in edits:
-            faults = [fault_of(it, paths[it], report) for it in edit.functions]
+            paths = {it: path for it in edit.functions if (path := path_of(it, self.crate.name, names))}
+            faults = [fault_of(it, path, report) for it, path in paths.items()]
             fault = next((it for it in faults if it), None)
             if fault:
                 self.by_hand += not fault.is_searched
@@ -114,8 +157,14 @@ class Trial:
         is_all = len(self.verdicts) == len(self.edits) > 0 and all(self.verdicts)
         return is_all and self.digest == digest_of(self.crate, self.asked.folder)
 
-    def path(self, function: Function) -> str | None:
-        return path_of(function, self.crate.name, self.names)
+    def word(self, function: Function) -> str | None:
+        """What asks a check for a function: its name, where a whole check told it."""
+        is_told = self.is_proved is not None
+        return path_of(function, self.crate.name, self.names) if is_told else word_of(function, self.crate.name)
+
+    def reported(self, report: Report) -> set[str]:
+        """The names of the functions of which a check tells something."""
+        return {*report.proved(), *report.not_proved()}
 
     def groups(self, edits: Sequence[Edit]) -> list[list[Edit]]:
         """As few groups as the function with most edits needs, of like sizes; no two edits of a group change one."""
@@ -141,13 +190,11 @@ class Trial:
         with tempfile.TemporaryDirectory(prefix="edits-kept-") as self.kept:
             if self.asked.trust and os.path.isdir(f"{self.crate.folder}/out/incremental"):
                 shutil.copytree(f"{self.crate.folder}/out/incremental", self.kept, dirs_exist_ok=True)
-            base = self.check("as it stands", {})
-            if not base.is_proved:
+            if not self.asked.proved and not self.base():
                 for edit in edits:
-                    self.tell(edit, False, f"the crate itself is not proved: {base.last}")
+                    self.tell(edit, False, f"the crate itself is not proved: {self.reports[-1].last}")
                 return
-            self.names = {*base.proved()}
-            plain = [it for it in edits if it.functions and all(map(self.path, it.functions))]
+            plain = [it for it in edits if it.functions and all(map(self.word, it.functions))]
             with ThreadPoolExecutor(self.asked.cores) as pool:
                 unclear = [it for group in pool.map(self.group, self.groups(plain)) for it in group]
                 unclear += [it for it in edits if it not in plain]
@@ -159,6 +206,7 @@ def asked() -> argparse.Namespace:
     to.add_argument("--folder", default="wrong", help="of each crate, that holds its edits (wrong)")
     to.add_argument("--cores", type=int, default=os.cpu_count() or 1, help="checks side by side (the processors)")
     to.add_argument("--trust", action="store_true", help="begin over what rt check kept in out/incremental (not in a gate)")
+    to.add_argument("--proved", action="store_true", help="`rt ci` has proved these very texts: none is checked as it stands")
     to.add_argument("--most", type=int, default=1000, help="edits in one check (1000)")
     to.add_argument("--logs", help="a folder for what each check says")
     to.add_argument("--all", action="store_true", help="try all, whatever tools/edits.tried says")

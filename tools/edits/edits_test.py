@@ -145,6 +145,7 @@ returns c = ap (λ n. n + n) c.half-lower.ensures
 REFUSED = r"ok   planted/NAME: refused: "
 BY_HAND = r"ok   planted/NAME: refused, at an answer by hand: "
 ALONE = r"ok   planted/NAME: refused, tried alone: "
+BY_READER = r"ok   planted/NAME: refused, by who names MOST: "
 HARMLESS = r"FAIL planted/NAME: NOT REFUSED: "
 GONE = r"FAIL planted/NAME: refused only because a proof file names "
 UNREAD = r"FAIL planted/NAME: BAD EDIT: the prover cannot read |FAIL planted/NAME: BAD EDIT: it did not reach the prover"
@@ -166,7 +167,7 @@ PLANTED = {
     "wrong_in_a_named_function": (f"{LIB}\nfn: half", "x / 2", "x / 4", REFUSED),
     "wrong_in_a_named_method": (f"{COUNTERS}\nfn: Counter::raise", "value", "value -= 1; self.value", REFUSED),
     # Wrong, and outside the bodies: of a constant, and of a function that a constant can rest on.
-    "wrong_constant": (LIB, "pub const MOST: u8 = 10;", "pub const MOST: u8 = 11;", ALONE),
+    "wrong_constant": (LIB, "pub const MOST: u8 = 10;", "pub const MOST: u8 = 11;", BY_READER),
     "wrong_constant_function": (COUNTERS, "Counter { value: 0 }", "Counter { value: 1 }", ALONE),
     # Harmless, of functions that call a wrong one: one whose proof is found, one with an answer by hand.
     "harmless_beside_a_wrong_callee": (LIB, "    half(half(x))\n", "    let once = half(x); half(once)\n", HARMLESS),
@@ -309,13 +310,14 @@ def verdicts() -> Iterator[Held]:
         lay(f"{top}/crates/planted", CRATE)
         lay(f"{top}/crates/planted/wrong", {f"{name}.edit": edit_text(*it[:3]) for name, it in PLANTED.items()})
         lay(top, {"tools/edits.tried": "gone 0 1\nplanted 0 18\n"})
-        status, lines = ran(top, "--record")
-        for name, (_, _, _, wanted) in PLANTED.items():
-            said = [it for it in lines if f" planted/{name}.edit: " in it]
-            yield name, len(said) == 1 and re.match(wanted.replace("NAME", rf"{name}\.edit"), said[0]), said
-        well = sum(it[3] in (REFUSED, BY_HAND, ALONE) for it in PLANTED.values())
+        well = sum(it[3] in (REFUSED, BY_HAND, ALONE, BY_READER) for it in PLANTED.values())
         last = f"{well} passed, {len(PLANTED) - well} failed, 0 not tried again"
-        yield "the last line and the status", (status, lines[-1]) == (1, last), lines[-1:]
+        for words in (["--record"], ["planted", "--proved"]):
+            status, lines = ran(top, *words)
+            for name, (_, _, _, wanted) in PLANTED.items():
+                said = [it for it in lines if f" planted/{name}.edit: " in it]
+                yield f"{name}, {words[-1]}", len(said) == 1 and re.match(wanted.replace("NAME", rf"{name}\.edit"), said[0]), said
+            yield f"the last line and the status, {words[-1]}", (status, lines[-1]) == (1, last), lines[-1:]
         yield "what is not refused is not recorded", recorded(top) == [], recorded(top)
 
         # A crate that is not proved shows nothing of its edits.

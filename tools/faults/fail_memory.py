@@ -3,7 +3,7 @@
 A run of a script with one request refused (tools/faults/fail_malloc.c) may end in these ways, and in no other:
   - all lines are right: the request was not needed;
   - one line is refused 30, and all others are answered as if it were not there;
-  - one line is refused 31, and each line behind it 32;
+  - one line is refused 31, and each line behind it that reads 32;
   - the right lines up to some line, with status 2 and the words that memory, the tables or the file cannot be used.
 Where a line was refused 30, the script is run once more with that line written twice, and the same request refused: the first is refused 30, and the
 second and all behind it are answered as in a run that is not disturbed. The text has the same length both times, by line ends behind it, so that it
@@ -34,7 +34,7 @@ from tests.plain_runs import Plain, case_files, case_lines, kept_tables, text_of
 from tests.runs import Ended, Tried, made_shim, quick_folder, write_files
 
 SPARE, MOST_BAD, ENDING = 512, 10, 64  # bytes behind a script; runs that are bad, until a share ends; requests that a run makes behind its last line, at most
-MEMORY, STORE, STOPPED = "refused 30 Memory\n", "refused 31 Store\n", "refused 32 Stopped\n"
+MEMORY, STORE = "refused 30 Memory\n", "refused 31 Store\n"
 
 
 class Script(NamedTuple):
@@ -174,7 +174,7 @@ class Trial:
 
     def look(self, at: int) -> Optional[Found]:
         """What becomes of a run with this request refused. None where that was not made."""
-        ran, lines = self.run(self.script.lines, at), self.script.lines
+        ran = self.run(self.script.lines, at)
         if ran is None:
             return None
         if self.before and (ran.status, ran.out) == (2, ""):
@@ -185,7 +185,7 @@ class Trial:
             return found._replace(bad=f"{ran}")
         if found.how == "refused 30":
             return self.refused(ran, at, line)
-        if found.how == "refused 31" and ran.out != self.right.fronts[line] + STORE + STOPPED * (len(lines) - line):
+        if found.how == "refused 31" and ran.out != self.right.fronts[line] + STORE + self.right.stopped(line):
             return found._replace(bad=f"{ran}")
         return found._replace(bad=self.tables_fault(self.right, [line] if found.how == "right" else [line, line + 1]))
 

@@ -4,7 +4,7 @@ tools/faults/stop_io.c.
 A run of a script is made again and again, where its calls fail from the first on, from the second, and so on up to the last.
 Each run has to end in one of these ways:
   - at the opening: the file cannot be used, which is told, and nothing is printed;
-  - at a line: it is answered 31, each line behind it 32, and so are the places at the end;
+  - at a line: it is answered 31, each line behind it that reads 32, and so are the places at the end;
   - as the desk is closed: all is answered as it is where nothing fails.
 The two latter may end with status 2 besides, and the words that the file cannot be used, since it could not be closed. A desk that is made is told as a new one
 but where the opening failed before its tables stood in the file; it may fail behind them, and then an empty desk is left.
@@ -21,7 +21,7 @@ from faults.kept_runs import OPENED, RUNS, Desks, Ended, Trial
 from tests.asked import ASKED
 from tests.runs import Tried, quick_folder
 
-STORE, STOPPED = "refused 31 Store\n", "refused 32 Stopped\n"
+STORE = "refused 31 Store\n"
 AT_ONCE = 4
 THE_END = "no call failed"
 
@@ -33,8 +33,7 @@ def state_of(trial: Trial, ran: Ended) -> tuple[str, int]:
     if ran.out == trial.plain.whole:
         return "at the closing" if ran.status == 2 else THE_END, len(trial.fronts) - 1
     front, _, behind = ran.out.partition(STORE)
-    lines = len(trial.run.lines)
-    if front in trial.fronts[1:] and behind == STOPPED * (lines - trial.plain.fronts.index(front)):
+    if front in trial.fronts[1:] and behind == trial.plain.stopped(trial.plain.fronts.index(front)):
         return "at an act", trial.fronts.index(front, 1)
     return "", 0
 

@@ -76,10 +76,10 @@ class Proxy:
     def __init__(self, port: int) -> None:
         self.port, self.context = port, ssl._create_unverified_context()
 
-    def ask(self, method: str, path: str, body: Optional[str] = None, login: Optional[str] = "ann:secret") -> tuple[int, str]:
+    def ask(self, method: str, path: str, body: Optional[str] = None, login: Optional[str] = "ann:secret", sort: str = "application/json") -> tuple[int, str]:
         """The status and the text of an answer."""
         peer = HTTPSConnection(HERE, self.port, timeout=60, context=self.context)
-        head = {"Content-Type": "application/json"} if body else {}
+        head = {"Content-Type": sort} if body else {}
         if login:
             head["Authorization"] = "Basic " + base64.b64encode(login.encode()).decode()
         peer.request(method, path, body, head)
@@ -94,6 +94,9 @@ def look(cases: Cases, proxy: Proxy) -> None:
     cases.tell("no login", 401, proxy.ask("GET", "/places", login=None)[0])
     cases.tell("a wrong word", 401, proxy.ask("GET", "/places", login="ann:wrong")[0])
     cases.tell("the places", (200, PLACES.format(0)), proxy.ask("GET", "/places"))
+    for sort in ("text/plain", "application/x-www-form-urlencoded", "multipart/form-data; boundary=b"):
+        cases.tell(f"an act as {sort}", 403, proxy.ask("POST", "/acts", BODY.format(1, 1), sort=sort)[0])
+    cases.tell("which is not done", (200, PLACES.format(0)), proxy.ask("GET", "/places"))
     first = proxy.ask("POST", "/acts", BODY.format(1, 1))
     cases.tell("an act", 200, first[0])
     cases.tell("the act again", first, proxy.ask("POST", "/acts", BODY.format(1, 1)))

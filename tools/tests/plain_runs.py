@@ -12,6 +12,8 @@ from tests.asked import TOOLS
 from tests.runs import bytes_of
 
 CASES = f"{TOOLS}/cases"
+# What a desk that has stopped prints for what reaches it, and what a line is told that does not read, whether the desk has stopped or not.
+STOPPED, UNREAD = "refused 32 Stopped\n", ("refused 1 BadText\n", "refused 17 TooLong\n")
 
 
 def case_lines(name: str) -> list[str]:
@@ -53,6 +55,11 @@ class Plain:
     def reply(self, number: int) -> str:
         """What the line of this number, from 0, is answered."""
         return self.fronts[number + 1][len(self.fronts[number]):]
+
+    def stopped(self, number: int) -> str:
+        """What is printed behind the line of this number where the desk stops at it; the counts at the end come behind the last line."""
+        told = [*map(self.reply, range(number + 1, len(self.lines))), *([self.last] if number < len(self.lines) else [])]
+        return "".join(it if it in UNREAD else STOPPED for it in told)
 
     def behind(self, number: int) -> str:
         """What is printed from this line on."""
