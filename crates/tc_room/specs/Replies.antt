@@ -1,10 +1,14 @@
 -- The bytes of replies: lines, each ended by LF.
-use Rattle.std.specs.Prelude.{ℕ, ◌==◌, Bool, false, List, [], ◌∷◌, filter, map, nat_eq, codes}
+use Rattle.std.specs.Prelude.{ℕ, ◌==◌, Bool, false, Some, List, [], ◌∷◌, filter, map, nat_eq, codes}
 use Rattle.std.specs.List.{starts_with}
 use Rattle.tc_types.specs.ProcedureLines.{execution_line, record_line}
 use Rattle.tc_types.specs.declared.tables.rows.BegunExecution.{BegunExecution}
 use Rattle.tc_types.specs.declared.tables.rows.StepRecord.{StepRecord}
-use Rattle.tc_desk.specs.Replies.{Reply}
+use Rattle.tc_types.specs.declared.tables.rows.LoadedProcedure.{LoadedProcedure}
+use Rattle.tc_types.specs.declared.tables.rows.ProcedureStep.{ProcedureStep}
+use Rattle.tc_types.specs.Names.{is_same_name}
+use Rattle.tc_waits.specs.StepLines.{step_line}
+use Rattle.tc_desk.specs.Replies.{Reply, procedure_lines}
 pub use Rattle.tc_report.specs.Texts.{AreLines, ended}
 
 -- whether a reply is a refusal

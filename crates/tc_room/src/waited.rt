@@ -1,8 +1,7 @@
 //! The texts of replies to who looks before he reads: what waits, who stands at a place, and what a procedure says. Each of their lines is
 //! ended by LF, and has no other LF in it.
-ghost use Rattle.std.specs.Prelude.{◌≡◌, [], ◌∷◌, ◌++◌, IfOk, OnOk, map, take};
+ghost use Rattle.std.specs.Prelude.{◌≡◌, ◌++◌, IfOk, OnOk, count_by, map};
 ghost use Rattle.std.specs.String.{string_bytes};
-ghost use Rattle.tc_types.specs.declared.requests.Request.{Request as SomeRequest};
 ghost use Rattle.tc_types.specs.Names.{is_same_name};
 ghost use Rattle.tc_waits.specs.StepLines.{step_line};
 ghost use Rattle.tc_waits.specs.WaitingLines.{waiting_line};

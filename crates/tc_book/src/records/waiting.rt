@@ -63,7 +63,7 @@ impl<A: Allocator + Copy + Drop> Records<A> {
     fn lock_from(&self, n: u32, origin: &Option<Origin>) -> Option<Lock>
         ensures { result ≡ lock_from self.now.book n origin.now }
     {
-        let origin = origin?;
+        let origin = origin.as_ref()?;
         let line = origin.after?;
         if self.is_interlocked(n) {
             Some(Lock {
