@@ -24,14 +24,14 @@ records_told execution records = map record_line (filter (λ (r : StepRecord). r
 abbrev pub execution_lines : BegunExecution → ℕ → List StepRecord → Reply
 execution_lines begun next records = execution_line begun.execution begun.procedure next ∷ records_told begun.execution records
 
--- those of these steps that are of this procedure
-abbrev pub steps_in : LoadedProcedure → List ProcedureStep → List ProcedureStep
-steps_in loaded steps = filter (λ (s : ProcedureStep). is_same_name s.procedure loaded.name) steps
+-- those of these steps that are of the procedure with this name, in order
+abbrev pub steps_in : List ℕ → List ProcedureStep → List ProcedureStep
+steps_in name steps = filter (λ (s : ProcedureStep). is_same_name s.procedure name) steps
 
--- their lines, in order
-abbrev pub steps_told : LoadedProcedure → List ProcedureStep → Reply
-steps_told loaded steps = map step_line (steps_in loaded steps)
+-- their lines
+abbrev pub steps_told : List ℕ → List ProcedureStep → Reply
+steps_told name steps = map step_line (steps_in name steps)
 
--- the lines of a procedure, where these are the steps of all
-abbrev pub procedure_told : LoadedProcedure → List ProcedureStep → Reply
-procedure_told loaded steps = procedure_lines (Some loaded) (steps_in loaded steps)
+-- the lines of the procedure with this name, which was loaded so, where these are the steps of all
+abbrev pub procedure_told : List ℕ → LoadedProcedure → List ProcedureStep → Reply
+procedure_told name loaded steps = procedure_lines (Some loaded) (steps_in name steps)
