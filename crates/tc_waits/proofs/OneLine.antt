@@ -15,7 +15,7 @@ use Rattle.tc_types.specs.Names.{IsName}
 use Rattle.tc_types.specs.StepGrammar.{second_word}
 use Rattle.tc_types.specs.StepTexts.{is_printable}
 use Rattle.tc_types.specs.Words.{is_one_line}
-use Rattle.tc_types.proofs.OneLine.{spaced_one, both, number_one, name_one, second_one, place_one, identity_one}
+use Rattle.tc_types.proofs.OneLine.{spaced_one, both, number_one, name_one, yes_no_one, second_one, place_one, identity_one}
 use Rattle.tc_types.proofs.WordLaws.{lacks}
 use Rattle.tc_waits.specs.declared.waits.Lock.{Lock}
 use Rattle.tc_waits.specs.declared.waits.Wanting.{Wanting}
@@ -23,11 +23,6 @@ use Rattle.tc_waits.specs.declared.waits.Waiting.TheVariants.{Request, Stack, Fr
 use Rattle.tc_waits.specs.WaitingLines.{given, wanted, wanting_words, waiting_words, waiting_line, waiting_count_line}
 use Rattle.tc_waits.specs.ListLines.{shown_words, moves_line, standing_line, named_line}
 use Rattle.tc_waits.specs.StepLines.{procedure_head_line, released_word, step_line}
-
--- TEMPORARY
-yes_no_one : (b : Bool) → lacks 10 (yes_no b) ≡ true
-yes_no_one true = refl
-yes_no_one false = refl
 
 given_one : (w : Wanting) → lacks 10 (decimal (given w)) ≡ true
 given_one w = by_author w.by

@@ -4,9 +4,8 @@ ghost use Rattle.std.specs.String.{string_bytes};
 ghost use Rattle.tc_types.specs.Words.{is_one_line};
 ghost use Rattle.tc_waits.specs.StepLines.{procedure_head_line, step_line};
 
-use crate::texts::yes_no;
 use std::alloc::{AllocError, Allocator};
-use tc_types::{LoadedProcedure, ProcedureStep};
+use tc_types::{LoadedProcedure, ProcedureStep, yes_no};
 
 /// The first line of a procedure: `procedure NAME author PERSON steps K`, who loaded it and how many steps it has. Fails where memory is
 /// refused.
@@ -35,6 +34,7 @@ pub fn step_text<A: Allocator + Copy>(
 {
     let number = step.step;
     let second = yes_no(step.is_countersigned);
+    step.text.keeps_form();
     let text = step.text.as_str();
     match step.request {
         Some(request) => {

@@ -1,32 +1,13 @@
 //! The lines of what waits for a person, as text without their LF.
-ghost use Rattle.std.specs.Prelude.{◌≡◌, IfOk, IfSome, IsTrue};
+ghost use Rattle.std.specs.Prelude.{◌≡◌, IfOk, IsTrue};
 ghost use Rattle.std.specs.String.{string_bytes};
-ghost use Rattle.tc_types.specs.Grammar.{yes_no};
-ghost use Rattle.tc_types.specs.StepGrammar.{second_word};
 ghost use Rattle.tc_types.specs.Words.{is_one_line};
 ghost use Rattle.tc_waits.specs.WaitingLines.{waiting_line, waiting_count_line};
 ghost use Rattle.tc_waits.specs.declared.waits.Waiting.TheVariants as waiting;
 
 use crate::waits::{Lock, Waiting, Wanting};
 use std::alloc::{AllocError, Allocator};
-use tc_types::Name;
-
-/// `yes` or `no`.
-pub(crate) fn yes_no(is: bool) -> &'static str
-    ensures { result.now ≡ yes_no is }
-{
-    if is { "yes" } else { "no" }
-}
-
-/// Who it is, or `-` for nobody.
-fn person(by: &Option<Name>) -> &str
-    ensures { result.now ≡ second_word by.now }
-{
-    match by {
-        Some(name) => name.as_str(),
-        None => "-",
-    }
-}
+use tc_types::{Name, second_word, yes_no};
 
 /// The line of a request that waits for approval.
 #[tactic(auto, using(crate::proofs::OneLine::request_one))]
@@ -42,7 +23,7 @@ fn request_text<A: Allocator + Copy>(
     let critical = yes_no(approval.critical);
     let given = approval.given();
     let wanted = approval.wanted();
-    let by = person(&approval.by);
+    let by = second_word(&approval.by);
     format!(in alloc;
         "request {request} Entered author {author} critical {critical} approvals {given} of {wanted} by {by}"
     )
@@ -65,7 +46,7 @@ fn stack_text<A: Allocator + Copy>(
     let critical = yes_no(approval.critical);
     let given = approval.given();
     let wanted = approval.wanted();
-    let by = person(&approval.by);
+    let by = second_word(&approval.by);
     format!(in alloc;
         "stack {name} Entered author {author} critical {critical} approvals {given} of {wanted} by {by} rows {rows} first {first}"
     )
