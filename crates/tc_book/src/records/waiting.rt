@@ -44,10 +44,10 @@ fn add_one<A: Allocator>(
 
 impl<A: Allocator + Copy + Drop> Records<A> {
     /// The approval of request `n`.
-    fn approvals(&self, n: u32) -> Option<Approvals>
-        ensures { MatchOption result (approval_at self.now.book n ≡ None) (λ kept. approval_at self.now.book n ≡ Some kept) }
+    fn approvals(&self, n: u32) -> Option<&Approvals>
+        ensures { MatchOption result (approval_at self.now.book n ≡ None) (λ kept. approval_at self.now.book n ≡ Some kept.now) }
     {
-        approvals_of(&self.approved, n).copied()
+        approvals_of(&self.approved, n)
     }
 
     /// How many rows of a stack stand at Entered, where request `n` is on its line 1: they stand one after the other.
@@ -130,7 +130,7 @@ impl<A: Allocator + Copy + Drop> Records<A> {
         if request.origin.is_some() {
             return None;
         }
-        let approval = wanting(&self.approvals(n)?);
+        let approval = wanting(self.approvals(n)?);
         Some(Waiting::Request {
             request: request.number.get(),
             approval,
