@@ -4,7 +4,7 @@ use Rattle.std.specs.Prelude.{codes}
 use Rattle.std.specs.Fmt.{digits}
 use Rattle.tc_types.specs.declared.history.places.Place.TheVariants.{Doubtful, Entered}
 use Rattle.tc_waits.specs.declared.waits.Waiting.TheVariants as waiting
-use Rattle.tc_waits.specs.WaitingLines.{waiting_line, waiting_count_line}
+use Rattle.tc_waits.specs.WaitingLines.{wanting_phrase, lock_phrase, waiting_line, waiting_count_line}
 use Rattle.tc_waits.specs.ListLines.{moves_line, standing_line, named_line}
 use Rattle.tc_waits.specs.StepLines.{procedure_head_line, step_line}
 
@@ -26,7 +26,7 @@ pub waiting-shown : waiting_count_line 0 ∷ map waiting_line (
     ∷ codes "request 4294967295 Doubtful"
     ∷ codes "execution 1 p1 next 2 second yes"
     ∷ []
-unfolding digits
+unfolding digits wanting_phrase lock_phrase
 waiting-shown = refl
 
 pub lists-shown : moves_line 0 false ∷ moves_line 50 true ∷ standing_line Entered 1 false ∷ standing_line Doubtful 50 true ∷ named_line 7 (record { apid = 2047; count = 0 }) ∷ []
