@@ -11,8 +11,8 @@ takes the same memory. What is right is the plain desk's. Of a desk that is kept
 answered, or, where a run was stopped, these and the whole of the act in progress. An opening of a file of an earlier version of the schema that is stopped leaves
 it as it was, of that version, or has brought it to the newest whole.
 
-The number of the refused request goes up until a run asks for less memory than that. Where each was refused, each act of the script, and each question
-that no table is asked for, has to have been refused 30 by some run.
+The number of the refused request goes up until a run asks for less memory than that. Where each was refused, each act of the script has to have been
+refused 30 by some run.
 """
 import os
 import shutil
@@ -23,6 +23,7 @@ from concurrent.futures import ProcessPoolExecutor
 from itertools import count
 from typing import NamedTuple, Optional
 
+from model.desk import QUESTIONS
 from model.kept import read_tables, sqlite3
 from model.lines import act_of
 from model.rows import Tables
@@ -32,7 +33,6 @@ from tests.new_desks import new_desk
 from tests.plain_runs import Plain, case_files, case_lines, kept_tables, text_of, unlike
 from tests.runs import Ended, Tried, made_shim, quick_folder, write_files
 
-OF_TABLES = ("places", "history")  # the questions that the tables answer: memory that these are refused may end in 31
 SPARE, MOST_BAD, ENDING = 512, 10, 64  # bytes behind a script; runs that are bad, until a share ends; requests that a run makes behind its last line, at most
 MEMORY, STORE = "refused 30 Memory\n", "refused 31 Store\n"
 
@@ -235,11 +235,11 @@ class Share(NamedTuple):
 
 
 def never_refused(script: Script, found: list[Found]) -> list[str]:
-    """The acts and questions of a script that are carried out, and that no run refused 30, where each request was refused."""
+    """The acts of a script that are carried out, and that no run refused 30, where each request was refused."""
     right = Plain(script.lines, case_files(), script.options)
     refused = {it.line for it in found if it.how == "refused 30"}
     acts = [at for at, line in enumerate(script.lines)
-            if not right.reply(at).startswith("refused") and getattr(act_of(line), "word", "") not in OF_TABLES]
+            if not right.reply(at).startswith("refused") and getattr(act_of(line), "word", "") not in QUESTIONS]
     return [f"{script.name}: {script.lines[at]} was never refused 30" for at in acts if at not in refused and script.step == 1]
 
 
