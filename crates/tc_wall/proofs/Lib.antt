@@ -1,0 +1,4 @@
+pub mod ListLemmas
+pub mod ClockLemmas
+pub mod EscapeLemmas
+pub mod PartLemmas

@@ -1,0 +1,26 @@
+-- Parts that are added one after the other.
+use Rattle.std.proofs.Common.{◌≡◌, ℕ, ◌+◌, ◌<◌, List, [], ◌∷◌, ◌++◌, take, length, get_or, refl, ap, sym, ◌∙◌, append_assoc, append-nil, subst}
+use Rattle.std.proofs.lemmas.List.{take_more}
+use Rattle.std.specs.List.{flat_map}
+use Rattle.tc_wall.proofs.ListLemmas.{flat_map-append}
+use Rattle.tc_wall.specs.Parts.{Part, shown, shown_all, Adds}
+
+-- nothing was added
+pub none_added : (old : List ℕ) → Adds [] old old
+none_added old = record { bytes = sym (append-nil old) }
+
+-- these, and then those
+pub then_adds : (a b : List Part) (old mid new : List ℕ) → Adds a old mid → Adds b mid new → Adds (a ++ b) old new
+then_adds a b old mid new first then = record {
+  bytes = then.bytes ∙ ap (λ l. l ++ shown_all b) first.bytes ∙ append_assoc old (shown_all a) (shown_all b) ∙ ap (λ l. old ++ l) (sym (flat_map-append shown a b));
+}
+
+-- the parts of one item more
+pub one_more : {X : Type 0} (f : X → List Part) (xs : List X) (k : ℕ) (x : X) (old mid new : List ℕ) → k < length xs → x ≡ get_or xs k x → Adds (flat_map f (take k xs)) old mid → Adds (f x) mid new
+    → Adds (flat_map f (take (k + 1) xs)) old new
+one_more f xs k x old mid new within is first then =
+    subst (λ parts. Adds parts old new)
+    (ap (λ l. flat_map f (take k xs) ++ l) (sym (append-nil (f x)))
+    ∙ sym (flat_map-append f (take k xs) (x ∷ []))
+    ∙ ap (flat_map f) (ap (λ y. take k xs ++ y ∷ []) is ∙ sym (take_more xs k x within)))
+    (then_adds (flat_map f (take k xs)) (f x) old mid new first then)
