@@ -1,5 +1,5 @@
 -- What is escaped.
-use Rattle.std.proofs.Common.{◌≡◌, ◌≢◌, ℕ, ◌+◌, ◌<◌, ◌≤◌, ◌⊎◌, inl, inr, Bool, true, false, not, ◌&&◌, ◌||◌, nat_eq, ◌==◌, if◌then◌else◌, cond, nat_lt, nat_le, ◌/◌, ◌%◌, List, [], ◌∷◌, ◌++◌, drop, get_or, refl, sym, subst, ap, ap₂, ◌∙◌, arith, append-nil, append_assoc, codes, zero, suc, eqb}
+use Rattle.std.proofs.Common.{◌≡◌, ◌≢◌, ℕ, ◌+◌, ◌<◌, ◌≤◌, ◌⊎◌, inl, inr, Bool, true, false, not, ◌&&◌, ◌||◌, nat_eq, ◌==◌, if◌then◌else◌, cond, nat_lt, nat_le, ◌/◌, ◌%◌, List, [], ◌∷◌, ◌++◌, drop, get_or, refl, sym, subst, ap, ap₂, ◌∙◌, arith, append-nil, append_assoc, codes, length, lit≤}
 use Rattle.std.proofs.lemmas.Bool.{ne_eqb, lt-ltb, le-ltb}
 use Rattle.std.proofs.lemmas.Bool.Decides.{eqb_tells, leb_tells}
 use Rattle.std.proofs.lemmas.Str.{encode_ascii, encodes-append}
@@ -201,3 +201,15 @@ escaped_more cs c text is =
     ap (λ l. escaped (encode_utf8_all cs) ++ l) is
     ∙ sym (flat_map-append entity (encode_utf8_all cs) (encode_utf8 c))
     ∙ ap escaped (ap (λ l. encode_utf8_all cs ++ l) (sym (append-nil (encode_utf8 c))) ∙ sym (encodes-append cs (c ∷ [])))
+
+-- each byte takes at most six
+pub entity_size : (byte : ℕ) → length (entity byte) ≤ 6
+entity_size byte = by (which byte)
+  where
+    by : Which byte → length (entity byte) ≤ 6
+    by (amp is) = rw is (lit≤ tt)
+    by (lt is) = rw is (lit≤ tt)
+    by (gt is) = rw is (lit≤ tt)
+    by (quot is) = rw is (lit≤ tt)
+    by (apos is) = rw is (lit≤ tt)
+    by (other o) = rw (other_stays byte o) (lit≤ tt)

@@ -13,3 +13,5 @@ pub mod Bars
 pub mod WayParts
 pub mod MoveParts
 pub mod Page
+pub mod Told
+pub mod Ranges

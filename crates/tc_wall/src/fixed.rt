@@ -154,6 +154,10 @@ rect.Doubtful { fill: url(#hatch); }
   .tiles h2 { display: block; grid-column: 1 / -1; }
   .tile { outline: 1px solid #999; }
   .tile.zero, .tile.zero small { color: #666; }
+  .doubt:not(.zero), .failed:not(.zero) { background: none; border-image: none; color: #000; }
+  .doubt:not(.zero) small, .failed:not(.zero) small { color: #000; }
+  .doubt:not(.zero) { border-color: #000; outline: 3px dashed #000; }
+  .failed:not(.zero) { border-color: var(--red); outline: 3px solid var(--red); }
   .waits tr.Doubtful { background: #ffd9bf; }
   .premise { color: #fff; }
   .closed .premise { color: #000; }

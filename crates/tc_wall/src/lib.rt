@@ -11,11 +11,13 @@ mod bounds;
 mod escapes;
 mod fixed;
 mod headings;
+pub mod laws;
 mod lines;
 mod link_rows;
 mod links;
 mod move_rows;
 mod pages;
+mod ranges;
 mod schedules;
 mod signs;
 mod tiles;
@@ -29,4 +31,4 @@ pub use boards::{
     MOST_WAITS, Wait, Way,
 };
 pub use links::{FarmLine, FarmState, FopLine, FopState, LinkLines};
-pub use pages::board_text;
+pub use pages::{MOST_BYTES, board_text};

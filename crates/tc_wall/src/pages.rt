@@ -1,6 +1,6 @@
 //! The page.
-ghost use Rattle.std.specs.Prelude.{◌≡◌, IfOk, OnOk};
-ghost use Rattle.std.specs.String.{string_bytes};
+ghost use Rattle.std.specs.Prelude.{◌≡◌, ◌≤◌, IfOk, OnOk};
+ghost use Rattle.std.specs.String.{string_bytes, string_len};
 ghost use Rattle.tc_wall.specs.Parts.{Adds};
 ghost use Rattle.tc_wall.specs.Page.{laid_in, size_word, refresh_parts, head_parts, live_parts, page, board_page};
 
@@ -10,6 +10,7 @@ use crate::fixed::{FOOT, HEAD, REFRESH, STYLE};
 use crate::headings::add_heading;
 use crate::link_rows::{add_closed_link, add_link};
 use crate::move_rows::add_moves;
+use crate::ranges::keep_board;
 use crate::schedules::{add_closed_schedule, add_known_schedule};
 use crate::tiles::add_tiles;
 use crate::wait_rows::add_waits;
@@ -18,6 +19,9 @@ use std::alloc::{AllocError, Allocator};
 
 /// With so many rows at most the letters are large.
 pub(crate) const MOST_FEW: usize = 20;
+
+/// The most bytes that a page has.
+pub const MOST_BYTES: usize = 450_000;
 
 /// How many activities the on-board schedule has; that of a closed file tells of none.
 fn laid_in(live: &Option<Live>) -> usize
@@ -113,10 +117,12 @@ fn add_page<A: Allocator + Copy>(
 }
 
 /// The board as a page of HTML. Fails where memory is refused.
-#[tactic(auto, unfolding(crate::specs::Page::board_page))]
+#[tactic(auto, using(crate::proofs::PageSizeLemmas::page_size), unfolding(crate::specs::Page::board_page))]
 pub fn board_text<A: Allocator + Copy>(alloc: A, board: &Board) -> Result<String<A>, AllocError>
-    ensures { IfOk result (λ t. string_bytes t ≡ board_page board.now) }
+    ensures page { IfOk result (λ t. string_bytes t ≡ board_page board.now) }
+    ensures few { IfOk result (λ t. string_len t ≤ MOST_BYTES) }
 {
+    keep_board(board);
     let mut text = String::new(alloc);
     add_page(alloc, &mut text, board)?;
     Ok(text)

@@ -15,7 +15,7 @@ use std::fmt::Write;
 use tc_types::{Command, Identity, Name, Origin, Place};
 
 /// A command's service and subtype.
-fn kind(command: &Command) -> (u8, u8)
+pub(crate) fn kind(command: &Command) -> (u8, u8)
     ensures service { result.0 ≡ service_of command.now }
     ensures subtype { result.1 ≡ subtype_of command.now }
 {
