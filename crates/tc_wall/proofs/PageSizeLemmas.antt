@@ -33,10 +33,10 @@ use Rattle.tc_wall.specs.declared.pages.TheConstants.{MOST_BYTES}
 use Rattle.tc_wall.specs.Parts.{Part, Fixed, shown, shown_all, fixed}
 use Rattle.tc_wall.specs.Bounds.{last_of, left_out_parts, none_parts}
 use Rattle.tc_wall.specs.Signs.{sign_of}
-use Rattle.tc_wall.specs.Heading.{file_parts, entered_parts, last_parts, heading_parts}
-use Rattle.tc_wall.specs.Tiles.{count_at, sum_at, tile_head_parts, count_parts, counts_parts, tile_parts, open_tiles_parts, final_tiles_parts, tiles_parts}
+use Rattle.tc_wall.specs.Heading.{file_parts, entered_parts, moved_parts, last_parts, heading_parts}
+use Rattle.tc_wall.specs.Tiles.{count_at, sum_at, tile_head_parts, count_parts, next_parts, counts_parts, tile_parts, open_tiles_parts, final_tiles_parts, tiles_parts}
 use Rattle.tc_wall.specs.Waits.{critical_parts, marked_parts, other_parts, barred_parts, request_parts, stack_parts, waiting_parts, wait_parts, text_of, waits_parts}
-use Rattle.tc_wall.specs.LinkParts.{fop_words, farm_words, flag_words, fop_parts, farm_parts, link_parts}
+use Rattle.tc_wall.specs.LinkParts.{fop_words, farm_words, flag_words, queue_parts, counter_parts, fop_parts, farm_parts, link_parts}
 use Rattle.tc_wall.specs.ScheduleParts.{activity_parts, known_schedule_parts}
 use Rattle.tc_wall.specs.Axis.{axis_of, lines_of, drawn}
 use Rattle.tc_wall.specs.Bars.{stage_parts, begin_of, end_of, bar_parts}
@@ -45,13 +45,13 @@ use Rattle.tc_wall.specs.MoveParts.{who_parts, what_parts, move_parts, moves_par
 use Rattle.tc_wall.specs.Page.{size_word, refresh_parts, head_parts, live_parts, page, board_page}
 use Rattle.tc_wall.specs.Ranges.{IsShort, IsMoveInRange, IsWantingInRange, IsWaitingInRange, IsWaitInRange, IsOriginInRange, IsRequestInRange, IsWayInRange, IsFopInRange, IsFarmInRange, IsLinkInRange, IsActivityInRange, IsScheduleInRange, IsLiveInRange, IsBoardInRange}
 use Rattle.tc_wall.proofs.ListLemmas.{flat_map-append}
-use Rattle.tc_wall.proofs.SizeLemmas.{size, of_nothing, of_text, of_words, of_u16, of_u32, of_u64, of_time, of_place, of_name, sign_size, chosen_size, entered_size, tile_head_size, count_size, request_begins_size, stack_begins_size, approvals_size, rows_size, author_size, free_size, locked_size, doubt_size, work_size, worded_size, number_size, share_size, flies_size, premise_size, enabled_size, activity_size, row_begins_size, identity_size, command_size, way_author_size, bar_begins_size, place_size, label_size, tick_size, ticks_begin_size, who_size, what_size}
+use Rattle.tc_wall.proofs.SizeLemmas.{size, of_nothing, of_text, of_words, of_u16, of_u32, of_u64, of_time, of_place, of_name, sign_size, chosen_size, entered_size, moved_size, tile_begins_size, tile_label_size, count_size, request_begins_size, stack_begins_size, approvals_size, rows_size, author_size, free_size, locked_size, doubt_size, work_size, worded_size, number_size, share_size, flies_size, section_size, premise_size, enabled_size, activity_size, row_begins_size, identity_size, command_size, way_author_size, bar_begins_size, place_size, label_size, tick_size, ticks_begin_size, who_size, what_size}
 use Rattle.tc_wall.proofs.AxisLemmas.{IsOnAxis, axis_small, x_small, lines_small, lines_few, all_reversed}
 
 -- parts behind parts
 both : (a b : List Part) (m n : ℕ) → size a ≤ m → size b ≤ n → size (a ++ b) ≤ m + n
 unfolding size
-both a b m n first then = omega (arith, ap length (flat_map-append shown a b), length-append (shown_all a) (shown_all b), first, then)
+both a b m n first next = omega (arith, ap length (flat_map-append shown a b), length-append (shown_all a) (shown_all b), first, next)
 
 more : (a : List Part) (m n : ℕ) → m ≤ n → size a ≤ m → size a ≤ n
 more a m n le h = omega arith
@@ -89,9 +89,8 @@ file_size (Some live) = more [] 0 34 (omega arith) of_nothing
 file_size None = of_text _ _ 0 of_nothing
 
 last_size : (last : Option Move) → IfSome last (λ row. row.seq < 2 ^ 32) → size (last_parts last) ≤ 69
-unfolding last_parts
-last_size (Some row) small = of_text _ _ 50 (of_u32 _ _ 40 small (of_text _ _ 29 (of_time _ _ 10 (of_text _ _ 0 of_nothing))))
-last_size None h = more _ 27 69 (omega arith) (of_text _ _ 0 of_nothing)
+last_size (Some row) small = moved_size row small
+last_size None h = fixed_size _ 69 (lit≤ tt)
 
 heading_size : (b : Board) → b.entered < 2 ^ 32 → IfSome (slice_get b.moves.now (length b.moves.now - 1)) (λ row. row.seq < 2 ^ 32) → size (heading_parts b) ≤ 346
 unfolding heading_parts
@@ -113,7 +112,8 @@ sum_at_small : (counts : List ℕ) (places : List Place) → AllByRecursion (λ 
 unfolding sum_at
 sum_at_small counts places all few = omega (arith, sum_small counts places all)
 
-others_size : (counts : List ℕ) (places : List Place) → AllByRecursion (λ n. n < 2 ^ 32) counts → size (flat_map (λ place. fixed (codes ", ") ++ count_parts counts place) places) ≤ 22 * length places
+others_size : (counts : List ℕ) (places : List Place) → AllByRecursion (λ n. n < 2 ^ 32) counts → size (flat_map (next_parts counts) places) ≤ 22 * length places
+unfolding next_parts
 others_size counts [] all = of_nothing
 others_size counts (place ∷ others) all =
     more _ (22 + 22 * length others) (22 * suc (length others)) (omega arith)
@@ -125,14 +125,31 @@ counts_size counts [] all = of_nothing
 counts_size counts (place ∷ others) all =
     more _ (20 + 22 * length others) (22 * suc (length others)) (omega arith) (both (count_parts counts place) _ 20 (22 * length others) (count_size counts place (place_small counts _ all)) (others_size counts others all))
 
+tile_head_size : (kind label : List ℕ) (first : Place) (count : ℕ) → length kind ≤ 9 → length label ≤ 26 → count < 2 ^ 64 → size (tile_head_parts kind label first count) ≤ 115
+unfolding tile_head_parts
+tile_head_size kind label first count a b small = both _ _ 48 67 (tile_begins_size kind first count a) (tile_label_size count label small b)
+
 tile_size : (counts kind label : List ℕ) (first : Place) (places : List Place) → AllByRecursion (λ n. n < 2 ^ 32) counts → length kind ≤ 9 → length label ≤ 26 → length places ≤ 15
-    → size (tile_parts counts kind (sign_of first) label places) ≤ 130 + 22 * length places
+    → size (tile_parts counts kind label first places) ≤ 130 + 22 * length places
 unfolding tile_parts
 tile_size counts kind label first places all a b few =
     more _ (115 + 22 * length places + 15) (130 + 22 * length places) (omega arith)
-    (both _ _ (115 + 22 * length places) 15 (both _ _ 115 (22 * length places) (tile_head_size kind (sign_of first) label (sum_at counts places) a (sign_size first) b (sum_at_small counts places all few)) (counts_size counts places all)) (fixed_size _ 15 (lit≤ tt)))
+    (both _ _ (115 + 22 * length places) 15 (both _ _ 115 (22 * length places) (tile_head_size kind label first (sum_at counts places) a b (sum_at_small counts places all few)) (counts_size counts places all)) (fixed_size _ 15 (lit≤ tt)))
 
 open_tiles_size : (counts : List ℕ) → AllByRecursion (λ n. n < 2 ^ 32) counts → size (open_tiles_parts counts) ≤ 870
+unfolding open_tiles_parts
+open_tiles_size counts all =
+    both _ _ 718 152 (both _ _ 566 152 (both _ _ 304 262 (both _ _ 152 152 (tile_size counts _ _ Entered (Entered ∷ []) all (lit≤ tt) (lit≤ tt) (lit≤ tt)) (tile_size counts _ _ Approved (Approved ∷ []) all (lit≤ tt) (lit≤ tt) (lit≤ tt)))
+    (tile_size counts _ _ Queued (Queued ∷ Sent ∷ Confirmed ∷ Riding ∷ Accepted ∷ Started ∷ []) all (lit≤ tt) (lit≤ tt) (lit≤ tt))) (tile_size counts _ _ Scheduled (Scheduled ∷ []) all (lit≤ tt) (lit≤ tt) (lit≤ tt)))
+    (tile_size counts _ _ Doubtful (Doubtful ∷ []) all (lit≤ tt) (lit≤ tt) (lit≤ tt))
+
+final_tiles_size : (counts : List ℕ) → AllByRecursion (λ n. n < 2 ^ 32) counts → size (final_tiles_parts counts) ≤ 500
+unfolding final_tiles_parts
+final_tiles_size counts all =
+    both _ _ 304 196 (both _ _ 152 152 (tile_size counts _ _ Failed (Failed ∷ []) all (lit≤ tt) (lit≤ tt) (lit≤ tt)) (tile_size counts _ _ Completed (Completed ∷ []) all (lit≤ tt) (lit≤ tt) (lit≤ tt)))
+    (tile_size counts _ _ Withdrawn (Withdrawn ∷ Deleted ∷ Closed ∷ []) all (lit≤ tt) (lit≤ tt) (lit≤ tt))
+
+tiles_size : (counts : List ℕ) → AllByRecursion (λ n. n < 2 ^ 32) counts → size (open_tiles_parts counts) ≤ 870
 unfolding open_tiles_parts
 open_tiles_size counts all =
     both _ _ 718 152 (both _ _ 566 152 (both _ _ 304 262 (both _ _ 152 152 (tile_size counts _ _ Entered _ all (lit≤ tt) (lit≤ tt) (lit≤ tt)) (tile_size counts _ _ Approved _ all (lit≤ tt) (lit≤ tt) (lit≤ tt)))
@@ -219,11 +236,17 @@ flag_words_size false true false = lit≤ tt
 flag_words_size false false true = lit≤ tt
 flag_words_size false false false = lit≤ tt
 
+queue_size : (f : FopLine) → IsFopInRange f → size (queue_parts f) ≤ 273
+unfolding queue_parts
+queue_size f h = both _ _ 213 60 (both _ _ 162 51 (both _ _ 102 60 (worded_size _ _ (lit≤ tt) (fop_words_size f.state)) (share_size _ _ _ (lit≤ tt) h.sent h.k)) (number_size _ _ (lit≤ tt) h.waits)) (share_size _ _ _ (lit≤ tt) h.count h.limit)
+
+counter_size : (f : FopLine) → IsFopInRange f → size (counter_parts f) ≤ 162
+unfolding counter_parts
+counter_size f h = both _ _ 111 51 (both _ _ 60 51 (share_size _ _ _ (lit≤ tt) h.timer h.t1) (number_size _ _ (lit≤ tt) h.vs)) (number_size _ _ (lit≤ tt) h.nn)
+
 fop_size : (f : FopLine) → IsFopInRange f → size (fop_parts f) ≤ 435
 unfolding fop_parts
-fop_size f h =
-    both _ _ 384 51 (both _ _ 333 51 (both _ _ 273 60 (both _ _ 213 60 (both _ _ 162 51 (both _ _ 102 60 (worded_size _ _ (lit≤ tt) (fop_words_size f.state)) (share_size _ _ _ (lit≤ tt) h.sent h.k)) (number_size _ _ (lit≤ tt) h.waits))
-    (share_size _ _ _ (lit≤ tt) h.count h.limit)) (share_size _ _ _ (lit≤ tt) h.timer h.t1)) (number_size _ _ (lit≤ tt) h.vs)) (number_size _ _ (lit≤ tt) h.nn)
+fop_size f h = both _ _ 273 162 (queue_size f h) (counter_size f h)
 
 farm_size : (f : FarmLine) → IsFarmInRange f → size (farm_parts f) ≤ 357
 unfolding farm_parts
@@ -231,9 +254,11 @@ farm_size f h =
     both _ _ 306 51 (both _ _ 204 102 (both _ _ 153 51 (both _ _ 102 51 (worded_size _ _ (lit≤ tt) (farm_words_size f.state)) (number_size _ _ (lit≤ tt) h.vr)) (number_size _ _ (lit≤ tt) h.farm_b))
     (worded_size _ _ (lit≤ tt) (flag_words_size f.lockout f.wait f.retransmit))) (number_size _ _ (lit≤ tt) h.window)
 
-link_size : (l : LinkLines) → IsLinkInRange l → size (link_parts l) ≤ 981
+link_size : (l : LinkLines) → IsLinkInRange l → size (link_parts l) ≤ 984
 unfolding link_parts
-link_size l h = both _ _ 964 17 (both _ _ 879 85 (both _ _ 522 357 (both _ _ 87 435 (premise_size l.clean) (fop_size l.fop h.fop)) (farm_size l.farm h.farm)) (flies_size l.up l.down h.up h.down)) (fixed_size _ 17 (lit≤ tt))
+link_size l h =
+    both _ _ 967 17 (both _ _ 882 85 (both _ _ 525 357 (both _ _ 90 435 (both _ _ 45 45 (more _ 44 45 (omega arith) (section_size l.clean)) (more _ 43 45 (omega arith) (premise_size l.clean))) (fop_size l.fop h.fop)) (farm_size l.farm h.farm))
+    (flies_size l.up l.down h.up h.down)) (fixed_size _ 17 (lit≤ tt))
 
 schedule_size : (s : KnownSchedule) → IsScheduleInRange s → size (known_schedule_parts s) ≤ 3414
 unfolding known_schedule_parts
@@ -242,10 +267,10 @@ schedule_size s h =
     (rows_within IsActivityInRange activity_parts (take MOST_SHOWN_ACTIVITIES s.activities.now) 48 64 3072 h.activities activity_size (omega (arith, length-take MOST_SHOWN_ACTIVITIES s.activities.now))))
     (fixed_size _ 6 (lit≤ tt))) (left_out_size s.laid_in MOST_SHOWN_ACTIVITIES h.laid_in)) (fixed_size _ 11 (lit≤ tt))
 
-live_size : (live : Option Live) → IfSome live IsLiveInRange → size (live_parts live) ≤ 4395
+live_size : (live : Option Live) → IfSome live IsLiveInRange → size (live_parts live) ≤ 4398
 unfolding live_parts
-live_size None h = more _ 600 4395 (omega arith) (both _ _ 200 400 (fixed_size _ 200 (lit≤ tt)) (both _ _ 200 200 (fixed_size SCHEDULE.now 200 (lit≤ tt)) (fixed_size _ 200 (lit≤ tt))))
-live_size (Some live) h = both _ _ 981 3414 (link_size live.link h.link) (schedule_size live.schedule h.schedule)
+live_size None h = more _ 600 4398 (omega arith) (both _ _ 200 400 (fixed_size _ 200 (lit≤ tt)) (both _ _ 200 200 (fixed_size SCHEDULE.now 200 (lit≤ tt)) (fixed_size _ 200 (lit≤ tt))))
+live_size (Some live) h = both _ _ 984 3414 (link_size live.link h.link) (schedule_size live.schedule h.schedule)
 
 -- ---- the ways
 
@@ -256,7 +281,7 @@ stage_size place begin end low = by (leb_tells end begin)
     by : ((nat_le end begin ≡ true) × (end ≤ begin)) ⊎ ((nat_le end begin ≡ false) × (begin < end)) → size (stage_parts place begin end) ≤ 61
     by (inl none) = rw (le-ltb begin end none.1) (more [] 0 61 (omega arith) of_nothing)
     by (inr some) = rw (lt-ltb begin end some.1)
-    (of_text _ _ 48 (of_place _ _ 39 (of_text _ _ 34 (of_u16 _ _ 29 (omega arith) (of_text _ _ 20 (of_u16 _ _ 15 (omega arith) (of_text _ _ 0 of_nothing)))))))
+        (of_text _ _ 48 (of_place _ _ 39 (of_text _ _ 34 (of_u16 _ _ 29 (omega arith) (of_text _ _ 20 (of_u16 _ _ 15 (omega arith) (of_text _ _ 0 of_nothing)))))))
 
 bar_size : (axis : List Mark) (before : ℕ) (moves : List Move) → AllByRecursion IsOnAxis axis → before ≤ 640 → size (bar_parts axis before moves) ≤ 61 * length moves
 unfolding bar_parts
@@ -268,9 +293,10 @@ bar_size axis before (row ∷ others) all low =
   where
     begin_low : (from : ℕ) (at : Move) → from ≤ 640 → begin_of axis from at ≤ 640
     begin_low from at h = omega (arith, x_small axis at.moment all)
+
     end_low : (rest : List Move) (begin : ℕ) → begin ≤ 640 → end_of axis begin rest ≤ 640
     end_low [] begin h = omega arith
-    end_low (next ∷ rest) begin h = begin_low begin next h
+    end_low (following ∷ rest) begin h = begin_low begin following h
 
 earlier_size : (moved : ℕ) → moved < 2 ^ 64 → size (ways.earlier_parts moved) ≤ 34
 unfolding ways.earlier_parts
@@ -305,7 +331,7 @@ table_size [] all few = more [] 0 260633 (omega arith) of_nothing
 table_size (way ∷ others) all few =
     let axis = axis_of (way ∷ others) in
     both _ _ 260615 18 (both _ _ 1015 259600 (axis_size (lines_of axis) (lines_small axis (axis_small (way ∷ others))) (lines_few axis (axis_small (way ∷ others))))
-        (rows_within IsWayInRange (ways.way_parts axis) (way ∷ others) 1298 200 259600 all (λ it h. way_size axis it (axis_small (way ∷ others)) h) (omega arith))) (fixed_size _ 18 (lit≤ tt))
+    (rows_within IsWayInRange (ways.way_parts axis) (way ∷ others) 1298 200 259600 all (λ it h. way_size axis it (axis_small (way ∷ others)) h) (omega arith))) (fixed_size _ 18 (lit≤ tt))
 
 ways_size : (b : Board) → AllByRecursion IsWayInRange (take MOST_OPEN b.ways.now) → b.opened < 2 ^ 64 → size (ways.ways_parts b) ≤ 263734
 unfolding ways.ways_parts
@@ -323,8 +349,8 @@ unfolding moves_parts
 moves_size b all small =
     let rows = last_of MOST_MOVES b.moves.now in
     both _ _ 13108 11 (both _ _ 13058 50 (both _ _ 13018 40 (both _ _ 13000 18 (both _ _ 400 12600 (fixed_size MOVES.now 400 (lit≤ tt))
-        (rows_within IsMoveInRange move_parts (reverse rows) 252 50 12600 (all_reversed IsMoveInRange rows all) move_size (omega (arith, length-reverse rows, length-drop (length b.moves.now - MOST_MOVES) b.moves.now))))
-        (fixed_size _ 18 (lit≤ tt))) (none_size b.moved _ (lit≤ tt))) (left_out_size b.moved MOST_MOVES small)) (fixed_size _ 11 (lit≤ tt))
+    (rows_within IsMoveInRange move_parts (reverse rows) 252 50 12600 (all_reversed IsMoveInRange rows all) move_size (omega (arith, length-reverse rows, length-drop (length b.moves.now - MOST_MOVES) b.moves.now))))
+    (fixed_size _ 18 (lit≤ tt))) (none_size b.moved _ (lit≤ tt))) (left_out_size b.moved MOST_MOVES small)) (fixed_size _ 11 (lit≤ tt))
 
 refresh_size : (live : Option Live) → size (refresh_parts live) ≤ 100
 unfolding refresh_parts
@@ -343,6 +369,6 @@ head_size b =
 
 pub page_size : (b : Board) → IsBoardInRange b → length (board_page b) ≤ MOST_BYTES
 unfolding board_page page size
-page_size b h = more (page b) 442394 MOST_BYTES (lit≤ tt)
-    (both _ _ 442094 300 (both _ _ 428975 13119 (both _ _ 165241 263734 (both _ _ 160846 4395 (both _ _ 23127 137719 (both _ _ 21546 1581 (both _ _ 21200 346 (head_size b) (heading_size b h.entered h.last)) (tiles_size b.counts.now h.counts))
+page_size b h = more (page b) 442397 MOST_BYTES (lit≤ tt)
+    (both _ _ 442097 300 (both _ _ 428978 13119 (both _ _ 165244 263734 (both _ _ 160846 4398 (both _ _ 23127 137719 (both _ _ 21546 1581 (both _ _ 21200 346 (head_size b) (heading_size b h.entered h.last)) (tiles_size b.counts.now h.counts))
     (waits_size b h.waits h.waits_count)) (live_size b.live h.live)) (ways_size b h.ways h.ways_count)) (moves_size b h.moves h.moves_count)) (fixed_size FOOT.now 300 (lit≤ tt)))

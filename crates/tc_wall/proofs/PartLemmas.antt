@@ -16,11 +16,13 @@ then_adds a b old mid new first then = record {
 }
 
 -- the parts of one item more
+pub one_more_at : {X : Type 0} (f : X → List Part) (xs : List X) (k : ℕ) (d : X) (old mid new : List ℕ) → k < length xs → Adds (flat_map f (take k xs)) old mid → Adds (f (get_or xs k d)) mid new
+    → Adds (flat_map f (take (k + 1) xs)) old new
+one_more_at f xs k d old mid new within first then =
+    subst (λ parts. Adds parts old new)
+    (ap (λ l. flat_map f (take k xs) ++ l) (sym (append-nil (f (get_or xs k d)))) ∙ sym (flat_map-append f (take k xs) (get_or xs k d ∷ [])) ∙ ap (flat_map f) (sym (take_more xs k d within)))
+    (then_adds (flat_map f (take k xs)) (f (get_or xs k d)) old mid new first then)
+
 pub one_more : {X : Type 0} (f : X → List Part) (xs : List X) (k : ℕ) (x : X) (old mid new : List ℕ) → k < length xs → x ≡ get_or xs k x → Adds (flat_map f (take k xs)) old mid → Adds (f x) mid new
     → Adds (flat_map f (take (k + 1) xs)) old new
-one_more f xs k x old mid new within is first then =
-    subst (λ parts. Adds parts old new)
-    (ap (λ l. flat_map f (take k xs) ++ l) (sym (append-nil (f x)))
-    ∙ sym (flat_map-append f (take k xs) (x ∷ []))
-    ∙ ap (flat_map f) (ap (λ y. take k xs ++ y ∷ []) is ∙ sym (take_more xs k x within)))
-    (then_adds (flat_map f (take k xs)) (f x) old mid new first then)
+one_more f xs k x old mid new within is first then = one_more_at f xs k x old mid new within first (subst (λ y. Adds (f y) mid new) is then)

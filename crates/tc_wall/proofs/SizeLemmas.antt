@@ -24,10 +24,10 @@ use Rattle.tc_wall.specs.Clock.{clock_text}
 use Rattle.tc_wall.specs.Escapes.{entity, escaped}
 use Rattle.tc_wall.specs.Parts.{Part, Fixed, Number, Time, PlaceWord, FromWord, CauseWord, Count, Row, Person, shown, shown_all, fixed}
 use Rattle.tc_wall.specs.Signs.{sign_of}
-use Rattle.tc_wall.specs.Heading.{entered_parts}
-use Rattle.tc_wall.specs.Tiles.{count_at, zero_word, tile_head_parts, count_parts}
+use Rattle.tc_wall.specs.Heading.{entered_parts, moved_parts}
+use Rattle.tc_wall.specs.Tiles.{count_at, zero_word, tile_begins, tile_label, count_parts}
 use Rattle.tc_wall.specs.Waits.{request_begins, stack_begins, approvals_parts, rows_parts, author_parts, free_parts, locked_parts, doubt_parts, whom_word, work_parts}
-use Rattle.tc_wall.specs.LinkParts.{premise_word, worded_parts, number_parts, share_parts, flies_parts, premise_parts}
+use Rattle.tc_wall.specs.LinkParts.{premise_word, worded_parts, number_parts, share_parts, flies_parts, section_begins, premise_parts}
 use Rattle.tc_wall.specs.ScheduleParts.{enabled_word, enabled_parts, activity_parts}
 use Rattle.tc_wall.specs.WayParts.{service_of, subtype_of}
 use Rattle.tc_wall.specs.WayParts as ways
@@ -199,9 +199,13 @@ pub entered_size : (n : ℕ) → n < 2 ^ 32 → size (entered_parts n) ≤ 33
 unfolding entered_parts
 entered_size n small = of_text _ _ 27 (of_u32 _ _ 17 small (of_text _ _ 0 of_nothing))
 
-pub tile_head_size : (kind sign label : List ℕ) (count : ℕ) → length kind ≤ 9 → length sign ≤ 8 → length label ≤ 26 → count < 2 ^ 64 → size (tile_head_parts kind sign label count) ≤ 115
-unfolding tile_head_parts
-tile_head_size kind sign label count a b d small = of_text _ _ 98 (of_words _ 9 _ 89 a (of_words _ 5 _ 84 (zero_size count) (of_text _ _ 79 (of_words _ 8 _ 71 b (of_text _ _ 64 (of_u64 _ _ 44 small (of_text _ _ 37 (of_words _ 26 _ 11 d (of_text _ _ 0 of_nothing)))))))))
+pub tile_begins_size : (kind : List ℕ) (first : Place) (count : ℕ) → length kind ≤ 9 → size (tile_begins kind first count) ≤ 48
+unfolding tile_begins
+tile_begins_size kind first count a = of_text _ _ 31 (of_words _ 9 _ 22 a (of_words _ 5 _ 17 (zero_size count) (of_text _ _ 12 (of_words _ 8 _ 4 (sign_size first) (of_text _ _ 0 of_nothing)))))
+
+pub tile_label_size : (count : ℕ) (label : List ℕ) → count < 2 ^ 64 → length label ≤ 26 → size (tile_label count label) ≤ 67
+unfolding tile_label
+tile_label_size count label small a = of_text _ _ 64 (of_u64 _ _ 44 small (of_text _ _ 37 (of_words _ 26 _ 11 a (of_text _ _ 0 of_nothing))))
 
 pub count_size : (counts : List ℕ) (place : Place) → count_at counts place < 2 ^ 32 → size (count_parts counts place) ≤ 20
 unfolding count_parts
@@ -259,9 +263,13 @@ pub flies_size : (up down : ℕ) → up < 2 ^ 64 → down < 2 ^ 64 → size (fli
 unfolding flies_parts
 flies_size up down a b = of_text _ _ 62 (of_u64 _ _ 42 a (of_text _ _ 37 (of_u64 _ _ 17 b (of_text _ _ 0 of_nothing))))
 
-pub premise_size : (clean : Bool) → size (premise_parts clean) ≤ 87
+pub section_size : (clean : Bool) → size (section_begins clean) ≤ 44
+unfolding section_begins
+section_size clean = of_text _ _ 23 (of_words _ 6 _ 17 (premise_word_size clean) (of_text _ _ 0 of_nothing))
+
+pub premise_size : (clean : Bool) → size (premise_parts clean) ≤ 43
 unfolding premise_parts
-premise_size clean = of_text _ _ 66 (of_words _ 6 _ 60 (premise_word_size clean) (of_text _ _ 16 (of_words _ 6 _ 10 (premise_word_size clean) (of_text _ _ 0 of_nothing))))
+premise_size clean = of_text _ _ 16 (of_words _ 6 _ 10 (premise_word_size clean) (of_text _ _ 0 of_nothing))
 
 pub enabled_size : (enabled : Bool) (count : ℕ) → count < 2 ^ 64 → size (enabled_parts enabled count) ≤ 75
 unfolding enabled_parts
@@ -314,3 +322,7 @@ who_size row h = of_text _ _ 163 (of_place _ _ 154 (of_text _ _ 148 (of_u32 _ _ 
 pub what_size : (row : Move) → IsMoveInRange row → size (what_parts row) ≤ 78
 unfolding what_parts
 what_size row h = of_text _ _ 74 (of_u32 _ _ 64 h.request (of_text _ _ 55 (of_from _ _ 46 (of_text _ _ 37 (of_place _ _ 28 (of_text _ _ 19 (of_cause _ _ 11 (of_text _ _ 0 of_nothing))))))))
+
+pub moved_size : (row : Move) → row.seq < 2 ^ 32 → size (moved_parts row) ≤ 69
+unfolding moved_parts
+moved_size row small = of_text _ _ 53 (of_u32 _ _ 43 small (of_text _ _ 32 (of_time _ _ 13 (of_text _ _ 0 of_nothing))))

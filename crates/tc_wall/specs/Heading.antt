@@ -13,9 +13,12 @@ file_parts None = Fixed (codes "<p class=\"file\">closed file</p>\n") ∷ []
 unfoldable pub entered_parts : ℕ → List Part
 entered_parts entered = Fixed (codes "<p><b>") ∷ Number entered ∷ Fixed (codes "</b> entered</p>\n") ∷ []
 
-unfoldable pub last_parts : Option Move → List Part
-last_parts (Some row) = Fixed (codes "<p>last move <b>") ∷ Number row.seq ∷ Fixed (codes "</b> at <b>") ∷ Time row.moment ∷ Fixed (codes "</b> UTC</p>\n") ∷ []
-last_parts None = Fixed (codes "<p>nothing moved yet</p>\n") ∷ []
+unfoldable pub moved_parts : Move → List Part
+moved_parts row = Fixed (codes "<p>last move <b>") ∷ Number row.seq ∷ Fixed (codes "</b> at <b>") ∷ Time row.moment ∷ Fixed (codes "</b> UTC</p>\n") ∷ []
+
+abbrev pub last_parts : Option Move → List Part
+last_parts (Some row) = moved_parts row
+last_parts None = fixed (codes "<p>nothing moved yet</p>\n")
 
 unfoldable pub heading_parts : Board → List Part
 heading_parts b =

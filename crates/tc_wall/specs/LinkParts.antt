@@ -50,15 +50,19 @@ unfoldable pub flies_parts : ℕ → ℕ → List Part
 flies_parts up down =
     Fixed (codes "<div><dt>flies</dt><dd>") ∷ Number up ∷ Fixed (codes " up, ") ∷ Number down ∷ Fixed (codes " down</dd></div>\n") ∷ []
 
-unfoldable pub fop_parts : FopLine → List Part
-fop_parts f =
+-- the state of the FOP, what it holds, and its counters
+unfoldable pub queue_parts : FopLine → List Part
+queue_parts f =
     worded_parts (codes "FOP") (fop_words f.state)
     ++ share_parts (codes "not confirmed") f.sent f.k
     ++ number_parts (codes "waits to be sent") f.waiting
     ++ share_parts (codes "transmission") f.count f.limit
-    ++ share_parts (codes "timer") f.timer f.t1
-    ++ number_parts (codes "V(S)") f.vs
-    ++ number_parts (codes "NN(R)") f.nn
+
+unfoldable pub counter_parts : FopLine → List Part
+counter_parts f = share_parts (codes "timer") f.timer f.t1 ++ number_parts (codes "V(S)") f.vs ++ number_parts (codes "NN(R)") f.nn
+
+unfoldable pub fop_parts : FopLine → List Part
+fop_parts f = queue_parts f ++ counter_parts f
 
 unfoldable pub farm_parts : FarmLine → List Part
 farm_parts f =
@@ -68,13 +72,14 @@ farm_parts f =
     ++ worded_parts (codes "flags") (flag_words f.lockout f.wait f.retransmit)
     ++ number_parts (codes "W") f.window
 
+unfoldable pub section_begins : Bool → List Part
+section_begins clean = Fixed (codes "<section class=\"link ") ∷ Fixed (premise_word clean) ∷ Fixed (codes "\">\n<h2>Link</h2>\n") ∷ []
+
 unfoldable pub premise_parts : Bool → List Part
-premise_parts clean =
-    Fixed (codes "<section class=\"link ") ∷ Fixed (premise_word clean) ∷ Fixed (codes "\">\n<h2>Link</h2>\n<p class=\"premise\">premise ")
-    ∷ Fixed (premise_word clean) ∷ Fixed (codes "</p>\n<dl>\n") ∷ []
+premise_parts clean = Fixed (codes "<p class=\"premise\">premise ") ∷ Fixed (premise_word clean) ∷ Fixed (codes "</p>\n<dl>\n") ∷ []
 
 unfoldable pub link_parts : LinkLines → List Part
-link_parts l = premise_parts l.clean ++ fop_parts l.fop ++ farm_parts l.farm ++ flies_parts l.up l.down ++ fixed (codes "</dl>\n</section>\n")
+link_parts l = section_begins l.clean ++ premise_parts l.clean ++ fop_parts l.fop ++ farm_parts l.farm ++ flies_parts l.up l.down ++ fixed (codes "</dl>\n</section>\n")
 
 abbrev pub closed_link_parts : List Part
 closed_link_parts = fixed (codes "<section class=\"link closed\">\n<h2>Link</h2>\n<p class=\"premise\">closed</p>\n</section>\n")

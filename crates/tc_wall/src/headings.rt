@@ -1,8 +1,8 @@
 //! The heading.
-ghost use Rattle.std.specs.Prelude.{OnOk};
+ghost use Rattle.std.specs.Prelude.{◌-◌, length, slice_get, OnOk};
 ghost use Rattle.std.specs.String.{string_bytes};
 ghost use Rattle.tc_wall.specs.Parts.{Adds};
-ghost use Rattle.tc_wall.specs.Heading.{file_parts, entered_parts, last_parts, heading_parts};
+ghost use Rattle.tc_wall.specs.Heading.{file_parts, entered_parts, moved_parts, last_parts, heading_parts};
 
 use crate::boards::{Board, Live};
 use crate::bounds::add_fixed;
@@ -35,18 +35,23 @@ fn add_entered<A: Allocator + Copy>(page: &mut String<A>, entered: u32) -> Resul
 }
 
 /// Adds the number of the last move, and its moment.
-#[tactic(auto, unfolding(crate::specs::Heading::last_parts))]
-fn add_last<A: Allocator + Copy>(page: &mut String<A>, last: Option<Move>) -> Result<(), AllocError>
-    ensures { OnOk result (Adds (last_parts last) (string_bytes page.old) (string_bytes page.new)) }
+#[tactic(auto, unfolding(crate::specs::Heading::moved_parts))]
+fn add_moved<A: Allocator + Copy>(page: &mut String<A>, row: &Move) -> Result<(), AllocError>
+    ensures { OnOk result (Adds (moved_parts row.now) (string_bytes page.old) (string_bytes page.new)) }
 {
-    match last {
-        Some(row) => {
-            let seq = row.seq;
-            let time = time_text(row.moment);
-            let time = time.as_str();
-            write!(page, "<p>last move <b>{seq}</b> at <b>{time}</b> UTC</p>\n")
-        }
-        None => page.push_str("<p>nothing moved yet</p>\n"),
+    let seq = row.seq;
+    let time = time_text(row.moment);
+    let time = time.as_str();
+    write!(page, "<p>last move <b>{seq}</b> at <b>{time}</b> UTC</p>\n")
+}
+
+/// Adds the last of these moves, where there is one.
+fn add_last<A: Allocator + Copy>(page: &mut String<A>, moves: &[Move]) -> Result<(), AllocError>
+    ensures { OnOk result (Adds (last_parts (slice_get moves.now (length moves.now - 1))) (string_bytes page.old) (string_bytes page.new)) }
+{
+    match moves.last() {
+        Some(row) => add_moved(page, row),
+        None => add_fixed(page, "<p>nothing moved yet</p>\n"),
     }
 }
 
@@ -61,6 +66,6 @@ pub(crate) fn add_heading<A: Allocator + Copy>(
     add_fixed(page, HEADING)?;
     add_file(page, &board.live)?;
     add_entered(page, board.entered)?;
-    add_last(page, board.moves.last().copied())?;
+    add_last(page, board.moves)?;
     add_fixed(page, "</header>\n")
 }

@@ -2,7 +2,7 @@
 ghost use Rattle.std.specs.Prelude.{◌≡◌, ◌++◌, codes, OnOk, IfOk};
 ghost use Rattle.std.specs.String.{string_bytes};
 ghost use Rattle.tc_wall.specs.Parts.{Adds};
-ghost use Rattle.tc_wall.specs.LinkParts.{fop_words, farm_words, flag_words, premise_word, worded_parts, number_parts, share_parts, flies_parts, fop_parts, farm_parts, premise_parts, link_parts, closed_link_parts};
+ghost use Rattle.tc_wall.specs.LinkParts.{fop_words, farm_words, flag_words, premise_word, worded_parts, number_parts, share_parts, flies_parts, queue_parts, counter_parts, fop_parts, farm_parts, section_begins, premise_parts, link_parts, closed_link_parts};
 
 use crate::bounds::add_fixed;
 use crate::links::{FarmLine, FarmState, FopLine, FopState, LinkLines};
@@ -116,23 +116,46 @@ fn add_flies<A: Allocator + Copy>(
     )
 }
 
+/// Adds so many of so many below their name, of the FOP's small numbers.
+fn add_small_share<A: Allocator + Copy>(
+    page: &mut String<A>,
+    name: &str,
+    number: u8,
+    most: u8,
+) -> Result<(), AllocError>
+    ensures { OnOk result (Adds (share_parts name.now number most) (string_bytes page.old) (string_bytes page.new)) }
+{
+    add_share(page, name, u16::from(number), u16::from(most))
+}
+
+/// Adds the state of the FOP, and what it holds.
+#[tactic(auto, using(crate::proofs::PartLemmas::then_adds), unfolding(crate::specs::LinkParts::queue_parts))]
+fn add_queues<A: Allocator + Copy>(page: &mut String<A>, fop: &FopLine) -> Result<(), AllocError>
+    ensures { OnOk result (Adds (queue_parts fop.now) (string_bytes page.old) (string_bytes page.new)) }
+{
+    add_worded(page, "FOP", fop_words(fop.state))?;
+    add_small_share(page, "not confirmed", fop.sent, fop.k)?;
+    add_number(page, "waits to be sent", fop.waiting)?;
+    add_small_share(page, "transmission", fop.count, fop.limit)
+}
+
+/// Adds its counters.
+#[tactic(auto, using(crate::proofs::PartLemmas::then_adds), unfolding(crate::specs::LinkParts::counter_parts))]
+fn add_counters<A: Allocator + Copy>(page: &mut String<A>, fop: &FopLine) -> Result<(), AllocError>
+    ensures { OnOk result (Adds (counter_parts fop.now) (string_bytes page.old) (string_bytes page.new)) }
+{
+    add_share(page, "timer", fop.timer, fop.t1)?;
+    add_number(page, "V(S)", fop.vs)?;
+    add_number(page, "NN(R)", fop.nn)
+}
+
 /// Adds how the FOP stands.
 #[tactic(auto, using(crate::proofs::PartLemmas::then_adds), unfolding(crate::specs::LinkParts::fop_parts))]
 fn add_fop<A: Allocator + Copy>(page: &mut String<A>, fop: &FopLine) -> Result<(), AllocError>
     ensures { OnOk result (Adds (fop_parts fop.now) (string_bytes page.old) (string_bytes page.new)) }
 {
-    add_worded(page, "FOP", fop_words(fop.state))?;
-    add_share(page, "not confirmed", u16::from(fop.sent), u16::from(fop.k))?;
-    add_number(page, "waits to be sent", fop.waiting)?;
-    add_share(
-        page,
-        "transmission",
-        u16::from(fop.count),
-        u16::from(fop.limit),
-    )?;
-    add_share(page, "timer", fop.timer, fop.t1)?;
-    add_number(page, "V(S)", fop.vs)?;
-    add_number(page, "NN(R)", fop.nn)
+    add_queues(page, fop)?;
+    add_counters(page, fop)
 }
 
 /// Adds how the FARM stands.
@@ -148,17 +171,22 @@ fn add_farm<A: Allocator + Copy>(page: &mut String<A>, farm: &FarmLine) -> Resul
     add_number(page, "W", farm.window)
 }
 
+/// Adds where the section begins.
+#[tactic(auto, unfolding(crate::specs::LinkParts::section_begins))]
+fn begin_section<A: Allocator + Copy>(page: &mut String<A>, clean: bool) -> Result<(), AllocError>
+    ensures { OnOk result (Adds (section_begins clean) (string_bytes page.old) (string_bytes page.new)) }
+{
+    let word = premise_word(clean);
+    write!(page, "<section class=\"link {word}\">\n<h2>Link</h2>\n")
+}
+
 /// Adds the premise.
 #[tactic(auto, unfolding(crate::specs::LinkParts::premise_parts))]
 fn add_premise<A: Allocator + Copy>(page: &mut String<A>, clean: bool) -> Result<(), AllocError>
     ensures { OnOk result (Adds (premise_parts clean) (string_bytes page.old) (string_bytes page.new)) }
 {
     let word = premise_word(clean);
-    let said = word;
-    write!(
-        page,
-        "<section class=\"link {word}\">\n<h2>Link</h2>\n<p class=\"premise\">premise {said}</p>\n<dl>\n"
-    )
+    write!(page, "<p class=\"premise\">premise {word}</p>\n<dl>\n")
 }
 
 /// Adds how the link of an open desk stands.
@@ -169,6 +197,7 @@ pub(crate) fn add_link<A: Allocator + Copy>(
 ) -> Result<(), AllocError>
     ensures { OnOk result (Adds (link_parts link.now) (string_bytes page.old) (string_bytes page.new)) }
 {
+    begin_section(page, link.clean)?;
     add_premise(page, link.clean)?;
     add_fop(page, &link.fop)?;
     add_farm(page, &link.farm)?;
