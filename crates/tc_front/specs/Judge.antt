@@ -9,6 +9,7 @@ use Rattle.httparse.specs.Spans.{name_and_value}
 use Rattle.tc_types.specs.declared.acts.Query.{Query}
 use Rattle.tc_types.specs.declared.acts.Query.TheVariants as query
 use Rattle.tc_types.specs.Grammar.{Reads, IsNumber}
+use Rattle.tc_types.specs.Names.{IsName}
 use Rattle.tc_types.specs.Numbers.{IsMoment}
 use Rattle.tc_routes.specs.declared.paths.Post.{Post}
 use Rattle.tc_front.specs.declared.judge.Refused.{Refused}

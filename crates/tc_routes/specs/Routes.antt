@@ -8,7 +8,7 @@ use Rattle.matchit.specs.declared.InsertError.{InsertError}
 use Rattle.tc_routes.specs.declared.routes.RouteKind.{RouteKind}
 use Rattle.tc_routes.specs.declared.routes.RouteKind.TheVariants as kind
 use Rattle.tc_routes.specs.declared.paths.Post.TheVariants as post
-use Rattle.tc_routes.specs.Paths.{Named, posts_to, asks_for, places_text, request, history, report}
+use Rattle.tc_routes.specs.Paths.{Named, posts_to, asks_for, places_text, waiting_text, request, history, report, moves, procedure}
 
 abbrev pub KindRoutes : Type 0
 KindRoutes = RowsOf (RouteOf RouteKind)

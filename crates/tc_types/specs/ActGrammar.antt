@@ -7,6 +7,7 @@ use Rattle.tc_types.specs.declared.acts.BookAct.{BookAct}
 use Rattle.tc_types.specs.declared.acts.BookAct.TheVariants as book_act
 use Rattle.tc_types.specs.declared.acts.Act.{Act}
 use Rattle.tc_types.specs.declared.acts.Act.TheVariants as act
+use Rattle.tc_types.specs.declared.acts.StepAct.{StepAct}
 use Rattle.tc_types.specs.declared.acts.Query.{Query}
 use Rattle.tc_types.specs.declared.acts.Query.TheVariants as query
 use Rattle.tc_types.specs.declared.acts.Line.{Line}
@@ -15,7 +16,7 @@ use Rattle.tc_types.specs.Numbers.{IsMoment}
 use Rattle.tc_types.specs.Names.{IsName, IsPerson}
 use Rattle.tc_types.specs.Lines.{spaced, place_name}
 use Rattle.tc_types.specs.LinkGrammar.{link_act_words, IsLinkAct}
-use Rattle.tc_types.specs.StepGrammar.{step_words, IsStepAct}
+use Rattle.tc_types.specs.StepGrammar.{verdict_word, second_word, IsSecond}
 use Rattle.tc_types.specs.Grammar.{entry_words, IsEntry}
 
 abbrev pub query_words : Query → List (List ℕ)
@@ -37,7 +38,7 @@ question_verbs = codes "places" ∷ codes "history" ∷ codes "request" ∷ code
     ∷ codes "standing" ∷ codes "steps" ∷ []
 
 -- a verb asks a question
-abbrev pub asks : List ℕ → Bool
+unfoldable pub asks : List ℕ → Bool
 asks verb = list_any (λ word. pointwise nat_eq verb word) question_verbs
 
 abbrev pub IsQuery : Query → Type 0
@@ -70,6 +71,14 @@ IsBookAct (book_act.Approve request) = IsNumber request
 IsBookAct (book_act.Close request) = IsNumber request
 IsBookAct (book_act.ApproveStack stack) = IsName stack
 IsBookAct (book_act.Begin procedure) = IsName procedure
+
+-- step E S VERDICT SECOND
+abbrev pub step_words : StepAct → List (List ℕ)
+step_words given = codes "step" ∷ decimal given.execution ∷ decimal given.step ∷ verdict_word given.verdict ∷ second_word given.second ∷ []
+
+-- the limits that its numbers and its second person keep
+abbrev pub IsStepAct : StepAct → Type 0
+IsStepAct given = IsNumber given.execution × IsNumber given.step × IsSecond given.second
 
 abbrev pub act_words : Act → List (List ℕ)
 act_words (act.Book given) = book_act_words given

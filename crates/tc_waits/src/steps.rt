@@ -2,11 +2,10 @@
 ghost use Rattle.std.specs.Prelude.{◌≡◌, IfOk, IsTrue};
 ghost use Rattle.std.specs.String.{string_bytes};
 ghost use Rattle.tc_types.specs.Words.{is_one_line};
-ghost use Rattle.tc_waits.specs.StepLines.{procedure_head_line, step_line};
+ghost use Rattle.tc_waits.specs.StepLines.{procedure_head_line, released_word, step_line};
 
-use crate::texts::yes_no;
 use std::alloc::{AllocError, Allocator};
-use tc_types::{LoadedProcedure, ProcedureStep};
+use tc_types::{LoadedProcedure, ProcedureStep, RequestNumber, yes_no};
 
 /// The first line of a procedure: `procedure NAME author PERSON steps K`, who loaded it and how many steps it has. Fails where memory is
 /// refused.
@@ -24,6 +23,24 @@ pub fn procedure_head_text<A: Allocator + Copy>(
     format!(in alloc; "procedure {name} author {author} steps {steps}")
 }
 
+/// The request that a step releases, `-` for none. Fails where memory is refused.
+#[tactic(auto, using(crate::proofs::OneLine::released_one))]
+fn released_text<A: Allocator + Copy>(
+    alloc: A,
+    request: Option<RequestNumber>,
+) -> Result<String<A>, AllocError>
+    ensures text { IfOk result (λ t. string_bytes t ≡ released_word request) }
+    ensures one_line { IsTrue (is_one_line (released_word request)) }
+{
+    match request {
+        Some(request) => {
+            let number = request.get();
+            format!(in alloc; "{number}")
+        }
+        None => String::from_str(alloc, "-"),
+    }
+}
+
 /// The line of a step: `step S second yes|no request N TEXT`, with `-` for a step that releases nothing. Fails where memory is refused.
 #[tactic(auto, using(crate::proofs::OneLine::step_one))]
 pub fn step_text<A: Allocator + Copy>(
@@ -35,12 +52,9 @@ pub fn step_text<A: Allocator + Copy>(
 {
     let number = step.step;
     let second = yes_no(step.is_countersigned);
+    let released = released_text(alloc, step.request)?;
+    let released = released.as_str();
+    step.text.keeps_form();
     let text = step.text.as_str();
-    match step.request {
-        Some(request) => {
-            let request = request.get();
-            format!(in alloc; "step {number} second {second} request {request} {text}")
-        }
-        None => format!(in alloc; "step {number} second {second} request - {text}"),
-    }
+    format!(in alloc; "step {number} second {second} request {released} {text}")
 }

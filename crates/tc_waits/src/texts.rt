@@ -1,31 +1,37 @@
 //! The lines of what waits for a person, as text without their LF.
-ghost use Rattle.std.specs.Prelude.{◌≡◌, IfOk, IfSome, IsTrue};
+ghost use Rattle.std.specs.Prelude.{◌≡◌, IfOk, IsTrue};
 ghost use Rattle.std.specs.String.{string_bytes};
-ghost use Rattle.tc_types.specs.Grammar.{yes_no};
-ghost use Rattle.tc_types.specs.StepGrammar.{second_word};
 ghost use Rattle.tc_types.specs.Words.{is_one_line};
-ghost use Rattle.tc_waits.specs.WaitingLines.{waiting_line, waiting_count_line};
+ghost use Rattle.tc_waits.specs.WaitingLines.{wanting_phrase, lock_phrase, waiting_line, waiting_count_line};
 ghost use Rattle.tc_waits.specs.declared.waits.Waiting.TheVariants as waiting;
 
 use crate::waits::{Lock, Waiting, Wanting};
 use std::alloc::{AllocError, Allocator};
-use tc_types::Name;
+use tc_types::{Name, second_word, yes_no};
 
-/// `yes` or `no`.
-pub(crate) fn yes_no(is: bool) -> &'static str
-    ensures { result.now ≡ yes_no is }
+/// How far an approval has come: `author PERSON critical yes|no approvals I of M by PERSON`. Fails where memory is refused.
+#[tactic(auto, using(crate::proofs::OneLine::wanting_one), unfolding(crate::specs::WaitingLines::wanting_phrase))]
+fn wanting_text<A: Allocator + Copy>(alloc: A, approval: &Wanting) -> Result<String<A>, AllocError>
+    ensures text { IfOk result (λ t. string_bytes t ≡ wanting_phrase approval.now) }
+    ensures one_line { IsTrue (is_one_line (wanting_phrase approval.now)) }
 {
-    if is { "yes" } else { "no" }
+    let author = approval.author.as_str();
+    let critical = yes_no(approval.critical);
+    let given = approval.given();
+    let wanted = approval.wanted();
+    let by = second_word(&approval.by);
+    format!(in alloc; "author {author} critical {critical} approvals {given} of {wanted} by {by}")
 }
 
-/// Who it is, or `-` for nobody.
-fn person(by: &Option<Name>) -> &str
-    ensures { result.now ≡ second_word by.now }
+/// What holds a request: `locked by line L of NAME`. Fails where memory is refused.
+#[tactic(auto, using(crate::proofs::OneLine::lock_one), unfolding(crate::specs::WaitingLines::lock_phrase))]
+fn lock_text<A: Allocator + Copy>(alloc: A, lock: &Lock) -> Result<String<A>, AllocError>
+    ensures text { IfOk result (λ t. string_bytes t ≡ lock_phrase lock.now) }
+    ensures one_line { IsTrue (is_one_line (lock_phrase lock.now)) }
 {
-    match by {
-        Some(name) => name.as_str(),
-        None => "-",
-    }
+    let line = lock.line;
+    let stack = lock.stack.as_str();
+    format!(in alloc; "locked by line {line} of {stack}")
 }
 
 /// The line of a request that waits for approval.
@@ -38,14 +44,9 @@ fn request_text<A: Allocator + Copy>(
     ensures text { IfOk result (λ t. string_bytes t ≡ waiting_line (waiting.Request request approval.now)) }
     ensures one_line { IfOk result (λ t. IsTrue (is_one_line (waiting_line (waiting.Request request approval.now)))) }
 {
-    let author = approval.author.as_str();
-    let critical = yes_no(approval.critical);
-    let given = approval.given();
-    let wanted = approval.wanted();
-    let by = person(&approval.by);
-    format!(in alloc;
-        "request {request} Entered author {author} critical {critical} approvals {given} of {wanted} by {by}"
-    )
+    let wanting = wanting_text(alloc, approval)?;
+    let wanting = wanting.as_str();
+    format!(in alloc; "request {request} Entered {wanting}")
 }
 
 /// The line of a stack that waits for approval.
@@ -61,14 +62,18 @@ fn stack_text<A: Allocator + Copy>(
     ensures one_line { IfOk result (λ t. IsTrue (is_one_line (waiting_line (waiting.Stack stack.now approval.now rows first)))) }
 {
     let name = stack.as_str();
-    let author = approval.author.as_str();
-    let critical = yes_no(approval.critical);
-    let given = approval.given();
-    let wanted = approval.wanted();
-    let by = person(&approval.by);
-    format!(in alloc;
-        "stack {name} Entered author {author} critical {critical} approvals {given} of {wanted} by {by} rows {rows} first {first}"
-    )
+    let wanting = wanting_text(alloc, approval)?;
+    let wanting = wanting.as_str();
+    format!(in alloc; "stack {name} Entered {wanting} rows {rows} first {first}")
+}
+
+/// The line of a request that may be released as far as interlocks go.
+#[tactic(auto, using(crate::proofs::OneLine::free_one))]
+fn free_text<A: Allocator + Copy>(alloc: A, request: u32) -> Result<String<A>, AllocError>
+    ensures text { IfOk result (λ t. string_bytes t ≡ waiting_line (waiting.Free request)) }
+    ensures one_line { IfOk result (λ t. IsTrue (is_one_line (waiting_line (waiting.Free request)))) }
+{
+    format!(in alloc; "request {request} Approved free")
 }
 
 /// The line of a request that an interlock holds.
@@ -81,9 +86,18 @@ fn locked_text<A: Allocator + Copy>(
     ensures text { IfOk result (λ t. string_bytes t ≡ waiting_line (waiting.Locked request lock.now)) }
     ensures one_line { IfOk result (λ t. IsTrue (is_one_line (waiting_line (waiting.Locked request lock.now)))) }
 {
-    let line = lock.line;
-    let stack = lock.stack.as_str();
-    format!(in alloc; "request {request} Approved locked by line {line} of {stack}")
+    let held = lock_text(alloc, lock)?;
+    let held = held.as_str();
+    format!(in alloc; "request {request} Approved {held}")
+}
+
+/// The line of a request of which nobody knows whether it is on board.
+#[tactic(auto, using(crate::proofs::OneLine::doubtful_one))]
+fn doubtful_text<A: Allocator + Copy>(alloc: A, request: u32) -> Result<String<A>, AllocError>
+    ensures text { IfOk result (λ t. string_bytes t ≡ waiting_line (waiting.Doubtful request)) }
+    ensures one_line { IfOk result (λ t. IsTrue (is_one_line (waiting_line (waiting.Doubtful request)))) }
+{
+    format!(in alloc; "request {request} Doubtful")
 }
 
 /// The line of the step that comes next of an execution.
@@ -104,7 +118,6 @@ fn next_text<A: Allocator + Copy>(
 }
 
 /// The line of what waits. Fails where memory is refused.
-#[tactic(auto, using(crate::proofs::OneLine::free_one, crate::proofs::OneLine::doubtful_one))]
 pub fn waiting_text<A: Allocator + Copy>(
     alloc: A,
     waiting: &Waiting,
@@ -120,9 +133,9 @@ pub fn waiting_text<A: Allocator + Copy>(
             rows,
             first,
         } => stack_text(alloc, stack, approval, *rows, *first),
-        Waiting::Free { request } => format!(in alloc; "request {request} Approved free"),
+        Waiting::Free { request } => free_text(alloc, *request),
         Waiting::Locked { request, lock } => locked_text(alloc, *request, lock),
-        Waiting::Doubtful { request } => format!(in alloc; "request {request} Doubtful"),
+        Waiting::Doubtful { request } => doubtful_text(alloc, *request),
         Waiting::Step {
             execution,
             procedure,

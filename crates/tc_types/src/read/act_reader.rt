@@ -6,6 +6,7 @@ ghost use Rattle.tc_types.specs.Grammar.{Reads};
 ghost use Rattle.tc_types.specs.ActGrammar.{book_act_words, IsBookAct, act_words, IsAct, act_text, SpellsAct};
 
 use crate::acts::{Act, BookAct};
+use crate::limits::LONGEST_ACT;
 use crate::names::Name;
 use crate::read::entry_reader::entry;
 use crate::read::link_reader::link_act_of;
@@ -14,9 +15,6 @@ use crate::read::readers::{is, number};
 use crate::read::step_reader::step;
 use crate::read::words::Words;
 use crate::refusals::Refusal;
-
-/// The most bytes that the text of an act has.
-pub const LONGEST_ACT: usize = 200;
 
 /// What stands behind `withdraw`.
 fn withdraw(words: &mut Words<'_>) -> Option<BookAct>
@@ -64,6 +62,7 @@ fn begin(words: &mut Words<'_>) -> Option<BookAct>
 }
 
 /// The words of an act, of which the first says which.
+#[tactic(auto, using(crate::proofs::QueryLaws::asked, crate::proofs::QueryLaws::unasked))]
 pub fn act_of(words: &mut Words<'_>) -> Option<Act>
     ensures { Reads act_words IsAct words.old result }
 {

@@ -96,7 +96,7 @@ fn place(word: &[u8]) -> Option<Place>
     ALL_PLACES
         .iter()
         .copied()
-        .find(|place| is(word, place.name().as_bytes()))
+        .find(|place| word == place.name().as_bytes())
 }
 
 /// What stands behind `standing`.
@@ -128,7 +128,7 @@ const QUESTIONS: [&str; 11] = [
 pub(crate) fn is_question(verb: &[u8]) -> bool
     ensures { result ≡ asks verb.now }
 {
-    QUESTIONS.iter().any(|word| is(verb, word.as_bytes()))
+    QUESTIONS.iter().any(|word| verb == word.as_bytes())
 }
 
 /// A question: its verb, and the words behind it.
