@@ -2,6 +2,7 @@
 use Rattle.std.proofs.Common.{◌≡◌, ℕ, suc, zero, ◌+◌, ◌-◌, ◌*◌, ◌/◌, ◌<◌, ◌≤◌, ◌⊎◌, inl, inr, max, min, Bool, true, false, nat_lt, nat_le, ◌==◌, if◌then◌else◌, Option, Some, None, IfSome, List, [], ◌∷◌, ◌++◌, length, reverse, refl, sym, ap, subst, ◌∙◌, arith, lit≤}
 use Rattle.std.proofs.Math.Nat.{div-le_of_le-mul}
 use Rattle.std.proofs.lemmas.Bool.{leb-true}
+use Rattle.std.proofs.lemmas.List.{reverse-append}
 use Rattle.std.specs.List.{AllByRecursion, find}
 use Rattle.tc_wall.specs.declared.axes.Mark.{Mark}
 use Rattle.tc_wall.specs.declared.axes.TheConstants.{WIDTH, TAIL, APART, LEAST_GAP, MOST_GAP}
@@ -33,11 +34,11 @@ axis_small ways = all_small (moments_of ways)
 -- so does a moment that is found
 found_small : (axis : List Mark) (moment : ℕ) → AllByRecursion IsOnAxis axis → x_at (find (λ mark. mark.moment == moment) axis) ≤ 560
 found_small [] moment all = omega arith
-found_small (mark ∷ others) moment all = by (mark.moment == moment)
+found_small (mark ∷ others) moment all = by (mark.moment == moment) (found_small others moment all.1)
   where
-    by : (b : Bool) → x_at (if b then Some mark else find (λ m. m.moment == moment) others) ≤ 560
-    by true = all.0
-    by false = found_small others moment all.1
+    by : (b : Bool) → x_at (find (λ m. m.moment == moment) others) ≤ 560 → x_at (if b then Some mark else find (λ m. m.moment == moment) others) ≤ 560
+    by true h = all.0
+    by false h = h
 
 pub x_small : (axis : List Mark) (moment : ℕ) → AllByRecursion IsOnAxis axis → x_of axis moment ≤ 560
 unfolding x_of
@@ -50,16 +51,16 @@ all_appended P (x ∷ xs) y all one = (all.0, all_appended P xs y all.1 one)
 
 pub all_reversed : {X : Type 0} (P : X → Type 0) (xs : List X) → AllByRecursion P xs → AllByRecursion P (reverse xs)
 all_reversed P [] all = tt
-all_reversed P (x ∷ xs) all = all_appended P (reverse xs) x (all_reversed P xs all.1) all.0
+all_reversed P (x ∷ xs) all = subst (AllByRecursion P) (sym (reverse-append (x ∷ []) xs)) (all_appended P (reverse xs) x (all_reversed P xs all.1) all.0)
 
 before_small : (x : ℕ) (marks : List Mark) → AllByRecursion IsOnAxis marks → AllByRecursion IsOnAxis (lines_before x marks)
 unfolding lines_before
 before_small x [] all = tt
-before_small x (mark ∷ others) all = by (nat_le (mark.x + APART) x)
+before_small x (mark ∷ others) all = by (nat_le (mark.x + APART) x) (λ from. before_small from others all.1)
   where
-    by : (b : Bool) → AllByRecursion IsOnAxis (if b then mark ∷ lines_before mark.x others else lines_before x others)
-    by true = (all.0, before_small mark.x others all.1)
-    by false = before_small x others all.1
+    by : (b : Bool) → ((from : ℕ) → AllByRecursion IsOnAxis (lines_before from others)) → AllByRecursion IsOnAxis (if b then mark ∷ lines_before mark.x others else lines_before x others)
+    by true h = (all.0, h mark.x)
+    by false h = h x
 
 back_small : (marks : List Mark) → AllByRecursion IsOnAxis marks → AllByRecursion IsOnAxis (lines_back marks)
 unfolding lines_back
@@ -74,11 +75,11 @@ lines_small axis all = back_small (reverse axis) (all_reversed IsOnAxis axis all
 before_few : (x : ℕ) (marks : List Mark) → 140 * length (lines_before x marks) ≤ x
 unfolding lines_before
 before_few x [] = omega arith
-before_few x (mark ∷ others) = by (nat_le (mark.x + APART) x) refl
+before_few x (mark ∷ others) = by (nat_le (mark.x + APART) x) refl (λ from. before_few from others)
   where
-    by : (b : Bool) → nat_le (mark.x + APART) x ≡ b → 140 * length (if b then mark ∷ lines_before mark.x others else lines_before x others) ≤ x
-    by true apart = omega (arith, leb-true (mark.x + APART) x apart, before_few mark.x others)
-    by false apart = before_few x others
+    by : (b : Bool) → nat_le (mark.x + APART) x ≡ b → ((from : ℕ) → 140 * length (lines_before from others) ≤ from) → 140 * length (if b then mark ∷ lines_before mark.x others else lines_before x others) ≤ x
+    by true apart h = omega (arith, leb-true (mark.x + APART) x apart, h mark.x)
+    by false apart h = h x
 
 back_few : (marks : List Mark) → AllByRecursion IsOnAxis marks → length (lines_back marks) ≤ 5
 unfolding lines_back

@@ -4,5 +4,7 @@ pub mod EscapeLemmas
 pub mod PartLemmas
 pub mod ToldLemmas
 pub mod AxisLemmas
+pub mod RangeLemmas
 pub mod SizeLemmas
 pub mod PageSizeLemmas
+pub mod WalkLemmas

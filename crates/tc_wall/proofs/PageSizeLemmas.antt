@@ -1,5 +1,6 @@
 -- How many bytes a page has at most.
-use Rattle.std.proofs.Common.{◌≡◌, ℕ, suc, zero, ◌+◌, ◌-◌, ◌*◌, ◌/◌, ◌^◌, ◌<◌, ◌≤◌, ◌⊎◌, inl, inr, max, min, Bool, true, false, nat_lt, nat_le, if◌then◌else◌, Option, Some, None, IfSome, List, [], ◌∷◌, ◌++◌, codes, length, map, take, drop, reverse, get_or, sum, refl, sym, ap, subst, ◌∙◌, arith, lit≤, length-append}
+use Rattle.std.proofs.Common.{◌≡◌, ℕ, suc, zero, ◌+◌, ◌-◌, ◌*◌, ◌/◌, ◌^◌, ◌<◌, ◌≤◌, ◌⊎◌, inl, inr, max, min, Bool, true, false, ◌&&◌, nat_lt, nat_le, if◌then◌else◌, Option, Some, None, IfSome, List, [], ◌∷◌, ◌++◌, codes, length, map, take, drop, reverse, get_or, sum, refl, sym, ap, subst, ◌∙◌, arith, lit≤, length-append}
+use Rattle.std.proofs.lemmas.List.Sums.{sum_by-cons}
 use Rattle.std.proofs.lemmas.List.{length-take, length-drop, length-reverse}
 use Rattle.std.proofs.Math.Nat.{mul-suc}
 use Rattle.std.proofs.lemmas.Bool.{lt-ltb, le-ltb}
@@ -29,7 +30,7 @@ use Rattle.tc_wall.specs.declared.links.FopLine.{FopLine}
 use Rattle.tc_wall.specs.declared.links.FarmLine.{FarmLine}
 use Rattle.tc_wall.specs.declared.links.LinkLines.{LinkLines}
 use Rattle.tc_wall.specs.declared.fixed.TheConstants.{HEAD, STYLE, REFRESH, HEADING, TILES, WAITS, SCHEDULE, WAYS, WAYS_HEAD, MOVES, FOOT}
-use Rattle.tc_wall.specs.declared.pages.TheConstants.{MOST_BYTES}
+use Rattle.tc_wall.specs.declared.pages.TheConstants.{MOST_BYTES, MOST_FEW}
 use Rattle.tc_wall.specs.Parts.{Part, Fixed, shown, shown_all, fixed}
 use Rattle.tc_wall.specs.Bounds.{last_of, left_out_parts, none_parts}
 use Rattle.tc_wall.specs.Signs.{sign_of}
@@ -42,8 +43,8 @@ use Rattle.tc_wall.specs.Axis.{axis_of, lines_of, drawn}
 use Rattle.tc_wall.specs.Bars.{stage_parts, begin_of, end_of, bar_parts}
 use Rattle.tc_wall.specs.WayParts as ways
 use Rattle.tc_wall.specs.MoveParts.{who_parts, what_parts, move_parts, moves_parts}
-use Rattle.tc_wall.specs.Page.{size_word, refresh_parts, head_parts, live_parts, page, board_page}
-use Rattle.tc_wall.specs.Ranges.{IsShort, IsMoveInRange, IsWantingInRange, IsWaitingInRange, IsWaitInRange, IsOriginInRange, IsRequestInRange, IsWayInRange, IsFopInRange, IsFarmInRange, IsLinkInRange, IsActivityInRange, IsScheduleInRange, IsLiveInRange, IsBoardInRange}
+use Rattle.tc_wall.specs.Page.{laid_in, size_word, refresh_parts, head_parts, live_parts, page, board_page}
+use Rattle.tc_wall.specs.Ranges.{IsShort, IsMoveInRange, IsWantingInRange, IsWaitingInRange, IsWaitInRange, IsOriginInRange, IsRequestInRange, IsWayInRange, AreQueuesInRange, AreCountersInRange, IsFopInRange, IsFarmInRange, IsLinkInRange, IsActivityInRange, IsScheduleInRange, IsLiveInRange, IsBoardInRange}
 use Rattle.tc_wall.proofs.ListLemmas.{flat_map-append}
 use Rattle.tc_wall.proofs.SizeLemmas.{size, of_nothing, of_text, of_words, of_u16, of_u32, of_u64, of_time, of_place, of_name, sign_size, chosen_size, entered_size, moved_size, tile_begins_size, tile_label_size, count_size, request_begins_size, stack_begins_size, approvals_size, rows_size, author_size, free_size, locked_size, doubt_size, work_size, worded_size, number_size, share_size, flies_size, section_size, premise_size, enabled_size, activity_size, row_begins_size, identity_size, command_size, way_author_size, bar_begins_size, place_size, label_size, tick_size, ticks_begin_size, who_size, what_size}
 use Rattle.tc_wall.proofs.AxisLemmas.{IsOnAxis, axis_small, x_small, lines_small, lines_few, all_reversed}
@@ -62,7 +63,7 @@ chosen false xs ys n first second = second
 
 fixed_size : (text : List ℕ) (n : ℕ) → length text ≤ n → size (fixed text) ≤ n
 unfolding fixed
-fixed_size text n few = of_words text n [] 0 few of_nothing
+fixed_size text n few = more (Fixed text ∷ []) (n + 0) n (omega arith) (of_words text n [] 0 few of_nothing)
 
 -- rows
 each_size : {X : Type 0} (P : X → Type 0) (f : X → List Part) (xs : List X) (n : ℕ) → AllByRecursion P xs → ((x : X) → P x → size (f x) ≤ n) → size (flat_map f xs) ≤ n * length xs
@@ -86,7 +87,7 @@ none_size count said few = chosen (nat_lt 0 count) _ _ 40 (more [] 0 40 (omega a
 file_size : (live : Option Live) → size (file_parts live) ≤ 34
 unfolding file_parts
 file_size (Some live) = more [] 0 34 (omega arith) of_nothing
-file_size None = of_text _ _ 0 of_nothing
+file_size None = more _ 32 34 (omega arith) (of_text _ _ 0 of_nothing)
 
 last_size : (last : Option Move) → IfSome last (λ row. row.seq < 2 ^ 32) → size (last_parts last) ≤ 69
 last_size (Some row) small = moved_size row small
@@ -106,7 +107,8 @@ place_small (n ∷ counts) (suc k) all = place_small counts k all.1
 
 sum_small : (counts : List ℕ) (places : List Place) → AllByRecursion (λ n. n < 2 ^ 32) counts → sum (map (count_at counts) places) ≤ length places * 2 ^ 32
 sum_small counts [] all = lit≤ tt
-sum_small counts (place ∷ others) all = omega (arith, place_small counts (place_number place - 1) all, sum_small counts others all)
+sum_small counts (place ∷ others) all =
+    omega (arith, sum_by-cons (λ n. n) (count_at counts place) (map (count_at counts) others), place_small counts (place_number place - 1) all, sum_small counts others all)
 
 sum_at_small : (counts : List ℕ) (places : List Place) → AllByRecursion (λ n. n < 2 ^ 32) counts → length places ≤ 15 → sum_at counts places < 2 ^ 64
 unfolding sum_at
@@ -148,17 +150,6 @@ unfolding final_tiles_parts
 final_tiles_size counts all =
     both _ _ 304 196 (both _ _ 152 152 (tile_size counts _ _ Failed (Failed ∷ []) all (lit≤ tt) (lit≤ tt) (lit≤ tt)) (tile_size counts _ _ Completed (Completed ∷ []) all (lit≤ tt) (lit≤ tt) (lit≤ tt)))
     (tile_size counts _ _ Withdrawn (Withdrawn ∷ Deleted ∷ Closed ∷ []) all (lit≤ tt) (lit≤ tt) (lit≤ tt))
-
-tiles_size : (counts : List ℕ) → AllByRecursion (λ n. n < 2 ^ 32) counts → size (open_tiles_parts counts) ≤ 870
-unfolding open_tiles_parts
-open_tiles_size counts all =
-    both _ _ 718 152 (both _ _ 566 152 (both _ _ 304 262 (both _ _ 152 152 (tile_size counts _ _ Entered _ all (lit≤ tt) (lit≤ tt) (lit≤ tt)) (tile_size counts _ _ Approved _ all (lit≤ tt) (lit≤ tt) (lit≤ tt)))
-    (tile_size counts _ _ Queued _ all (lit≤ tt) (lit≤ tt) (lit≤ tt))) (tile_size counts _ _ Scheduled _ all (lit≤ tt) (lit≤ tt) (lit≤ tt))) (tile_size counts _ _ Doubtful _ all (lit≤ tt) (lit≤ tt) (lit≤ tt))
-
-final_tiles_size : (counts : List ℕ) → AllByRecursion (λ n. n < 2 ^ 32) counts → size (final_tiles_parts counts) ≤ 500
-unfolding final_tiles_parts
-final_tiles_size counts all =
-    both _ _ 304 196 (both _ _ 152 152 (tile_size counts _ _ Failed _ all (lit≤ tt) (lit≤ tt) (lit≤ tt)) (tile_size counts _ _ Completed _ all (lit≤ tt) (lit≤ tt) (lit≤ tt))) (tile_size counts _ _ Withdrawn _ all (lit≤ tt) (lit≤ tt) (lit≤ tt))
 
 tiles_size : (counts : List ℕ) → AllByRecursion (λ n. n < 2 ^ 32) counts → size (tiles_parts counts) ≤ 1581
 unfolding tiles_parts
@@ -236,17 +227,17 @@ flag_words_size false true false = lit≤ tt
 flag_words_size false false true = lit≤ tt
 flag_words_size false false false = lit≤ tt
 
-queue_size : (f : FopLine) → IsFopInRange f → size (queue_parts f) ≤ 273
+queue_size : (f : FopLine) → AreQueuesInRange f → size (queue_parts f) ≤ 273
 unfolding queue_parts
 queue_size f h = both _ _ 213 60 (both _ _ 162 51 (both _ _ 102 60 (worded_size _ _ (lit≤ tt) (fop_words_size f.state)) (share_size _ _ _ (lit≤ tt) h.sent h.k)) (number_size _ _ (lit≤ tt) h.waits)) (share_size _ _ _ (lit≤ tt) h.count h.limit)
 
-counter_size : (f : FopLine) → IsFopInRange f → size (counter_parts f) ≤ 162
+counter_size : (f : FopLine) → AreCountersInRange f → size (counter_parts f) ≤ 162
 unfolding counter_parts
 counter_size f h = both _ _ 111 51 (both _ _ 60 51 (share_size _ _ _ (lit≤ tt) h.timer h.t1) (number_size _ _ (lit≤ tt) h.vs)) (number_size _ _ (lit≤ tt) h.nn)
 
 fop_size : (f : FopLine) → IsFopInRange f → size (fop_parts f) ≤ 435
 unfolding fop_parts
-fop_size f h = both _ _ 273 162 (queue_size f h) (counter_size f h)
+fop_size f h = both _ _ 273 162 (queue_size f h.queues) (counter_size f h.counters)
 
 farm_size : (f : FarmLine) → IsFarmInRange f → size (farm_parts f) ≤ 357
 unfolding farm_parts
@@ -359,7 +350,7 @@ refresh_size (Some live) = fixed_size REFRESH.now 100 (lit≤ tt)
 
 word_size : (b : Board) → length (size_word b) ≤ 4
 unfolding size_word
-word_size b = chosen_size _ _ _ 4 (lit≤ tt) (lit≤ tt)
+word_size b = chosen_size (nat_le b.opened MOST_FEW && nat_le (b.waiting + laid_in b.live) MOST_FEW) (codes "few") (codes "many") 4 (lit≤ tt) (lit≤ tt)
 
 head_size : (b : Board) → size (head_parts b) ≤ 21200
 unfolding head_parts
@@ -367,8 +358,12 @@ head_size b =
     both _ _ 21197 3 (both _ _ 21193 4 (both _ _ 21159 34 (both _ _ 21059 100 (both _ _ 21000 59 (both _ _ 1000 20000 (fixed_size HEAD.now 1000 (lit≤ tt)) (fixed_size STYLE.now 20000 (lit≤ tt))) (fixed_size _ 59 (lit≤ tt)))
     (refresh_size b.live)) (fixed_size _ 34 (lit≤ tt))) (fixed_size _ 4 (word_size b))) (fixed_size _ 3 (lit≤ tt))
 
+whole_size : (b : Board) → IsBoardInRange b → size (page b) ≤ 442397
+unfolding page
+whole_size b h =
+    both _ _ 442097 300 (both _ _ 428978 13119 (both _ _ 165244 263734 (both _ _ 160846 4398 (both _ _ 23127 137719 (both _ _ 21546 1581 (both _ _ 21200 346 (head_size b) (heading_size b h.entered h.last)) (tiles_size b.counts.now h.counts))
+    (waits_size b h.waits h.waits_count)) (live_size b.live h.live)) (ways_size b h.ways h.ways_count)) (moves_size b h.moves h.moves_count)) (fixed_size FOOT.now 300 (lit≤ tt))
+
 pub page_size : (b : Board) → IsBoardInRange b → length (board_page b) ≤ MOST_BYTES
-unfolding board_page page size
-page_size b h = more (page b) 442397 MOST_BYTES (lit≤ tt)
-    (both _ _ 442097 300 (both _ _ 428978 13119 (both _ _ 165244 263734 (both _ _ 160846 4398 (both _ _ 23127 137719 (both _ _ 21546 1581 (both _ _ 21200 346 (head_size b) (heading_size b h.entered h.last)) (tiles_size b.counts.now h.counts))
-    (waits_size b h.waits h.waits_count)) (live_size b.live h.live)) (ways_size b h.ways h.ways_count)) (moves_size b h.moves h.moves_count)) (fixed_size FOOT.now 300 (lit≤ tt)))
+unfolding board_page size
+page_size b h = more (page b) 442397 MOST_BYTES (lit≤ tt) (whole_size b h)

@@ -1,5 +1,5 @@
 -- How many bytes the parts of a page have at most.
-use Rattle.std.proofs.Common.{◌≡◌, ℕ, suc, zero, ◌+◌, ◌-◌, ◌*◌, ◌/◌, ◌^◌, ◌<◌, ◌≤◌, max, min, Bool, true, false, nat_lt, nat_le, if◌then◌else◌, Option, Some, None, IfSome, List, [], ◌∷◌, ◌++◌, codes, length, map, take, drop, reverse, get_or, sum, refl, sym, ap, subst, ◌∙◌, arith, lit≤, length-append}
+use Rattle.std.proofs.Common.{◌≡◌, ℕ, suc, zero, ◌+◌, ◌-◌, ◌*◌, ◌/◌, ◌^◌, ◌<◌, ◌≤◌, max, min, Bool, true, false, is_some, ◌==◌, nat_lt, nat_le, if◌then◌else◌, Option, Some, None, IfSome, List, [], ◌∷◌, ◌++◌, codes, length, map, take, drop, reverse, get_or, sum, refl, sym, ap, subst, ◌∙◌, arith, lit≤, length-append}
 use Rattle.std.proofs.lemmas.Fmt.{length-decimal-le}
 use Rattle.std.proofs.lemmas.List.{length-take, length-drop, length-reverse}
 use Rattle.std.specs.Fmt.{decimal}
@@ -102,7 +102,7 @@ chosen_size false xs ys n first second = second
 
 zero_size : (count : ℕ) → length (zero_word count) ≤ 5
 unfolding zero_word
-zero_size count = chosen_size _ _ _ 5 (lit≤ tt) (lit≤ tt)
+zero_size count = chosen_size (count == 0) (codes " zero") [] 5 (lit≤ tt) (lit≤ tt)
 
 whom_size : (is_countersigned : Bool) → length (whom_word is_countersigned) ≤ 11
 unfolding whom_word
@@ -121,10 +121,10 @@ small_choice true m n first second = first
 small_choice false m n first second = second
 
 given_small : (w : Wanting) → given w < 2 ^ 8
-given_small w = small_choice _ _ _ (omega arith) (omega arith)
+given_small w = small_choice (is_some w.by) 1 0 (omega arith) (omega arith)
 
 wanted_small : (w : Wanting) → wanted w < 2 ^ 8
-wanted_small w = small_choice w.critical _ _ (omega arith) (omega arith)
+wanted_small w = small_choice w.critical 2 1 (omega arith) (omega arith)
 
 width_small : WIDTH < 2 ^ 32
 width_small = omega arith

@@ -358,11 +358,11 @@ of_page b =
 
 filter-append : {X : Type 0} (p : X → Bool) (xs ys : List X) → filter p (xs ++ ys) ≡ filter p xs ++ filter p ys
 filter-append p [] ys = refl
-filter-append p (x ∷ xs) ys = by (p x)
+filter-append p (x ∷ xs) ys = by (p x) (filter-append p xs ys)
   where
-    by : (b : Bool) → (if b then x ∷ filter p (xs ++ ys) else filter p (xs ++ ys)) ≡ (if b then x ∷ filter p xs else filter p xs) ++ filter p ys
-    by true = ap (λ l. x ∷ l) (filter-append p xs ys)
-    by false = filter-append p xs ys
+    by : (b : Bool) → filter p (xs ++ ys) ≡ filter p xs ++ filter p ys → (if b then x ∷ filter p (xs ++ ys) else filter p (xs ++ ys)) ≡ (if b then x ∷ filter p xs else filter p xs) ++ filter p ys
+    by true h = ap (λ l. x ∷ l) h
+    by false h = h
 
 no_counts : (place : Place) (shown : List Way) → filter (is_count_of place) (map standing shown) ≡ []
 no_counts place [] = refl

@@ -63,16 +63,22 @@ pub record IsWayInRange (way : Way) : Type 0 where
   pub request : IsRequestInRange way.request
   pub moved : way.moved < 2 ^ 64
 
-pub record IsFopInRange (f : FopLine) : Type 0 where
-  pub vs : f.vs < 2 ^ 16
-  pub nn : f.nn < 2 ^ 16
+pub record AreQueuesInRange (f : FopLine) : Type 0 where
   pub sent : f.sent < 2 ^ 16
   pub waits : f.waiting < 2 ^ 16
   pub count : f.count < 2 ^ 16
-  pub timer : f.timer < 2 ^ 16
   pub k : f.k < 2 ^ 16
-  pub t1 : f.t1 < 2 ^ 16
   pub limit : f.limit < 2 ^ 16
+
+pub record AreCountersInRange (f : FopLine) : Type 0 where
+  pub vs : f.vs < 2 ^ 16
+  pub nn : f.nn < 2 ^ 16
+  pub timer : f.timer < 2 ^ 16
+  pub t1 : f.t1 < 2 ^ 16
+
+pub record IsFopInRange (f : FopLine) : Type 0 where
+  pub queues : AreQueuesInRange f
+  pub counters : AreCountersInRange f
 
 pub record IsFarmInRange (f : FarmLine) : Type 0 where
   pub vr : f.vr < 2 ^ 16

@@ -1,5 +1,5 @@
 //! Fixed texts, and what is said where a list has nothing to show, or more than is shown.
-ghost use Rattle.std.specs.Prelude.{◌≡◌, take, OnOk};
+ghost use Rattle.std.specs.Prelude.{◌≡◌, ◌≤◌, length, take, OnOk};
 ghost use Rattle.std.specs.String.{string_bytes};
 ghost use Rattle.tc_wall.specs.Parts.{Adds, fixed};
 ghost use Rattle.tc_wall.specs.Bounds.{last_of, left_out_parts, none_parts};
@@ -9,7 +9,8 @@ use std::fmt::Write;
 
 /// The first of these, at most so many.
 pub(crate) fn first_of<T>(items: &[T], most: usize) -> &[T]
-    ensures { result.now ≡ take most items.now }
+    ensures items { result.now ≡ take most items.now }
+    ensures few { length result.now ≤ most }
 {
     &items[..most.min(items.len())]
 }

@@ -58,8 +58,10 @@ fn add_move<A: Allocator + Copy>(page: &mut String<A>, row: &Move) -> Result<(),
 fn add_rows<A: Allocator + Copy>(page: &mut String<A>, rows: &[Move]) -> Result<(), AllocError>
     ensures { OnOk result (Adds (flat_map move_parts (reverse rows.now)) (string_bytes page.old) (string_bytes page.new)) }
 {
-    for row in rows.iter().rev() {
+    let mut rest = rows;
+    while let Some((row, others)) = rest.split_last() {
         add_move(page, row)?;
+        rest = others;
     }
     Ok(())
 }

@@ -1,7 +1,7 @@
 //! What the types of a board keep. These functions do nothing: their clauses are what the types know.
 ghost use Rattle.std.specs.Prelude.{◌<◌, ◌≤◌, ◌^◌, IfSome, length};
 ghost use Rattle.std.specs.List.{AllByRecursion};
-ghost use Rattle.tc_wall.specs.Ranges.{IsShort, IsMoveInRange, IsWantingInRange, IsWaitingInRange, IsWaitInRange, IsOriginInRange, IsRequestInRange, IsWayInRange, IsFopInRange, IsFarmInRange, IsLinkInRange, IsActivityInRange, IsScheduleInRange, IsLiveInRange, IsBoardInRange};
+ghost use Rattle.tc_wall.specs.Ranges.{IsShort, IsMoveInRange, IsWantingInRange, IsWaitingInRange, IsWaitInRange, IsOriginInRange, IsRequestInRange, IsWayInRange, AreQueuesInRange, AreCountersInRange, IsFopInRange, IsFarmInRange, IsLinkInRange, IsActivityInRange, IsScheduleInRange, IsLiveInRange, IsBoardInRange};
 ghost use Rattle.tc_wall.specs.Waits.{text_of};
 
 use crate::boards::{
@@ -34,7 +34,7 @@ fn keep_text(text: &Option<StepText>)
     ensures { length (text_of text.now) ≤ 80 }
 {
     if let Some(text) = text {
-        let _text = text.as_str();
+        text.keeps_form();
     }
 }
 
@@ -42,11 +42,13 @@ fn keep_text(text: &Option<StepText>)
 fn keep_move(row: &Move)
     ensures { IsMoveInRange row.now }
 {
-    let _numbers = (row.seq, row.request.get());
+    let _seq = row.seq;
+    let _request = row.request.get();
     keep_name(&row.by);
 }
 
 /// Those of these moves.
+#[tactic(auto, using(crate::proofs::RangeLemmas::each_kept))]
 fn keep_moves(rows: &[Move])
     ensures { AllByRecursion IsMoveInRange rows.now }
 {
@@ -86,7 +88,8 @@ fn keep_waiting(waiting: &Waiting)
             let _number = *request;
         }
         Waiting::Locked { request, lock } => {
-            let _numbers = (*request, lock.line);
+            let _number = *request;
+            let _line = lock.line;
             keep_name(&lock.stack);
         }
         Waiting::Step {
@@ -110,6 +113,7 @@ fn keep_wait(it: &Wait)
 }
 
 /// These lines.
+#[tactic(auto, using(crate::proofs::RangeLemmas::each_kept))]
 fn keep_waits(waits: &[Wait])
     ensures { AllByRecursion IsWaitInRange waits.now }
 {
@@ -152,6 +156,7 @@ fn keep_way(way: &Way)
 }
 
 /// These ways.
+#[tactic(auto, using(crate::proofs::RangeLemmas::each_kept))]
 fn keep_ways(ways: &[Way])
     ensures { AllByRecursion IsWayInRange ways.now }
 {
@@ -160,37 +165,50 @@ fn keep_ways(ways: &[Way])
     }
 }
 
+/// What the FOP holds.
+fn keep_queues(fop: &FopLine)
+    ensures { AreQueuesInRange fop.now }
+{
+    let _sent = fop.sent;
+    let _waiting = fop.waiting;
+    let _count = fop.count;
+    let _k = fop.k;
+    let _limit = fop.limit;
+}
+
+/// Its counters.
+fn keep_counters(fop: &FopLine)
+    ensures { AreCountersInRange fop.now }
+{
+    let _vs = fop.vs;
+    let _nn = fop.nn;
+    let _timer = fop.timer;
+    let _t1 = fop.t1;
+}
+
 /// The FOP.
 fn keep_fop(fop: &FopLine)
     ensures { IsFopInRange fop.now }
 {
-    let FopLine {
-        vs,
-        nn,
-        sent,
-        waiting,
-        count,
-        timer,
-        k,
-        t1,
-        limit,
-        ..
-    } = *fop;
-    let _numbers = (vs, nn, sent, waiting, count, timer, k, t1, limit);
+    keep_queues(fop);
+    keep_counters(fop);
 }
 
 /// The FARM.
 fn keep_farm(farm: &FarmLine)
     ensures { IsFarmInRange farm.now }
 {
-    let _numbers = (farm.vr, farm.farm_b, farm.window);
+    let _vr = farm.vr;
+    let _farm_b = farm.farm_b;
+    let _window = farm.window;
 }
 
 /// The link.
 fn keep_link(link: &LinkLines)
     ensures { IsLinkInRange link.now }
 {
-    let _numbers = (link.up, link.down);
+    let _up = link.up;
+    let _down = link.down;
     keep_fop(&link.fop);
     keep_farm(&link.farm);
 }
@@ -203,6 +221,7 @@ fn keep_activity(it: &ListedActivity)
 }
 
 /// These activities.
+#[tactic(auto, using(crate::proofs::RangeLemmas::each_kept))]
 fn keep_activities(activities: &[ListedActivity])
     ensures { AllByRecursion IsActivityInRange activities.now }
 {
@@ -230,6 +249,7 @@ fn keep_live(live: &Option<Live>)
 }
 
 /// The counts.
+#[tactic(auto, using(crate::proofs::RangeLemmas::each_kept_at))]
 fn keep_counts(counts: &[u32; PLACES])
     ensures { AllByRecursion (λ n. n < 2 ^ 32) counts.now }
 {
@@ -251,7 +271,10 @@ fn keep_last(last: Option<Move>)
 pub(crate) fn keep_board(board: &Board)
     ensures { IsBoardInRange board.now }
 {
-    let _numbers = (board.entered, board.waiting, board.opened, board.moved);
+    let _entered = board.entered;
+    let _waiting = board.waiting;
+    let _opened = board.opened;
+    let _moved = board.moved;
     keep_counts(board.counts);
     keep_waits(first_of(board.waits, MOST_WAITS));
     keep_live(&board.live);
