@@ -1,11 +1,11 @@
 -- Where moments lie on the axis, and how many lines it has.
-use Rattle.std.proofs.Common.{◌≡◌, ℕ, suc, zero, ◌+◌, ◌-◌, ◌*◌, ◌/◌, ◌<◌, ◌≤◌, ◌⊎◌, inl, inr, max, min, Bool, true, false, nat_lt, nat_le, ◌==◌, if◌then◌else◌, Option, Some, None, IfSome, List, [], ◌∷◌, ◌++◌, length, reverse, refl, sym, ap, subst, ◌∙◌, arith, lit≤}
+use Rattle.std.proofs.Common.{◌≡◌, ℕ, ◌+◌, ◌*◌, ◌≤◌, max, Bool, true, false, nat_le, ◌==◌, if◌then◌else◌, Some, List, [], ◌∷◌, ◌++◌, length, reverse, refl, sym, subst, arith}
 use Rattle.std.proofs.Math.Nat.{div-le_of_le-mul}
 use Rattle.std.proofs.lemmas.Bool.{leb-true}
 use Rattle.std.proofs.lemmas.List.{reverse-append}
 use Rattle.std.specs.List.{AllByRecursion, find}
 use Rattle.tc_wall.specs.declared.axes.Mark.{Mark}
-use Rattle.tc_wall.specs.declared.axes.TheConstants.{WIDTH, TAIL, APART, LEAST_GAP, MOST_GAP}
+use Rattle.tc_wall.specs.declared.axes.TheConstants.{APART}
 use Rattle.tc_wall.specs.declared.boards.Way.{Way}
 use Rattle.tc_wall.specs.Axis.{gap, reach_on, place_on, marks_on, marks_of, moments_of, axis_of, x_at, x_of, lines_before, lines_back, lines_of}
 

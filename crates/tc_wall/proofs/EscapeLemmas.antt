@@ -1,13 +1,13 @@
 -- What is escaped.
-use Rattle.std.proofs.Common.{◌≡◌, ◌≢◌, ℕ, ◌+◌, ◌<◌, ◌≤◌, ◌⊎◌, inl, inr, Bool, true, false, not, ◌&&◌, ◌||◌, nat_eq, ◌==◌, if◌then◌else◌, cond, nat_lt, nat_le, ◌/◌, ◌%◌, List, [], ◌∷◌, ◌++◌, drop, get_or, refl, sym, subst, ap, ap₂, ◌∙◌, arith, append-nil, append_assoc, codes, length, lit≤}
+use Rattle.std.proofs.Common.{◌≡◌, ◌≢◌, ℕ, ◌+◌, ◌<◌, ◌≤◌, ◌⊎◌, inl, inr, true, false, nat_eq, ◌==◌, if◌then◌else◌, cond, nat_lt, nat_le, ◌/◌, ◌%◌, List, [], ◌∷◌, ◌++◌, drop, get_or, refl, sym, subst, ap, ap₂, ◌∙◌, arith, append-nil, codes, length, lit≤}
 use Rattle.std.proofs.lemmas.Bool.{ne_eqb, lt-ltb, le-ltb}
 use Rattle.std.proofs.lemmas.Bool.Decides.{eqb_tells, leb_tells}
 use Rattle.std.proofs.lemmas.Str.{encode_ascii, encodes-append}
 use Rattle.std.specs.Char.{encode_utf8}
 use Rattle.std.specs.Str.{encode_utf8_all}
-use Rattle.std.specs.List.{flat_map, starts_with, list_any}
+use Rattle.std.specs.List.{starts_with}
 use Rattle.tc_wall.proofs.ListLemmas.{flat_map-append}
-use Rattle.tc_wall.specs.Escapes.{entity, escaped, is_markup, is_plain, entities}
+use Rattle.tc_wall.specs.Escapes.{entity, escaped, is_plain}
 
 -- a byte is one of the five, or none of them
 record IsOther (byte : ℕ) : Type 0 where

@@ -1,5 +1,5 @@
 -- How many bytes a page has at most.
-use Rattle.std.proofs.Common.{◌≡◌, ℕ, suc, zero, ◌+◌, ◌-◌, ◌*◌, ◌/◌, ◌^◌, ◌<◌, ◌≤◌, ◌⊎◌, inl, inr, max, min, Bool, true, false, ◌&&◌, nat_lt, nat_le, if◌then◌else◌, Option, Some, None, IfSome, List, [], ◌∷◌, ◌++◌, codes, length, map, take, drop, reverse, get_or, sum, refl, sym, ap, subst, ◌∙◌, arith, lit≤, length-append}
+use Rattle.std.proofs.Common.{◌≡◌, ℕ, suc, zero, ◌+◌, ◌-◌, ◌*◌, ◌^◌, ◌<◌, ◌≤◌, ◌⊎◌, inl, inr, Bool, true, false, ◌&&◌, nat_lt, nat_le, if◌then◌else◌, Option, Some, None, IfSome, List, [], ◌∷◌, ◌++◌, codes, length, map, take, reverse, sum, ap, arith, lit≤, length-append}
 use Rattle.std.proofs.lemmas.List.Sums.{sum_by-cons}
 use Rattle.std.proofs.lemmas.List.{length-take, length-drop, length-reverse}
 use Rattle.std.proofs.Math.Nat.{mul-suc}
@@ -15,8 +15,6 @@ use Rattle.tc_waits.specs.declared.waits.Wanting.{Wanting}
 use Rattle.tc_waits.specs.declared.waits.Waiting.{Waiting}
 use Rattle.tc_waits.specs.declared.waits.Waiting.TheVariants as waiting
 use Rattle.tc_wall.specs.declared.axes.Mark.{Mark}
-use Rattle.tc_wall.specs.declared.axes.TheConstants.{WIDTH}
-use Rattle.tc_wall.specs.declared.boards.Wait.{Wait}
 use Rattle.tc_wall.specs.declared.boards.Way.{Way}
 use Rattle.tc_wall.specs.declared.boards.Live.{Live}
 use Rattle.tc_wall.specs.declared.boards.KnownSchedule.{KnownSchedule}
@@ -33,8 +31,7 @@ use Rattle.tc_wall.specs.declared.fixed.TheConstants.{HEAD, STYLE, REFRESH, HEAD
 use Rattle.tc_wall.specs.declared.pages.TheConstants.{MOST_BYTES, MOST_FEW}
 use Rattle.tc_wall.specs.Parts.{Part, Fixed, shown, shown_all, fixed}
 use Rattle.tc_wall.specs.Bounds.{last_of, left_out_parts, none_parts}
-use Rattle.tc_wall.specs.Signs.{sign_of}
-use Rattle.tc_wall.specs.Heading.{file_parts, entered_parts, moved_parts, last_parts, heading_parts}
+use Rattle.tc_wall.specs.Heading.{file_parts, last_parts, heading_parts}
 use Rattle.tc_wall.specs.Tiles.{count_at, sum_at, tile_head_parts, count_parts, next_parts, counts_parts, tile_parts, open_tiles_parts, final_tiles_parts, tiles_parts}
 use Rattle.tc_wall.specs.Waits.{critical_parts, marked_parts, other_parts, barred_parts, request_parts, stack_parts, waiting_parts, wait_parts, text_of, waits_parts}
 use Rattle.tc_wall.specs.LinkParts.{fop_words, farm_words, flag_words, queue_parts, counter_parts, fop_parts, farm_parts, link_parts}
@@ -42,11 +39,11 @@ use Rattle.tc_wall.specs.ScheduleParts.{activity_parts, known_schedule_parts}
 use Rattle.tc_wall.specs.Axis.{axis_of, lines_of, drawn}
 use Rattle.tc_wall.specs.Bars.{stage_parts, begin_of, end_of, bar_parts}
 use Rattle.tc_wall.specs.WayParts as ways
-use Rattle.tc_wall.specs.MoveParts.{who_parts, what_parts, move_parts, moves_parts}
+use Rattle.tc_wall.specs.MoveParts.{move_parts, moves_parts}
 use Rattle.tc_wall.specs.Page.{laid_in, size_word, refresh_parts, head_parts, live_parts, page, board_page}
-use Rattle.tc_wall.specs.Ranges.{IsShort, IsMoveInRange, IsWantingInRange, IsWaitingInRange, IsWaitInRange, IsOriginInRange, IsRequestInRange, IsWayInRange, AreQueuesInRange, AreCountersInRange, IsFopInRange, IsFarmInRange, IsLinkInRange, IsActivityInRange, IsScheduleInRange, IsLiveInRange, IsBoardInRange}
+use Rattle.tc_wall.specs.Ranges.{IsShort, IsMoveInRange, IsWantingInRange, IsWaitingInRange, IsWaitInRange, IsOriginInRange, IsWayInRange, AreQueuesInRange, AreCountersInRange, IsFopInRange, IsFarmInRange, IsLinkInRange, IsActivityInRange, IsScheduleInRange, IsLiveInRange, IsBoardInRange}
 use Rattle.tc_wall.proofs.ListLemmas.{flat_map-append}
-use Rattle.tc_wall.proofs.SizeLemmas.{size, of_nothing, of_text, of_words, of_u16, of_u32, of_u64, of_time, of_place, of_name, sign_size, chosen_size, entered_size, moved_size, tile_begins_size, tile_label_size, count_size, request_begins_size, stack_begins_size, approvals_size, rows_size, author_size, free_size, locked_size, doubt_size, work_size, worded_size, number_size, share_size, flies_size, section_size, premise_size, enabled_size, activity_size, row_begins_size, identity_size, command_size, way_author_size, bar_begins_size, place_size, label_size, tick_size, ticks_begin_size, who_size, what_size}
+use Rattle.tc_wall.proofs.SizeLemmas.{size, of_nothing, of_text, of_words, of_u16, of_u32, of_u64, of_place, of_name, chosen_size, entered_size, moved_size, tile_begins_size, tile_label_size, count_size, request_begins_size, stack_begins_size, approvals_size, rows_size, author_size, free_size, locked_size, doubt_size, work_size, worded_size, number_size, share_size, flies_size, section_size, premise_size, enabled_size, activity_size, row_begins_size, identity_size, command_size, way_author_size, bar_begins_size, place_size, label_size, tick_size, ticks_begin_size, who_size, what_size}
 use Rattle.tc_wall.proofs.AxisLemmas.{IsOnAxis, axis_small, x_small, lines_small, lines_few, all_reversed}
 
 -- parts behind parts

@@ -1,5 +1,5 @@
 -- What holds of each item that was looked at.
-use Rattle.std.proofs.Common.{◌≡◌, ℕ, ◌+◌, ◌<◌, List, [], ◌∷◌, ◌++◌, length, take, get_or, sym, subst}
+use Rattle.std.proofs.Common.{◌≡◌, ℕ, ◌+◌, ◌<◌, List, length, take, get_or, sym, subst}
 use Rattle.std.proofs.lemmas.List.{take_more}
 use Rattle.std.specs.List.{AllByRecursion}
 use Rattle.tc_wall.proofs.AxisLemmas.{all_appended}

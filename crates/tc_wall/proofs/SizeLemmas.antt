@@ -1,9 +1,7 @@
 -- How many bytes the parts of a page have at most.
-use Rattle.std.proofs.Common.{◌≡◌, ℕ, suc, zero, ◌+◌, ◌-◌, ◌*◌, ◌/◌, ◌^◌, ◌<◌, ◌≤◌, max, min, Bool, true, false, is_some, ◌==◌, nat_lt, nat_le, if◌then◌else◌, Option, Some, None, IfSome, List, [], ◌∷◌, ◌++◌, codes, length, map, take, drop, reverse, get_or, sum, refl, sym, ap, subst, ◌∙◌, arith, lit≤, length-append}
+use Rattle.std.proofs.Common.{◌≡◌, ℕ, ◌+◌, ◌*◌, ◌^◌, ◌<◌, ◌≤◌, Bool, true, false, is_some, ◌==◌, if◌then◌else◌, Option, Some, None, List, [], ◌∷◌, ◌++◌, codes, length, refl, arith, lit≤, length-append}
 use Rattle.std.proofs.lemmas.Fmt.{length-decimal-le}
-use Rattle.std.proofs.lemmas.List.{length-take, length-drop, length-reverse}
 use Rattle.std.specs.Fmt.{decimal}
-use Rattle.std.specs.List.{flat_map, AllByRecursion, slice_get}
 use Rattle.tc_types.specs.declared.history.places.Place.{Place}
 use Rattle.tc_types.specs.declared.history.places.Place.TheVariants.{Entered, Approved, Queued, Sent, Confirmed, Riding, Scheduled, Accepted, Started, Completed, Failed, Doubtful, Withdrawn, Deleted, Closed}
 use Rattle.tc_types.specs.declared.history.causes.Cause.{Cause}
@@ -11,8 +9,6 @@ use Rattle.tc_types.specs.declared.history.causes.Cause.TheVariants as cause
 use Rattle.tc_types.specs.declared.history.moves.Move.{Move}
 use Rattle.tc_types.specs.declared.requests.Command.{Command}
 use Rattle.tc_types.specs.declared.requests.Identity.{Identity}
-use Rattle.tc_types.specs.declared.requests.Origin.{Origin}
-use Rattle.tc_types.specs.declared.requests.Request.{Request}
 use Rattle.tc_types.specs.declared.link.activities.ListedActivity.{ListedActivity}
 use Rattle.tc_types.specs.Lines.{place_name, from_word, cause_name}
 use Rattle.tc_waits.specs.declared.waits.Lock.{Lock}
@@ -22,7 +18,7 @@ use Rattle.tc_wall.specs.declared.axes.Mark.{Mark}
 use Rattle.tc_wall.specs.declared.axes.TheConstants.{WIDTH}
 use Rattle.tc_wall.specs.Clock.{clock_text}
 use Rattle.tc_wall.specs.Escapes.{entity, escaped}
-use Rattle.tc_wall.specs.Parts.{Part, Fixed, Number, Time, PlaceWord, FromWord, CauseWord, Count, Row, Person, shown, shown_all, fixed}
+use Rattle.tc_wall.specs.Parts.{Part, Fixed, Number, Time, PlaceWord, FromWord, CauseWord, Count, Row, Person, shown, shown_all}
 use Rattle.tc_wall.specs.Signs.{sign_of}
 use Rattle.tc_wall.specs.Heading.{entered_parts, moved_parts}
 use Rattle.tc_wall.specs.Tiles.{count_at, zero_word, tile_begins, tile_label, count_parts}

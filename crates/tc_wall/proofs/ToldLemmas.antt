@@ -1,5 +1,5 @@
 -- What the parts of a page tell: the counts of the tiles, and where each request that is open stands.
-use Rattle.std.proofs.Common.{◌≡◌, ℕ, Bool, true, false, if◌then◌else◌, codes, nat_lt, Option, Some, None, List, [], ◌∷◌, ◌++◌, map, take, reverse, refl, sym, ap, ap₂, ◌∙◌, append-nil}
+use Rattle.std.proofs.Common.{◌≡◌, ℕ, Bool, true, false, if◌then◌else◌, codes, nat_lt, Option, Some, None, List, [], ◌∷◌, ◌++◌, map, take, reverse, refl, ap, ap₂, ◌∙◌, append-nil}
 use Rattle.std.specs.List.{flat_map, filter}
 use Rattle.tc_types.specs.declared.history.places.Place.{Place}
 use Rattle.tc_types.specs.declared.history.places.Place.TheVariants.{Entered, Approved, Queued, Sent, Confirmed, Riding, Scheduled, Accepted, Started, Completed, Failed, Doubtful, Withdrawn, Deleted, Closed}
@@ -12,7 +12,6 @@ use Rattle.tc_waits.specs.declared.waits.Wanting.{Wanting}
 use Rattle.tc_waits.specs.declared.waits.Waiting.{Waiting}
 use Rattle.tc_waits.specs.declared.waits.Waiting.TheVariants as waiting
 use Rattle.tc_wall.specs.declared.axes.Mark.{Mark}
-use Rattle.tc_wall.specs.declared.boards.Wait.{Wait}
 use Rattle.tc_wall.specs.declared.boards.Way.{Way}
 use Rattle.tc_wall.specs.declared.boards.Live.{Live}
 use Rattle.tc_wall.specs.declared.boards.KnownSchedule.{KnownSchedule}
@@ -29,7 +28,7 @@ use Rattle.tc_wall.specs.Waits.{critical_parts, request_begins, stack_begins, ma
 use Rattle.tc_wall.specs.LinkParts.{worded_parts, number_parts, share_parts, flies_parts, queue_parts, counter_parts, fop_parts, farm_parts, section_begins, premise_parts, link_parts}
 use Rattle.tc_wall.specs.ScheduleParts.{enabled_parts, activity_parts, known_schedule_parts}
 use Rattle.tc_wall.specs.Axis.{axis_of, lines_of, drawn}
-use Rattle.tc_wall.specs.Bars.{stage_parts, begin_of, end_of, bar_parts}
+use Rattle.tc_wall.specs.Bars.{stage_parts, begin_of, bar_parts}
 use Rattle.tc_wall.specs.WayParts as ways
 use Rattle.tc_wall.specs.MoveParts.{who_parts, what_parts, move_parts, moves_parts}
 use Rattle.tc_wall.specs.Page.{refresh_parts, head_parts, live_parts, page}

@@ -1,5 +1,5 @@
 -- What a clock at UTC shows at a moment, by the calendar of the crate `jiff_core`.
-use Rattle.std.specs.Prelude.{ℕ, suc, zero, ◌+◌, ◌-◌, ◌/◌, ◌%◌, nat_le, if◌then◌else◌, pos, List, [], ◌∷◌, ◌++◌}
+use Rattle.std.specs.Prelude.{ℕ, suc, zero, ◌+◌, ◌-◌, ◌/◌, ◌%◌, nat_le, if◌then◌else◌, pos, List, ◌∷◌, ◌++◌}
 use Rattle.jiff_core.specs.Calendar.{day_count}
 use Rattle.jiff_fmt.specs.Text.{pad2, pad4}
 

@@ -1,5 +1,5 @@
 -- How the link stands: the premise, and thirteen names with their values; that of a closed file is closed.
-use Rattle.std.specs.Prelude.{ℕ, Bool, false, ◌||◌, if◌then◌else◌, List, [], ◌∷◌, ◌++◌, codes}
+use Rattle.std.specs.Prelude.{ℕ, Bool, ◌||◌, if◌then◌else◌, List, [], ◌∷◌, ◌++◌, codes}
 use Rattle.tc_wall.specs.declared.links.FopState.{FopState}
 use Rattle.tc_wall.specs.declared.links.FopState.TheVariants.{Active, RetransmitWithoutWait, RetransmitWithWait, InitialisingWithoutBc, InitialisingWithBc, Initial}
 use Rattle.tc_wall.specs.declared.links.FarmState.{FarmState}

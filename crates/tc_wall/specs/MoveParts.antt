@@ -1,5 +1,5 @@
 -- The last moves, the newest first.
-use Rattle.std.specs.Prelude.{ℕ, List, [], ◌∷◌, ◌++◌, codes, reverse}
+use Rattle.std.specs.Prelude.{List, [], ◌∷◌, ◌++◌, codes, reverse}
 use Rattle.std.specs.List.{flat_map}
 use Rattle.tc_types.specs.declared.history.moves.Move.{Move}
 use Rattle.tc_wall.specs.declared.boards.Board.{Board}

@@ -1,10 +1,10 @@
 -- The page: its parts, in order.
-use Rattle.std.specs.Prelude.{ℕ, ◌+◌, ◌&&◌, nat_le, if◌then◌else◌, Option, Some, None, List, [], ◌∷◌, ◌++◌, codes}
+use Rattle.std.specs.Prelude.{ℕ, ◌+◌, ◌&&◌, nat_le, if◌then◌else◌, Option, Some, None, List, [], ◌++◌, codes}
 use Rattle.tc_wall.specs.declared.boards.Live.{Live}
 use Rattle.tc_wall.specs.declared.boards.Board.{Board}
 use Rattle.tc_wall.specs.declared.pages.TheConstants.{MOST_FEW}
 use Rattle.tc_wall.specs.declared.fixed.TheConstants.{HEAD, STYLE, REFRESH, FOOT}
-use Rattle.tc_wall.specs.Parts.{Part, Fixed, fixed, shown_all}
+use Rattle.tc_wall.specs.Parts.{Part, fixed, shown_all}
 use Rattle.tc_wall.specs.Heading.{heading_parts}
 use Rattle.tc_wall.specs.Tiles.{tiles_parts}
 use Rattle.tc_wall.specs.Waits.{waits_parts}

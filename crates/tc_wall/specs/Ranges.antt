@@ -1,5 +1,5 @@
 -- What the types of a board keep: its numbers are in their ranges, and its texts are short.
-use Rattle.std.specs.Prelude.{ℕ, ◌-◌, ◌<◌, ◌≤◌, ◌^◌, IfSome, Option, List, length, take, slice_get}
+use Rattle.std.specs.Prelude.{ℕ, ◌-◌, ◌<◌, ◌≤◌, ◌^◌, IfSome, List, length, take, slice_get}
 use Rattle.std.specs.List.{AllByRecursion}
 use Rattle.tc_types.specs.declared.history.moves.Move.{Move}
 use Rattle.tc_types.specs.declared.requests.Origin.{Origin}
