@@ -11,7 +11,8 @@ use Rattle.tc_wall.specs.Parts.{Part, Fixed, Number, PlaceWord}
 unfoldable pub stage_parts : Place → ℕ → ℕ → List Part
 stage_parts place begin end =
     if nat_lt begin end
-    then Fixed (codes "<rect class=\"") ∷ PlaceWord place ∷ Fixed (codes "\" x=\"") ∷ Number begin ∷ Fixed (codes "\" width=\"") ∷ Number (end - begin) ∷ Fixed (codes "\" height=\"10\"/>") ∷ []
+    then Fixed (codes "<rect class=\"") ∷ PlaceWord place ∷ Fixed (codes "\" x=\"") ∷ Number begin
+    ∷ Fixed (codes "\" width=\"") ∷ Number (end - begin) ∷ Fixed (codes "\" height=\"10\"/>") ∷ []
     else []
 
 -- a stage begins at its move, or where the one before it begins if that is later

@@ -14,7 +14,8 @@ unfoldable pub entered_parts : ℕ → List Part
 entered_parts entered = Fixed (codes "<p><b>") ∷ Number entered ∷ Fixed (codes "</b> entered</p>\n") ∷ []
 
 unfoldable pub moved_parts : Move → List Part
-moved_parts row = Fixed (codes "<p>last move <b>") ∷ Number row.seq ∷ Fixed (codes "</b> at <b>") ∷ Time row.moment ∷ Fixed (codes "</b> UTC</p>\n") ∷ []
+moved_parts row =
+    Fixed (codes "<p>last move <b>") ∷ Number row.seq ∷ Fixed (codes "</b> at <b>") ∷ Time row.moment ∷ Fixed (codes "</b> UTC</p>\n") ∷ []
 
 abbrev pub last_parts : Option Move → List Part
 last_parts (Some row) = moved_parts row
@@ -22,4 +23,5 @@ last_parts None = fixed (codes "<p>nothing moved yet</p>\n")
 
 unfoldable pub heading_parts : Board → List Part
 heading_parts b =
-    fixed HEADING.now ++ file_parts b.live ++ entered_parts b.entered ++ last_parts (slice_get b.moves.now (length b.moves.now - 1)) ++ fixed (codes "</header>\n")
+    fixed HEADING.now ++ file_parts b.live ++ entered_parts b.entered ++ last_parts (slice_get b.moves.now (length b.moves.now - 1))
+    ++ fixed (codes "</header>\n")

@@ -9,7 +9,7 @@ use Rattle.tc_wall.specs.declared.links.FarmLine.{FarmLine}
 use Rattle.tc_wall.specs.declared.links.LinkLines.{LinkLines}
 use Rattle.tc_wall.specs.Parts.{Part, Fixed, Number, fixed}
 
--- the states of the FOP, as the standard names them (CCSDS 232.1-B, 5.1.2)
+-- the states of the FOP, as the standard names them (CCSDS 232.1-B, 5.1.2); with these values their element begins
 unfoldable pub fop_words : FopState → List ℕ
 fop_words Active = codes "<dd>S1 active"
 fop_words RetransmitWithoutWait = codes "<dd>S2 retransmit without wait"
@@ -28,7 +28,8 @@ farm_words farm.Lockout = codes "<dd class=\"Lockout\">Lockout"
 unfoldable pub flag_words : Bool → Bool → Bool → List ℕ
 flag_words lockout wait retransmit =
     if lockout || wait || retransmit
-    then codes "<dd class=\"Wait\">" ++ (if lockout then codes "Lockout " else []) ++ (if wait then codes "Wait " else []) ++ (if retransmit then codes "Retransmit " else [])
+    then codes "<dd class=\"Wait\">" ++ (if lockout then codes "Lockout " else []) ++ (if wait then codes "Wait " else [])
+    ++ (if retransmit then codes "Retransmit " else [])
     else codes "<dd>none"
 
 unfoldable pub premise_word : Bool → List ℕ
@@ -44,7 +45,8 @@ number_parts name n = Fixed (codes "<div><dt>") ∷ Fixed name ∷ Fixed (codes 
 -- so many of so many
 unfoldable pub share_parts : List ℕ → ℕ → ℕ → List Part
 share_parts name n most =
-    Fixed (codes "<div><dt>") ∷ Fixed name ∷ Fixed (codes "</dt><dd>") ∷ Number n ∷ Fixed (codes " of ") ∷ Number most ∷ Fixed (codes "</dd></div>\n") ∷ []
+    Fixed (codes "<div><dt>") ∷ Fixed name ∷ Fixed (codes "</dt><dd>") ∷ Number n ∷ Fixed (codes " of ") ∷ Number most
+    ∷ Fixed (codes "</dd></div>\n") ∷ []
 
 unfoldable pub flies_parts : ℕ → ℕ → List Part
 flies_parts up down =
@@ -79,7 +81,8 @@ unfoldable pub premise_parts : Bool → List Part
 premise_parts clean = Fixed (codes "<p class=\"premise\">premise ") ∷ Fixed (premise_word clean) ∷ Fixed (codes "</p>\n<dl>\n") ∷ []
 
 unfoldable pub link_parts : LinkLines → List Part
-link_parts l = section_begins l.clean ++ premise_parts l.clean ++ fop_parts l.fop ++ farm_parts l.farm ++ flies_parts l.up l.down ++ fixed (codes "</dl>\n</section>\n")
+link_parts l =
+    section_begins l.clean ++ premise_parts l.clean ++ fop_parts l.fop ++ farm_parts l.farm ++ flies_parts l.up l.down ++ fixed (codes "</dl>\n</section>\n")
 
 abbrev pub closed_link_parts : List Part
 closed_link_parts = fixed (codes "<section class=\"link closed\">\n<h2>Link</h2>\n<p class=\"premise\">closed</p>\n</section>\n")

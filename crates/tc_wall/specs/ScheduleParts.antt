@@ -13,12 +13,14 @@ enabled_word enabled = if enabled then codes "enabled" else codes "disabled"
 
 unfoldable pub enabled_parts : Bool → ℕ → List Part
 enabled_parts enabled count =
-    Fixed (codes "<p class=\"none\"><b>") ∷ Fixed (enabled_word enabled) ∷ Fixed (codes "</b>, activities: ") ∷ Number count ∷ Fixed (codes "</p>\n<ul>\n") ∷ []
+    Fixed (codes "<p class=\"none\"><b>") ∷ Fixed (enabled_word enabled) ∷ Fixed (codes "</b>, activities: ") ∷ Number count
+    ∷ Fixed (codes "</p>\n<ul>\n") ∷ []
 
 -- APID/COUNT and its time
 unfoldable pub activity_parts : ListedActivity → List Part
 activity_parts it =
-    Fixed (codes "<li><b>") ∷ Number it.identity.apid ∷ Fixed (codes "/") ∷ Number it.identity.count ∷ Fixed (codes "</b> ") ∷ Time it.time ∷ Fixed (codes "</li>\n") ∷ []
+    Fixed (codes "<li><b>") ∷ Number it.identity.apid ∷ Fixed (codes "/") ∷ Number it.identity.count ∷ Fixed (codes "</b> ") ∷ Time it.time
+    ∷ Fixed (codes "</li>\n") ∷ []
 
 unfoldable pub known_schedule_parts : KnownSchedule → List Part
 known_schedule_parts s =

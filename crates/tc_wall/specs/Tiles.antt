@@ -19,9 +19,10 @@ sum_at counts places = sum (map (count_at counts) places)
 unfoldable pub zero_word : ℕ → List ℕ
 zero_word count = if count == 0 then codes " zero" else []
 
--- a tile's class, its sign, its sum and its label
+-- a tile's class, and its sign: that of its first place; then its sum and its label
 unfoldable pub tile_begins : List ℕ → Place → ℕ → List Part
-tile_begins kind first count = Fixed (codes "<div class=\"tile ") ∷ Fixed kind ∷ Fixed (zero_word count) ∷ Fixed (codes "\"><i>") ∷ Fixed (sign_of first) ∷ Fixed (codes "</i>") ∷ []
+tile_begins kind first count =
+    Fixed (codes "<div class=\"tile ") ∷ Fixed kind ∷ Fixed (zero_word count) ∷ Fixed (codes "\"><i>") ∷ Fixed (sign_of first) ∷ Fixed (codes "</i>") ∷ []
 
 unfoldable pub tile_label : ℕ → List ℕ → List Part
 tile_label count label = Fixed (codes "<b>") ∷ Number count ∷ Fixed (codes "</b><p>") ∷ Fixed label ∷ Fixed (codes "</p><small>") ∷ []
@@ -65,7 +66,9 @@ open_tiles_parts counts =
 
 unfoldable pub final_tiles_parts : List ℕ → List Part
 final_tiles_parts counts =
-    place_tile_parts counts (codes "failed") (codes "FAILED") Failed ++ place_tile_parts counts (codes "completed") (codes "completed") Completed ++ ended_parts counts
+    place_tile_parts counts (codes "failed") (codes "FAILED") Failed
+    ++ place_tile_parts counts (codes "completed") (codes "completed") Completed
+    ++ ended_parts counts
 
 unfoldable pub tiles_parts : List ℕ → List Part
 tiles_parts counts = fixed TILES.now ++ open_tiles_parts counts ++ final_tiles_parts counts ++ fixed (codes "</section>\n")

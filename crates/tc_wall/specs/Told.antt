@@ -24,7 +24,8 @@ told_all parts = flat_map told parts
 -- the places of the tiles: each once
 abbrev pub tile_places : List Place
 tile_places =
-    Entered ∷ Approved ∷ Queued ∷ Sent ∷ Confirmed ∷ Riding ∷ Accepted ∷ Started ∷ Scheduled ∷ Doubtful ∷ Failed ∷ Completed ∷ Withdrawn ∷ Deleted ∷ Closed ∷ []
+    Entered ∷ Approved ∷ Queued ∷ Sent ∷ Confirmed ∷ Riding ∷ Accepted ∷ Started ∷ Scheduled ∷ Doubtful
+    ∷ Failed ∷ Completed ∷ Withdrawn ∷ Deleted ∷ Closed ∷ []
 
 -- the count of a place, as the board has it
 abbrev pub counted : List ℕ → Place → Told

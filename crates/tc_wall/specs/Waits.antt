@@ -58,7 +58,8 @@ stack_parts stack w rows first = stack_begins stack ++ marked_parts w.critical +
 
 unfoldable pub free_parts : ℕ → List Part
 free_parts n =
-    Fixed (codes "<tr class=\"Approved\"><td>") ∷ Fixed (sign_of place.Approved) ∷ Fixed (codes " request ") ∷ Number n ∷ Fixed (codes "</td><td>release</td><td>anyone</td></tr>\n") ∷ []
+    Fixed (codes "<tr class=\"Approved\"><td>") ∷ Fixed (sign_of place.Approved) ∷ Fixed (codes " request ") ∷ Number n
+    ∷ Fixed (codes "</td><td>release</td><td>anyone</td></tr>\n") ∷ []
 
 unfoldable pub locked_parts : ℕ → Lock → List Part
 locked_parts n lock =
@@ -67,7 +68,8 @@ locked_parts n lock =
 
 unfoldable pub doubt_parts : ℕ → List Part
 doubt_parts n =
-    Fixed (codes "<tr class=\"Doubtful\"><td>") ∷ Fixed (sign_of place.Doubtful) ∷ Fixed (codes " request ") ∷ Number n ∷ Fixed (codes "</td><td>IN DOUBT: on board or not?</td><td>anyone</td></tr>\n") ∷ []
+    Fixed (codes "<tr class=\"Doubtful\"><td>") ∷ Fixed (sign_of place.Doubtful) ∷ Fixed (codes " request ") ∷ Number n
+    ∷ Fixed (codes "</td><td>IN DOUBT: on board or not?</td><td>anyone</td></tr>\n") ∷ []
 
 -- the text of a step, where it is known
 abbrev pub text_of : Option (List ℕ) → List ℕ

@@ -44,11 +44,13 @@ unfoldable pub identity_parts : Identity → List Part
 identity_parts identity = Fixed (codes "<td>") ∷ Number identity.apid ∷ Fixed (codes "/") ∷ Number identity.count ∷ Fixed (codes "</td>") ∷ []
 
 unfoldable pub command_parts : Command → List Part
-command_parts command = Fixed (codes "<td>") ∷ Number (service_of command) ∷ Fixed (codes "/") ∷ Number (subtype_of command) ∷ Fixed (codes "</td><td>") ∷ []
+command_parts command =
+    Fixed (codes "<td>") ∷ Number (service_of command) ∷ Fixed (codes "/") ∷ Number (subtype_of command) ∷ Fixed (codes "</td><td>") ∷ []
 
 -- how many moves there are before those that are drawn
 unfoldable pub earlier_parts : ℕ → List Part
-earlier_parts moved = if nat_lt MOST_STAGES moved then Fixed (codes " ") ∷ Number (moved - MOST_STAGES) ∷ Fixed (codes " moves before") ∷ [] else []
+earlier_parts moved =
+    if nat_lt MOST_STAGES moved then Fixed (codes " ") ∷ Number (moved - MOST_STAGES) ∷ Fixed (codes " moves before") ∷ [] else []
 
 unfoldable pub author_parts : List ℕ → List Part
 author_parts author = Fixed (codes "</td><td class=\"by\">") ∷ Person author ∷ Fixed (codes "</td><td class=\"by\">") ∷ []
@@ -59,11 +61,14 @@ origin_parts None = []
 origin_parts (Some origin) = Person origin.stack ∷ Fixed (codes " ") ∷ Number origin.line ∷ []
 
 unfoldable pub bar_begins : List Part
-bar_begins = Fixed (codes "</td><td class=\"bar\"><svg viewBox=\"0 0 ") ∷ Number WIDTH ∷ Fixed (codes " 10\" preserveAspectRatio=\"none\"><use href=\"#ticks\"/>") ∷ []
+bar_begins =
+    Fixed (codes "</td><td class=\"bar\"><svg viewBox=\"0 0 ") ∷ Number WIDTH
+    ∷ Fixed (codes " 10\" preserveAspectRatio=\"none\"><use href=\"#ticks\"/>") ∷ []
 
 -- where it stands, with its sign
 unfoldable pub place_parts : Place → List Part
-place_parts place = Fixed (codes "</svg></td><td class=\"place\">") ∷ Fixed (sign_of place) ∷ Fixed (codes " ") ∷ PlaceWord place ∷ Fixed (codes "</td></tr>\n") ∷ []
+place_parts place =
+    Fixed (codes "</svg></td><td class=\"place\">") ∷ Fixed (sign_of place) ∷ Fixed (codes " ") ∷ PlaceWord place ∷ Fixed (codes "</td></tr>\n") ∷ []
 
 -- who it is, and who entered it
 unfoldable pub request_parts : Way → List Part
@@ -76,13 +81,17 @@ way_parts axis way = request_parts way ++ bar_begins ++ bar_parts axis 0 (drawn 
 
 -- the time of a line of the axis, and the line itself
 unfoldable pub label_parts : Mark → List Part
-label_parts line = Fixed (codes "<b style=\"left:calc(100% * ") ∷ Number line.x ∷ Fixed (codes " / ") ∷ Number WIDTH ∷ Fixed (codes ")\">") ∷ Time line.moment ∷ Fixed (codes "</b>\n") ∷ []
+label_parts line =
+    Fixed (codes "<b style=\"left:calc(100% * ") ∷ Number line.x ∷ Fixed (codes " / ") ∷ Number WIDTH ∷ Fixed (codes ")\">") ∷ Time line.moment
+    ∷ Fixed (codes "</b>\n") ∷ []
 
 unfoldable pub tick_parts : Mark → List Part
 tick_parts line = Fixed (codes "M") ∷ Number line.x ∷ Fixed (codes " 0V10") ∷ []
 
 unfoldable pub ticks_begin : List Part
-ticks_begin = Fixed (codes "</div><svg viewBox=\"0 0 ") ∷ Number WIDTH ∷ Fixed (codes " 10\" preserveAspectRatio=\"none\" class=\"lines\"><path id=\"ticks\" d=\"") ∷ []
+ticks_begin =
+    Fixed (codes "</div><svg viewBox=\"0 0 ") ∷ Number WIDTH
+    ∷ Fixed (codes " 10\" preserveAspectRatio=\"none\" class=\"lines\"><path id=\"ticks\" d=\"") ∷ []
 
 unfoldable pub axis_parts : List Mark → List Part
 axis_parts lines =
