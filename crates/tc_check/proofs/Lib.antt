@@ -1,2 +1,3 @@
-pub mod RowLemmas
-pub mod SaysLemmas
+pub mod ShownLemmas
+pub mod FindingLemmas
+pub mod ScriptLemmas

@@ -60,8 +60,8 @@ pub found_broken : (Keeps : RowKeeps) (rules : List Rule) (number : ℕ) (row : 
     → FoundSoFar Keeps rules (number + 1) left all (found ++ fault ∷ [])
 found_broken Keeps rules number row left all found fault so broken at = record {
   goes_on = λ others is.
-    subst (λ (faults : List Fault). BrokenRows Keeps rules 1 all faults) (sym (append_assoc found (fault ∷ []) others))
-    (so.goes_on (fault ∷ others) (inr (fault, others, refl, (broken, at), is)));
+      subst (λ (faults : List Fault). BrokenRows Keeps rules 1 all faults) (sym (append_assoc found (fault ∷ []) others))
+      (so.goes_on (fault ∷ others) (inr (fault, others, refl, (broken, at), is)));
 }
 
 -- a row, and those behind it

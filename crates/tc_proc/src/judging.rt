@@ -5,13 +5,20 @@ ghost use Rattle.tc_types.specs.Limits.{most_steps};
 ghost use Rattle.tc_csv.specs.declared.faults.Fault.{Fault as SomeFault};
 ghost use Rattle.tc_csv.specs.FaultLists.{BrokenRows, first_fault};
 ghost use Rattle.tc_proc.specs.ProcedureFaults.{AreProcedureFaults};
-ghost use Rattle.tc_proc.specs.Procedures.{KeepsStep, Tells, step_rules};
+ghost use Rattle.tc_proc.specs.Procedures.{KeepsStep, Tells, procedure_columns, step_rules};
 
 use crate::readers::{COLUMNS, step_of};
 use csv::ByteRecord;
 use std::alloc::{AllocError, Global};
-use tc_csv::{Fault, NotRead, read_table};
+use tc_csv::{Column, Fault, NotRead, read_table};
 use tc_types::limits::MOST_STEPS;
+
+/// The columns of the text of a procedure, in order.
+pub fn procedure_columns() -> &'static [Column]
+    ensures { result.now ≡ procedure_columns }
+{
+    &COLUMNS
+}
 
 /// What each row breaks, of those that break a rule.
 fn broken_steps(alloc: Global, rows: &[ByteRecord]) -> Result<Vec<Fault>, AllocError>

@@ -14,7 +14,7 @@ mod steps;
 
 pub use executions::Execution;
 pub use faults::ReopenFault;
-pub use judging::procedure_faults;
+pub use judging::{procedure_columns, procedure_faults};
 pub use logs::ProcedureLog;
 pub use procedures::{Procedure, Step};
 pub use readers::{read_procedure, why_no_procedure};

@@ -21,7 +21,12 @@ use tc_types::read::readers::{number, yes_or_no};
 use tc_types::{Refusal, StepText};
 
 /// The columns of the text of a procedure.
-pub(crate) const COLUMNS: [Column; 4] = [Column::Step, Column::Text, Column::Second, Column::Request];
+pub(crate) const COLUMNS: [Column; 4] = [
+    Column::Step,
+    Column::Text,
+    Column::Second,
+    Column::Request,
+];
 
 /// The text of a step, from its field.
 fn text_of(row: u32, field: &[u8]) -> Result<StepText, NotRead>

@@ -70,7 +70,7 @@ moments_fit rides are =
 
 -- ---- entries
 
-ack_completes : (ack : Ack) → completes (ack_word ack) ≡ ack.completion
+pub ack_completes : (ack : Ack) → completes (ack_word ack) ≡ ack.completion
 ack_completes ack = by_flag ack.completion
   where
     by_flag : (c : Bool) → ((if c then 99 else 45) == 99) ≡ c

@@ -81,11 +81,11 @@ IsAny word (name ∷ names) = (word ≡ name) ⊎ IsAny word names
 
 any_of : (names : List (List ℕ)) (word : List ℕ) → is_one_of names word ≡ true → IsAny word names
 any_of [] word is = cc
-any_of (name ∷ names) word is = by_first (same word name) refl
+any_of (name ∷ names) word is = by_first (same word name) refl is (any_of names word)
   where
-    by_first : (first : Bool) → same word name ≡ first → (word ≡ name) ⊎ IsAny word names
-    by_first true equal = inl (word_is word name equal)
-    by_first false equal = inr (any_of names word (subst (λ (b : Bool). (b || is_one_of names word) ≡ true) equal is))
+    by_first : (first : Bool) → same word name ≡ first → (first || is_one_of names word) ≡ true → (is_one_of names word ≡ true → IsAny word names) → (word ≡ name) ⊎ IsAny word names
+    by_first true equal is later = inl (word_is word name equal)
+    by_first false equal is later = inr (later is)
 
 -- ---- lists
 
@@ -221,8 +221,8 @@ plain_from completing service (t ∷ g ∷ m ∷ o ∷ []) is f =
       are = λ i. decimal service ∷ spelled i ∷ f.1.0 i ∷ f.1.1.0 i ∷ shown i ∷ [];
       ranged = (is, ranged);
       ends = ends;
-      asks = λ no. cc;
-      completes = λ no. cc;
+      asks = λ scheduled. cc;
+      completes = λ scheduled. cc;
     }
 plain_from completing service (t ∷ g ∷ m ∷ o ∷ x ∷ xs) is f = absurd f.1.1.1.1
 
@@ -236,7 +236,7 @@ not_scheduling false service is other = is
 not_scheduling true service is other = (is.0, is.1, λ eleven. eleven_is (subst (λ n. is_scheduling (decimal n) ≡ false) eleven other))
   where
     eleven_is : is_scheduling (decimal 11) ≡ false → ⊥
-    eleven_is no = let bad : true ≡ false = subst (λ (w : List ℕ). is_scheduling w ≡ false) decimal_11 no in cc
+    eleven_is differs = let bad : true ≡ false = subst (λ (w : List ℕ). is_scheduling w ≡ false) decimal_11 differs in cc
 
 command_from : (completing : Bool) (given : List (List ℕ)) → Follow (Some (slot.Service completing)) given → CommandFrom completing given
 command_from completing [] f = absurd f
@@ -430,11 +430,11 @@ act_from verb.Procedure rest f = load_from kind.Procedure rest f
 
 found_passes : {X : Type 0} (p : X → Bool) (xs : List X) (x : X) → find p xs ≡ Some x → p x ≡ true
 found_passes p [] x found = cc
-found_passes {X} p (y ∷ ys) x found = by_first (p y) refl found
+found_passes {X} p (y ∷ ys) x found = by_first (p y) refl found (found_passes p ys x)
   where
-    by_first : (passes : Bool) → p y ≡ passes → (if passes then Some y else find p ys) ≡ Some x → p x ≡ true
-    by_first true passes first = subst (λ (z : X). p z ≡ true) (same_Some y x first) passes
-    by_first false passes later = found_passes p ys x later
+    by_first : (passes : Bool) → p y ≡ passes → (if passes then Some y else find p ys) ≡ Some x → (find p ys ≡ Some x → p x ≡ true) → p x ≡ true
+    by_first true passes first later = subst (λ (z : X). p z ≡ true) (same_Some y x first) passes
+    by_first false passes other later = later other
 
 verb_from : (word : List ℕ) → is_some (verb_in word) ≡ true → (of : Verb) × (verb_in word ≡ Some of) × (verb_word of ≡ word)
 verb_from word some = by_found (verb_in word) refl some

@@ -5,15 +5,22 @@ ghost use Rattle.tc_types.specs.Limits.{most_stack_rows};
 ghost use Rattle.tc_csv.specs.declared.faults.Fault.{Fault as SomeFault};
 ghost use Rattle.tc_csv.specs.FaultLists.{BrokenRows, first_fault};
 ghost use Rattle.tc_stack.specs.StackFaults.{AreRowFaults, AreStackFaults, barred_faults};
-ghost use Rattle.tc_stack.specs.StackTexts.{KeepsRow, row_rules, Tells};
+ghost use Rattle.tc_stack.specs.StackTexts.{KeepsRow, Tells, row_rules, stack_columns};
 
 use crate::readers::{COLUMNS, names_barred, rows_of};
 use crate::stack_rows::row_of;
 use crate::stacks::StackRow;
 use csv::ByteRecord;
 use std::alloc::{AllocError, Global};
-use tc_csv::{Fault, NotRead, Rule, read_table};
+use tc_csv::{Column, Fault, NotRead, Rule, read_table};
 use tc_types::limits::MOST_STACK_ROWS;
+
+/// The columns of the text of a stack, in order.
+pub fn stack_columns() -> &'static [Column]
+    ensures { result.now ≡ stack_columns }
+{
+    &COLUMNS
+}
 
 /// What each row breaks, of those that break a rule.
 fn broken_rows(alloc: Global, records: &[ByteRecord]) -> Result<Vec<Fault>, AllocError>

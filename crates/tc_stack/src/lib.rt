@@ -13,6 +13,6 @@ mod stacks;
 
 pub use approvals::Approvals;
 pub use instants::instant;
-pub use judging::stack_faults;
+pub use judging::{stack_columns, stack_faults};
 pub use readers::{read_stack, why_no_stack};
 pub use stacks::{Stack, StackRow};

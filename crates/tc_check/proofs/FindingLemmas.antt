@@ -1,0 +1,74 @@
+-- A line more.
+use Rattle.std.proofs.Common.{◌≡◌, ◌∙◌, ℕ, suc, ◌+◌, ◌<◌, ◌≤◌, Bool, true, false, if◌then◌else◌, List, [], ◌∷◌, ◌++◌, codes, length, take, nat_lt, ◌==◌, min, refl, sym, ap, subst, append_assoc, arith}
+use Rattle.std.specs.List.{flat_map}
+use Rattle.std.proofs.lemmas.Bool.{ltb-true, ltb-false, cases_Bool, ltb_from_iff}
+use Rattle.std.proofs.lemmas.Bool.Decides.{nat_tests}
+use Rattle.std.proofs.lemmas.Grind.{flat_map-append}
+use Rattle.std.proofs.lemmas.List.{append-nil, length-append, take_all, take-append-le}
+use Rattle.tc_check.specs.declared.findings.Findings.{Findings}
+use Rattle.tc_check.specs.Findings.{Shows, ended, is_none_found, shown_lines}
+
+-- ---- tests of how many there are
+
+not_more : (n : ℕ) → n ≤ 20 → nat_lt 20 n ≡ false
+not_more n few = grind (arith, nat_tests, few)
+
+is_more : (n : ℕ) → 20 < n → nat_lt 20 n ≡ true
+is_more n many = grind (arith, nat_tests, many)
+
+-- ---- what is shown
+
+pub shown_few : (lines : List (List ℕ)) → length lines ≤ 20 → shown_lines lines ≡ ended lines
+shown_few lines few =
+    rw (not_more (length lines) few) (append-nil (ended (take 20 lines)) ∙ ap ended (take_all 20 lines few))
+
+ended_more : (lines : List (List ℕ)) (line : List ℕ) → ended (lines ++ line ∷ []) ≡ (ended lines ++ line) ++ 10 ∷ []
+ended_more lines line =
+    flat_map-append (λ (l : List ℕ). l ++ 10 ∷ []) lines (line ∷ [])
+    ∙ (ap (λ (l : List ℕ). ended lines ++ l) (append-nil (line ++ 10 ∷ [])) ∙ sym (append_assoc (ended lines) line (10 ∷ [])))
+
+-- one of the first 20
+pub shown_more : (lines : List (List ℕ)) (line : List ℕ) → length lines < 20 → shown_lines (lines ++ line ∷ []) ≡ (shown_lines lines ++ line) ++ 10 ∷ []
+shown_more lines line few =
+    let many = length-append lines (line ∷ []) in
+    shown_few (lines ++ line ∷ []) (omega (arith, many, few)) ∙ (ended_more lines line ∙ ap (λ (l : List ℕ). (l ++ line) ++ 10 ∷ []) (sym (shown_few lines (omega (arith, few)))))
+
+-- the first that is not shown
+pub shown_last : (lines : List (List ℕ)) (line : List ℕ) → length lines ≡ 20 → shown_lines (lines ++ line ∷ []) ≡ shown_lines lines ++ codes "and more\n"
+shown_last lines line many =
+    let more = length-append lines (line ∷ []) in
+    rw (is_more (length (lines ++ line ∷ [])) (omega (arith, more, many)))
+    (ap (λ (l : List (List ℕ)). ended l ++ codes "and more\n") (take-append-le 20 lines (line ∷ []) (omega (arith, many)) ∙ take_all 20 lines (omega (arith, many)))
+    ∙ ap (λ (l : List ℕ). l ++ codes "and more\n") (sym (shown_few lines (omega (arith, many)))))
+
+-- no other changes what is shown
+pub shown_same : (lines : List (List ℕ)) (line : List ℕ) → 20 < length lines → shown_lines (lines ++ line ∷ []) ≡ shown_lines lines
+shown_same lines line many =
+    let more = length-append lines (line ∷ []) in
+    rw (is_more (length (lines ++ line ∷ [])) (omega (arith, more, many)), is_more (length lines) many)
+    (ap (λ (l : List (List ℕ)). ended l ++ codes "and more\n") (take-append-le 20 lines (line ∷ []) (omega (arith, many))))
+
+pub none_shown : (lines : List (List ℕ)) (kept : Findings) (none : Bool) → Shows lines kept → none ≡ (kept.count == 0) → none ≡ is_none_found lines
+none_shown [] kept none shows is = let count = shows.count in is ∙ rw count refl
+none_shown (line ∷ lines) kept none shows is = let count = shows.count in is ∙ not_zero kept.count (omega (arith, count))
+  where
+    not_zero : (n : ℕ) → 0 < n → (n == 0) ≡ false
+    not_zero n some = grind (arith, nat_tests, some)
+
+-- ---- one line after the other
+
+-- the front of these lines is kept, and these are left
+pub record ShowsFront (all left : List (List ℕ)) (kept : Findings) : Type 0 where
+  pub front : List (List ℕ)
+  pub shows : Shows front kept
+  pub are : front ++ left ≡ all
+
+pub front_none : (all : List (List ℕ)) (kept : Findings) → Shows [] kept → ShowsFront all all kept
+front_none all kept shows = record { front = []; shows = shows; are = refl }
+
+pub front_more : (all lines left : List (List ℕ)) (old new : Findings) → ShowsFront all (lines ++ left) old → ((found : List (List ℕ)) → Shows found old → Shows (found ++ lines) new)
+    → ShowsFront all left new
+front_more all lines left old new so adds = record { front = so.front ++ lines; shows = adds so.front so.shows; are = append_assoc so.front lines left ∙ so.are }
+
+pub front_all : (all left : List (List ℕ)) (kept : Findings) → ShowsFront all left kept → left ≡ [] → Shows all kept
+front_all all left kept so none = subst (λ (lines : List (List ℕ)). Shows lines kept) (sym (append-nil so.front) ∙ (ap (λ (l : List (List ℕ)). so.front ++ l) (sym none) ∙ so.are)) so.shows

@@ -1,0 +1,100 @@
+-- What `check` says of a script.
+use Rattle.std.specs.Prelude.{◌≡◌, ◌⊎◌, ℕ, ◌+◌, ◌-◌, ◌==◌, nat_le, Bool, true, false, not, ◌&&◌, if◌then◌else◌, Option, Some, None, List, [], ◌∷◌, ◌++◌, codes, get_or, map}
+use Rattle.std.specs.List.{list_any}
+use Rattle.std.specs.Fmt.{decimal}
+use Rattle.bstr.specs.Text.{lines_of, without_terminator}
+use Rattle.tc_types.specs.declared.loads.LoadKind.{LoadKind}
+use Rattle.tc_script.specs.declared.faults.LineFault.{LineFault}
+use Rattle.tc_script.specs.declared.faults.LineFault.TheVariants as fault
+use Rattle.tc_script.specs.declared.slots.Slot.{Slot}
+use Rattle.tc_script.specs.declared.slots.Slot.TheVariants as slot
+use Rattle.tc_script.specs.Faults.{IsTaken, Tells, line_words}
+use Rattle.tc_script.specs.SlotTexts.{slot_text}
+use Rattle.tc_check.specs.Checks.{Says}
+use Rattle.tc_check.specs.Findings.{shown_lines, is_none_found}
+use Rattle.tc_check.specs.Shown.{quoted}
+
+-- the lines of a script: LF ends a line, and one CR just before that LF is dropped; the last LF may be missing
+abbrev pub script_lines : List ℕ → List (List ℕ)
+script_lines text = map without_terminator (lines_of text)
+
+-- an empty line, or one that begins with #
+abbrev pub is_skipped : List ℕ → Bool
+is_skipped [] = true
+is_skipped (first ∷ others) = first == 35
+
+-- ---- a word that is not taken
+
+abbrev pub is_empty : List ℕ → Bool
+is_empty [] = true
+is_empty (byte ∷ others) = false
+
+-- a byte of no word but a path
+abbrev pub is_strange : ℕ → Bool
+is_strange byte = not (nat_le 33 byte && nat_le byte 126)
+
+abbrev pub is_path : Slot → Bool
+is_path slot.Path = true
+is_path other = false
+
+-- why a word is not taken at its place
+abbrev pub why_word : Slot → List ℕ → List ℕ
+why_word at word =
+    if list_any (λ byte. byte == 9) word then codes "a TAB, where one space parts two words"
+    else if not (is_path at) && list_any is_strange word then codes "a byte that is no printable character of ASCII"
+    else codes "not " ++ slot_text at
+
+abbrev pub word_text : Slot → List ℕ → List ℕ
+word_text at word = if is_empty word then codes "empty, where one space parts two words" else why_word at word ++ codes ": " ++ quoted word
+
+-- one that is too many
+abbrev pub extra_text : List ℕ → List ℕ
+extra_text word = if is_empty word then codes "empty, behind the last word" else codes "one too many: " ++ quoted word
+
+-- ---- a line
+
+abbrev pub line_place : ℕ → List ℕ
+line_place number = codes "line " ++ decimal number
+
+abbrev pub word_place : ℕ → ℕ → List ℕ
+word_place number which = line_place number ++ codes ", word " ++ decimal which ++ codes ": "
+
+-- the word with this number
+abbrev pub word_of : List ℕ → ℕ → List ℕ
+word_of line which = get_or (line_words line) (which - 1) []
+
+-- what is wrong with a line by its number
+abbrev pub fault_text : ℕ → List ℕ → LineFault → List ℕ
+fault_text number line fault.TooLong = line_place number ++ codes ": more than 200 bytes behind the second space"
+fault_text number line (fault.Word which at) = word_place number which ++ word_text at (word_of line which)
+fault_text number line (fault.Missing which at) = word_place number which ++ codes "missing, " ++ slot_text at
+fault_text number line (fault.Extra which) = word_place number which ++ extra_text (word_of line which)
+
+-- what is told of a line by its number: nothing where it is skipped, or where a run takes it
+abbrev pub SaysOfLine : ℕ → List ℕ → Option (List ℕ) → Type 0
+SaysOfLine number line None = (is_skipped line ≡ true) ⊎ IsTaken line
+SaysOfLine number line (Some told) = (is_skipped line ≡ false) × (fault : LineFault) × Tells line fault × (told ≡ fault_text number line fault)
+
+-- ---- a file that a line loads
+
+-- what is told of the file at a path: it is not there, or it is wrong, and where it is first
+abbrev pub SaysOfFile : ℕ → LoadKind → List ℕ → Option (List ℕ) → Option (List ℕ) → Type 0
+SaysOfFile number of path None told = told ≡ Some (word_place number 5 ++ codes "no file that can be read: " ++ quoted path)
+SaysOfFile number of path (Some text) None = (whole first : List ℕ) × Says of text whole first true
+SaysOfFile number of path (Some text) (Some told) = (whole first : List ℕ) × Says of text whole first false × (told ≡ word_place number 5 ++ path ++ codes ": " ++ first)
+
+-- ---- a script
+
+-- what is told of the lines from this number on
+abbrev pub SaysOfLines : ℕ → List (List ℕ) → List (List ℕ) → Type 0
+SaysOfLines number [] told = told ≡ []
+SaysOfLines number (line ∷ lines) told =
+    (SaysOfLine number line None × SaysOfLines (number + 1) lines told)
+    ⊎ ((first : List ℕ) × (others : List (List ℕ)) × (told ≡ first ∷ others) × SaysOfLine number line (Some first) × SaysOfLines (number + 1) lines others)
+
+-- of a script by itself, whose files are not looked at: `ok`, or each line that is none
+pub record SaysOfScript (text told : List ℕ) (is_ok : Bool) : Type 0 where
+  pub lines : List (List ℕ)
+  pub are : SaysOfLines 1 (script_lines text) lines
+  pub said : told ≡ (if is_none_found lines then codes "ok\n" else shown_lines lines)
+  pub ok : is_ok ≡ is_none_found lines
