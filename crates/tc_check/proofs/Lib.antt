@@ -1,3 +1,4 @@
 pub mod ShownLemmas
 pub mod FindingLemmas
+pub mod SaysLemmas
 pub mod ScriptLemmas

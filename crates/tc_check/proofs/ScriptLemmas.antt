@@ -31,7 +31,7 @@ told_more number line told left all old new so says adds = record {
   found = so.found ++ told ∷ [];
   shows = adds so.found so.shows;
   goes_on = λ others is.
-    subst (λ (lines : List (List ℕ)). SaysOfLines 1 all lines) (sym (append_assoc so.found (told ∷ []) others)) (so.goes_on (told ∷ others) (inr (told, others, refl, says, is)));
+      subst (λ (lines : List (List ℕ)). SaysOfLines 1 all lines) (sym (append_assoc so.found (told ∷ []) others)) (so.goes_on (told ∷ others) (inr (told, others, refl, says, is)));
   count = let before = so.count in omega (arith, before);
 }
 

@@ -6,7 +6,7 @@ use Rattle.csv.specs.Records.{Row, fields_of}
 use Rattle.tc_csv.specs.declared.faults.Rule.{Rule}
 use Rattle.tc_csv.specs.declared.faults.Fault.{Fault}
 use Rattle.tc_csv.specs.Faults.{RowKeeps, KeepsAll, FirstBroken, FirstBrokenRow}
-use Rattle.tc_csv.specs.FaultLists.{BrokenRows}
+use Rattle.tc_csv.specs.FaultLists.{AddsRow, BrokenRows}
 use Rattle.tc_csv.proofs.RowLemmas.{fault_same, first_once, kept_unbroken}
 
 -- ---- the list
@@ -51,11 +51,11 @@ pub record FoundSoFar (Keeps : RowKeeps) (rules : List Rule) (number : ℕ) (lef
 pub found_none : (Keeps : RowKeeps) (rules : List Rule) (all : List (List (List ℕ))) → FoundSoFar Keeps rules 1 all all []
 found_none Keeps rules all = record { goes_on = λ others is. is }
 
-pub found_kept : (Keeps : RowKeeps) (rules : List Rule) (number : ℕ) (row : List (List ℕ)) (left all : List (List (List ℕ))) (found : List Fault)
+found_kept : (Keeps : RowKeeps) (rules : List Rule) (number : ℕ) (row : List (List ℕ)) (left all : List (List (List ℕ))) (found : List Fault)
     → FoundSoFar Keeps rules number (row ∷ left) all found → KeepsAll (Keeps number row) rules → FoundSoFar Keeps rules (number + 1) left all found
 found_kept Keeps rules number row left all found so kept = record { goes_on = λ others is. so.goes_on others (inl (kept, is)) }
 
-pub found_broken : (Keeps : RowKeeps) (rules : List Rule) (number : ℕ) (row : List (List ℕ)) (left all : List (List (List ℕ))) (found : List Fault) (fault : Fault)
+found_broken : (Keeps : RowKeeps) (rules : List Rule) (number : ℕ) (row : List (List ℕ)) (left all : List (List (List ℕ))) (found : List Fault) (fault : Fault)
     → FoundSoFar Keeps rules number (row ∷ left) all found → FirstBroken (Keeps number row) rules fault.rule → fault.row ≡ number
     → FoundSoFar Keeps rules (number + 1) left all (found ++ fault ∷ [])
 found_broken Keeps rules number row left all found fault so broken at = record {
@@ -63,6 +63,14 @@ found_broken Keeps rules number row left all found fault so broken at = record {
       subst (λ (faults : List Fault). BrokenRows Keeps rules 1 all faults) (sym (append_assoc found (fault ∷ []) others))
       (so.goes_on (fault ∷ others) (inr (fault, others, refl, (broken, at), is)));
 }
+
+-- a row more
+pub found_row : (Keeps : RowKeeps) (rules : List Rule) (number : ℕ) (row : List (List ℕ)) (left all : List (List (List ℕ))) (old new : List Fault)
+    → FoundSoFar Keeps rules number (row ∷ left) all old → AddsRow Keeps rules number row old new → FoundSoFar Keeps rules (number + 1) left all new
+found_row Keeps rules number row left all old new so (inl (kept, same)) =
+    subst (λ (found : List Fault). FoundSoFar Keeps rules (number + 1) left all found) (sym same) (found_kept Keeps rules number row left all old so kept)
+found_row Keeps rules number row left all old new so (inr (fault, broken, more)) =
+    subst (λ (found : List Fault). FoundSoFar Keeps rules (number + 1) left all found) (sym more) (found_broken Keeps rules number row left all old fault so broken.0 broken.1)
 
 -- a row, and those behind it
 left_suc : (rows : List Row) (i : ℕ) (row : Row) → i < length rows → row ≡ get_or rows i row → drop i (map fields_of rows) ≡ fields_of row ∷ drop (suc i) (map fields_of rows)

@@ -6,7 +6,7 @@ use Rattle.std.proofs.lemmas.List.{length-drop}
 use Rattle.tc_csv.specs.declared.faults.Fault.{Fault}
 use Rattle.tc_csv.specs.Faults.{KeepsAll, FirstBrokenRow}
 use Rattle.tc_csv.specs.FaultLists.{BrokenRows, first_fault}
-use Rattle.tc_csv.specs.Tables.{records_of, header, HasHeader, KeepsTable, table_rules}
+use Rattle.tc_csv.specs.Tables.{records_of, header, HasHeader, IsTable, KeepsTable, table_rules}
 use Rattle.tc_csv.proofs.RowLemmas.{kept_unbroken, table_once}
 use Rattle.tc_csv.proofs.FaultListLemmas.{head_broken, broken_once}
 use Rattle.tc_proc.specs.declared.procedures.Step.{Step}
@@ -75,3 +75,8 @@ faults_once text a b (inl (x, table, is)) (inl (y, also, same)) = is ∙ (ap (λ
 faults_once text a b (inl (x, table, is)) (inr (kept, rows)) = absurd (kept_unbroken (KeepsTable procedure_columns 100 text) table_rules x.rule kept table.broken)
 faults_once text a b (inr (kept, rows)) (inl (y, also, same)) = absurd (kept_unbroken (KeepsTable procedure_columns 100 text) table_rules y.rule kept also.broken)
 faults_once text a b (inr (kept, rows)) (inr (table, others)) = broken_once KeepsStep step_rules 1 (drop 1 (records_of text)) a b rows others
+
+-- the rows of a table
+pub table_faults : (text : List ℕ) (given : List (List (List ℕ))) (faults : List Fault) → IsTable procedure_columns 100 text given → BrokenRows KeepsStep step_rules 1 (drop 1 given) faults
+    → AreProcedureFaults text faults
+table_faults text given faults table are = inr (table.kept, subst (λ (records : List (List (List ℕ))). BrokenRows KeepsStep step_rules 1 (drop 1 records) faults) table.are are)

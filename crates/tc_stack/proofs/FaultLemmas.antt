@@ -1,19 +1,21 @@
 -- All that is wrong with the text of a stack.
-use Rattle.std.proofs.Common.{◌≡◌, ◌≢◌, ◌∙◌, inl, inr, ℕ, ◌+◌, ◌<◌, Bool, true, false, if◌then◌else◌, Option, Some, None, List, [], ◌∷◌, ◌++◌, length, get_or, drop, refl, sym, ap, subst, append_assoc, arith}
-use Rattle.std.proofs.lemmas.List.{append-nil, at_drop_more, length-drop}
+use Rattle.std.proofs.Common.{◌≡◌, ◌≢◌, ◌∙◌, inl, inr, ℕ, ◌+◌, ◌-◌, ◌<◌, ◌≤◌, Bool, true, false, if◌then◌else◌, Option, Some, None, List, [], ◌∷◌, ◌++◌, length, get_or, take, drop, map, refl, sym, ap, subst, append_assoc, arith}
+use Rattle.std.proofs.lemmas.List.{at_drop_more, length-drop, length-map, length-take}
+use Rattle.csv.specs.Records.{Row, fields_of}
+use Rattle.std.proofs.lemmas.Option.{same_Some}
 use Rattle.tc_csv.specs.declared.faults.Rule.TheVariants.{TargetRow}
 use Rattle.tc_csv.specs.declared.faults.Fault.{Fault}
 use Rattle.tc_csv.specs.Faults.{KeepsAll, FirstBrokenRow}
 use Rattle.tc_csv.specs.FaultLists.{BrokenRows, first_fault}
 use Rattle.tc_csv.specs.Rows.{SpellRows, IsOnly}
-use Rattle.tc_csv.specs.Tables.{records_of, IsTableFault, KeepsTable, table_rules}
+use Rattle.tc_csv.specs.Tables.{records_of, IsTable, IsTableFault, KeepsTable, table_rules}
 use Rattle.tc_csv.proofs.RowLemmas.{kept_unbroken, table_once, rows_unbroken, spell_length}
 use Rattle.tc_csv.proofs.FaultListLemmas.{head_broken, broken_once, none_broken}
 use Rattle.tc_stack.specs.declared.stacks.StackRow.{StackRow}
 use Rattle.tc_stack.specs.Stacks.{first_barred, names_barred}
 use Rattle.tc_stack.specs.StackTexts.{stack_columns, SpellsRow, KeepsRow, row_rules, SpellsStack, Tells}
 use Rattle.tc_stack.specs.RowTexts.{SpellsOnlyRow}
-use Rattle.tc_stack.specs.StackFaults.{AreBarred, AreRowFaults, AreStackFaults, barred_fault, barred_faults}
+use Rattle.tc_stack.specs.StackFaults.{AreBarred, AreRowFaults, AreStackFaults, barred_fault, barred_faults, barred_row}
 use Rattle.tc_stack.proofs.TextLemmas.{row_keeps, rows_only, rows_stand}
 
 -- ---- targets, one row after the other
@@ -21,37 +23,39 @@ use Rattle.tc_stack.proofs.TextLemmas.{row_keeps, rows_only, rows_stand}
 -- the rows from this one on, of which this one names what it may not name, or does not
 pub barred_next : (all : List StackRow) (rows : List StackRow) (i : ℕ) (row : StackRow) (found : List Fault) (barred : Bool) → i < length rows → row ≡ get_or rows i row → names_barred all row ≡ barred
     → barred_faults all 1 rows ≡ found ++ barred_faults all (i + 1) (drop i rows)
-    → barred_faults all 1 rows ≡ (found ++ (if barred then barred_fault (i + 1) ∷ [] else [])) ++ barred_faults all (i + 1 + 1) (drop (i + 1) rows)
+    → barred_faults all 1 rows ≡ (found ++ barred_row barred (i + 1)) ++ barred_faults all (i + 1 + 1) (drop (i + 1) rows)
 barred_next all rows i row found barred low is test so =
     so
     ∙ (ap (λ (later : List Fault). found ++ later) (at_drop_more (barred_faults all (i + 1)) rows i row low
-    ∙ ap (λ (r : StackRow). (if names_barred all r then barred_fault (i + 1) ∷ [] else []) ++ barred_faults all (i + 1 + 1) (drop (i + 1) rows)) (sym is)
-    ∙ ap (λ (b : Bool). (if b then barred_fault (i + 1) ∷ [] else []) ++ barred_faults all (i + 1 + 1) (drop (i + 1) rows)) test)
-    ∙ sym (append_assoc found (if barred then barred_fault (i + 1) ∷ [] else []) (barred_faults all (i + 1 + 1) (drop (i + 1) rows))))
+    ∙ ap (λ (r : StackRow). barred_row (names_barred all r) (i + 1) ++ barred_faults all (i + 1 + 1) (drop (i + 1) rows)) (sym is)
+    ∙ ap (λ (b : Bool). barred_row b (i + 1) ++ barred_faults all (i + 1 + 1) (drop (i + 1) rows)) test)
+    ∙ sym (append_assoc found (barred_row barred (i + 1)) (barred_faults all (i + 1 + 1) (drop (i + 1) rows))))
 
 -- the first of them
 first_of : (all : List StackRow) (line : ℕ) (rows : List StackRow) (first : Option ℕ) → first_barred all line rows ≡ first → (fault : Fault) → first_fault (barred_faults all line rows) ≡ Some fault
     → (first ≡ Some fault.row) × (fault.rule ≡ TargetRow)
 first_of all line [] first is fault told = cc
-first_of all line (row ∷ rows) first is fault told = by_test (names_barred all row) is told
+first_of all line (row ∷ rows) first is fault told = by_test (names_barred all row) is told (first_of all (line + 1) rows first)
   where
     by_test : (barred : Bool) → (if barred then Some line else first_barred all (line + 1) rows) ≡ first
-        → first_fault ((if barred then barred_fault line ∷ [] else []) ++ barred_faults all (line + 1) rows) ≡ Some fault → (first ≡ Some fault.row) × (fault.rule ≡ TargetRow)
-    by_test true is told =
-        let one : ◌≡◌ {A = Option Fault} (Some (barred_fault line)) (Some fault) = told in
-        let same : barred_fault line ≡ fault = cc in
+        → first_fault (barred_row barred line ++ barred_faults all (line + 1) rows) ≡ Some fault
+        → (first_barred all (line + 1) rows ≡ first → (f : Fault) → first_fault (barred_faults all (line + 1) rows) ≡ Some f → (first ≡ Some f.row) × (f.rule ≡ TargetRow))
+        → (first ≡ Some fault.row) × (fault.rule ≡ TargetRow)
+    by_test true is told later =
+        let same : barred_fault line ≡ fault = same_Some (barred_fault line) fault told in
         (sym is ∙ ap (λ (f : Fault). Some f.row) same, sym (ap (λ (f : Fault). f.rule) same))
-    by_test false is told = first_of all (line + 1) rows first is fault told
+    by_test false is told later = later is fault told
 
 -- where there are none, no row names what it may not name
 none_of : (all : List StackRow) (line : ℕ) (rows : List StackRow) → first_fault (barred_faults all line rows) ≡ None → first_barred all line rows ≡ None
 none_of all line [] told = refl
-none_of all line (row ∷ rows) told = by_test (names_barred all row) told
+none_of all line (row ∷ rows) told = by_test (names_barred all row) told (none_of all (line + 1) rows)
   where
-    by_test : (barred : Bool) → first_fault ((if barred then barred_fault line ∷ [] else []) ++ barred_faults all (line + 1) rows) ≡ None
+    by_test : (barred : Bool) → first_fault (barred_row barred line ++ barred_faults all (line + 1) rows) ≡ None
+        → (first_fault (barred_faults all (line + 1) rows) ≡ None → first_barred all (line + 1) rows ≡ None)
         → (if barred then Some line else first_barred all (line + 1) rows) ≡ None
-    by_test true told = cc
-    by_test false told = none_of all (line + 1) rows told
+    by_test true told later = cc
+    by_test false told later = later told
 
 -- ---- the text
 
@@ -114,3 +118,16 @@ read_barred given rows faults read is = inr (record { rows = rows; are = rows_on
 pub read_broken : (given : List (List (List ℕ))) (faults : List Fault) (fault : Fault) → FirstBrokenRow KeepsRow row_rules 1 given fault → BrokenRows KeepsRow row_rules 1 given faults → AreRowFaults given faults
 read_broken given [] fault first broken = absurd (none_broken KeepsRow row_rules 1 given fault broken first)
 read_broken given (found ∷ others) fault first broken = inl (broken, λ none. cc)
+
+-- the rows of a table
+pub table_faults : (text : List ℕ) (given : List (List (List ℕ))) (faults : List Fault) → IsTable stack_columns 200 text given → AreRowFaults (drop 1 given) faults → AreStackFaults text faults
+table_faults text given faults table are = inr (table.kept, subst (λ (records : List (List (List ℕ))). AreRowFaults (drop 1 records) faults) table.are are)
+
+-- no more rows than a stack may have
+pub few_behind : (records : List Row) (text : List ℕ) → IsTable stack_columns 200 text (map fields_of records) → length (take (length records - 1) (drop 1 records)) ≤ 200
+few_behind records text table =
+    let few = table.kept.1.0 in
+    let same : length (map fields_of records) ≡ length (records_of text) = ap length table.are in
+    let mapped = length-map records fields_of in
+    let taken = length-take (length records - 1) (drop 1 records) in
+    omega (arith, few, same, mapped, taken)

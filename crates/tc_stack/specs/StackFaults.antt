@@ -1,5 +1,5 @@
 -- All that is wrong with the text of a stack.
-use Rattle.std.specs.Prelude.{◌≡◌, ◌≢◌, ◌⊎◌, ℕ, ◌+◌, if◌then◌else◌, List, [], ◌∷◌, ◌++◌, drop}
+use Rattle.std.specs.Prelude.{◌≡◌, ◌≢◌, ◌⊎◌, ℕ, ◌+◌, Bool, if◌then◌else◌, List, [], ◌∷◌, ◌++◌, drop}
 use Rattle.tc_types.specs.Limits.{most_stack_rows}
 use Rattle.tc_csv.specs.declared.faults.Rule.TheVariants.{TargetRow}
 use Rattle.tc_csv.specs.declared.faults.Fault.{Fault}
@@ -15,10 +15,13 @@ use Rattle.tc_stack.specs.StackTexts.{stack_columns, SpellsRow, KeepsRow, row_ru
 abbrev pub barred_fault : ℕ → Fault
 barred_fault line = record { row = line; rule = TargetRow }
 
+abbrev pub barred_row : Bool → ℕ → List Fault
+barred_row is_barred line = if is_barred then barred_fault line ∷ [] else []
+
 -- the rows that do so, of those from this line on, among all
 abbrev pub barred_faults : List StackRow → ℕ → List StackRow → List Fault
 barred_faults all line [] = []
-barred_faults all line (row ∷ rows) = (if names_barred all row then barred_fault line ∷ [] else []) ++ barred_faults all (line + 1) rows
+barred_faults all line (row ∷ rows) = barred_row (names_barred all row) line ++ barred_faults all (line + 1) rows
 
 -- the rows that these records spell, and what is wrong with their targets
 pub record AreBarred (given : List (List (List ℕ))) (faults : List Fault) : Type 0 where

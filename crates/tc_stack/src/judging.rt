@@ -1,10 +1,10 @@
 //! All that is wrong with the text of a stack.
-ghost use Rattle.std.specs.Prelude.{◌≡◌, ◌≤◌, length, List, [], ◌∷◌, map, IfOk};
+ghost use Rattle.std.specs.Prelude.{◌≡◌, ◌≤◌, length, List, [], ◌∷◌, ◌++◌, map, IfOk, OnOk};
 ghost use Rattle.csv.specs.Records.{fields_of};
 ghost use Rattle.tc_types.specs.Limits.{most_stack_rows};
 ghost use Rattle.tc_csv.specs.declared.faults.Fault.{Fault as SomeFault};
-ghost use Rattle.tc_csv.specs.FaultLists.{BrokenRows, first_fault};
-ghost use Rattle.tc_stack.specs.StackFaults.{AreRowFaults, AreStackFaults, barred_faults};
+ghost use Rattle.tc_csv.specs.FaultLists.{AddsRow, BrokenRows, first_fault};
+ghost use Rattle.tc_stack.specs.StackFaults.{AreRowFaults, AreStackFaults, barred_faults, barred_row};
 ghost use Rattle.tc_stack.specs.StackTexts.{KeepsRow, Tells, row_rules, stack_columns};
 
 use crate::readers::{COLUMNS, names_barred, rows_of};
@@ -22,6 +22,16 @@ pub fn stack_columns() -> &'static [Column]
     &COLUMNS
 }
 
+/// Adds what a row breaks, if it breaks a rule.
+fn add_broken(faults: &mut Vec<Fault>, row: u32, fields: &ByteRecord) -> Result<(), AllocError>
+    ensures { OnOk result (AddsRow KeepsRow row_rules row (fields_of fields.now) faults.old.items faults.new.items) }
+{
+    match row_of(row, fields) {
+        Ok(_) => Ok(()),
+        Err(rule) => Ok(faults.push(Fault { row, rule })?),
+    }
+}
+
 /// What each row breaks, of those that break a rule.
 fn broken_rows(alloc: Global, records: &[ByteRecord]) -> Result<Vec<Fault>, AllocError>
     requires { length records.now ≤ most_stack_rows }
@@ -29,12 +39,22 @@ fn broken_rows(alloc: Global, records: &[ByteRecord]) -> Result<Vec<Fault>, Allo
 {
     let mut faults = Vec::new(alloc);
     for (index, fields) in records.iter().enumerate() {
-        let row = index as u32 + 1;
-        if let Err(rule) = row_of(row, fields) {
-            faults.push(Fault { row, rule })?;
-        }
+        add_broken(&mut faults, index as u32 + 1, fields)?;
     }
     Ok(faults)
+}
+
+/// Adds that the targets of a row are wrong, if they are.
+fn add_barred(faults: &mut Vec<Fault>, row: u32, is_barred: bool) -> Result<(), AllocError>
+    ensures { OnOk result (faults.new.items ≡ faults.old.items ++ barred_row is_barred row) }
+{
+    if !is_barred {
+        return Ok(());
+    }
+    Ok(faults.push(Fault {
+        row,
+        rule: Rule::TargetRow,
+    })?)
 }
 
 /// What is wrong with the targets of rows.
@@ -44,12 +64,7 @@ fn barred_rows(alloc: Global, rows: &[StackRow]) -> Result<Vec<Fault>, AllocErro
 {
     let mut faults = Vec::new(alloc);
     for (index, row) in rows.iter().enumerate() {
-        if names_barred(rows, row) {
-            faults.push(Fault {
-                row: index as u32 + 1,
-                rule: Rule::TargetRow,
-            })?;
-        }
+        add_barred(&mut faults, index as u32 + 1, names_barred(rows, row))?;
     }
     Ok(faults)
 }
@@ -75,6 +90,17 @@ fn only(alloc: Global, fault: Fault) -> Result<Vec<Fault>, AllocError>
     Ok(faults)
 }
 
+/// All that is wrong with a text.
+fn all_faults(alloc: Global, text: &[u8]) -> Result<Vec<Fault>, AllocError>
+    ensures { IfOk result (λ v. AreStackFaults text.now v.items) }
+{
+    match read_table(alloc, text, &COLUMNS, MOST_STACK_ROWS) {
+        Ok(records) => faults_of(alloc, &records[1..]),
+        Err(NotRead::Wrong(fault)) => only(alloc, fault),
+        Err(NotRead::Memory) => Err(AllocError),
+    }
+}
+
 /// All that is wrong with the text of a stack: the first rule of the table that it breaks; or what each row breaks; or what is wrong with their targets. Nothing where the
 /// text spells a stack. Fails where memory is refused.
 pub fn stack_faults(alloc: Global, text: &[u8]) -> Result<Vec<Fault>, AllocError>
@@ -82,9 +108,5 @@ pub fn stack_faults(alloc: Global, text: &[u8]) -> Result<Vec<Fault>, AllocError
     ensures only { (faults : List SomeFault) → AreStackFaults text.now faults → IfOk result (λ v. v.items ≡ faults) }
     ensures first { IfOk result (λ v. Tells text.now (first_fault v.items)) }
 {
-    match read_table(alloc, text, &COLUMNS, MOST_STACK_ROWS) {
-        Ok(records) => faults_of(alloc, &records[1..]),
-        Err(NotRead::Wrong(fault)) => only(alloc, fault),
-        Err(NotRead::Memory) => Err(AllocError),
-    }
+    all_faults(alloc, text)
 }
