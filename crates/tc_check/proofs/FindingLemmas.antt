@@ -6,7 +6,8 @@ use Rattle.std.proofs.lemmas.Bool.Decides.{nat_tests}
 use Rattle.std.proofs.lemmas.Grind.{flat_map-append}
 use Rattle.std.proofs.lemmas.List.{append-nil, length-append, take_all, take-append-le}
 use Rattle.tc_check.specs.declared.findings.Findings.{Findings}
-use Rattle.tc_check.specs.Findings.{Shows, ended, is_none_found, shown_lines}
+use Rattle.std.specs.String.{string_bytes}
+use Rattle.tc_check.specs.Findings.{Shows, ended, first_line, front_of, is_none_found, shown_lines}
 
 -- ---- tests of how many there are
 
@@ -48,12 +49,17 @@ shown_same lines line many =
     rw (is_more (length (lines ++ line ∷ [])) (omega (arith, more, many)), is_more (length lines) many)
     (ap (λ (l : List (List ℕ)). ended l ++ codes "and more\n") (take-append-le 20 lines (line ∷ []) (omega (arith, many))))
 
+not_zero : (n : ℕ) → 0 < n → (n == 0) ≡ false
+not_zero n some = grind (arith, nat_tests, some)
+
+-- the first of them stays
+first_same : (lines : List (List ℕ)) (line : List ℕ) → 0 < length lines → first_line lines ≡ first_line (lines ++ line ∷ [])
+first_same [] line some = absurd (omega (arith, some))
+first_same (l ∷ ls) line some = refl
+
 pub none_shown : (lines : List (List ℕ)) (kept : Findings) (none : Bool) → Shows lines kept → none ≡ (kept.count == 0) → none ≡ is_none_found lines
 none_shown [] kept none shows is = let count = shows.count in is ∙ rw count refl
 none_shown (line ∷ lines) kept none shows is = let count = shows.count in is ∙ not_zero kept.count (omega (arith, count))
-  where
-    not_zero : (n : ℕ) → 0 < n → (n == 0) ≡ false
-    not_zero n some = grind (arith, nat_tests, some)
 
 -- ---- one line after the other
 
@@ -72,3 +78,50 @@ front_more all lines left old new so adds = record { front = so.front ++ lines; 
 
 pub front_all : (all left : List (List ℕ)) (kept : Findings) → ShowsFront all left kept → left ≡ [] → Shows all kept
 front_all all left kept so none = subst (λ (lines : List (List ℕ)). Shows lines kept) (sym (append-nil so.front) ∙ (ap (λ (l : List (List ℕ)). so.front ++ l) (sym none) ∙ so.are)) so.shows
+
+-- ---- a line more, as it is kept
+
+first_more : (lines : List (List ℕ)) (line : List ℕ) (count : ℕ) (old new : List ℕ) → count ≡ min (length lines) 21 → old ≡ first_line lines → new ≡ old ++ front_of count line
+    → new ≡ first_line (lines ++ line ∷ [])
+first_more [] line count old new many is more =
+    let none : count ≡ 0 = omega (arith, many) in
+    more ∙ rw (is, none) refl
+first_more (l ∷ ls) line count old new many is more =
+    let other : (count == 0) ≡ false = not_zero count (omega (arith, many)) in
+    more ∙ (rw other (append-nil old) ∙ is)
+
+pub shows_more : (lines : List (List ℕ)) (line : List ℕ) (old new : Findings) → Shows lines old → old.count < 20 → string_bytes new.first ≡ string_bytes old.first ++ front_of old.count line
+    → string_bytes new.text ≡ (string_bytes old.text ++ line) ++ 10 ∷ [] → new.count ≡ old.count + 1 → Shows (lines ++ line ∷ []) new
+shows_more lines line old new shows few first text count =
+    let many = shows.count in
+    let more = length-append lines (line ∷ []) in
+    let small : length lines < 20 = omega (arith, many, few) in
+    record {
+      first = first_more lines line old.count (string_bytes old.first) (string_bytes new.first) many shows.first first;
+      text = text ∙ (ap (λ (l : List ℕ). (l ++ line) ++ 10 ∷ []) shows.text ∙ sym (shown_more lines line small));
+      count = omega (arith, many, more, count, few);
+    }
+
+-- that there are more
+pub shows_last : (lines : List (List ℕ)) (line : List ℕ) (old new : Findings) → Shows lines old → old.count ≡ 20 → string_bytes new.first ≡ string_bytes old.first
+    → string_bytes new.text ≡ string_bytes old.text ++ codes "and more\n" → new.count ≡ old.count + 1 → Shows (lines ++ line ∷ []) new
+shows_last lines line old new shows full first text count =
+    let many = shows.count in
+    let more = length-append lines (line ∷ []) in
+    let all : length lines ≡ 20 = omega (arith, many, full) in
+    record {
+      first = first ∙ (shows.first ∙ first_same lines line (omega (arith, all)));
+      text = text ∙ (ap (λ (l : List ℕ). l ++ codes "and more\n") shows.text ∙ sym (shown_last lines line all));
+      count = omega (arith, many, more, count, full);
+    }
+
+pub shows_same : (lines : List (List ℕ)) (line : List ℕ) (kept : Findings) → Shows lines kept → 20 < kept.count → Shows (lines ++ line ∷ []) kept
+shows_same lines line kept shows over =
+    let many = shows.count in
+    let more = length-append lines (line ∷ []) in
+    let past : 20 < length lines = omega (arith, many, over) in
+    record {
+      first = shows.first ∙ first_same lines line (omega (arith, past));
+      text = shows.text ∙ sym (shown_same lines line past);
+      count = omega (arith, many, more, over);
+    }

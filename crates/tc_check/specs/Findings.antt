@@ -1,5 +1,5 @@
 -- Lines that were found, as they are shown.
-use Rattle.std.specs.Prelude.{◌≡◌, ℕ, nat_lt, Bool, true, false, if◌then◌else◌, List, [], ◌∷◌, ◌++◌, codes, length, take, min, get_or}
+use Rattle.std.specs.Prelude.{◌≡◌, ℕ, ◌==◌, nat_lt, Bool, true, false, if◌then◌else◌, List, [], ◌∷◌, ◌++◌, codes, length, take, min, get_or}
 use Rattle.std.specs.List.{flat_map}
 use Rattle.std.specs.String.{string_bytes}
 use Rattle.tc_check.specs.declared.findings.Findings.{Findings}
@@ -19,6 +19,10 @@ is_none_found (line ∷ lines) = false
 -- the first of them; nothing where there is none
 abbrev pub first_line : List (List ℕ) → List ℕ
 first_line lines = get_or lines 0 []
+
+-- what a line adds to it, where so many stand before
+abbrev pub front_of : ℕ → List ℕ → List ℕ
+front_of count line = if count == 0 then line else []
 
 -- what is kept of these lines
 pub record Shows (lines : List (List ℕ)) (kept : Findings) : Type 0 where

@@ -19,14 +19,17 @@ columns_of kind.Procedure = procedure_columns
 
 -- ---- a column that is not the wanted one
 
+abbrev pub column_place : ℕ → List ℕ
+column_place number = codes "column " ++ decimal number
+
 abbrev pub other_column : ℕ → Column → List ℕ → List ℕ
-other_column number column field = codes "column " ++ decimal number ++ codes " is not " ++ column_name column ++ codes ": " ++ quoted field
+other_column number column field = column_place number ++ codes " is not " ++ column_name column ++ codes ": " ++ quoted field
 
 abbrev pub missing_column : ℕ → Column → List ℕ
-missing_column number column = codes "column " ++ decimal number ++ codes " is missing: " ++ column_name column
+missing_column number column = column_place number ++ codes " is missing: " ++ column_name column
 
 abbrev pub extra_column : ℕ → List ℕ → List ℕ
-extra_column number field = codes "column " ++ decimal number ++ codes " is one too many: " ++ quoted field
+extra_column number field = column_place number ++ codes " is one too many: " ++ quoted field
 
 -- the first of them, of columns from this number on
 abbrev pub columns_found : ℕ → List Column → List (List ℕ) → List ℕ

@@ -1,5 +1,5 @@
 -- What a text is that begins with no header.
-use Rattle.std.specs.Prelude.{ℕ, ◌==◌, Bool, true, false, ◌&&◌, ◌||◌, if◌then◌else◌, Option, Some, None, List, [], length, get_or, slice_get}
+use Rattle.std.specs.Prelude.{ℕ, ◌==◌, Bool, true, false, ◌&&◌, ◌||◌, if◌then◌else◌, Option, Some, None, List, [], ◌∷◌, length, get_or, slice_get}
 use Rattle.std.specs.List.{list_any}
 use Rattle.tc_check.specs.declared.looks.Look.{Look}
 use Rattle.tc_check.specs.declared.looks.Look.TheVariants as look
@@ -12,6 +12,10 @@ is_byte (Some other) byte = other == byte
 abbrev pub has_byte : List ℕ → ℕ → ℕ → Bool
 has_byte text place byte = is_byte (slice_get text place) byte
 
+-- the mark of UTF-8 stands in front
+abbrev pub has_mark : List ℕ → Bool
+has_mark text = (has_byte text 0 239 && has_byte text 1 187) && has_byte text 2 191
+
 -- its mark stands in front, or every second of the first four bytes is 0
 abbrev pub is_utf16 : List ℕ → Bool
 is_utf16 text =
@@ -22,9 +26,12 @@ is_utf16 text =
 abbrev pub is_workbook : List ℕ → Bool
 is_workbook text = ((has_byte text 0 80 && has_byte text 1 75) && has_byte text 2 3) && has_byte text 3 4
 
+abbrev pub has_in : List ℕ → ℕ → Bool
+has_in field byte = list_any (λ other. other == byte) field
+
 -- a record is one field, in which this byte stands
 abbrev pub is_one_field_with : ℕ → List (List ℕ) → Bool
-is_one_field_with byte fields = (length fields == 1) && list_any (λ other. other == byte) (get_or fields 0 [])
+is_one_field_with byte fields = (length fields == 1) && has_in (get_or fields 0 []) byte
 
 abbrev pub is_empty : List (List (List ℕ)) → Bool
 is_empty [] = true

@@ -56,8 +56,11 @@ extra_text word = if is_empty word then codes "empty, behind the last word" else
 abbrev pub line_place : ℕ → List ℕ
 line_place number = codes "line " ++ decimal number
 
+abbrev pub in_word : ℕ → List ℕ
+in_word which = codes ", word " ++ decimal which
+
 abbrev pub word_place : ℕ → ℕ → List ℕ
-word_place number which = line_place number ++ codes ", word " ++ decimal which ++ codes ": "
+word_place number which = line_place number ++ in_word which ++ codes ": "
 
 -- the word with this number
 abbrev pub word_of : List ℕ → ℕ → List ℕ

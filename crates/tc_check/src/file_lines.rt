@@ -5,6 +5,7 @@ ghost use Rattle.csv.specs.Reading.{default_config, strip_bom};
 ghost use Rattle.csv.specs.declared.parser.Terminator.TheVariants as term;
 ghost use Rattle.tc_check.specs.FileLines.{begins, begins_at, record_lines, state_of};
 
+use crate::looks::has_mark;
 use std::alloc::{AllocError, Global};
 
 /// Where the reading of a text stands.
@@ -86,10 +87,7 @@ fn begins(within: Within, byte: u8) -> bool
 fn without_mark(text: &[u8]) -> &[u8]
     ensures { result.now ≡ strip_bom text.now }
 {
-    match text {
-        [0xef, 0xbb, 0xbf, rest @ ..] => rest,
-        _ => text,
-    }
+    if has_mark(text) { &text[3..] } else { text }
 }
 
 /// The lines of the file at which the records of a text begin.

@@ -1,7 +1,7 @@
 //! What was found, in lines: the first 20 of them, and that there are more.
 ghost use Rattle.std.specs.Prelude.{◌≡◌, ◌<◌, ◌++◌, ◌∷◌, [], ℕ, List, OnOk};
 ghost use Rattle.std.specs.String.{string_bytes};
-ghost use Rattle.tc_check.specs.Findings.{Shows, first_line, is_none_found, shown_lines};
+ghost use Rattle.tc_check.specs.Findings.{Shows, first_line, front_of, is_none_found, shown_lines};
 
 use std::alloc::{AllocError, Global};
 
@@ -14,6 +14,13 @@ pub struct Findings {
     pub(crate) first: String,
     pub(crate) text: String,
     pub(crate) count: u32,
+}
+
+/// What a line adds to the first one, where so many stand before it.
+fn front_of(count: u32, line: &str) -> &str
+    ensures { result.now ≡ front_of count line.now }
+{
+    if count == 0 { line } else { "" }
 }
 
 impl Findings {
@@ -33,9 +40,7 @@ impl Findings {
         requires { self.old.count < 20 }
         ensures { (lines : List (List ℕ)) → Shows lines self.old → OnOk result (Shows (lines ++ line.now ∷ []) self.new) }
     {
-        if self.count == 0 {
-            self.first.push_str(line)?;
-        }
+        self.first.push_str(front_of(self.count, line))?;
         self.text.push_str(line)?;
         self.text.push_str("\n")?;
         self.count += 1;

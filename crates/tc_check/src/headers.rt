@@ -1,8 +1,8 @@
 //! What stands where a header should.
-ghost use Rattle.std.specs.Prelude.{◌≡◌, [], get_or, map, IfOk, codes};
+ghost use Rattle.std.specs.Prelude.{◌≡◌, [], get_or, map, IfOk};
 ghost use Rattle.std.specs.String.{string_bytes};
 ghost use Rattle.csv.specs.Records.{fields_of};
-ghost use Rattle.tc_check.specs.Headers.{columns_found, columns_of, extra_column, first_found, header_found, missing_column, other_column, other_found};
+ghost use Rattle.tc_check.specs.Headers.{column_place, columns_found, columns_of, extra_column, first_found, header_found, missing_column, other_column, other_found};
 
 use crate::looks::{Look, look_of};
 use crate::shown::quoted;
@@ -23,6 +23,13 @@ fn columns_of(kind: LoadKind) -> &'static [Column]
     }
 }
 
+/// A column by its number.
+fn column_place(alloc: Global, number: usize) -> Result<String, AllocError>
+    ensures { IfOk result (λ text. string_bytes text ≡ column_place number) }
+{
+    format!(in alloc; "column {number}")
+}
+
 /// A column that has another name.
 fn other_column(
     alloc: Global,
@@ -32,27 +39,32 @@ fn other_column(
 ) -> Result<String, AllocError>
     ensures { IfOk result (λ text. string_bytes text ≡ other_column number column field.now) }
 {
-    let name = column.name();
-    let value = quoted(alloc, field)?;
-    let value = value.as_str();
-    format!(in alloc; "column {number} is not {name}: {value}")
+    let mut text = column_place(alloc, number)?;
+    text.push_str(" is not ")?;
+    text.push_str(column.name())?;
+    text.push_str(": ")?;
+    text.push_str(quoted(alloc, field)?.as_str())?;
+    Ok(text)
 }
 
 /// A column that is not there.
 fn missing_column(alloc: Global, number: usize, column: Column) -> Result<String, AllocError>
     ensures { IfOk result (λ text. string_bytes text ≡ missing_column number column) }
 {
-    let name = column.name();
-    format!(in alloc; "column {number} is missing: {name}")
+    let mut text = column_place(alloc, number)?;
+    text.push_str(" is missing: ")?;
+    text.push_str(column.name())?;
+    Ok(text)
 }
 
 /// A column that is one too many.
 fn extra_column(alloc: Global, number: usize, field: &[u8]) -> Result<String, AllocError>
     ensures { IfOk result (λ text. string_bytes text ≡ extra_column number field.now) }
 {
-    let value = quoted(alloc, field)?;
-    let value = value.as_str();
-    format!(in alloc; "column {number} is one too many: {value}")
+    let mut text = column_place(alloc, number)?;
+    text.push_str(" is one too many: ")?;
+    text.push_str(quoted(alloc, field)?.as_str())?;
+    Ok(text)
 }
 
 /// The first column of a record that is not that of a header.

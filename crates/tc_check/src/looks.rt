@@ -1,7 +1,7 @@
 //! What a text is that begins with no header.
 ghost use Rattle.std.specs.Prelude.{◌≡◌, [], get_or, map};
 ghost use Rattle.csv.specs.Records.{fields_of};
-ghost use Rattle.tc_check.specs.Looks.{has_byte, is_one_field_with, is_utf16, is_workbook, look_of};
+ghost use Rattle.tc_check.specs.Looks.{has_byte, has_in, has_mark, is_one_field_with, is_utf16, is_workbook, look_of};
 
 use csv::ByteRecord;
 use tc_csv::field;
@@ -30,6 +30,13 @@ pub(crate) fn has_byte(text: &[u8], place: usize, byte: u8) -> bool
     text.get(place) == Some(&byte)
 }
 
+/// Whether the mark of UTF-8 stands in front of a text.
+pub(crate) fn has_mark(text: &[u8]) -> bool
+    ensures { result ≡ has_mark text.now }
+{
+    has_byte(text, 0, 0xef) && has_byte(text, 1, 0xbb) && has_byte(text, 2, 0xbf)
+}
+
 /// Whether a text is UTF-16, by its mark or by every second of its first four bytes.
 fn is_utf16(text: &[u8]) -> bool
     ensures { result ≡ is_utf16 text.now }
@@ -51,12 +58,26 @@ fn is_workbook(text: &[u8]) -> bool
         && has_byte(text, 3, 4)
 }
 
+/// Whether a byte stands in a field.
+fn has_in(field: &[u8], byte: u8) -> bool
+    ensures { result ≡ has_in field.now byte }
+{
+    field.iter().any(|other| *other == byte)
+}
+
+/// Whether a record is one field, in which this byte stands.
+fn is_one_with(fields: &ByteRecord, byte: u8) -> bool
+    ensures { result ≡ is_one_field_with byte (fields_of fields.now) }
+{
+    fields.len() == 1 && has_in(field(fields, 0), byte)
+}
+
 /// Whether the first record is one field, in which this byte stands.
 fn is_one_field_with(records: &[ByteRecord], byte: u8) -> bool
     ensures { result ≡ is_one_field_with byte (get_or (map fields_of records.now) 0 []) }
 {
     match records.first() {
-        Some(first) => first.len() == 1 && field(first, 0).iter().any(|other| *other == byte),
+        Some(first) => is_one_with(first, byte),
         None => false,
     }
 }

@@ -6,7 +6,7 @@ ghost use Rattle.std.specs.Option.{option_copied};
 ghost use Rattle.tc_script.specs.Faults.{line_words};
 ghost use Rattle.tc_check.specs.Findings.{Shows};
 ghost use Rattle.tc_check.specs.Shown.{quoted};
-ghost use Rattle.tc_check.specs.Scripts.{SaysOfFile, SaysOfLine, SaysOfLines, SaysOfScript, extra_text, fault_text, is_path, is_skipped, is_strange, script_lines, why_word, word_of, word_place, word_text};
+ghost use Rattle.tc_check.specs.Scripts.{SaysOfFile, SaysOfLine, SaysOfLines, SaysOfScript, extra_text, fault_text, in_word, is_path, is_skipped, is_strange, line_place, script_lines, why_word, word_of, word_place, word_text};
 
 use crate::checks::{Checked, check_text};
 use crate::findings::Findings;
@@ -75,11 +75,10 @@ fn word_text(alloc: Global, at: Slot, word: &[u8]) -> Result<String, AllocError>
     if word.is_empty() {
         return String::from_str(alloc, "empty, where one space parts two words");
     }
-    let why = why_word(alloc, at, word)?;
-    let why = why.as_str();
-    let value = quoted(alloc, word)?;
-    let value = value.as_str();
-    format!(in alloc; "{why}: {value}")
+    let mut text = why_word(alloc, at, word)?;
+    text.push_str(": ")?;
+    text.push_str(quoted(alloc, word)?.as_str())?;
+    Ok(text)
 }
 
 /// What is told of a word that is one too many.
@@ -119,11 +118,28 @@ fn word_of(line: &[u8], which: usize) -> &[u8]
     word_at(line, which.saturating_sub(1))
 }
 
+/// A line by its number.
+fn line_place(alloc: Global, number: usize) -> Result<String, AllocError>
+    ensures { IfOk result (λ text. string_bytes text ≡ line_place number) }
+{
+    format!(in alloc; "line {number}")
+}
+
+/// A word of a line, by its number.
+fn in_word(alloc: Global, which: usize) -> Result<String, AllocError>
+    ensures { IfOk result (λ text. string_bytes text ≡ in_word which) }
+{
+    format!(in alloc; ", word {which}")
+}
+
 /// A word of a line, by their numbers.
 fn word_place(alloc: Global, number: usize, which: usize) -> Result<String, AllocError>
     ensures { IfOk result (λ text. string_bytes text ≡ word_place number which) }
 {
-    format!(in alloc; "line {number}, word {which}: ")
+    let mut text = line_place(alloc, number)?;
+    text.push_str(in_word(alloc, which)?.as_str())?;
+    text.push_str(": ")?;
+    Ok(text)
 }
 
 /// What is wrong with a line by its number.
@@ -137,7 +153,9 @@ fn fault_text(
 {
     match fault {
         LineFault::TooLong => {
-            format!(in alloc; "line {number}: more than 200 bytes behind the second space")
+            let mut text = line_place(alloc, number)?;
+            text.push_str(": more than 200 bytes behind the second space")?;
+            Ok(text)
         }
         LineFault::Word { which, at } => {
             let mut text = word_place(alloc, number, which)?;
@@ -201,7 +219,7 @@ pub fn load_line(
     path: &str,
     text: Option<&[u8]>,
 ) -> Result<Option<String>, AllocError>
-    ensures { IfOk result (λ told. SaysOfFile number kind path.now (option_copied text) (option_map string_bytes told)) }
+    ensures { IfOk result (λ told. SaysOfFile number kind path.now (option_copied text.entry) (option_map string_bytes told)) }
 {
     let Some(text) = text else {
         return Ok(Some(unread_text(alloc, number, path)?));

@@ -1,5 +1,5 @@
 //! Values that were found, as they are shown.
-ghost use Rattle.std.specs.Prelude.{◌≡◌, ◌<◌, ◌++◌, IfOk, OnOk};
+ghost use Rattle.std.specs.Prelude.{◌≡◌, ◌<◌, ◌++◌, length, take, IfOk, OnOk};
 ghost use Rattle.std.specs.List.{flat_map};
 ghost use Rattle.std.specs.String.{string_bytes};
 ghost use Rattle.tc_check.specs.Shown.{hex_digit, is_shown, quoted, shown_byte};
@@ -52,6 +52,14 @@ fn push_bytes(text: &mut String, bytes: &[u8]) -> Result<(), AllocError>
     Ok(())
 }
 
+/// The front of a value, as much of it as is shown.
+fn front(value: &[u8]) -> &[u8]
+    requires { 40 < length value.now }
+    ensures { result.now ≡ take 40 value.now }
+{
+    &value[..MOST_SHOWN]
+}
+
 /// A value between quotes, of which no more than 40 bytes are shown: two dots stand behind one that is longer.
 pub(crate) fn quoted(alloc: Global, value: &[u8]) -> Result<String, AllocError>
     ensures { IfOk result (λ text. string_bytes text ≡ quoted value.now) }
@@ -61,7 +69,7 @@ pub(crate) fn quoted(alloc: Global, value: &[u8]) -> Result<String, AllocError>
         push_bytes(&mut text, value)?;
         text.push_str("\"")?;
     } else {
-        push_bytes(&mut text, &value[..MOST_SHOWN])?;
+        push_bytes(&mut text, front(value))?;
         text.push_str("\"..")?;
     }
     Ok(text)

@@ -1,5 +1,5 @@
 -- All that is wrong with rows, found one row after the other.
-use Rattle.std.proofs.Common.{◌≡◌, ◌≢◌, ◌∙◌, inl, inr, ℕ, zero, suc, ◌+◌, ◌<◌, Option, Some, None, List, [], ◌∷◌, ◌++◌, length, get_or, drop, map, refl, sym, ap, subst, append_assoc, arith}
+use Rattle.std.proofs.Common.{◌≡◌, ◌≢◌, ◌∙◌, inl, inr, ℕ, zero, suc, ◌+◌, ◌<◌, ◌≤◌, Option, Some, None, List, [], ◌∷◌, ◌++◌, length, get_or, drop, map, refl, sym, ap, subst, append_assoc, arith}
 use Rattle.std.proofs.lemmas.List.{append-nil}
 use native.Mathlib.Numerals.{unary_clauses}
 use Rattle.csv.specs.Records.{Row, fields_of}
@@ -48,8 +48,8 @@ broken_once Keeps rules number (row ∷ rows) a b (inr (fault, others, is, broke
 pub record FoundSoFar (Keeps : RowKeeps) (rules : List Rule) (number : ℕ) (left all : List (List (List ℕ))) (found : List Fault) : Type 0 where
   pub goes_on : (others : List Fault) → BrokenRows Keeps rules number left others → BrokenRows Keeps rules 1 all (found ++ others)
 
-pub found_none : (Keeps : RowKeeps) (rules : List Rule) (all : List (List (List ℕ))) → FoundSoFar Keeps rules 1 all all []
-found_none Keeps rules all = record { goes_on = λ others is. is }
+pub found_none : (Keeps : RowKeeps) (rules : List Rule) (all : List (List (List ℕ))) (found : List Fault) → found ≡ [] → FoundSoFar Keeps rules 1 all all found
+found_none Keeps rules all found none = record { goes_on = λ others is. rw none is }
 
 found_kept : (Keeps : RowKeeps) (rules : List Rule) (number : ℕ) (row : List (List ℕ)) (left all : List (List (List ℕ))) (found : List Fault)
     → FoundSoFar Keeps rules number (row ∷ left) all found → KeepsAll (Keeps number row) rules → FoundSoFar Keeps rules (number + 1) left all found
@@ -82,7 +82,13 @@ pub left_at : (rows : List Row) (i : ℕ) (row : Row) → i < length rows → ro
 left_at rows i row low is = simp unary_clauses (left_suc rows i row low is)
 
 -- where no row is left, all was found
-pub found_all : (Keeps : RowKeeps) (rules : List Rule) (number : ℕ) (left all : List (List (List ℕ))) (found : List Fault) → FoundSoFar Keeps rules number left all found → left ≡ []
-    → BrokenRows Keeps rules 1 all found
-found_all Keeps rules number left all found so none =
-    subst (λ (faults : List Fault). BrokenRows Keeps rules 1 all faults) (append-nil found) (so.goes_on [] (rw none refl))
+pub found_all : (Keeps : RowKeeps) (rules : List Rule) (number i : ℕ) (rows : List Row) (found : List Fault)
+    → FoundSoFar Keeps rules number (drop i (map fields_of rows)) (map fields_of rows) found → length rows ≤ i → BrokenRows Keeps rules 1 (map fields_of rows) found
+found_all Keeps rules number i rows found so past =
+    subst (λ (faults : List Fault). BrokenRows Keeps rules 1 (map fields_of rows) faults) (append-nil found) (so.goes_on [] (rw (none_left rows i past) refl))
+  where
+    none_left : (rows : List Row) (i : ℕ) → length rows ≤ i → drop i (map fields_of rows) ≡ []
+    none_left [] zero past = refl
+    none_left [] (suc i) past = refl
+    none_left (r ∷ rs) zero past = absurd (omega (arith, past))
+    none_left (r ∷ rs) (suc i) past = none_left rs i (omega (arith, past))

@@ -14,7 +14,7 @@ use Rattle.tc_proc.specs.declared.procedures.Step.{Step}
 use Rattle.tc_proc.specs.Procedures.{IsStep, AreSteps, SpellsProcedure, step_record, step_records, step_rules, KeepsStep, IsProcedureFault, procedure_columns}
 
 -- the record of a step keeps each rule
-pub step_keeps : (number : ℕ) (step : Step) → IsStep step → KeepsAll (KeepsStep number (step_record number step)) step_rules
+step_keeps : (number : ℕ) (step : Step) → IsStep step → KeepsAll (KeepsStep number (step_record number step)) step_rules
 step_keeps number step is = (refl, (refl, (is.text, ((step.is_countersigned, refl), ((step.request, is.request, refl), tt)))))
 
 -- a text has one fault
@@ -44,7 +44,7 @@ step_same number a b first second same =
     let request : a.request ≡ b.request = number_same _ _ first.request second.request (ap (λ fields. get_or fields 3 []) same) in
     λ i. record { text = text i; is_countersigned = marked i; request = request i }
 
-pub steps_same : (number : ℕ) (a b : List Step) → AllByRecursion IsStep a → AllByRecursion IsStep b → step_records number a ≡ step_records number b → a ≡ b
+steps_same : (number : ℕ) (a b : List Step) → AllByRecursion IsStep a → AllByRecursion IsStep b → step_records number a ≡ step_records number b → a ≡ b
 steps_same number [] [] first second same = refl
 steps_same number [] (y ∷ ys) first second same = let lengths : 0 ≡ suc (length (step_records (number + 1) ys)) = ap length same in absurd (omega (arith, lengths))
 steps_same number (x ∷ xs) [] first second same = let lengths : suc (length (step_records (number + 1) xs)) ≡ 0 = ap length same in absurd (omega (arith, lengths))
@@ -58,7 +58,7 @@ pub spelled_once : (text : List ℕ) (a b : List Step) → SpellsProcedure text 
 spelled_once text a b first second = steps_same 1 a b first.procedure.each second.procedure.each (ap (drop 1) (sym first.are ∙ second.are))
 
 -- each step has one record
-records_length : (number : ℕ) (steps : List Step) → length (step_records number steps) ≡ length steps
+pub records_length : (number : ℕ) (steps : List Step) → length (step_records number steps) ≡ length steps
 records_length number [] = refl
 records_length number (step ∷ steps) = let rest = records_length (number + 1) steps in omega (arith, rest)
 

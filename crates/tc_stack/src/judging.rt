@@ -76,7 +76,7 @@ fn faults_of(alloc: Global, records: &[ByteRecord]) -> Result<Vec<Fault>, AllocE
 {
     match rows_of(alloc, records) {
         Ok(rows) => barred_rows(alloc, &rows),
-        Err(NotRead::Wrong(_)) => broken_rows(alloc, records),
+        Err(NotRead::Wrong(_fault)) => broken_rows(alloc, records),
         Err(NotRead::Memory) => Err(AllocError),
     }
 }

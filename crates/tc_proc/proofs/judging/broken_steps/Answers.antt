@@ -5,7 +5,7 @@ use Rattle.tc_proc.specs.Procedures.{KeepsStep, step_rules}
 use Rattle.tc_proc.proofs.judging.broken_steps.Goals as goal
 
 pub loop-index-init : goal.loop-index-init
-loop-index-init c = found_none KeepsStep step_rules (map fields_of c.args.rows.now)
+loop-index-init c = found_none KeepsStep step_rules (map fields_of c.args.rows.now) c.new-faults.result.items (search rules)
 
 pub loop-index-preserved : goal.loop-index-preserved
 loop-index-preserved c =
@@ -15,4 +15,4 @@ loop-index-preserved c =
     (rw (left_at rows index c.index-rows-index.result (search rules) c.index-rows-index.is) at c.loop-index.invariant) c.in_ok-add_broken.ensures
 
 pub returns : goal.returns
-returns c = found_all KeepsStep step_rules (c.loop-index.index + 1) _ (map fields_of c.args.rows.now) c.loop-index.faults.items c.loop-index.invariant (search rules)
+returns c = found_all KeepsStep step_rules (c.loop-index.index + 1) c.loop-index.index c.args.rows.now c.loop-index.faults.items c.loop-index.invariant (search rules)

@@ -20,4 +20,4 @@ returns-in-Ok c =
 
 pub returns-in-Err-Wrong : goal.returns-in-Err-Wrong
 returns-in-Err-Wrong c =
-    IfOk-weaker c.broken_rows.result _ _ (λ v are. read_broken (map fields_of c.args.records.now) v.items c.in-Err-Wrong.field-0 c.in-Err-Wrong.ensures are) c.broken_rows.ensures
+    IfOk-weaker c.broken_rows.result _ _ (λ v are. read_broken (map fields_of c.args.records.now) v.items c.in-Err-Wrong._fault (rw c.in-Err-Wrong.field-0-is at c.in-Err-Wrong.ensures) are) c.broken_rows.ensures
