@@ -1,5 +1,5 @@
 -- What stands where a header should.
-use Rattle.std.specs.Prelude.{ℕ, ◌+◌, nat_eq, if◌then◌else◌, List, [], ◌∷◌, ◌++◌, codes, get_or}
+use Rattle.std.specs.Prelude.{ℕ, ◌+◌, nat_eq, Bool, if◌then◌else◌, List, [], ◌∷◌, ◌++◌, codes, get_or}
 use Rattle.std.specs.Fmt.{decimal}
 use Rattle.std.specs.Cmp.Lexicographic.{pointwise}
 use Rattle.tc_types.specs.declared.loads.LoadKind.{LoadKind}
@@ -31,13 +31,16 @@ missing_column number column = column_place number ++ codes " is missing: " ++ c
 abbrev pub extra_column : ℕ → List ℕ → List ℕ
 extra_column number field = column_place number ++ codes " is one too many: " ++ quoted field
 
+abbrev pub is_named : List ℕ → Column → Bool
+is_named field column = pointwise nat_eq field (column_name column)
+
 -- the first of them, of columns from this number on
 abbrev pub columns_found : ℕ → List Column → List (List ℕ) → List ℕ
 columns_found number [] [] = []
 columns_found number [] (field ∷ fields) = extra_column number field
 columns_found number (column ∷ columns) [] = missing_column number column
 columns_found number (column ∷ columns) (field ∷ fields) =
-    if pointwise nat_eq field (column_name column) then columns_found (number + 1) columns fields else other_column number column field
+    if is_named field column then columns_found (number + 1) columns fields else other_column number column field
 
 abbrev pub first_found : LoadKind → List (List ℕ) → List ℕ
 first_found of fields = columns_found 1 (columns_of of) fields

@@ -11,7 +11,8 @@ use Rattle.tc_script.specs.declared.slots.Slot.TheVariants as slot
 use Rattle.tc_script.specs.Faults.{IsTaken, Tells, line_words}
 use Rattle.tc_script.specs.SlotTexts.{slot_text}
 use Rattle.tc_check.specs.Checks.{Says}
-use Rattle.tc_check.specs.Findings.{shown_lines, is_none_found}
+use Rattle.tc_check.specs.declared.findings.Findings.{Findings}
+use Rattle.tc_check.specs.Findings.{Shows, is_none_found, shown_lines}
 use Rattle.tc_check.specs.Shown.{quoted}
 
 -- the lines of a script: LF ends a line, and one CR just before that LF is dropped; the last LF may be missing
@@ -94,6 +95,12 @@ SaysOfLines number [] told = told ≡ []
 SaysOfLines number (line ∷ lines) told =
     (SaysOfLine number line None × SaysOfLines (number + 1) lines told)
     ⊎ ((first : List ℕ) × (others : List (List ℕ)) × (told ≡ first ∷ others) × SaysOfLine number line (Some first) × SaysOfLines (number + 1) lines others)
+
+-- to what was found is added what is told of the line with this number
+abbrev pub AddsLine : ℕ → List ℕ → Findings → Findings → Type 0
+AddsLine number line old new =
+    (SaysOfLine number line None × (new ≡ old))
+    ⊎ ((told : List ℕ) × SaysOfLine number line (Some told) × ((found : List (List ℕ)) → Shows found old → Shows (found ++ told ∷ []) new))
 
 -- of a script by itself, whose files are not looked at: `ok`, or each line that is none
 pub record SaysOfScript (text told : List ℕ) (is_ok : Bool) : Type 0 where

@@ -2,7 +2,7 @@
 ghost use Rattle.std.specs.Prelude.{◌≡◌, [], get_or, map, IfOk};
 ghost use Rattle.std.specs.String.{string_bytes};
 ghost use Rattle.csv.specs.Records.{fields_of};
-ghost use Rattle.tc_check.specs.Headers.{column_place, columns_found, columns_of, extra_column, first_found, header_found, missing_column, other_column, other_found};
+ghost use Rattle.tc_check.specs.Headers.{column_place, columns_found, columns_of, extra_column, first_found, header_found, is_named, missing_column, other_column, other_found};
 
 use crate::looks::{Look, look_of};
 use crate::shown::quoted;
@@ -67,6 +67,13 @@ fn extra_column(alloc: Global, number: usize, field: &[u8]) -> Result<String, Al
     Ok(text)
 }
 
+/// Whether a field is the name of a column.
+fn is_named(field: &[u8], column: Column) -> bool
+    ensures { result ≡ is_named field.now column }
+{
+    field == column.name().as_bytes()
+}
+
 /// The first column of a record that is not that of a header.
 fn columns_found(
     alloc: Global,
@@ -80,7 +87,7 @@ fn columns_found(
         let Some(field) = fields.get(place) else {
             return missing_column(alloc, place + 1, column);
         };
-        if field != column.name().as_bytes() {
+        if !is_named(field, column) {
             return other_column(alloc, place + 1, column, field);
         }
     }

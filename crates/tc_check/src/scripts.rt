@@ -1,12 +1,13 @@
 //! A script, checked line by line.
-ghost use Rattle.std.specs.Prelude.{◌≡◌, ◌==◌, ◌++◌, [], ℕ, List, IfOk, codes, get_or, option_map};
+ghost use Rattle.std.specs.Prelude.{◌≡◌, ◌==◌, ◌++◌, [], ℕ, List, IfOk, OnOk, codes, get_or, option_map};
 ghost use Rattle.std.specs.List.{list_any};
 ghost use Rattle.std.specs.String.{string_bytes};
 ghost use Rattle.std.specs.Option.{option_copied};
 ghost use Rattle.tc_script.specs.Faults.{line_words};
+ghost use Rattle.tc_script.specs.SlotTexts.{slot_text};
 ghost use Rattle.tc_check.specs.Findings.{Shows};
 ghost use Rattle.tc_check.specs.Shown.{quoted};
-ghost use Rattle.tc_check.specs.Scripts.{SaysOfFile, SaysOfLine, SaysOfLines, SaysOfScript, extra_text, fault_text, in_word, is_path, is_skipped, is_strange, line_place, script_lines, why_word, word_of, word_place, word_text};
+ghost use Rattle.tc_check.specs.Scripts.{AddsLine, SaysOfFile, SaysOfLine, SaysOfLines, SaysOfScript, extra_text, fault_text, in_word, is_path, is_skipped, is_strange, line_place, script_lines, why_word, word_of, word_place, word_text};
 
 use crate::checks::{Checked, check_text};
 use crate::findings::Findings;
@@ -142,6 +143,49 @@ fn word_place(alloc: Global, number: usize, which: usize) -> Result<String, Allo
     Ok(text)
 }
 
+/// A word that is not taken, by its number.
+fn word_line(
+    alloc: Global,
+    number: usize,
+    line: &[u8],
+    which: usize,
+    at: Slot,
+) -> Result<String, AllocError>
+    ensures { IfOk result (λ text. string_bytes text ≡ word_place number which ++ word_text at (word_of line.now which)) }
+{
+    let mut text = word_place(alloc, number, which)?;
+    text.push_str(word_text(alloc, at, word_of(line, which))?.as_str())?;
+    Ok(text)
+}
+
+/// A word that is missing.
+fn missing_line(alloc: Global, number: usize, which: usize, at: Slot) -> Result<String, AllocError>
+    ensures { IfOk result (λ text. string_bytes text ≡ word_place number which ++ codes "missing, " ++ slot_text at) }
+{
+    let mut text = word_place(alloc, number, which)?;
+    text.push_str("missing, ")?;
+    text.push_str(at.text())?;
+    Ok(text)
+}
+
+/// A word that is one too many.
+fn extra_line(alloc: Global, number: usize, line: &[u8], which: usize) -> Result<String, AllocError>
+    ensures { IfOk result (λ text. string_bytes text ≡ word_place number which ++ extra_text (word_of line.now which)) }
+{
+    let mut text = word_place(alloc, number, which)?;
+    text.push_str(extra_text(alloc, word_of(line, which))?.as_str())?;
+    Ok(text)
+}
+
+/// An act that is too long.
+fn long_line(alloc: Global, number: usize) -> Result<String, AllocError>
+    ensures { IfOk result (λ text. string_bytes text ≡ line_place number ++ codes ": more than 200 bytes behind the second space") }
+{
+    let mut text = line_place(alloc, number)?;
+    text.push_str(": more than 200 bytes behind the second space")?;
+    Ok(text)
+}
+
 /// What is wrong with a line by its number.
 fn fault_text(
     alloc: Global,
@@ -152,27 +196,10 @@ fn fault_text(
     ensures { IfOk result (λ text. string_bytes text ≡ fault_text number line.now fault) }
 {
     match fault {
-        LineFault::TooLong => {
-            let mut text = line_place(alloc, number)?;
-            text.push_str(": more than 200 bytes behind the second space")?;
-            Ok(text)
-        }
-        LineFault::Word { which, at } => {
-            let mut text = word_place(alloc, number, which)?;
-            text.push_str(word_text(alloc, at, word_of(line, which))?.as_str())?;
-            Ok(text)
-        }
-        LineFault::Missing { which, at } => {
-            let mut text = word_place(alloc, number, which)?;
-            text.push_str("missing, ")?;
-            text.push_str(at.text())?;
-            Ok(text)
-        }
-        LineFault::Extra { which } => {
-            let mut text = word_place(alloc, number, which)?;
-            text.push_str(extra_text(alloc, word_of(line, which))?.as_str())?;
-            Ok(text)
-        }
+        LineFault::TooLong => long_line(alloc, number),
+        LineFault::Word { which, at } => word_line(alloc, number, line, which, at),
+        LineFault::Missing { which, at } => missing_line(alloc, number, which, at),
+        LineFault::Extra { which } => extra_line(alloc, number, line, which),
     }
 }
 
@@ -231,6 +258,21 @@ pub fn load_line(
     Ok(Some(wrong_text(alloc, number, path, checked.first.as_str())?))
 }
 
+/// Adds what is told of a line by its number.
+fn add_line(
+    alloc: Global,
+    number: usize,
+    line: &[u8],
+    findings: &mut Findings,
+) -> Result<(), AllocError>
+    ensures { OnOk result (AddsLine number line.now findings.old findings.new) }
+{
+    match script_line(alloc, number, line)? {
+        Some(told) => findings.add(told.as_str()),
+        None => Ok(()),
+    }
+}
+
 /// What is told of lines.
 fn lines_told(alloc: Global, text: &[u8]) -> Result<Findings, AllocError>
     ensures { IfOk result (λ findings. (lines : List (List ℕ)) × SaysOfLines 1 (script_lines text.now) lines × Shows lines findings) }
@@ -238,9 +280,7 @@ fn lines_told(alloc: Global, text: &[u8]) -> Result<Findings, AllocError>
     let mut findings = Findings::new(alloc);
     let mut number = 1;
     for line in text.lines() {
-        if let Some(told) = script_line(alloc, number, line)? {
-            findings.add(told.as_str())?;
-        }
+        add_line(alloc, number, line, &mut findings)?;
         number += 1;
     }
     Ok(findings)

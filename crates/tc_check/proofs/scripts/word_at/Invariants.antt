@@ -5,4 +5,4 @@ use Rattle.tc_check.proofs.scripts.word_at.Given as goal
 
 -- it is one of the words that are left
 abbrev pub invariant-loop-skipped : goal.invariant-loop-skipped
-invariant-loop-skipped l = get_or (line_words l.fn.line) l.fn.place [] ≡ get_or (words_left 32 l.left) (l.fn.place - l.skipped) []
+invariant-loop-skipped l = get_or (line_words l.fn.line) l.fn.place [] ≡ get_or (words_left 32 l.left) (l.fn.place - l._skipped) []
