@@ -10,4 +10,5 @@ pub mod Places
 pub mod Told
 pub mod Notes
 pub mod Checks
+pub mod LineTexts
 pub mod Scripts

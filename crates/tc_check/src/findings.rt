@@ -70,7 +70,8 @@ impl Findings {
 
     /// The first line, and all of them, each ended by LF; where there are more than 20, the first 20 and `and more`.
     pub fn into_texts(self) -> (String, String)
-        ensures { (lines : List (List ℕ)) → Shows lines self → (string_bytes result.0 ≡ first_line lines) × (string_bytes result.1 ≡ shown_lines lines) }
+        ensures { (lines : List (List ℕ)) → Shows lines self
+            → (string_bytes result.0 ≡ first_line lines) × (string_bytes result.1 ≡ shown_lines lines) }
     {
         (self.first, self.text)
     }

@@ -6,6 +6,7 @@ mod file_lines;
 mod findings;
 mod found;
 mod headers;
+mod line_texts;
 mod looks;
 mod notes;
 mod places;

@@ -59,7 +59,7 @@ fn is_workbook(text: &[u8]) -> bool
 }
 
 /// Whether a byte stands in a field.
-fn has_in(field: &[u8], byte: u8) -> bool
+pub(crate) fn has_in(field: &[u8], byte: u8) -> bool
     ensures { result ≡ has_in field.now byte }
 {
     field.iter().any(|other| *other == byte)

@@ -63,8 +63,8 @@ fn all_faults(alloc: Global, text: &[u8]) -> Result<Vec<Fault>, AllocError>
     }
 }
 
-/// All that is wrong with the text of a procedure: the first rule of the table that it breaks; or what each row breaks. Nothing where the text spells a procedure. Fails
-/// where memory is refused.
+/// All that is wrong with the text of a procedure: the first rule of the table that it breaks; or what each row breaks.
+/// Nothing where the text spells a procedure. Fails where memory is refused.
 pub fn procedure_faults(alloc: Global, text: &[u8]) -> Result<Vec<Fault>, AllocError>
     ensures all { IfOk result (λ v. AreProcedureFaults text.now v.items) }
     ensures only { (faults : List SomeFault) → AreProcedureFaults text.now faults → IfOk result (λ v. v.items ≡ faults) }

@@ -1,6 +1,5 @@
 -- The words of each line that the grammar has stand one behind the other, each where it is taken.
-use Rattle.std.proofs.Common.{◌≡◌, ◌≢◌, ◌∙◌, ℕ, ◌<◌, ◌≤◌, ◌==◌, Bool, true, false, if◌then◌else◌, Option, Some, None, List, [], ◌∷◌, ◌++◌, length, map, codes, refl, sym, ap, inl, inr, subst, arith, rules}
-use Rattle.std.specs.Prelude.{◌⊎◌}
+use Rattle.std.proofs.Common.{◌≡◌, ◌∙◌, ℕ, ◌<◌, ◌≤◌, ◌==◌, Bool, true, false, if◌then◌else◌, Some, List, [], ◌∷◌, ◌++◌, length, map, codes, refl, sym, ap, inl, inr, subst, arith}
 use Rattle.std.specs.List.{AllByRecursion}
 use Rattle.std.specs.Fmt.{decimal, signed_decimal}
 use Rattle.std.proofs.lemmas.List.{length-map}
@@ -27,7 +26,7 @@ use Rattle.tc_types.specs.declared.loads.LoadKind.{LoadKind}
 use Rattle.tc_types.specs.declared.loads.LoadKind.TheVariants as kind
 use Rattle.tc_types.specs.Numbers.{IsMoment, IsNumber, IsService, IsSubtype}
 use Rattle.tc_types.specs.Schedule.{is_schedule}
-use Rattle.tc_types.specs.Grammar.{ack_word, yes_no, outcome_word, IsOutcome, command_words, IsCommand, listed, target_word, time_word, IsRide, AreRides, entry_words, IsEntry}
+use Rattle.tc_types.specs.Grammar.{ack_word, outcome_word, IsOutcome, command_words, IsCommand, listed, target_word, time_word, IsRide, AreRides, entry_words, IsEntry}
 use Rattle.tc_types.specs.ActGrammar.{book_act_words, IsBookAct, query_words, IsQuery, act_words, IsAct, line_words, IsLine}
 use Rattle.tc_types.specs.LinkGrammar.{directive_words, IsDirective, link_act_words, IsLinkAct}
 use Rattle.tc_types.specs.StepGrammar.{step_words, IsStepAct}
@@ -35,7 +34,6 @@ use Rattle.tc_types.specs.Loads.{LoadLine, kind_word, load_words, IsLoad}
 use Rattle.tc_types.specs.Words.{words}
 use Rattle.tc_types.proofs.WordLaws.{words_joined}
 use Rattle.tc_types.proofs.Spellings.{targets_parted, times_parted, line_parted, load_parted}
-use Rattle.tc_script.specs.declared.slots.Slot.{Slot}
 use Rattle.tc_script.specs.declared.slots.Slot.TheVariants as slot
 use Rattle.tc_script.specs.Slots.{completes, parts}
 use Rattle.tc_script.specs.Sorts.{is_scheduling}

@@ -1,5 +1,5 @@
 -- A reader that reads a word, or reads none, tells whether the word is the spelling of a value.
-use Rattle.std.proofs.Common.{◌≡◌, Bool, true, false, Option, Some, None, List, ℕ, refl, sym, subst, arith}
+use Rattle.std.proofs.Common.{◌≡◌, Bool, Option, Some, None, List, ℕ, refl, sym, subst}
 use Rattle.std.specs.Prelude.{IsTrue, ◌↔◌, is_some}
 use Rattle.tc_types.specs.Grammar.{Reads}
 use Rattle.tc_types.specs.Names.{IsPerson}

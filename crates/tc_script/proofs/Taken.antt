@@ -1,14 +1,13 @@
 -- Words that stand one behind the other, each where it is taken, are those of a line that the grammar has.
-use Rattle.std.proofs.Common.{◌≡◌, ◌≢◌, ◌∙◌, ℕ, ◌<◌, ◌≤◌, ◌||◌, Bool, true, false, if◌then◌else◌, Option, Some, None, List, [], ◌∷◌, ◌++◌, length, map, codes, refl, sym, ap, inl, inr, subst, arith}
+use Rattle.std.proofs.Common.{◌≡◌, ◌∙◌, ℕ, ◌<◌, ◌≤◌, ◌||◌, Bool, true, false, if◌then◌else◌, Option, Some, None, List, [], ◌∷◌, ◌++◌, length, map, codes, refl, sym, ap, inl, inr, subst, arith}
 use Rattle.std.specs.Prelude.{◌⊎◌, is_some}
 use Rattle.std.specs.List.{AllByRecursion, find, join_with_byte}
 use Rattle.std.specs.Option.{option_and_then}
-use Rattle.std.specs.Fmt.{decimal, signed_decimal}
+use Rattle.std.specs.Fmt.{decimal}
 use Rattle.std.proofs.lemmas.Fmt.{decimal_injective}
 use Rattle.std.proofs.lemmas.List.{length-map}
 use Rattle.std.proofs.lemmas.Option.{same_Some}
 use Rattle.std.proofs.lemmas.List.Splits.{join_with_byte-slice_split}
-use Rattle.tc_types.specs.declared.requests.Ack.{Ack}
 use Rattle.tc_types.specs.declared.requests.Outcome.{Outcome}
 use Rattle.tc_types.specs.declared.requests.Outcome.TheVariants.{Completes}
 use Rattle.tc_types.specs.declared.requests.Command.{Command}
@@ -24,11 +23,10 @@ use Rattle.tc_types.specs.declared.acts.Query.TheVariants as query
 use Rattle.tc_types.specs.declared.acts.Line.{Line}
 use Rattle.tc_types.specs.declared.loads.LoadKind.{LoadKind}
 use Rattle.tc_types.specs.declared.loads.LoadKind.TheVariants as kind
-use Rattle.tc_types.specs.Numbers.{IsMoment, IsNumber, IsOffset, IsService}
+use Rattle.tc_types.specs.Numbers.{IsMoment, IsNumber, IsService}
 use Rattle.tc_types.specs.Names.{IsName}
 use Rattle.tc_types.specs.Schedule.{is_schedule}
-use Rattle.tc_types.specs.Inserts.{IsInsert}
-use Rattle.tc_types.specs.Grammar.{ack_word, yes_no, outcome_word, IsOutcome, command_words, IsCommand, listed, target_word, time_word, IsRide, AreRides, entry_words, IsEntry}
+use Rattle.tc_types.specs.Grammar.{outcome_word, IsOutcome, command_words, IsCommand, listed, target_word, time_word, IsRide, AreRides, entry_words, IsEntry}
 use Rattle.tc_types.specs.ActGrammar.{HasLongAct, SpellsLine, act_words, IsAct, line_words, IsLine}
 use Rattle.tc_types.specs.Loads.{IsPath, LoadLine, SpellsLoad, kind_word, load_words, IsLoad}
 use Rattle.tc_types.proofs.WordLaws.{words_nonempty}

@@ -1,6 +1,6 @@
 -- What is told of words that do not follow each other.
-use Rattle.std.proofs.Common.{◌≡◌, ◌∙◌, ℕ, zero, suc, ◌+◌, ◌<◌, ◌≤◌, Option, Some, None, List, [], ◌∷◌, length, get_or, take, drop, refl, sym, ap, inl, inr, subst, arith, eqb}
-use Rattle.std.specs.Prelude.{◌⊎◌, ◌↔◌, IfSome, IsTrue, is_none}
+use Rattle.std.proofs.Common.{◌≡◌, ℕ, zero, suc, ◌+◌, ◌<◌, ◌≤◌, Option, Some, None, List, [], ◌∷◌, length, get_or, take, drop, refl, ap, inl, inr, subst, arith, eqb}
+use Rattle.std.specs.Prelude.{◌↔◌, IfSome, IsTrue, is_none}
 use Rattle.std.proofs.lemmas.List.Sums.{count_by-le-length}
 use Rattle.std.proofs.lemmas.List.Splits.{length-slice_split}
 use Rattle.tc_types.specs.ActGrammar.{HasLongAct}

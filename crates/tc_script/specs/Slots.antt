@@ -1,5 +1,5 @@
 -- The places of a line, one behind the other.
-use Rattle.std.specs.Prelude.{ℕ, ◌==◌, Bool, true, false, if◌then◌else◌, Option, Some, None, List, length, get_or, codes}
+use Rattle.std.specs.Prelude.{ℕ, ◌==◌, Bool, true, if◌then◌else◌, Option, Some, None, List, length, get_or, codes}
 use Rattle.std.specs.Option.{option_and_then}
 use Rattle.tc_types.specs.Words.{words}
 use Rattle.tc_script.specs.declared.sorts.Sort.TheVariants.{Insert, Delete, Shift, ShiftAll, Schedule, Other}

@@ -7,8 +7,8 @@ use Rattle.tc_csv.specs.declared.faults.Rule.TheVariants.{TargetRow}
 use Rattle.tc_csv.specs.declared.faults.Fault.{Fault}
 use Rattle.tc_csv.specs.Faults.{KeepsAll, FirstBrokenRow}
 use Rattle.tc_csv.specs.FaultLists.{BrokenRows, first_fault}
-use Rattle.tc_csv.specs.Rows.{SpellRows, IsOnly}
-use Rattle.tc_csv.specs.Tables.{records_of, IsTable, IsTableFault, KeepsTable, table_rules}
+use Rattle.tc_csv.specs.Rows.{SpellRows}
+use Rattle.tc_csv.specs.Tables.{records_of, IsTable, KeepsTable, table_rules}
 use Rattle.tc_csv.proofs.RowLemmas.{kept_unbroken, table_once, rows_unbroken, spell_length}
 use Rattle.tc_csv.proofs.FaultListLemmas.{head_broken, broken_once, none_broken}
 use Rattle.tc_stack.specs.declared.stacks.StackRow.{StackRow}

@@ -101,8 +101,8 @@ fn all_faults(alloc: Global, text: &[u8]) -> Result<Vec<Fault>, AllocError>
     }
 }
 
-/// All that is wrong with the text of a stack: the first rule of the table that it breaks; or what each row breaks; or what is wrong with their targets. Nothing where the
-/// text spells a stack. Fails where memory is refused.
+/// All that is wrong with the text of a stack: the first rule of the table that it breaks; or what each row breaks; or what is wrong with their targets.
+/// Nothing where the text spells a stack. Fails where memory is refused.
 pub fn stack_faults(alloc: Global, text: &[u8]) -> Result<Vec<Fault>, AllocError>
     ensures all { IfOk result (λ v. AreStackFaults text.now v.items) }
     ensures only { (faults : List SomeFault) → AreStackFaults text.now faults → IfOk result (λ v. v.items ≡ faults) }

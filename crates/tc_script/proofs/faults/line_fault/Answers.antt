@@ -1,4 +1,3 @@
-use Rattle.std.proofs.Common.{true, false, ◌≡◌}
 use Rattle.tc_types.specs.ActGrammar.{HasLongAct}
 use Rattle.tc_script.proofs.WrongLemmas.{none_taken, wrong_tells, wrong_blamed}
 use Rattle.tc_script.proofs.faults.line_fault.Goals as goal

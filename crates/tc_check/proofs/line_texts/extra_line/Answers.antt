@@ -1,6 +1,6 @@
 use Rattle.std.proofs.Common.{◌∙◌, ◌++◌, ap}
-use Rattle.tc_check.specs.Scripts.{extra_text, word_place}
-use Rattle.tc_check.proofs.scripts.extra_line.Goals as goal
+use Rattle.tc_check.specs.LineTexts.{extra_text, word_place}
+use Rattle.tc_check.proofs.line_texts.extra_line.Goals as goal
 
 pub returns : goal.returns
 returns c =

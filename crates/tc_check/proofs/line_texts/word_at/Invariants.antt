@@ -1,7 +1,7 @@
 use Rattle.std.proofs.Common.{◌≡◌, ◌-◌, [], get_or}
 use Rattle.tc_types.specs.Words.{words_left}
 use Rattle.tc_script.specs.Faults.{line_words}
-use Rattle.tc_check.proofs.scripts.word_at.Given as goal
+use Rattle.tc_check.proofs.line_texts.word_at.Given as goal
 
 -- it is one of the words that are left
 abbrev pub invariant-loop-skipped : goal.invariant-loop-skipped
