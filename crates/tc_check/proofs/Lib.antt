@@ -4,3 +4,4 @@ pub mod HeaderLemmas
 pub mod MarkLemmas
 pub mod SaysLemmas
 pub mod ScriptLemmas
+mod WorkedCases

@@ -1,14 +1,9 @@
 -- Why a text breaks a rule: what does not stand there, or stands there and may not.
-use Rattle.std.specs.Prelude.{ℕ, ◌==◌, if◌then◌else◌, Option, Some, None, List, [], ◌++◌, codes}
-use Rattle.std.specs.Fmt.{decimal}
+use Rattle.std.specs.Prelude.{ℕ, List, codes}
 use Rattle.tc_types.specs.declared.loads.LoadKind.{LoadKind}
 use Rattle.tc_types.specs.declared.loads.LoadKind.TheVariants as kind
-use Rattle.tc_csv.specs.declared.columns.Column.{Column}
 use Rattle.tc_csv.specs.declared.faults.Rule.{Rule}
 use Rattle.tc_csv.specs.declared.faults.Rule.TheVariants as rule
-use Rattle.tc_csv.specs.declared.faults.Fault.{Fault}
-use Rattle.tc_csv.specs.Faults.{rule_column}
-use Rattle.tc_csv.specs.Tables.{column_name}
 use Rattle.tc_script.specs.declared.sorts.Sort.{Sort}
 use Rattle.tc_script.specs.declared.sorts.Sort.TheVariants.{Insert, Delete, Shift, ShiftAll, Other}
 

@@ -1,16 +1,16 @@
 -- All that is wrong with the text of a procedure.
-use Rattle.std.proofs.Common.{◌≡◌, ◌≢◌, ◌∙◌, inl, inr, ℕ, ◌+◌, ◌<◌, true, List, [], ◌∷◌, length, get_or, drop, refl, sym, ap, subst, arith}
+use Rattle.std.proofs.Common.{◌≡◌, ◌∙◌, inl, inr, ℕ, ◌+◌, List, [], ◌∷◌, length, drop, refl, sym, ap, subst, arith}
 use Rattle.std.specs.List.{AllByRecursion}
 use Rattle.std.specs.Fmt.{decimal}
 use Rattle.std.proofs.lemmas.List.{length-drop}
 use Rattle.tc_csv.specs.declared.faults.Fault.{Fault}
-use Rattle.tc_csv.specs.Faults.{KeepsAll, FirstBrokenRow}
+use Rattle.tc_csv.specs.Faults.{KeepsAll}
 use Rattle.tc_csv.specs.FaultLists.{BrokenRows, first_fault}
 use Rattle.tc_csv.specs.Tables.{records_of, header, HasHeader, IsTable, KeepsTable, table_rules}
 use Rattle.tc_csv.proofs.RowLemmas.{kept_unbroken, table_once}
 use Rattle.tc_csv.proofs.FaultListLemmas.{head_broken, broken_once}
 use Rattle.tc_proc.specs.declared.procedures.Step.{Step}
-use Rattle.tc_proc.specs.Procedures.{IsStep, SpellsProcedure, step_record, step_records, step_rules, KeepsStep, Tells, procedure_columns}
+use Rattle.tc_proc.specs.Procedures.{IsStep, step_record, step_records, step_rules, KeepsStep, Tells, procedure_columns}
 use Rattle.tc_proc.specs.ProcedureFaults.{AreProcedureFaults}
 use Rattle.tc_proc.proofs.RowLemmas.{records_length}
 

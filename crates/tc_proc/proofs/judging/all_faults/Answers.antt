@@ -1,4 +1,4 @@
-use Rattle.std.proofs.Common.{map, inl, refl}
+use Rattle.std.proofs.Common.{map, inl}
 use Rattle.std.proofs.lemmas.Result.{IfOk-weaker}
 use Rattle.csv.specs.Records.{fields_of}
 use Rattle.tc_csv.proofs.RowLemmas.{rows_behind}
