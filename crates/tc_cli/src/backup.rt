@@ -2,14 +2,15 @@
 //! log beside it, opened there as a desk, brought into one file and given its name.
 
 use crate::copying::{CopyFault, Parts, copy_files, forget};
-use crate::files::open_database;
 use crate::marking::stamp_of;
 use crate::reporting::{Kept, find, log_path};
 use crate::run::put;
 use crate::script::ScriptFault;
 use jiff::Timestamp;
-use sqlite::{Alter, Error, ErrorCode};
+use sqlite::{Alter, Connection, Error, ErrorCode};
 use sqlite_disk::Wary;
+use sqlite_std_file::FileFrom;
+use sqlite_store::FileStore;
 use std::alloc::Global;
 use std::fs::{File, OpenOptions, Permissions};
 use std::os::unix::fs::{MetadataExt, OpenOptionsExt, PermissionsExt};
@@ -96,6 +97,28 @@ fn claim(rt: &HostRuntime, copy: &str, kept: &Kept) -> Result<Parts, CopyFault> 
     })
 }
 
+/// Why a copy does not open: what was copied is no database, or what it was copied to fails.
+fn fault_of(error: Error) -> CopyFault {
+    match error {
+        Error::SqliteFailure(ErrorCode::OutOfMemory) => CopyFault::Memory,
+        Error::SqliteFailure(ErrorCode::NotADatabase | ErrorCode::DatabaseCorrupt) => {
+            CopyFault::Desk
+        }
+        _ => CopyFault::Copy,
+    }
+}
+
+/// The database that was copied, with what its log holds.
+fn open_copy(
+    rt: &HostRuntime,
+    parts: &Parts,
+) -> Result<Connection<FileStore<FileFrom<Wary>>>, CopyFault> {
+    match Connection::open_from(rt, parts.database.as_str(), false, Wary) {
+        Ok(store) => Ok(store),
+        Err((error, _)) => Err(fault_of(error)),
+    }
+}
+
 /// Fails where no desk opens over these rows.
 fn judge(alloc: Global, image: &Image) -> Result<(), ScriptFault> {
     let moment = match image.moves.as_slice().last() {
@@ -114,10 +137,8 @@ fn told_by<S: Alter + Drop>(
 ) -> Result<Told, CopyFault> {
     let image = match tables.load(version) {
         Ok(image) => image,
-        Err(ReadFault::Sqlite(Error::SqliteFailure(ErrorCode::OutOfMemory))) => {
-            return Err(CopyFault::Memory);
-        }
-        Err(_) => return Err(CopyFault::Desk),
+        Err(ReadFault::Sqlite(error)) => return Err(fault_of(error)),
+        Err(ReadFault::Damaged) => return Err(CopyFault::Desk),
     };
     judge(alloc, &image)?;
     Ok(Told {
@@ -128,7 +149,7 @@ fn told_by<S: Alter + Drop>(
 
 /// Opens the copy as a desk is opened, of which nothing is written, and brings its log into its file.
 fn checked(rt: &HostRuntime, parts: &Parts) -> Result<Told, CopyFault> {
-    let store = open_database(rt, parts.database.as_str(), Wary)?;
+    let store = open_copy(rt, parts)?;
     let (mut tables, version) = match Tables::open(rt.alloc(), store) {
         Ok(found) => found,
         Err((StoreFault::Memory, _)) => return Err(CopyFault::Memory),

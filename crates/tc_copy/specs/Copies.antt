@@ -19,3 +19,9 @@ abbrev pub CopiesWhatStands : Marks → Marks → Type 0
 CopiesWhatStands before behind = (files : Files) (first rest : List Event) (pages : ℕ → List ℕ)
     → files.marks ≡ before → AllHappen before files (first ++ rest) → (after_all files (first ++ rest)).marks ≡ behind → AreRead pages files first
     → (page : ℕ) → recovered pages (after_all files first).log page ≡ recovered (after_all files first).file (after_all files first).log page
+
+-- Some desk has these marks before and behind, and a copy that was read of it between them recovers some page otherwise than the files do.
+abbrev pub Mixes : Marks → Marks → Type 0
+Mixes before behind = (files : Files) × (first : List Event) × (pages : ℕ → List ℕ) × (page : ℕ)
+    × (files.marks ≡ before) × AllHappen before files first × ((after_all files first).marks ≡ behind) × AreRead pages files first
+    × ¬ (recovered pages (after_all files first).log page ≡ recovered (after_all files first).file (after_all files first).log page)

@@ -5,6 +5,7 @@
 //! from the desk's own files, had the desk crashed when its log was read.
 #![tactic(auto)]
 
+pub mod laws;
 mod marks;
 
 pub use marks::{LogMark, Marks, Stamp, is_one_state, is_same_file};

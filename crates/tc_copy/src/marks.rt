@@ -17,14 +17,14 @@ pub struct Stamp {
 }
 
 /// A log that is there: its stamp, and its first bytes, with zeros behind its end where it is shorter.
-#[derive(Clone, Copy, Debug, PartialEq, Eq)]
+#[derive(Clone, Copy, Debug)]
 pub struct LogMark {
     pub stamp: Stamp,
     pub head: [u8; 32],
 }
 
 /// What is read of a database file and its log, to tell whether the log was emptied meanwhile.
-#[derive(Clone, Copy, Debug, PartialEq, Eq)]
+#[derive(Clone, Copy, Debug)]
 pub struct Marks {
     pub file: Stamp,
     pub log: Option<LogMark>,
@@ -50,8 +50,37 @@ fn is_same_log(before: &Marks, after: &Marks) -> bool
 {
     match (&before.log, &after.log) {
         (Some(one), Some(other)) => {
-            is_same_file(&one.stamp, &other.stamp) && one.head == other.head && stands(other)
+            is_same_file(&one.stamp, &other.stamp)
+                && is_same_head(&one.head, &other.head)
+                && stands(other)
         }
+        _ => false,
+    }
+}
+
+/// Whether two stamps are the same in all that they tell.
+fn is_same_stamp(one: &Stamp, other: &Stamp) -> bool
+    ensures { IsTrue result ↔ (one.now ≡ other.now) }
+{
+    one == other
+}
+
+/// Whether two heads are the same.
+fn is_same_head(one: &[u8; 32], other: &[u8; 32]) -> bool
+    ensures { IsTrue result ↔ (one.now ≡ other.now) }
+{
+    one == other
+}
+
+/// Whether two marks of logs are the same in all that they tell.
+fn are_same_logs(one: &Option<LogMark>, other: &Option<LogMark>) -> bool
+    ensures { IsTrue result ↔ (one.now ≡ other.now) }
+{
+    match (one, other) {
+        (Some(one), Some(other)) => {
+            is_same_stamp(&one.stamp, &other.stamp) && is_same_head(&one.head, &other.head)
+        }
+        (None, None) => true,
         _ => false,
     }
 }
@@ -60,7 +89,7 @@ fn is_same_log(before: &Marks, after: &Marks) -> bool
 fn are_same(before: &Marks, after: &Marks) -> bool
     ensures { IsTrue result ↔ (before.now ≡ after.now) }
 {
-    before == after
+    is_same_stamp(&before.file, &after.file) && are_same_logs(&before.log, &after.log)
 }
 
 /// Whether two marks are of one state.
