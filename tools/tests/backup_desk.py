@@ -28,32 +28,33 @@ WHOLE_HEAD = 32  # bytes of a log's head
 
 
 def posts() -> Iterator[bytes]:
-    """Acts and loads without end, each of which is accepted by a desk that answered all before it and was new before the first."""
+    """Acts and loads, each of which is accepted by a desk that answered all before it and was new before the first: some 16,000, which nearly fill it."""
     numbers, entered, stacks = count(1), 0, 0
-    for turn in count(1):
+    for turn in range(1, 11_001):
         entered += 1
         yield act(ENTRY, number=next(numbers))
         if turn % 3 == 0:
             yield act(f"approve {entered}", "bob", number=next(numbers))
         if turn % 7 == 0:
             yield act(f"withdraw {entered}", number=next(numbers))
-        if turn % 40 == 0:
+        if turn % 50 == 0:
             stacks += 1
             entered += 200
-            yield load("stack", f"s{stacks}", rows(200), number=next(numbers))
+            yield load("stack", f"s{stacks}", rows(200, apid=7 + stacks % 50), number=next(numbers))
 
 
 class Worker(threading.Thread):
-    """Sends these posts to a server without a pause, until it is told to stop. `done` were answered."""
+    """Sends these posts to a server without a pause, while it is let work and until it is told to stop. `done` were answered."""
 
     def __init__(self, server: Server) -> None:
         """Begins at the first."""
         super().__init__(daemon=True)
-        self.server, self.done, self.fault, self.stops = server, 0, "", threading.Event()
+        self.server, self.done, self.fault, self.stops, self.works = server, 0, "", threading.Event(), threading.Event()
 
     def run(self) -> None:
         """Sends them."""
         for raw in posts():
+            self.works.wait()
             if self.stops.is_set():
                 return
             try:
@@ -66,18 +67,20 @@ class Worker(threading.Thread):
             self.done += 1
 
     def __enter__(self) -> "Worker":
-        """Starts, and waits for the first answers."""
+        """Starts, and works."""
         self.start()
-        self.wait_for(3)
+        self.works.set()
         return self
 
     def __exit__(self, *_: object) -> None:
         self.stops.set()
+        self.works.set()
         self.join(PATIENCE)
 
-    def wait_for(self, done: int) -> None:
-        """Waits until so many posts were answered."""
-        end = time.monotonic() + PATIENCE
+    def go_on(self, more: int) -> None:
+        """Works, and waits until so many posts more were answered."""
+        self.works.set()
+        done, end = self.done + more, time.monotonic() + PATIENCE
         while self.done < done:
             if self.fault or time.monotonic() > end:
                 raise Fault(self.fault or f"{self.done} posts were answered, and not {done}")

@@ -26,7 +26,8 @@ from tests.backup_desk import COPY, DESK, PARTS, Folder, Follower, Worker, ended
 from tests.http_peer import PATIENCE, Fault, Server
 from tests.runs import Ended, Tried, made_shim, quick_folder
 
-COPIES, COPIES_A_DESK, KILLS = 30, 25, 40
+COPIES, KILLS = 30, 40
+COPIES_A_DESK, POSTS_A_DESK = 25, 4000  # before another desk is made
 STEP = 7  # of the requests for memory that are refused, every so many
 NO_FAULT = ""
 
@@ -36,6 +37,7 @@ class Copies(Tried):
 
     def setUp(self) -> None:
         """A folder to work in."""
+        random.seed(ASKED.seed_or(1))
         made = tempfile.TemporaryDirectory(prefix="backup-", dir=quick_folder())
         self.addCleanup(made.cleanup)
         self.work, self.numbers, self.bad = os.path.realpath(made.name), count(1), list[str]()
@@ -81,27 +83,29 @@ class Copies(Tried):
 
     def test_while_it_works(self) -> None:
         """Copies of a desk that is posted to without a pause: 30, or --count of them, each of which holds what was answered before it began."""
-        copies, seconds = ASKED.count_or(COPIES), list[float]()
-        for first in range(0, copies, COPIES_A_DESK):
-            folder, follower = self.folder(), Follower()
+        copies, seconds, posts_sent = ASKED.count_or(COPIES), list[float](), 0
+        while len(seconds) < copies and not self.bad:
+            folder, follower, made = self.folder(), Follower(), 0
             with self.served(folder) as server, Worker(server) as worker:
-                for at in range(first, min(copies, first + COPIES_A_DESK)):
-                    seconds.append(self.one_copy(f"copy {at}", folder, follower, worker))
+                while len(seconds) < copies and made < COPIES_A_DESK and worker.done < POSTS_A_DESK and not self.bad:
+                    seconds.append(self.one_copy(f"copy {len(seconds) + 1}", folder, follower, worker))
+                    made += 1
                 self.told("the desk that works", worker.fault)
-            if self.bad:
-                break
-        print(f"backup: {len(seconds)} copies of a desk that works, {1000 * sum(seconds) / len(seconds):.0f} ms each")
+            posts_sent += worker.done
+            shutil.rmtree(folder.path)
+        print(f"backup: {len(seconds)} copies of a desk that works, behind {posts_sent} posts, {1000 * sum(seconds) / len(seconds):.0f} ms each")
 
     def one_copy(self, name: str, folder: Folder, follower: Follower, worker: Worker) -> float:
-        """Makes a copy, looks at it, and lets some posts go by. Gives the seconds that it took."""
+        """Lets some posts go by, makes a copy meanwhile, and looks at it while nothing is posted. Gives the seconds that it took."""
+        worker.go_on(random.randrange(1, 40))
         least, began = worker.done, time.monotonic()
         ran = folder.copied()
         took, most = time.monotonic() - began, worker.done + 1
+        worker.works.clear()
         self.told(name, why_not_told(folder, ran) if not ran.status else f"it ended as {ran}")
         if folder.has(COPY):
             self.told(name, why_not_copy(folder, follower, least, most))
         folder.forget(COPY)
-        worker.wait_for(worker.done + random.randrange(1, 20))
         return took
 
     # ---- something comes between
@@ -188,29 +192,39 @@ class Copies(Tried):
     # ---- copies that are stopped
 
     def test_killed(self) -> None:
-        """Copies of a desk that works are killed at random moments: there is a whole copy, or none; and the next of that name is made."""
-        folder, follower, counts, limit = self.folder(), Follower(), Counter[str](), 0.02
-        with self.served(folder) as server, Worker(server) as worker:
-            for at in range(KILLS):
-                least, process = worker.done, folder.begin()
-                time.sleep(random.random() * limit)
-                process.kill()
-                status = ended(process).status
-                how = "ended before" if status == 0 else "with a copy" if folder.has(COPY) else "with parts" if folder.has(PARTS[0]) else "before"
-                counts[how] += 1
-                limit = min(1.0, max(0.002, limit * (0.9 if status == 0 else 1.1)))
-                self.told(f"kill {at}", self.after_kill(folder, follower, least, worker.done + 1))
-            self.told("the desk that works", worker.fault)
+        """Copies of a desk that works are killed at random moments, 40 or --count of them: there is a whole copy, or none; and the next of that name is
+        made."""
+        kills, counts, limit = ASKED.count_or(KILLS), Counter[str](), 0.02
+        while sum(counts.values()) < kills and not self.bad:
+            folder, follower = self.folder(), Follower()
+            with self.served(folder) as server, Worker(server) as worker:
+                while sum(counts.values()) < kills and worker.done < POSTS_A_DESK and not self.bad:
+                    how = self.one_kill(f"kill {sum(counts.values()) + 1}", folder, follower, worker, random.random() * limit)
+                    counts[how] += 1
+                    limit = min(1.0, max(0.002, limit * (0.9 if how == "ended before" else 1.1)))
+                self.told("the desk that works", worker.fault)
+            shutil.rmtree(folder.path)
         print(f"backup: killed at random moments: {', '.join(f'{many} {how}' for how, many in sorted(counts.items()))}")
 
+    def one_kill(self, name: str, folder: Folder, follower: Follower, worker: Worker, wait: float) -> str:
+        """Kills a copy after so many seconds, and looks at what it left. Gives how that was."""
+        worker.go_on(3)
+        least, process = worker.done, folder.begin()
+        time.sleep(wait)
+        process.kill()
+        status = ended(process).status
+        worker.works.clear()
+        how = "ended before" if status == 0 else "with a copy" if folder.has(COPY) else "with parts" if folder.has(PARTS[0]) else "before"
+        self.told(name, self.after_kill(folder, follower, least, worker.done + 1))
+        return how
+
     def after_kill(self, folder: Folder, follower: Follower, least: int, most: int) -> str:
-        """What is wrong of what a copy left that was killed, or of the next copy."""
+        """What is wrong of what a copy left that was killed."""
         more = [it for it in folder.names() if it not in (DESK, f"{DESK}-wal", COPY, *PARTS)]
         if more:
             return f"there is {more}"
         if not folder.has(COPY):
             return NO_FAULT
-        folder.forget(*PARTS)
         found = why_not_copy(folder, follower, least, most)
         folder.forget(COPY)
         return found
@@ -299,7 +313,8 @@ class Copies(Tried):
                 break
             refused += 1
             if ran.status:
-                self.failed(f"request {number}", folder, ran, "tcdesk: cannot use memory\n")
+                names = [it for it in ("memory", DESK, COPY) if ran.err == f"tcdesk: cannot use {it}\n"]
+                self.failed(f"request {number}", folder, ran, f"tcdesk: cannot use {''.join(names)}\n")
             else:
                 self.told(f"request {number}", why_not_copy(folder, follower, 36, 36))
                 folder.forget(COPY)

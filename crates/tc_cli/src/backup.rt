@@ -180,16 +180,6 @@ fn name_copy(rt: &HostRuntime, copy: &str, kept: &Kept, parts: &Parts) -> io::Re
     folder.sync_all()
 }
 
-/// Makes the copy, and gives it its name.
-fn make(rt: &HostRuntime, copy: &str, kept: &Kept, parts: &Parts) -> Result<Told, CopyFault> {
-    copy_files(rt, kept, parts)?;
-    let told = checked(rt, parts)?;
-    forget(rt, parts.log.as_str())?;
-    refuse_taken(rt, copy)?;
-    name_copy(rt, copy, kept, parts).map_err(|_| CopyFault::Copy)?;
-    Ok(told)
-}
-
 /// The line that tells of a copy.
 fn line_of(alloc: Global, told: &Told) -> Result<String, CopyFault> {
     let entered = told.entered;
@@ -206,6 +196,17 @@ fn line_of(alloc: Global, told: &Told) -> Result<String, CopyFault> {
     Ok(line?)
 }
 
+/// Makes the copy, and gives it its name. Gives the line that tells of it.
+fn make(rt: &HostRuntime, copy: &str, kept: &Kept, parts: &Parts) -> Result<String, CopyFault> {
+    copy_files(rt, kept, parts)?;
+    let told = checked(rt, parts)?;
+    let line = line_of(rt.alloc(), &told)?;
+    forget(rt, parts.log.as_str())?;
+    refuse_taken(rt, copy)?;
+    name_copy(rt, copy, kept, parts).map_err(|_| CopyFault::Copy)?;
+    Ok(line)
+}
+
 /// Copies the desk that a file keeps, and says of the copy how many requests were entered and which was its last move. The desk may be open: nothing of it is
 /// written or locked. A copy that fails, or is killed, leaves nothing under its name.
 pub fn backup(rt: &HostRuntime, file: &str, copy: &str) -> Result<(), CopyFault> {
@@ -214,8 +215,7 @@ pub fn backup(rt: &HostRuntime, file: &str, copy: &str) -> Result<(), CopyFault>
     refuse_taken(rt, copy)?;
     let parts = claim(rt, copy, &kept)?;
     match make(rt, copy, &kept, &parts) {
-        Ok(told) => {
-            let line = line_of(rt.alloc(), &told)?;
+        Ok(line) => {
             let mut writer = Counted::new(io::writer(rt));
             Ok(put(&mut writer, line.as_bytes())?)
         }

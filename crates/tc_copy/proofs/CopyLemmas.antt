@@ -1,6 +1,6 @@
 -- What is copied while a log is not emptied is what stands.
-use Rattle.std.proofs.Common.{◌≡◌, ◌≢◌, ◌⊎◌, ℕ, true, List, [], ◌∷◌, ◌++◌, Option, Some, None, inl, inr, subst, sym, refl, ap, ◌∙◌}
-use Rattle.std.specs.Prelude.{IfSome, IsSome, ⊤, ◌==◌, if◌then◌else◌, unwrap_or, slice_index}
+use Rattle.std.proofs.Common.{◌≡◌, ◌≢◌, ◌⊎◌, ℕ, List, [], ◌∷◌, ◌++◌, Option, Some, None, inl, inr, subst, sym, refl, ap, ◌∙◌}
+use Rattle.std.specs.Prelude.{IfSome, IsSome, ◌==◌, if◌then◌else◌, unwrap_or, slice_index}
 use Rattle.std.specs.Option.{option_or}
 use Rattle.std.proofs.lemmas.Bool.{cases_eq, eq-eqb, false≢true, ne_eqb}
 use Rattle.tc_copy.specs.declared.marks.Marks.{Marks}

@@ -1,9 +1,9 @@
 -- What a run leaves of the marks that were read before it: the log that is emptied in it does not stand under their head again.
-use Rattle.std.proofs.Common.{◌≡◌, ◌≢◌, ◌⊎◌, ℕ, List, [], ◌∷◌, ◌++◌, Option, Some, None, inl, inr, subst, sym, refl, ◌∙◌}
+use Rattle.std.proofs.Common.{◌≡◌, ◌≢◌, ℕ, List, [], ◌∷◌, Option, Some, subst, sym}
 use Rattle.std.specs.Prelude.{IfSome, ⊤}
 use Rattle.tc_copy.specs.declared.marks.Marks.{Marks}
 use Rattle.tc_copy.specs.Marks.{head_of}
-use Rattle.tc_copy.specs.Files.{AllHappen, Event, Files, Happens, after, after_all, committed, emptied, filled}
+use Rattle.tc_copy.specs.Files.{AllHappen, Event, Files, after, after_all, committed, emptied, filled}
 
 -- the log stands under no head, or under another than it had
 abbrev pub IsOther : Marks → Marks → Type 0

@@ -1,7 +1,7 @@
 -- What a copy of both files has, where they were read while the desk worked.
 use Rattle.std.specs.Prelude.{◌≡◌, ◌⊎◌, ℕ, List, [], ◌∷◌, ◌++◌}
 use Rattle.tc_copy.specs.declared.marks.Marks.{Marks}
-use Rattle.tc_copy.specs.Files.{AllHappen, Event, Files, after_all, committed, emptied, filled, recovered}
+use Rattle.tc_copy.specs.Files.{AllHappen, Event, Files, after_all, filled, recovered}
 
 -- a page is copied into the file in one of these events
 abbrev pub Fills : ℕ → List Event → Type 0
