@@ -321,12 +321,16 @@ class Copies(Tried):
         print(f"backup: {refused} requests for memory refused")
 
     def test_output(self) -> None:
-        """Where the line cannot be written the copy stands."""
-        folder, follower = self.left(30, 6)
-        with open("/dev/full", "wb") as full:
-            ran = subprocess.run([ASKED.program, "backup", DESK, COPY], cwd=folder.path, stdout=full, stderr=subprocess.PIPE, check=False)
-        self.same("an output that takes nothing", (2, b"tcdesk: cannot use output\n"), (ran.returncode, ran.stderr))
-        self.told("an output that takes nothing", why_not_copy(folder, follower, 36, 36))
+        """Where the line cannot be written the copy stands, and nothing of it is written into the copy."""
+        def full() -> None:
+            os.dup2(os.open("/dev/full", os.O_WRONLY), 1)
+
+        def closed() -> None:
+            os.closerange(0, 2)
+        for name, first in (("an output that takes nothing", full), ("an output that is closed", closed)):
+            folder, follower = self.left(30, 6)
+            self.same(name, Ended(2, "", "tcdesk: cannot use output\n"), folder.copied(first=first))
+            self.told(name, why_not_copy(folder, follower, 36, 36))
 
     # ---- names, and files that are no desk's
 

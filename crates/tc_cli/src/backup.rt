@@ -1,7 +1,7 @@
 //! A copy of the desk that a file keeps, which may run meanwhile. The copy stands under its name only once it is whole: it is made as `COPY.part`, with its
 //! log beside it, opened there as a desk, brought into one file and given its name.
 
-use crate::copying::{CopyFault, Parts, copy_files, forget};
+use crate::copying::{Beside, CopyFault, Parts, copy_files, forget};
 use crate::marking::stamp_of;
 use crate::reporting::{Kept, find, log_path};
 use crate::run::put;
@@ -13,6 +13,7 @@ use sqlite_std_file::FileFrom;
 use sqlite_store::FileStore;
 use std::alloc::Global;
 use std::fs::{File, OpenOptions, Permissions};
+use std::os::fd::AsRawFd;
 use std::os::unix::fs::{MetadataExt, OpenOptionsExt, PermissionsExt};
 use std::{fs, io};
 use tc_copy::is_same_file;
@@ -28,9 +29,6 @@ const CONFIG: Config = Config {
     ring: None,
 };
 
-/// What stands behind the name of a desk's file in those of the files beside it.
-const BESIDE: [&str; 3] = ["", "-wal", "-journal"];
-
 /// What is told of a copy: how many requests were entered, and its last move.
 #[derive(Clone, Copy)]
 struct Told {
@@ -40,10 +38,11 @@ struct Told {
 
 /// Fails where a file stands under the name of the copy, or under one of those beside it.
 fn refuse_taken(rt: &HostRuntime, copy: &str) -> Result<(), CopyFault> {
-    for suffix in BESIDE {
+    for file in [Beside::Database, Beside::Log, Beside::Journal] {
+        let suffix = file.suffix();
         let path = format!(in rt.alloc(); "{copy}{suffix}")?;
         match fs::symlink_metadata(rt, path.as_str()) {
-            Ok(_) => return Err(CopyFault::Taken(suffix)),
+            Ok(_) => return Err(CopyFault::Taken(file)),
             Err(error) if error.kind() == io::ErrorKind::NotFound => {}
             Err(_) => return Err(CopyFault::Copy),
         }
@@ -80,13 +79,17 @@ fn is_claimed(rt: &HostRuntime, file: &File, path: &str, kept: &Kept) -> Result<
 fn claim(rt: &HostRuntime, copy: &str, kept: &Kept) -> Result<Parts, CopyFault> {
     let database = format!(in rt.alloc(); "{copy}.part")?;
     let log = log_path(rt.alloc(), database.as_str())?;
-    let file = OpenOptions::new()
+    let mut file = OpenOptions::new()
         .read(true)
         .write(true)
         .create(true)
         .mode(0o600)
         .open(rt, database.as_str())
         .map_err(|_| CopyFault::Copy)?;
+    // what is meant for a standard stream that was closed must not land in the copy
+    if file.as_raw_fd() <= 2 {
+        file = file.try_clone().map_err(|_| CopyFault::Copy)?;
+    }
     if file.try_lock().is_err() || !is_claimed(rt, &file, database.as_str(), kept)? {
         return Err(CopyFault::Copy);
     }

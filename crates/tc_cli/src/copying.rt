@@ -13,6 +13,25 @@ use std::{fs, thread};
 use tc_copy::is_one_state;
 use tc_types::Counted;
 
+/// A file by its name: that of a database, or what stands beside it.
+#[derive(Clone, Copy, Debug, PartialEq, Eq)]
+pub enum Beside {
+    Database,
+    Log,
+    Journal,
+}
+
+impl Beside {
+    /// What stands behind the name of the database.
+    pub fn suffix(self) -> &'static str {
+        match self {
+            Beside::Database => "",
+            Beside::Log => "-wal",
+            Beside::Journal => "-journal",
+        }
+    }
+}
+
 /// Why a desk is not copied.
 #[derive(Clone, Copy, Debug, PartialEq, Eq)]
 pub enum CopyFault {
@@ -20,8 +39,8 @@ pub enum CopyFault {
     Desk,
     /// The copy cannot be written.
     Copy,
-    /// There is a file already that has the name of the copy, with this behind it.
-    Taken(&'static str),
+    /// There is a file already that has the name of the copy, or of what would stand beside it.
+    Taken(Beside),
     /// The log of the desk was emptied in the midst of each try.
     Restless,
     /// There was no memory.

@@ -168,7 +168,8 @@ fn backup_in(rt: &HostRuntime, file: &str, copy: &str) -> u8 {
         Err(CopyFault::Copy) => cannot_use(rt, copy),
         Err(CopyFault::Memory) => cannot_use(rt, "memory"),
         Err(CopyFault::Output) => cannot_use(rt, "output"),
-        Err(CopyFault::Taken(suffix)) => {
+        Err(CopyFault::Taken(file)) => {
+            let suffix = file.suffix();
             let _ = eprintln!(rt; "tcdesk: {copy}{suffix} is there already");
             UNUSABLE
         }
