@@ -20,7 +20,7 @@ use tc_copy::is_same_file;
 use tc_desk::Config;
 use tc_room::reopen_desk;
 use tc_store::{ReadFault, StoreFault, Tables, Version};
-use tc_types::{Counted, Image, Moment, Move};
+use tc_types::{Counted, Image, Moment};
 
 /// The window, the channel and the links with which a copy is opened to see whether it is a desk's.
 const CONFIG: Config = Config {
@@ -28,13 +28,6 @@ const CONFIG: Config = Config {
     channel: 3,
     ring: None,
 };
-
-/// What is told of a copy: how many requests were entered, and its last move.
-#[derive(Clone, Copy)]
-struct Told {
-    entered: usize,
-    last: Option<Move>,
-}
 
 /// Fails where a file stands under the name of the copy, or under one of those beside it.
 fn refuse_taken(rt: &HostRuntime, copy: &str) -> Result<(), CopyFault> {
@@ -132,36 +125,49 @@ fn judge(alloc: Global, image: &Image) -> Result<(), ScriptFault> {
     Ok(())
 }
 
-/// What the tables of a copy tell, where a desk opens over them.
+/// The line that tells of a copy with these rows: how many requests were entered, and which was the last move.
+fn line_of(alloc: Global, image: &Image) -> Result<String, CopyFault> {
+    let entered = image.requests.len();
+    let Some(last) = image.moves.as_slice().last() else {
+        return Ok(format!(in alloc; "copied {entered} requests, no move\n")?);
+    };
+    let (number, seconds) = (last.seq, last.moment.get());
+    let line = match Timestamp::from_second(i64::from(seconds)) {
+        Ok(instant) => {
+            format!(in alloc; "copied {entered} requests, last move {number} at {instant}\n")
+        }
+        Err(_) => format!(in alloc; "copied {entered} requests, last move {number} at {seconds}\n"),
+    };
+    Ok(line?)
+}
+
+/// The line that tells of a copy with these tables, where a desk opens over them.
 fn told_by<S: Alter + Drop>(
     alloc: Global,
     tables: &mut Tables<S>,
     version: Version,
-) -> Result<Told, CopyFault> {
+) -> Result<String, CopyFault> {
     let image = match tables.load(version) {
         Ok(image) => image,
         Err(ReadFault::Sqlite(error)) => return Err(fault_of(error)),
         Err(ReadFault::Damaged) => return Err(CopyFault::Desk),
     };
     judge(alloc, &image)?;
-    Ok(Told {
-        entered: image.requests.len(),
-        last: image.moves.as_slice().last().copied(),
-    })
+    line_of(alloc, &image)
 }
 
-/// Opens the copy as a desk is opened, of which nothing is written, and brings its log into its file.
-fn checked(rt: &HostRuntime, parts: &Parts) -> Result<Told, CopyFault> {
+/// Opens the copy as a desk is opened, of which nothing is written, and brings its log into its file. Gives the line that tells of it.
+fn checked(rt: &HostRuntime, parts: &Parts) -> Result<String, CopyFault> {
     let store = open_copy(rt, parts)?;
     let (mut tables, version) = match Tables::open(rt.alloc(), store) {
         Ok(found) => found,
         Err((StoreFault::Memory, _)) => return Err(CopyFault::Memory),
         Err(_) => return Err(CopyFault::Desk),
     };
-    let told = told_by(rt.alloc(), &mut tables, version)?;
+    let line = told_by(rt.alloc(), &mut tables, version)?;
     let store = tables.into_connection();
     store.close().map_err(|_| CopyFault::Copy)?;
-    Ok(told)
+    Ok(line)
 }
 
 /// The folder of a file that is there, open.
@@ -183,27 +189,10 @@ fn name_copy(rt: &HostRuntime, copy: &str, kept: &Kept, parts: &Parts) -> io::Re
     folder.sync_all()
 }
 
-/// The line that tells of a copy.
-fn line_of(alloc: Global, told: &Told) -> Result<String, CopyFault> {
-    let entered = told.entered;
-    let Some(last) = told.last else {
-        return Ok(format!(in alloc; "copied {entered} requests, no move\n")?);
-    };
-    let (number, seconds) = (last.seq, last.moment.get());
-    let line = match Timestamp::from_second(i64::from(seconds)) {
-        Ok(instant) => {
-            format!(in alloc; "copied {entered} requests, last move {number} at {instant}\n")
-        }
-        Err(_) => format!(in alloc; "copied {entered} requests, last move {number} at {seconds}\n"),
-    };
-    Ok(line?)
-}
-
 /// Makes the copy, and gives it its name. Gives the line that tells of it.
 fn make(rt: &HostRuntime, copy: &str, kept: &Kept, parts: &Parts) -> Result<String, CopyFault> {
     copy_files(rt, kept, parts)?;
-    let told = checked(rt, parts)?;
-    let line = line_of(rt.alloc(), &told)?;
+    let line = checked(rt, parts)?;
     forget(rt, parts.log.as_str())?;
     refuse_taken(rt, copy)?;
     name_copy(rt, copy, kept, parts).map_err(|_| CopyFault::Copy)?;
