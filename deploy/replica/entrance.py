@@ -156,7 +156,7 @@ class Handler(BaseHTTPRequestHandler):
 
     def reply(self, answer: Answer, place: Optional[int] = None) -> None:
         """Writes an answer."""
-        self.send_response(answer.status)
+        self.send_response_only(answer.status)
         self.send_header("Content-Type", "application/json")
         self.send_header("Content-Length", str(len(answer.body)))
         if place is not None:
@@ -167,4 +167,4 @@ class Handler(BaseHTTPRequestHandler):
         self.wfile.write(answer.body)
 
     def log_message(self, *_: object) -> None:
-        """Of a request nothing is said."""
+        """Of a request that is none nothing is said."""

@@ -12,6 +12,7 @@ from desk import Answer, Desk, Ended, Opening
 from etcd import Unanswered
 from log import COMPARE, MOST_AT_ONCE, PAUSE, Entry, LogLost, now
 
+IDLE = 0.25  # seconds after which it looks into the log again, where nobody calls
 AGAIN = 30.0  # seconds after which a machine that is out asks for a comparison once more
 MEMORY_OR_DISK = 503  # what a desk answers that was refused memory (30), or whose file failed (31, 32)
 
@@ -141,10 +142,12 @@ class Machine:
             self.compares_again = now() + AGAIN
             self.own.add(self.asks_to_compare())
         if not entries:
-            self.called.wait(PAUSE)
+            self.called.wait(IDLE)
             self.called.clear()
             self.answer_questions(opening)
             self.leave_if_it_has_to()
+            if self.desk.opening() != opening:
+                raise Ended("the desk has ended")
 
     def entries(self) -> list[Entry]:
         """What the log has next, as far as is known; nothing where etcd does not answer."""

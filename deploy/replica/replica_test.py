@@ -41,7 +41,7 @@ from tests.runs import quick_folder  # noqa: E402
 
 HERE = os.path.dirname(os.path.realpath(__file__))
 PROGRAM = ""
-LONG = 30.0
+LONG = 120.0  # seconds for anything
 
 
 def waits() -> bool:
@@ -518,6 +518,14 @@ class Followers(unittest.TestCase):
         for asked, place, want in ((950, 100, False), (951, 100, True), (951, 899, True), (951, 900, False)):
             machine.asked, machine.place = asked, place
             self.assertEqual(want, machine.is_spent(), (asked, place))
+
+    def test_ended(self) -> None:
+        """That its desk has ended is seen where nobody asks anything, too."""
+        machine = self.begun()
+        machine.go_on(self.desk.runs)
+        machine.go_on(self.desk.runs)
+        self.desk.is_ended = True
+        self.assertRaises(Ended, machine.go_on, self.desk.runs)
 
     def test_away(self) -> None:
         """While etcd does not answer, it waits."""

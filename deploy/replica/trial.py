@@ -322,6 +322,7 @@ def main() -> int:
     parser.add_argument("--short", action="store_true", help="some faults, on 127.0.0.1, in memory")
     parser.add_argument("--rates", action="store_true", help="acts a second, without faults")
     asked = parser.parse_args()
+    signal.signal(signal.SIGTERM, lambda *_: sys.exit(2))  # so that all that runs is ended
     if not shutil.which("etcd"):
         print("not tried: etcd is not installed (Debian: etcd-server)")
         return 0
