@@ -120,7 +120,7 @@ class Handler(BaseHTTPRequestHandler):
     def do_POST(self) -> None:
         """An act, a load, or a question that wants a place of its own."""
         size: list[str] = self.headers.get_all("Content-Length", [])
-        if len(size) != 1 or not re.fullmatch("[0-9]{1,9}", size[0]) or "Transfer-Encoding" in self.headers or not self.is_path():
+        if len(size) != 1 or not re.fullmatch("[0-9]{1,19}", size[0]) or "Transfer-Encoding" in self.headers or not self.is_path():
             self.close_connection = True
             return self.reply(BAD)
         if int(size[0]) > MOST_BODY:

@@ -1,9 +1,10 @@
 #!/usr/bin/env python3
-"""The parts of a replica, tried without etcd: in its place stands one in this process, which fails now and then, before it did what was asked or behind it.
+"""The parts of a replica, tried without etcd: in its place stands one in this process, which fails now and then, before it did what was asked or behind it. Then the
+whole of it, by the short form of trial.py.
 
-    deploy/replica/replica_test.py [--program PATH]
+    deploy/replica/replica_test.py [--program PATH] [--parts]        --parts: nothing but the parts
 
-The last line is `N passed, N failed`.
+The last line of each is `N passed, N failed`.
 """
 import argparse
 import base64
@@ -801,12 +802,17 @@ def main() -> int:
     global PROGRAM
     parser = argparse.ArgumentParser(prog="replica_test.py", description=__doc__, formatter_class=argparse.RawDescriptionHelpFormatter)
     parser.add_argument("--program", metavar="PATH", help="the program that is run")
-    PROGRAM = program_of(parser.parse_args().program)
-    with redirect_stderr(io.StringIO()):  # what the machines say
+    parser.add_argument("--parts", action="store_true", help="the parts alone")
+    asked = parser.parse_args()
+    PROGRAM = program_of(asked.program)
+    with redirect_stderr(io.StringIO()):  # where the machines say something
         ran = unittest.TextTestRunner(sys.__stderr__).run(unittest.defaultTestLoader.loadTestsFromModule(sys.modules[__name__]))
     failed = len(ran.failures) + len(ran.errors)
-    print(f"{ran.testsRun - failed} passed, {failed} failed")
-    return int(failed > 0)
+    print(f"{ran.testsRun - failed} passed, {failed} failed", flush=True)
+    if asked.parts:
+        return int(failed > 0)
+    whole = subprocess.run([sys.executable, f"{HERE}/trial.py", "--short", "--program", PROGRAM], check=False)
+    return int(failed > 0 or whole.returncode > 0)
 
 
 if __name__ == "__main__":

@@ -8,7 +8,7 @@ from typing import NamedTuple, Optional, Sequence
 from generate.http_days import posted_day
 from generate.http_words import body_of
 from model.rows import empty_tables
-from trial_machines import Member
+from trial_machines import PATIENCE, Member
 
 AT_ONCE = 10
 
@@ -93,23 +93,22 @@ class Client(threading.Thread):
         tries = 0
         while True:
             tries += 1
-            told = self.ask("POST", post.path, post.body)
+            told = self.ask(self.at, "POST", post.path, post.body)
             if told and told[0] not in (502, 503, 504):
                 return Told(post, *told, tries, time.monotonic())
             self.at = (self.at + 1) % len(self.members)
             time.sleep(0.05)
 
-    def ask(self, method: str, path: str, body: Optional[bytes] = None) -> Optional[tuple[int, bytes, int]]:
+    def ask(self, at: int, method: str, path: str, body: Optional[bytes] = None, patience: float = PATIENCE + 3) -> Optional[tuple[int, bytes, int]]:
         """What one machine answers; none where it does not."""
         try:
-            return self.members[self.at].ask(method, path, body)
+            return self.members[at].ask(method, path, body, patience)
         except (OSError, HTTPException):
             return None
 
     def look(self, least: int) -> None:
         """Asks another machine for the newest: its answer is as of no earlier place than that of the last post."""
-        self.at = (self.at + 1) % len(self.members)
-        told = self.ask("GET", "/places?newest")
+        told = self.ask((self.at + 1) % len(self.members), "GET", "/places?newest", None, 1.0)
         if told and told[0] == 200:
             self.places.append((least, told[2]))
 
