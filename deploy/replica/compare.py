@@ -17,8 +17,8 @@ IN, OUT = b"in", b"out"
 
 
 class Comparison(NamedTuple):
-    """A place, the machine that asked for it, if one did, and whether this desk is in once its tables are right there; the mark of the desk, a copy of its file, and how
-    its link stood."""
+    """A place, the machine that asked for it, if one did, and whether this desk is in once its tables are right there; the mark of the desk, a copy of its file, and
+    how its link stood."""
     place: int
     asker: str
     brings_in: bool
@@ -68,7 +68,7 @@ class Present:
         return self.etcd.below(self.root)
 
     def may_leave(self) -> bool:
-        """Whether this machine may leave because it wants to. Then it has told that it is out, while all others that there are were in, so that no two leave so."""
+        """Whether this machine may leave because it wants to. Then it has told that it is out, while all others that there are were in: no two leave so."""
         others = [it for it in self.all() if it != self.name]
         if not others or self.etcd.write([holds(self.root + it, IN) for it in others], [put(self.root + self.name, OUT, self.leased)]):
             return False

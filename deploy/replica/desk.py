@@ -91,8 +91,8 @@ class Desk:
                 shutil.copyfile(self.path(name), f"{folder}/{name}")
 
     def begin(self, place: int, asked: int, mark: str) -> None:
-        """Writes down that this place is begun, and how often the desk was asked by then. It has to outlive this process alone: a machine that stops has no desk
-        any more."""
+        """Writes down that this place is begun, and how often the desk was asked by then. It has to outlive this process alone: a machine that stops has no
+        desk any more."""
         file = os.open(self.path("begun"), os.O_WRONLY | os.O_CREAT, 0o640)
         os.pwrite(file, f"{mark} {place:12d} {asked:12d}\n".encode(), 0)
         os.close(file)
@@ -115,8 +115,8 @@ class Desk:
 
 
 def begin_desk(folder: str, program: str, port: int, count: int, options: Sequence[str], agrees: Callable[[bytes], bool]) -> NoReturn:
-    """Becomes a desk with an empty file, if all machines agree on its program and options. The file of the one before is `left.db`, for who wants to know why it
-    ended. The lock is the process's own, whatever program it runs."""
+    """Becomes a desk with an empty file, if all machines agree on its program and options. The file of the one before is `left.db`, for who wants to know why
+    it ended. The lock is the process's own, whatever program it runs."""
     os.makedirs(folder, exist_ok=True)
     desk = Desk(folder)
     lock = os.open(desk.path("opening"), os.O_RDWR | os.O_CREAT, 0o640)

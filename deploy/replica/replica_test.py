@@ -1,6 +1,6 @@
 #!/usr/bin/env python3
-"""The parts of a replica, tried without etcd: in its place stands one in this process, which fails now and then, before it did what was asked or behind it. Then the
-whole of it, by the short form of trial.py.
+"""The parts of a replica, tried without etcd: in its place stands one in this process, which fails now and then, before it did what was asked or behind it.
+Then the whole of it, by the short form of trial.py.
 
     deploy/replica/replica_test.py [--program PATH] [--parts]        --parts: nothing but the parts
 
@@ -135,7 +135,7 @@ class Logs(unittest.TestCase):
             self.assertEqual(it := Entry("a-1-2", "/acts", body), entry_of(it.text()))
 
     def test_many(self) -> None:
-        """Four machines append at once, and etcd fails often: each entry has one place, the places that were told, and those of one machine stand in their order."""
+        """Four machines append at once, and etcd fails often: each entry has one place, the one that was told, and those of one machine stand in their order."""
         etcd, told = StandIn(10), dict[str, int]()
 
         def append(by: str) -> None:
@@ -312,7 +312,8 @@ class Judges(unittest.TestCase):
 
     def test_most(self) -> None:
         """Of three the one leaves that is not as the two others; of two that differ both do; and all of three that differ."""
-        for digests, leaves in (("xxy", [False, False, True]), ("yxx", [True, False, False]), ("xxx", [False] * 3), ("xyz", [True] * 3), ("xy", [True, True, False])):
+        for digests, leaves in (("xxy", [False, False, True]), ("yxx", [True, False, False]), ("xxx", [False] * 3), ("xyz", [True] * 3),
+                                ("xy", [True, True, False])):
             self.setUp()
             self.tell(**{name: True for name, _ in zip("abc", digests)})
             for name, digest in zip("abc", digests):
@@ -690,8 +691,8 @@ class Files(unittest.TestCase):
             rows = ["INSERT INTO t VALUES ('x', 1)", "INSERT INTO t VALUES ('y', 2)"]
             same = made(*rows)
             self.assertEqual(same, made(*rows, "INSERT INTO t VALUES ('z', 3)", "DELETE FROM t WHERE a = 'z'"))
-            others = [made(), made(*rows[:1]), made(*rows[::-1]), made(*rows, "UPDATE t SET n = 3 WHERE n = 2"), made(*rows, "UPDATE t SET a = 'X' WHERE n = 1"),
-                      made(*rows, "UPDATE t SET rowid = 7 WHERE n = 2"), made(*rows, "CREATE TABLE u (a)"), made(*rows, "CREATE INDEX i ON t (a)")]
+            others = [made(), made(*rows[:1]), made(*rows[::-1]), made(*rows, "UPDATE t SET n = 3 WHERE n = 2"),
+                      made(*rows, "UPDATE t SET a = 'X' WHERE n = 1"), made(*rows, "UPDATE t SET rowid = 7 WHERE n = 2"), made(*rows, "CREATE TABLE u (a)"), made(*rows, "CREATE INDEX i ON t (a)")]
             self.assertEqual(len(others) + 1, len({same, *others}))
 
 
@@ -767,8 +768,8 @@ class Real(unittest.TestCase):
                         desks["b"] = self.begin(f"{folder}/b", ports["b"])
                     body = json.dumps({"act": "enter 5 a--c no 8 1 - - ok", "by": "ann", "moment": 9, "number": number}).encode()
                     told = [self.until_known(served, "ab"[(number + more) % 2], body) for more in range(1 + number % 2)]
-                    self.assertEqual({f'{{"lines":["ok request {number} 5/{number - 1}","move {number} 9 ann {number} - Entered enter"],"more":0,"refusal":0}}'},
-                                     set(told))
+                    lines = f'["ok request {number} 5/{number - 1}","move {number} 9 ann {number} - Entered enter"]'
+                    self.assertEqual({f'{{"lines":{lines},"more":0,"refusal":0}}'}, set(told))
                 for it in served.values():
                     it.wait(lambda: it.machine.is_in)
                 etcd.failing = 0

@@ -1,14 +1,14 @@
 #!/usr/bin/env python3
-"""Three machines that keep one desk, tried on one real machine: three etcd, three desks and three replicas, which are killed, stopped and cut from each other while
-ten clients send random posts.
+"""Three machines that keep one desk, tried on one real machine: three etcd, three desks and three replicas, which are killed, stopped and cut from each other
+while ten clients send random posts.
 
     deploy/replica/trial.py [--program PATH] [--seed N] [--posts N]      the long form; as root each machine has a network of its own, and is cut off too
     deploy/replica/trial.py --short                                      some faults, on 127.0.0.1
     deploy/replica/trial.py --rates                                      acts a second of one machine, of three, and of two of three
 
-At its end the plain desk of tools/model carries the log out. Each answer that a client got has to be the plain desk's at its place, byte for byte; what was accepted
-stands once on each machine; `link` and `schedule` are answered alike by all; and the tables of all files are those of the plain desk, row by row. What could
-not be tried is told in a line `not tried: ..`; the last line is `N passed, N failed`.
+At its end the plain desk of tools/model carries the log out. Each answer that a client got has to be the plain desk's at its place, byte for byte; what was
+accepted stands once on each machine; `link` and `schedule` are answered alike by all; and the tables of all files are those of the plain desk, row by row.
+What could not be tried is told in a line `not tried: ..`; the last line is `N passed, N failed`.
 """
 import argparse
 import json
@@ -248,7 +248,8 @@ class Trial:
 
 def plan(trial: Trial) -> list[Planned]:
     """The faults, in their order."""
-    told: list[Planned] = [("the etcd that leads is killed", trial.kill_leader), ("a desk is killed", trial.kill("desk")), ("a replica is killed", trial.kill("replica"))]
+    told: list[Planned] = [("the etcd that leads is killed", trial.kill_leader), ("a desk is killed", trial.kill("desk")),
+                           ("a replica is killed", trial.kill("replica"))]
     if trial.asked.short:
         return told + [("a machine is killed", trial.kill_machine), ("a machine stands still", trial.stop_machine)]
     more = [("a replica is killed", trial.kill("replica")), ("a wanted restart of a desk", trial.kill("desk", signal.SIGTERM)),
@@ -294,8 +295,8 @@ def rates(asked: argparse.Namespace, folder: str) -> int:
             began, spent = time.monotonic(), sum(it.spent() for it in alive)
             trial.let_go(len(posts))
             took, spent = time.monotonic() - began, sum(it.spent() for it in alive) - spent
-            print(f"{what}: {trial.answered() / took:.0f} posts a second of {AT_ONCE} clients; {spent * 1000 / len(alive) / trial.answered():.1f} ms of a processor "
-                  f"each on each machine; a load of {os.getloadavg()[0]:.0f}", flush=True)
+            print(f"{what}: {trial.answered() / took:.0f} posts a second of {AT_ONCE} clients; {spent * 1000 / len(alive) / trial.answered():.1f} ms of a "
+                  f"processor each on each machine; a load of {os.getloadavg()[0]:.0f}", flush=True)
             if not dead:
                 rejoin(alive[0])
     return 0

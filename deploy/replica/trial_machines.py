@@ -1,5 +1,5 @@
-"""Machines for the trial: each has an etcd, a desk and a replica, which are begun again when they end, as a service manager does. All are on one real machine: at
-ports of 127.0.0.1, or each in a network of its own, so that they can be cut from each other."""
+"""Machines for the trial: each has an etcd, a desk and a replica, which are begun again when they end, as a service manager does. All are on one real machine:
+at ports of 127.0.0.1, or each in a network of its own, so that they can be cut from each other."""
 import json
 import os
 import signal
@@ -17,7 +17,10 @@ HERE = os.path.dirname(os.path.realpath(__file__))
 REPLICA = f"{HERE}/replica.py"
 RESTART = 0.5  # seconds between an end and the next beginning
 LEASE, PATIENCE = 3, 5
-ASK = "import http.client as h, sys; p = h.HTTPConnection('127.0.0.1', int(sys.argv[1])); p.request('POST', '/acts', sys.argv[2]); print(p.getresponse().read().decode())"
+ASK = """import http.client, sys
+peer = http.client.HTTPConnection("127.0.0.1", int(sys.argv[1]))
+peer.request("POST", "/acts", sys.argv[2])
+print(peer.getresponse().read().decode())"""
 
 
 class Unit:
