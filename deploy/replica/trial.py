@@ -4,7 +4,7 @@ while ten clients send random posts.
 
     deploy/replica/trial.py [--program PATH] [--seed N] [--posts N]      the long form; as root each machine has a network of its own, and is cut off too
     deploy/replica/trial.py --short                                      some faults, on 127.0.0.1
-    deploy/replica/trial.py --rates                                      acts a second of one machine, of three, and of two of three
+    deploy/replica/trial.py --rates                                      acts a second of a desk alone, of one machine, of three, and of two of three
 
 At its end the plain desk of tools/model carries the log out. Each answer that a client got has to be the plain desk's at its place, byte for byte; what was
 accepted stands once on each machine; `link` and `schedule` are answered alike by all; and the tables of all files are those of the plain desk, row by row.
@@ -28,7 +28,7 @@ from tests.http_peer import Fault  # noqa: E402
 from tests.runs import made_shim, quick_folder  # noqa: E402
 from trial_checks import carried_out, done_wrongly, entries_of, wrong_answers, wrong_files  # noqa: E402
 from trial_clients import AT_ONCE, Client, Dealer, Post, random_posts  # noqa: E402
-from trial_machines import LEASE, CutNet, Member, Net, wait_for  # noqa: E402
+from trial_machines import LEASE, CutNet, Member, Net, Unit, wait_for  # noqa: E402
 
 NAME = "desk"
 Planned = tuple[str, Callable[[], Optional[str]]]
@@ -282,24 +282,46 @@ def faults(asked: argparse.Namespace, folder: str) -> int:
     return int(trial.failed > 0)
 
 
+class Alone(Member):
+    """A desk without a replica: its clients ask itself."""
+
+    def __init__(self, folder: str, program: str) -> None:
+        """It is not begun yet."""
+        net = Net(1)
+        net.ports[0][2] = net.ports[0][3]
+        super().__init__(net, 0, folder, program, 1)
+        words = [program, "serve", f"{self.folder}/desk/desk.db", str(self.desk_port)]
+        self.units = {"desk": Unit(lambda: words, f"{self.folder}/desk.log")}
+
+
 def rates(asked: argparse.Namespace, folder: str) -> int:
     """Acts a second."""
     posts = random_posts(asked.seed, asked.posts)
+    os.mkdir(f"{folder}/alone")
+    with Trial(asked, f"{folder}/alone", Net(0), 0) as trial:
+        trial.members = [Alone(f"{folder}/alone", asked.program)]
+        trial.members[0].go()
+        wait_for("it there", trial.are_in)
+        rate("a desk alone", trial, posts, trial.members)
     for what, count, dead in (("one machine", 1, 0), ("three machines", 3, 0), ("three machines, one of them dead", 3, 1)):
         os.mkdir(f"{folder}/{count}{dead}")
         with Trial(asked, f"{folder}/{count}{dead}", Net(count), count) as trial:
             for it in trial.members[count - dead:]:
                 it.each(lambda unit: unit.hold())
-            alive = trial.members[:count - dead]
-            trial.send(posts, alive)
-            began, spent = time.monotonic(), sum(it.spent() for it in alive)
-            trial.let_go(len(posts))
-            took, spent = time.monotonic() - began, sum(it.spent() for it in alive) - spent
-            print(f"{what}: {trial.answered() / took:.0f} posts a second of {AT_ONCE} clients; {spent * 1000 / len(alive) / trial.answered():.1f} ms of a "
-                  f"processor each on each machine; a load of {os.getloadavg()[0]:.0f}", flush=True)
+            rate(what, trial, posts, trial.members[:count - dead])
             if not dead:
-                rejoin(alive[0])
+                rejoin(trial.members[0])
     return 0
+
+
+def rate(what: str, trial: Trial, posts: Sequence[Post], alive: Sequence[Member]) -> None:
+    """How many of these posts are answered a second by the machines that are there."""
+    trial.send(posts, alive)
+    began, spent = time.monotonic(), sum(it.spent() for it in alive)
+    trial.let_go(len(posts))
+    took, spent = time.monotonic() - began, sum(it.spent() for it in alive) - spent
+    print(f"{what}: {trial.answered() / took:.0f} posts a second of {AT_ONCE} clients; {spent * 1000 / len(alive) / trial.answered():.1f} ms of a "
+          f"processor each on each machine; a load of {os.getloadavg()[0]:.0f}", flush=True)
 
 
 def rejoin(member: Member) -> None:

@@ -68,12 +68,12 @@ class Dealer:
 
 
 class Client(threading.Thread):
-    """One client, which begins at one machine."""
+    """One client, which has a machine of its own, and goes to the next one where nothing is known."""
 
     def __init__(self, dealer: Dealer, members: Sequence[Member], at: int) -> None:
         """It was told nothing yet."""
         super().__init__(daemon=True)
-        self.dealer, self.members, self.at = dealer, members, at
+        self.dealer, self.members, self.home, self.at = dealer, members, at, at
         self.told: list[Told] = []
         self.places: list[tuple[int, int]] = []  # of questions: that of the answer to the post before, and that of the answer
         self.fault = ""
@@ -84,6 +84,7 @@ class Client(threading.Thread):
             while post := self.dealer.next():
                 self.told.append(self.send(post))
                 if len(self.told) % 20 == 0:
+                    self.at = self.home
                     self.look(self.told[-1].place)
         except Exception as why:  # which the trial tells
             self.fault = f"{type(why).__name__} {why}"
