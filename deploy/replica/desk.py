@@ -1,4 +1,4 @@
-"""The desk of this machine: a `tcdesk serve` that began with an empty file, how it is begun, and how it is asked."""
+"""The desk of this machine: a `tcdesk serve` that began as all others did, how it is begun, and how it is asked."""
 import fcntl
 import hashlib
 import http.client
@@ -114,9 +114,29 @@ class Desk:
             time.sleep(0.02)
 
 
-def begin_desk(folder: str, program: str, port: int, count: int, options: Sequence[str], agrees: Callable[[bytes], bool]) -> NoReturn:
-    """Becomes a desk with an empty file, if all machines agree on its program and options. The file of the one before is `left.db`, for who wants to know why
-    it ended. The lock is the process's own, whatever program it runs."""
+class Way(NamedTuple):
+    """How a desk of this machine begins: the program, its port and COUNT, the file of which it has a copy, none where its own is empty, and more options."""
+    program: str
+    port: int
+    most: int
+    first: Optional[str]
+    options: Sequence[str]
+
+    def told(self) -> bytes:
+        """What of it has to be the same on all machines."""
+        digests = [digest_of(it) if it else "" for it in (self.program, self.first)]
+        return json.dumps({"program": digests[0], "first": digests[1], "options": list(self.options)}).encode()
+
+
+def digest_of(path: str) -> str:
+    """The digest of a file."""
+    with open(path, "rb") as file:
+        return hashlib.sha256(file.read()).hexdigest()
+
+
+def begin_desk(folder: str, way: Way, agrees: Callable[[bytes], bool]) -> NoReturn:
+    """Becomes a desk with an empty file, or with a copy of the first one, if all machines agree on that. The file of the one before is `left.db`, for who wants
+    to know why it ended. The lock is the process's own, whatever program it runs."""
     os.makedirs(folder, exist_ok=True)
     desk = Desk(folder)
     lock = os.open(desk.path("opening"), os.O_RDWR | os.O_CREAT, 0o640)
@@ -128,15 +148,15 @@ def begin_desk(folder: str, program: str, port: int, count: int, options: Sequen
     else:
         raise SystemExit(f"replica: a desk of {folder} runs already")
     os.ftruncate(lock, 0)
-    with open(program, "rb") as file:
-        what = json.dumps({"program": hashlib.sha256(file.read()).hexdigest(), "options": list(options)}).encode()
-    if not agrees(what):
-        raise SystemExit("replica: the other machines have another program, or other options")
+    if not agrees(way.told()):
+        raise SystemExit("replica: the other machines have another program, another first file, or other options")
     for end in ("", "-wal"):
         if os.path.exists(desk.path("left.db" + end)):
             os.remove(desk.path("left.db" + end))
         if os.path.exists(desk.path("desk.db" + end)):
             os.replace(desk.path("desk.db" + end), desk.path("left.db" + end))
-    os.pwrite(lock, f"{secrets.token_hex(8)} {os.getpid()} {port} {count}\n".encode(), 0)
+    if way.first:
+        shutil.copyfile(way.first, desk.path("desk.db"))
+    os.pwrite(lock, f"{secrets.token_hex(8)} {os.getpid()} {way.port} {way.most}\n".encode(), 0)
     os.set_inheritable(lock, True)
-    os.execv(program, [program, "serve", *options, desk.path("desk.db"), str(port), str(count)])
+    os.execv(way.program, [way.program, "serve", *way.options, desk.path("desk.db"), str(way.port), str(way.most)])

@@ -1,7 +1,7 @@
 #!/usr/bin/env python3
 """One of the machines that keep one desk: the same acts in the same order on each, by a log in etcd. README.md of this folder says how it is set up.
 
-    replica.py desk [options] -- [OPTIONS OF SERVE]     becomes `tcdesk serve` with an empty file
+    replica.py desk [options] -- [OPTIONS OF SERVE]     becomes `tcdesk serve` with a new file
     replica.py run [options]                            the follower of that desk, and the entrance
     replica.py status [options]                         prints how far the log is, and which machines are in
 """
@@ -17,7 +17,7 @@ from queue import Empty
 from typing import Optional
 
 from compare import Comparison, Judge, Present
-from desk import Desk, begin_desk
+from desk import Desk, Way, begin_desk
 from entrance import Entrance
 from etcd import Etcd, Unanswered
 from log import Log
@@ -91,6 +91,7 @@ def parsed(words: list[str]) -> argparse.Namespace:
     parser.add_argument("--etcd", type=int, default=2379, metavar="PORT", help="where etcd listens on 127.0.0.1 (2379)")
     parser.add_argument("--folder", default="/var/lib/tcdesk", metavar="PATH", help="desk, run: where the file of the desk lies (/var/lib/tcdesk)")
     parser.add_argument("--program", default="/usr/local/bin/tcdesk", metavar="PATH", help="desk: the program (/usr/local/bin/tcdesk)")
+    parser.add_argument("--first", metavar="PATH", help="desk: it begins with a copy of this file, the same on all machines (with an empty one)")
     parser.add_argument("--port", type=int, default=8081, metavar="PORT", help="desk: where it listens on 127.0.0.1 (8081)")
     parser.add_argument("--count", type=int, default=1_000_000, metavar="N", help="desk: it ends after so many connections (1,000,000)")
     parser.add_argument("--listen", default="127.0.0.1:8080", metavar="HOST:PORT", help="run: where the entrance listens (127.0.0.1:8080)")
@@ -108,7 +109,7 @@ def main() -> int:
     """Does what the words ask for."""
     asked = parsed(sys.argv[1:])
     if asked.what == "desk":
-        begin_desk(asked.folder, asked.program, asked.port, asked.count, asked.options, Log(Etcd(asked.etcd), asked.log).agrees)
+        begin_desk(asked.folder, Way(asked.program, asked.port, asked.count, asked.first, asked.options), Log(Etcd(asked.etcd), asked.log).agrees)
     try:
         (run if asked.what == "run" else status)(asked)
     except (Unanswered, OSError) as why:

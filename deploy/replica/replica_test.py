@@ -14,6 +14,7 @@ import io
 import json
 import os
 import random
+import shutil
 import socket
 import sqlite3
 import subprocess
@@ -30,14 +31,14 @@ from typing import Any, Callable, Optional
 sys.path[1:1] = [f"{os.path.dirname(os.path.realpath(__file__))}/../../tools"]
 
 from compare import IN, OUT, Comparison, Judge, Present  # noqa: E402
-from desk import Answer, Desk, Ended, Opening  # noqa: E402
+from desk import Answer, Desk, Ended, Opening, Way  # noqa: E402
 from entrance import MOST_BODY, MOST_PLACES, Entrance  # noqa: E402
 from etcd import JSON, Etcd, Unanswered  # noqa: E402
 from log import COMPARE, MOST_AT_ONCE, Entry, Log, LogLost, Wanted, entry_of, now  # noqa: E402
 from machine import Left, Machine  # noqa: E402
 from run import program_of  # noqa: E402
 from tables import digest_of  # noqa: E402
-from tests.http_peer import free_port  # noqa: E402
+from tests.http_peer import free_port, run  # noqa: E402
 from tests.runs import quick_folder  # noqa: E402
 
 HERE = os.path.dirname(os.path.realpath(__file__))
@@ -696,16 +697,16 @@ class Files(unittest.TestCase):
             self.assertEqual(len(others) + 1, len({same, *others}))
 
 
-BEGIN = "import sys; from desk import begin_desk; begin_desk(sys.argv[1], sys.argv[2], int(sys.argv[3]), 100000, [], lambda _: True)"
+BEGIN = "import sys; from desk import Way, begin_desk; begin_desk(sys.argv[1], Way(sys.argv[2], int(sys.argv[3]), 100000, sys.argv[4] or None, []), lambda _: True)"
 
 
 class Real(unittest.TestCase):
     """Two machines in this process, with the real program, over the log of a stand-in for etcd that fails now and then."""
 
-    def begin(self, folder: str, port: int) -> subprocess.Popen[bytes]:
+    def begin(self, folder: str, port: int, first: str = "") -> subprocess.Popen[bytes]:
         """A desk of this folder."""
         with open(f"{folder}.log", "ab") as file:
-            return subprocess.Popen([sys.executable, "-c", BEGIN, folder, PROGRAM, str(port)], cwd=HERE, stderr=file)
+            return subprocess.Popen([sys.executable, "-c", BEGIN, folder, PROGRAM, str(port), first], cwd=HERE, stdout=file, stderr=file)
 
     def test_other_desk(self) -> None:
         """A desk that took the place of the one that is meant, between the look and the connection, is sent nothing."""
@@ -725,6 +726,32 @@ class Real(unittest.TestCase):
             taken, _ = listener.accept()
             self.assertEqual(b"", taken.recv(1))
             taken.close()
+
+    def test_way(self) -> None:
+        """Machines that begin otherwise say otherwise: another program, another first file or none, other options; not another port or COUNT."""
+        with tempfile.TemporaryDirectory(prefix="replica-", dir=quick_folder()) as folder:
+            for name in ("x", "y"):
+                with open(f"{folder}/{name}", "w", encoding="ascii") as file:
+                    file.write(name)
+            shutil.copy(f"{folder}/x", f"{folder}/same")
+            way = Way(f"{folder}/x", 1, 2, f"{folder}/y", ["--w", "20"])
+            self.assertEqual(way.told(), way._replace(program=f"{folder}/same", port=3, most=4).told())
+            others = [way._replace(program=f"{folder}/y"), way._replace(first=f"{folder}/x"), way._replace(first=None), way._replace(options=[])]
+            self.assertEqual(5, len({it.told() for it in [way, *others]}))
+
+    def test_first(self) -> None:
+        """A desk begins with a copy of the first file, each time."""
+        with tempfile.TemporaryDirectory(prefix="replica-", dir=quick_folder()) as folder:
+            run(PROGRAM, folder, ["0 ann enter 5 a--c no 8 1 - - ok"], "--db", "first.db")
+            desk, port = Desk(f"{folder}/a"), free_port()
+            for number in (2, 2):
+                process = self.begin(f"{folder}/a", port, f"{folder}/first.db")
+                while not (opening := desk.opening()):
+                    time.sleep(0.01)
+                told = desk.ask(opening, "POST", "/acts", b'{"act":"enter 5 a--c no 8 1 - - ok","by":"ann","moment":0,"number":1}')
+                self.assertIn(b"ok request %d 5/1" % number, told.body)
+                desk.end(opening)
+                process.wait(LONG)
 
     def test_lock(self) -> None:
         """A second desk of a folder is not begun, and the file of the first is kept by the next one."""

@@ -24,7 +24,10 @@ from typing import Callable, Optional, Sequence
 sys.path[1:1] = [f"{os.path.dirname(os.path.realpath(__file__))}/../../tools"]
 
 from run import program_of  # noqa: E402
-from tests.http_peer import Fault  # noqa: E402
+from model.rows import Tables, empty_tables  # noqa: E402
+from tests.asked import TOP  # noqa: E402
+from tests.http_peer import Fault, run  # noqa: E402
+from tests.plain_runs import kept_tables  # noqa: E402
 from tests.runs import made_shim, quick_folder  # noqa: E402
 from trial_checks import carried_out, done_wrongly, entries_of, wrong_answers, wrong_files  # noqa: E402
 from trial_clients import AT_ONCE, Client, Dealer, Post, random_posts  # noqa: E402
@@ -34,12 +37,22 @@ NAME = "desk"
 Planned = tuple[str, Callable[[], Optional[str]]]
 
 
+def first_tables(program: str, folder: str) -> Tables:
+    """Makes the file with which all desks begin, of requests that were on their way, and gives its tables."""
+    with open(f"{TOP}/examples/monday.tc", encoding="ascii") as file:
+        run(program, folder, file.read().splitlines(), "--db", "first.db")
+    tables = kept_tables(f"{folder}/first.db")
+    assert tables, "it is a desk's"
+    return tables
+
+
 class Trial:
     """So many machines, and what was found of them."""
 
     def __init__(self, asked: argparse.Namespace, folder: str, net: Net, count: int, first_counts: Sequence[int] = ()) -> None:
         """None runs yet."""
         self.asked, self.folder, self.net, self.dice = asked, folder, net, random.Random(asked.seed)
+        self.first = first_tables(asked.program, folder)
         counts = [*first_counts, *[1_000_000] * count]
         self.members = [Member(net, at, folder, asked.program, asked.every, counts[at]) for at in range(count)]
         self.passed, self.failed = 0, 0
@@ -219,7 +232,7 @@ class Trial:
         entries = entries_of(self.members[0], NAME)
         marks = {it.mark for it in entries}
         self.tell("each entry of the log has a mark of its own", ["one mark comes twice"] * (len(marks) != len(entries)))
-        carried = carried_out(entries)
+        carried = carried_out(entries, self.first)
         self.tell("each answer is the plain desk's at its place", wrong_answers(carried, told))
         late = [f"{it}" for client in self.clients for it in client.places if it[1] < it[0]]
         self.tell(f"{sum(len(it.places) for it in self.clients)} questions for the newest are no older than the post before", late)
@@ -270,7 +283,7 @@ def faults(asked: argparse.Namespace, folder: str) -> int:
     print(f"replica: seed {asked.seed}", flush=True)
     with Trial(asked, folder, net, 3, [asked.stage // 2]) as trial:
         told = plan(trial)
-        trial.send(random_posts(asked.seed, asked.posts * 2))
+        trial.send(random_posts(asked.seed, asked.posts * 2, trial.first))
         began = time.monotonic()
         trial.fault(f"a desk ends after its COUNT, {asked.stage // 2}", lambda: None, asked.stage)
         for what, does in told:
@@ -296,7 +309,7 @@ class Alone(Member):
 
 def rates(asked: argparse.Namespace, folder: str) -> int:
     """Acts a second."""
-    posts = random_posts(asked.seed, asked.posts)
+    posts = random_posts(asked.seed, asked.posts, empty_tables())
     os.mkdir(f"{folder}/alone")
     with Trial(asked, f"{folder}/alone", Net(0), 0) as trial:
         trial.members = [Alone(f"{folder}/alone", asked.program)]

@@ -36,9 +36,9 @@ def entries_of(member: Member, name: str) -> list[Entry]:
             return entries
 
 
-def carried_out(entries: Sequence[Entry]) -> Carried:
-    """What the plain desk makes of a log."""
-    calls = Calls(Desk())
+def carried_out(entries: Sequence[Entry], first: Tables) -> Carried:
+    """What the plain desk makes of a log, opened over the tables with which all desks begin."""
+    calls = Calls(Desk.opened(first, 0))
     answers = [answer_by(calls, it) for it in entries]
     return Carried(list(entries), answers, calls.desk)
 

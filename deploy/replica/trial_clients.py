@@ -7,7 +7,7 @@ from typing import NamedTuple, Optional, Sequence
 
 from generate.http_days import posted_day
 from generate.http_words import body_of
-from model.rows import empty_tables
+from model.rows import Tables
 from trial_machines import PATIENCE, Member
 
 AT_ONCE = 10
@@ -29,9 +29,9 @@ class Told(NamedTuple):
     at: float
 
 
-def random_posts(seed: int, count: int) -> list[Post]:
-    """So many posts by a seed, or a few more, a third of which repeat one of before, or spoil it."""
-    made = posted_day(random.Random(seed), empty_tables(), 0, 1, [], count)
+def random_posts(seed: int, count: int, tables: Tables) -> list[Post]:
+    """So many posts by a seed, or a few more, for a desk that has these tables. A third of them repeat one of before, or spoil it."""
+    made = posted_day(random.Random(seed), tables, 0, 1, [], count)
     return [Post(it.call.path, body_of(dict(it.call.keys)).encode()) for it in made.exchanges]
 
 

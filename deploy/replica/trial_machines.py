@@ -146,8 +146,9 @@ class Member:
     """A machine."""
 
     def __init__(self, net: Net, at: int, folder: str, program: str, every: int, first_count: int = 1_000_000) -> None:
-        """Its desk serves so many connections, the first time."""
+        """Its desk serves so many connections, the first time. It begins with a copy of `first.db` of the folder, where there is one."""
         self.net, self.at, self.name, self.folder, self.program, self.every = net, at, "abc"[at], f"{folder}/{'abc'[at]}", program, every
+        self.first = ["--first", f"{folder}/first.db"] if os.path.exists(f"{folder}/first.db") else []
         os.makedirs(f"{self.folder}/desk")
         self.counts = [first_count]
         self.desk_env: dict[str, str] = {}
@@ -172,7 +173,7 @@ class Member:
         env = ["env", *(f"{name}={value}" for name, value in self.desk_env.items())]
         self.desk_env = {}
         return [*env, *self.net.words(self.at), sys.executable, REPLICA, "desk", "--etcd", str(self.etcd_port), "--folder", f"{self.folder}/desk",
-                "--program", self.program, "--port", str(self.desk_port), "--count", str(count)]
+                "--program", self.program, "--port", str(self.desk_port), "--count", str(count), *self.first]
 
     def replica_words(self) -> list[str]:
         """Begins its follower and entrance."""
