@@ -1,15 +1,15 @@
 #!/bin/bash
-# deploy/package_test.sh [SUITE] makes the package of deploy/package.sh, twice, and looks at it: its bytes, its fields, what lintian says, and whether its
-# completion knows what `--help` tells. Then it is installed on a new Debian (that of SUITE, or of this machine), in a root of its own, and used there as
+# deploy/package_test.sh [SUITE] makes the package of deploy/package.sh, twice, and looks at it: its bytes, its fields, its files, what lintian says, and whether
+# its completion knows what `--help` tells. Then it is installed on a new Debian (that of SUITE, or of this machine), in a root of its own, and used there as
 # a new user would: scripts, a desk in a file, the page, the completion, and the service by hand; it is removed and purged, and what is left is told. Then
-# systemd is begun in that root, and the service is started, failed, killed, ended and upgraded; and all commands of deploy/README.md have to print what
-# that page shows.
+# systemd is begun in that root, and the service is started, failed, killed, ended and upgraded; and all commands of the pages deploy/README.md,
+# docs/SCALE.md and deploy/postgres/README.md, as the package has them, have to print what is shown there.
 # The last line is `N passed, N failed`; the status is 1 where one failed. Wants dpkg-deb. The root wants root, and mmdebstrap or debootstrap with an
 # archive of Debian; systemd in it wants systemd-nspawn. What is not at hand is told in a line `not tried: ..`.
 set -u
 export LC_ALL=C
 top=$(cd "$(dirname "${BASH_SOURCE[0]}")/.." && pwd) || exit 1
-command -v dpkg-deb >/dev/null || { echo "package_test: dpkg-deb is not installed (Debian: dpkg)" >&2; exit 1; }
+command -v dpkg-deb >/dev/null || { echo "not tried: the package, since dpkg-deb is not installed (Debian: dpkg)"; echo "0 passed, 0 failed"; exit 0; }
 work=$(mktemp -d) || exit 1
 me=package_test
 . "$top/tools/lib.sh"
@@ -65,7 +65,8 @@ options() {
 }
 
 bytes_cases() {
-    local name version=${1#tcdesk } need
+    local name version need
+    read -r _ version _ <<<"$1"
     (umask 077 && TZ=Asia/Tokyo make "$work/one")
     tell "a package is made"
     package=$(<"$work/out")
@@ -85,7 +86,6 @@ bytes_cases() {
     same "its version" "$version" "$(dpkg-deb -f "$package" Version)"
     dpkg-deb -x "$package" "$work/files" && cmp "$work/files/usr/bin/tcdesk" "$kept/tcdesk"
     tell "its program is that of dist/"
-    same "the manual" "$(sum_of "$top/docs/OPERATORS.md")" "$(gzip -dc "$work/files/usr/share/doc/tcdesk/OPERATORS.md.gz" | sum_of /dev/stdin)"
     if command -v objdump >/dev/null; then
         need=$(objdump -T "$kept/tcdesk" | grep -o 'GLIBC_[0-9.]*' | sort -Vu | tail -n 1)
         grep -qF "libc6 (>= ${need#GLIBC_})," <(dpkg-deb -f "$package" Depends)
@@ -101,7 +101,8 @@ bytes_cases() {
     else
         not_tried "lintian, which is not installed"
     fi
-    for name in deploy/package.sh deploy/package_test.sh deploy/debian/{serve,postinst,prerm,postrm,completion}; do
+    file_cases
+    for name in deploy/package.sh deploy/package_test.sh deploy/postgres/load.sh deploy/debian/{serve,postinst,prerm,postrm,completion}; do
         bash -n "$top/$name" 2>"$work/err"
         tell "$name is read by bash"
     done
@@ -118,6 +119,35 @@ bytes_cases() {
     same "completion of a file" $'a desk.db\na script' "$(cd "$work" && offered tcdesk serve --at=7 'a ')"
     same "completion of the file of an option" "a desk.db" "$(cd "$work" && offered tcdesk run --db = 'a d')"
     same "no completion of a port" "" "$(cd "$work" && offered tcdesk serve desk.db '')"
+}
+
+# file_cases: the package has each example, and the files of the login and of the loader; its pages have their lines, and what they name is there; the unit holds
+# the server as it has to.
+file_cases() {
+    local doc=$work/files/usr/share/doc/tcdesk from page name
+    diff -r "$top/examples" "$doc/examples" >"$work/out" 2>"$work/err"
+    tell "each example"
+    for name in nginx/{conf.d,njs,sites-available,snippets,authority.cnf} postgres/{load.sh,load.sql,tables.sql}; do
+        diff -r "$top/deploy/$name" "$work/files/usr/share/tcdesk/$name" >"$work/out" 2>"$work/err"
+        tell "deploy/$name"
+    done
+    for page in OPERATORS.md=docs/OPERATORS.md SCALE.md=docs/SCALE.md README.Debian=deploy/README.md nginx.md=deploy/nginx/README.md postgres.md=deploy/postgres/README.md; do
+        from=${page#*=} page=${page%%=*}
+        gzip -dc "$doc/$page.gz" >"$work/page.md" 2>"$work/err" && [[ $(wc -l <"$work/page.md") == "$(wc -l <"$top/$from")" ]] &&
+            ! grep -nE '\./tcdesk([ ;]|$)' "$work/page.md" >"$work/out"
+        tell "the page $from"
+        while IFS= read -r name; do
+            [[ -e $work/files$name ]]
+            tell "the page $from names $name"
+        done < <(grep -oE '/usr/(bin|libexec|share)/[A-Za-z/._-]*tcdesk[A-Za-z/._-]*' "$work/page.md" | sed 's/\.$//' | sort -u)
+    done
+    for name in User=tcdesk Group=tcdesk UMask=0077 Restart=on-failure StateDirectory=tcdesk StateDirectoryMode=0700 NoNewPrivileges=yes CapabilityBoundingSet= ProtectSystem=strict \
+        ProtectHome=yes PrivateTmp=yes PrivateDevices=yes ProtectKernelTunables=yes ProtectControlGroups=yes RestrictNamespaces=yes MemoryDenyWriteExecute=yes; do
+        grep -qxF "$name" "$work/files/usr/lib/systemd/system/tcdesk@.service"
+        tell "the unit has $name"
+    done
+    ! grep -E '^Restart' "$work/files/usr/lib/systemd/system/tcdesk@.service" | grep -vxE 'Restart=on-failure|RestartSec=5' >"$work/out"
+    tell "the unit restarts on failure only"
 }
 
 # refused_cases: a copy of the repository whose program or commit is missing, or is another, makes no package.
@@ -176,7 +206,7 @@ files_of_root() {
     (
         cd "$root" || exit
         find . -xdev \( -path ./proc -o -path ./root -o -path ./tmp -o -path ./run -o -path ./var/cache -o -path ./var/log -o -path ./var/lib/apt \
-            -o -path ./var/lib/dpkg -o -path ./var/lib/systemd -o -path ./var/tmp -o -path './etc/*-' -o -path ./etc/.pwd.lock \) -prune -o -print | sort
+            -o -path ./var/lib/dpkg -o -path ./var/lib/systemd -o -path ./var/lib/postgresql -o -path ./var/lib/nginx -o -path ./var/tmp -o -path './etc/*-' -o -path ./etc/.pwd.lock \) -prune -o -print | sort
         cut -d : -f 1 etc/passwd | sed 's/^/user /'
         cut -d : -f 1 etc/group | sed 's/^/group /'
     )
@@ -203,6 +233,8 @@ user_cases() {
     tell "it is installed where systemd is not, and makes its user"
     in_root "dpkg --verify tcdesk" && [[ ! -s $work/out ]]
     tell "each file is as its sum says"
+    in_root "stat -c '%a %U:%G' /var/lib/tcdesk; ls -A /var/lib/tcdesk"
+    same "whose the folder of desks is, which is empty" "700 tcdesk:tcdesk" "$(<"$work/out")"
     by_user nobody "cp -r /usr/share/doc/tcdesk/examples ."
     for name in first-pass procedure stack; do
         by_user nobody "tcdesk run examples/$name.tc"
@@ -233,7 +265,6 @@ user_cases() {
     tell "the service by hand: no port"
     port=$(free_port)
     echo "PORT=$port" >"$root/etc/default/tcdesk-hand"
-    in_root "install -d -o tcdesk -g tcdesk -m 700 /var/lib/tcdesk"
     # shellcheck disable=SC2016
     unshare --mount bash -c 'umask 077; mount -t proc proc "$0/proc" && exec chroot --userspec="$(stat -c %u:%g "$0/var/lib/tcdesk")" "$0" \
         /usr/bin/env -i PATH=/usr/bin:/bin PORT="$1" ${*:2}' "$root" "$port" "$line" >"$work/out" 2>"$work/err" <&- &
@@ -276,7 +307,7 @@ boot() {
     systemd-nspawn -D "$root" --boot --register=no "${more[@]}" --private-network --console=pipe </dev/null >"$work/console" 2>&1 &
     machine=$!
     why="systemd does not begin in it"
-    for ((turn = 0; turn < 120; turn++)); do
+    for ((turn = 0; turn < 360; turn++)); do
         sleep 0.5
         leader=$(pgrep -P "$machine") || continue
         in_machine "systemctl is-system-running"
@@ -287,7 +318,7 @@ boot() {
 
 # in_machine LINE: runs a line of bash where systemd runs.
 in_machine() {
-    nsenter -t "$leader" --all env -i PATH=/usr/local/sbin:/usr/local/bin:/usr/sbin:/usr/bin:/sbin:/bin HOME=/root LC_ALL=C.UTF-8 DEBIAN_FRONTEND=noninteractive \
+    timeout 900 nsenter -t "$leader" --all env -i PATH=/usr/local/sbin:/usr/local/bin:/usr/sbin:/usr/bin:/sbin:/bin HOME=/root LC_ALL=C.UTF-8 DEBIAN_FRONTEND=noninteractive \
         bash -c "cd /root; $1" >"$work/out" 2>"$work/err" <&-
 }
 
@@ -316,7 +347,7 @@ machine_says() {
 
 service_cases() {
     # shellcheck disable=SC2016
-    local id='systemctl show -P MainPID tcdesk@one' said='journalctl -t tcdesk -o cat -u tcdesk@one' before exposure
+    local id='systemctl show -P MainPID tcdesk@one' said='journalctl -t tcdesk -o cat -u tcdesk@one' before exposure next=$work/next
     in_machine "apt-get install -y ./${package##*/}"
     tell "it is installed where systemd runs"
     machine_says "systemd reads the unit" "" "systemd-analyze verify tcdesk@one.service"
@@ -328,30 +359,35 @@ service_cases() {
     tell "a desk is served as soon as it is started"
     machine_says "by whom, and with what" $'tcdesk\n0000000000000000\n0000000000000000\n1\n2' \
         "stat -c %U /proc/\$($id); awk '/^(CapEff|CapBnd|NoNewPrivs|Seccomp):/ { print \$2 }' /proc/\$($id)/status"
+    machine_says "of the disk it may write its own folder alone, also root there" $'written: /var/lib/tcdesk' \
+        "for it in / /boot /etc /home /opt /root /srv /usr /usr/local /var /var/cache /var/lib /var/lib/tcdesk /var/log; do
+            ! nsenter -t \$($id) -m touch \$it/probe 2>/dev/null || { echo written: \$it; nsenter -t \$($id) -m rm \$it/probe; }; done"
     machine_says "whose its file is" $'700 tcdesk:tcdesk /var/lib/tcdesk\n600 tcdesk:tcdesk /var/lib/tcdesk/one.db' \
         "stat -c '%a %U:%G %n' /var/lib/tcdesk /var/lib/tcdesk/one.db"
 
     in_machine "$id"
     before=$(<"$work/out")
-    in_machine "apt-get install -y --reinstall ./${package##*/} && systemctl daemon-reload && $id" && [[ $(tail -n 1 "$work/out") == "$before" ]]
+    # the next version is the same but for its number
+    dpkg-deb -R "$package" "$next" && sed -i 's/^Version: .*/&+next/' "$next/DEBIAN/control" && dpkg-deb --root-owner-group -b "$next" "$root/root/next.deb" >"$work/out"
+    in_machine "apt-get install -y ./next.deb && dpkg-query -W -f '\${Version}\n' tcdesk && $id" && [[ $(tail -n 2 "$work/out") == *+next$'\n'$before ]]
     tell "an upgrade leaves the server alone"
     in_machine "kill -9 \$($id)
         for it in {1..60}; do sleep 1; it=\$($id); if [[ \$it != 0 && \$it != $before ]] && systemctl -q is-active tcdesk@one; then break; fi; done
         $id; curl -s http://127.0.0.1:8080/places" && [[ $(head -n 1 "$work/out") != "$before" ]] && grep -q '"places 0: ' "$work/out"
     tell "a server that was killed comes back"
     machine_says "one that a person killed stays down" inactive "kill \$($id); sleep 8; systemctl is-active tcdesk@one"
-    machine_says "one that served its COUNT ends with 0, and comes back" $'tcdesk: ended after 2 connections\ntcdesk: listening on 127.0.0.1:8080\nactive' \
+    machine_says "one that served its COUNT ends with 0, and stays down" $'tcdesk: ended after 2 connections\ninactive' \
         "mkdir -p /run/systemd/system/tcdesk@one.service.d
         printf '[Service]\nExecStart=\nExecStart=/usr/local/bin/few one\n' >/run/systemd/system/tcdesk@one.service.d/few.conf
         sed 's/\"\$PORT\"/& 2/' /usr/libexec/tcdesk/serve >/usr/local/bin/few && chmod 755 /usr/local/bin/few
         systemctl daemon-reload && systemctl start tcdesk@one && for it in 1 2; do curl -s http://127.0.0.1:8080/places >/dev/null; done
-        for it in {1..60}; do sleep 1; if [[ \$($said | tail -n 1) == *listening* ]] && systemctl -q is-active tcdesk@one; then break; fi; done
-        $said | tail -n 2; systemctl is-active tcdesk@one"
-    in_machine "rm -r /run/systemd/system/tcdesk@one.service.d /usr/local/bin/few; systemctl daemon-reload; systemctl restart tcdesk@one"
+        sleep 8; $said | tail -n 1; systemctl is-active tcdesk@one"
+    # its next starts are no more than a person may make
+    in_machine "rm -r /run/systemd/system/tcdesk@one.service.d /usr/local/bin/few; systemctl daemon-reload; systemctl reset-failed tcdesk@one; systemctl restart tcdesk@one"
 
     machine_says "a file that is no desk's: the start fails, says why, and stays down after 5 starts" $'status 1\n5 tcdesk: cannot use /var/lib/tcdesk/two.db\nfailed' \
         "echo PORT=8082 >/etc/default/tcdesk-two; install -o tcdesk -g tcdesk -m 600 /etc/hostname /var/lib/tcdesk/two.db
-        systemctl start tcdesk@two 2>/dev/null; echo status \$?; for it in {1..90}; do sleep 1; [[ \$(systemctl is-active tcdesk@two) != failed ]] || break; done
+        systemctl start tcdesk@two 2>/dev/null; echo status \$?; for it in {1..240}; do sleep 1; [[ \$(systemctl is-active tcdesk@two) != failed ]] || break; done
         journalctl -t tcdesk -o cat -u tcdesk@two | uniq -c | sed 's/^ *//'; systemctl is-active tcdesk@two"
     machine_says "no port: the start fails, and says why" $'status 1\nis not set, so /etc/default/tcdesk-three has to say PORT=N' \
         "touch /etc/default/tcdesk-three; systemctl start tcdesk@three 2>/dev/null; echo status \$?; systemctl stop tcdesk@three
@@ -359,7 +395,7 @@ service_cases() {
     in_machine "post() { curl -s --json \"{\\\"by\\\":\\\"\$1\\\",\\\"number\\\":\$2,\\\"act\\\":\\\"\$3\\\",\\\"moment\\\":7}\" http://127.0.0.1:8080/acts; }
         post ann 1 'enter 5 ---c no 8 1 - - ok'; post bob 1 'approve 1'; post ann 2 'initiate none'; post ann 3 'release 1'
         from=\$(date +%s); systemctl restart tcdesk@one
-        read -r _ _ at rest < <($said | grep ^move); echo; echo \$((at >= from && at <= from + 9)) \$rest"
+        read -r _ _ at rest < <($said | grep ^move); echo; echo \$((at >= from && at <= \$(date +%s))) \$rest"
     same "a restart puts in doubt what is on its way, at the moment of the start" "1 desk 1 Sent Doubtful open" "$(tail -n 1 "$work/out")"
     machine_says "its options are those of the file" "tcdesk: connection 1: answered" \
         "echo 'OPTIONS=\"--w 10 --verbose\"' >>/etc/default/tcdesk-one; systemctl restart tcdesk@one; curl -s http://127.0.0.1:8080/places >/dev/null; sleep 1
@@ -375,11 +411,13 @@ service_cases() {
     in_machine "rm -r /var/lib/tcdesk /etc/default/tcdesk-*; userdel tcdesk; systemctl reset-failed"
 }
 
-# page_cases: each block ```sh of deploy/README.md, in order, prints the block without a word that stands next behind it, or nothing where none does.
+# page_cases NAME [LINES]: the blocks ```sh of a page, as the package has it, are run one behind the other by one bash, behind these lines. Each has to print the block
+# without a word that stands next behind it, or nothing where none does.
 page_cases() {
-    local file number
-    mkdir "$work/page" "$root/root/page"
-    awk -v folder="$work/page" '
+    local page=$work/page-$1 file number
+    mkdir "$page" "$root/root/page"
+    in_machine "apt-get install -y ./${package##*/} && zcat /usr/share/doc/tcdesk/$1.gz"
+    sed -n '/^# /,$p' "$work/out" | awk -v folder="$page" '
         /^```/ && inside { close(file); inside = 0; next }
         /^```/ {
             inside = 1
@@ -388,17 +426,35 @@ page_cases() {
             file = word == "sh" ? sprintf("%s/%03d.sh", folder, at) : word == "" ? sprintf("%s/%03d.out", folder, at) : "/dev/null"
             next
         }
-        inside { print >file }' "$top/deploy/README.md"
-    in_machine "apt-get install -y ./${package##*/}"
-    for file in "$work"/page/*.sh; do
+        inside { print >file }'
+    {
+        echo "${2:-}"
+        for file in "$page"/*.sh; do
+            echo "echo; echo '== ${file##*/}'"
+            cat "$file"
+        done
+    } >"$root/root/page.sh"
+    in_machine "cd page; bash ../page.sh 2>&1"
+    cp "$work/out" "$page/printed"
+    for file in "$page"/*.sh; do
         number=${file##*/}
+        awk -v head="== $number" '/^== [0-9]+\.sh$/ { inside = $0 == head; next } inside' "$page/printed" >"$work/out"
         number=$((10#${number%.sh}))
-        cp "$file" "$root/root/page.sh"
-        in_machine "cd page; bash ../page.sh 2>&1"
-        same "deploy/README.md, line $number" "$(plain <"${file%.sh}.out")" "$(plain <"$work/out")"
+        same "the page $1, line $number" "$(plain <"${file%.sh}.out")" "$(plain <"$work/out")"
     done
     in_machine "rm -r page page.sh"
-    same "what is left behind the last of them" "" "$(changed_files)"
+}
+
+# pages_cases: all pages whose commands are tried, and what is left behind the last of them.
+pages_cases() {
+    files_of_root >"$work/before"
+    page_cases README.Debian
+    same "what is left behind it" "" "$(changed_files)"
+    page_cases SCALE.md
+    in_machine "apt-get purge -y tcdesk; rm -r /var/lib/tcdesk /etc/default/tcdesk-* /srv/copies /srv/standby; userdel tcdesk; systemctl reset-failed"
+    in_machine "for it in {1..60}; do ! su -c 'createuser root && createdb --owner root tcdesk' postgres || break; sleep 1; done"
+    tell "root has a database"
+    page_cases postgres.md "export PGDATABASE=tcdesk; cp -r /usr/share/doc/tcdesk/examples ."
 }
 
 # plain: what hangs on the day, and on how this Debian tells of its units, is left out.
@@ -415,6 +471,8 @@ fi
 user_cases
 if ! in_root "apt-get install -y systemd systemd-sysv"; then
     not_tried "the service, since systemd could not be installed in the root"
+elif ! in_root "apt-get install -y --no-install-recommends nginx-light libnginx-mod-http-js openssl postgresql rsync sqlite3"; then
+    not_tried "the service, since what its pages want could not be installed in the root"
 elif ! boot; then
     in_root "apt-get install -y ./${package##*/}"
     in_root "systemd-analyze verify tcdesk@one.service" && [[ ! -s $work/err ]]
@@ -425,8 +483,7 @@ elif ! boot; then
 else
     # a line may be on its way to the journal when it is asked
     printf '#!/bin/sh\n/usr/bin/journalctl --sync; exec /usr/bin/journalctl "$@"\n' >"$root/usr/local/bin/journalctl" && chmod 755 "$root/usr/local/bin/journalctl"
-    files_of_root >"$work/before"
     service_cases
-    page_cases
+    pages_cases
 fi
 finish

@@ -29,5 +29,3 @@ pub mod SoundLemmas
 pub mod GivenLemmas
 pub mod StackGivenLemmas
 pub mod CompleteLemmas
-pub mod StackRowLemmas
-pub mod WaitingLemmas
