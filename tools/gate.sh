@@ -8,8 +8,8 @@
 # as it was seen last. A test that does without something says so in a line `not tried: ..`; these are told again at the end, and counted. The
 # last line is `N passed, N failed`, of its own parts and of the tests.
 #
-# tools/gate.sh [--all] [--record] [--keep]: --all tries the edits of every crate, also of those that tools/edits.tried has as they
-# stand; --record writes that file anew, and --keep puts the program that rt ci built into dist/, for the landing's commit.
+# tools/gate.sh [--all] [--record] [--keep]: --all tries every edit, also those that tools/edits.tried has as they stand;
+# --record writes down there what was refused, and --keep puts the program that rt ci built into dist/, for the landing's commit.
 set -uo pipefail
 # the parts' output is piped, and is to come all the same while they run
 export PYTHONUNBUFFERED=1

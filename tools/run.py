@@ -146,7 +146,7 @@ def parsed(words: list[str]) -> argparse.Namespace:
     parser.add_argument("--planted", action="store_true", help="plant faults into the plain desk, and print how many are found")
     parser.add_argument("--cells", action="store_true", help="plain-link: print how often each cell of FOP-1 and FARM-1 was met")
     parser.add_argument("--all", action="store_true", help="edits: try also those that are on record")
-    parser.add_argument("--record", action="store_true", help="edits: write tools/edits.tried anew")
+    parser.add_argument("--record", action="store_true", help="edits: write down in tools/edits.tried which were refused")
     asked = parser.parse_args(words)
     chosen = [it for it in ENTRIES if it.name in asked.only] if asked.only else [it for it in ENTRIES if not it.by_hand]
     if (asked.seed is not None or asked.count is not None) and not asked.planted and not any(it.takes_seed for it in chosen):

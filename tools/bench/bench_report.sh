@@ -19,8 +19,8 @@ rm -f desk.db-wal desk.db-shm
 
 # shell FROM TO: the lines of the moves, by the shell
 shell() {
-    sqlite3 desk.db -cmd ".read $top/tools/views.sql" "SELECT printf('%8d %s %-16s %6d %-9s %-9s %s', seq, moves.moment, moves.person, moves.request,
-        moves.from_place, moves.to_place, moves.cause) FROM moves JOIN move USING (seq) WHERE move.moment >= $1 AND move.moment < $2 ORDER BY seq"
+    sqlite3 desk.db -cmd ".read $top/examples/views.sql" "SELECT printf('%8d %s %-16s %6d %-9s %-9s %s', seq, timeline.moment, timeline.person, timeline.request,
+        timeline.from_place, timeline.to_place, timeline.cause) FROM timeline JOIN move USING (seq) WHERE move.moment >= $1 AND move.moment < $2 ORDER BY seq"
 }
 
 for shift in "0 4102444799" "1900003600 1900007200"; do

@@ -1,45 +1,54 @@
-"""Which crates need not have their edits tried again: tools/edits.tried.
+"""Which edits need not be tried again: tools/edits.tried.
 
-Each line names a crate, a digest and how many edits it has. It says that the prover of this very version refused all of
-them for these very texts: the crate's own code, definitions, proofs and edits, the rules by which tools/edits/edits.py judges,
-what each crate below stands on, and of the crates below the files that the crate's own texts reach by imports, in code,
-in definitions, in lemmas and in edits, from file to file (tools/edits/edit_imports.py). Of the other files nothing is taken,
-of the module files above one that is reached only what they say beside their lists of modules.
+Each line names an edit and at most two digests, the newest first. Such a digest says that the prover of this very version refused the edit on
+these very grounds, by the rules of tools/edits/edit_trial.py. Of an edit that changes bodies of functions alone the grounds are items
+(tools/edits/edit_grounds.py): its text, the functions that it changes, the files that prove them, and all that these reach in their crate and in those
+below. Of any other edit, as one of a constant, they are files: all of its crate, and those that these reach by imports
+(tools/edits/edit_imports.py).
 
-Why that is enough. An edit is refused because a goal of its own function is not proved. The goal is made of what the
-function's text names and of what that names in turn, its callees' clauses, types and definitions, and each of these is
-imported in the file that names it; an impl, which nobody imports, is taken with the files of its trait and its type.
-So while no file that is reached changes, the goal is the same one. Nor can a new proof of it come from elsewhere by
-name: a lemma that a proof cites has to be imported too. How a function of a lower crate is proved does not matter, nor do
-the lemmas that such proofs alone cite: a check above loads them, and can cite only what is stated of the function.
+Why that is enough. What an edit of a body changes is the code of a function, and the prover keeps that to the function's own proof: to all
+others it shows the function's contract. So the edit is refused because a goal of that function is not proved, or of one that calls it and
+is called by it, since these are proved together. The goal is made of the function's text, and of what it names in turn: the contracts of what it
+calls, types with what their impls say of them, constants, definitions. Each of these is named, by a word of its own file or by one that the file
+imports, but for three. A method is called by its name alone: so all of that name count whose type or trait is reached. What operators, loops,
+`?` and drops call is not named at all: so all functions of impls of traits count with their types. An impl is not named: it counts with its type
+and with its trait. How comments and lines lie means nothing. The files that prove the function hold hints and answers; they and the attribute
+`tactic` name the lemmas that they cite, and these count by their whole text. A name that comes from the toolchain's own crates counts by its
+path.
 
-That the crate as it stands is proved is no part of a line: the gate's `rt ci` proves these very texts, and from nothing, before
-it looks at the record.
+How another function is proved does not matter, nor which lemmas such proofs cite, nor what is named by nothing of the above: a function more, a
+type or a question beside those that are reached, and a new crate below that is not. An item of theirs can be reached only where an item that is
+reached already names it, and then that one's text is another, or gets its name in scope, and then the item is found there.
 
-What stays is the prover's search. It may look through what stands in scope of a library though nothing imports it, and
-has limits. A lemma more there cannot prove what is false: an edit whose goal is false stays refused. It can at most find
-a proof of a goal that is true and was not found before; that edit was harmless from the start, and was refused for the
-search's weakness alone. Such a change of verdict is not seen until the crate is tried again.
+That the crate as it stands is proved is no part of a digest: the gate's `rt ci` proves these very texts, and from nothing, before it looks at
+the record.
 
-To skip a crate trusts, beside that, such a line: that whoever committed it saw the refusals (`tools/edits/edits.py --record`
-writes none where an edit was not refused), that a check of the same texts by the same prover ends the same way on each
-machine, that tools/edits/edit_imports.py overlooks no import (what it does not understand it takes for all of the crate), and
-that no two texts have one sha256. `tools/edits/edits.py --all` trusts nothing of it.
+What stays is the prover's search. It may look through what stands in scope of a library though nothing imports it, and has limits. A lemma
+more there cannot prove what is false: an edit whose goal is false stays refused. It can at most find a proof of a goal that is true and was not
+found before; that edit was harmless from the start, and was refused for the search's weakness alone. Such a change of verdict is not seen until the
+edit is tried again.
+
+To pass over an edit trusts, beside that, such a line: that whoever committed it saw the refusal (`tools/edits/edits.py --record` writes none where
+the edit was not refused), that a check of the same texts by the same prover ends the same way on each machine, that tools/edits/edit_items.py and
+tools/edits/edit_names.py overlook nothing that is named (what they do not understand they take for more), and that no two grounds have
+one sum of 128 bits. `tools/edits/edits.py --all` trusts nothing of it.
 """
 import hashlib
 import os
-from collections.abc import Container
+from collections.abc import Container, Mapping, Sequence
 
-from edit_checks import Crate
-from edit_files import text_of
+from edit_checks import Crate, Kit
+from edit_files import Edit, text_of
+from edit_grounds import Grounds
 from edit_imports import PARTS, Imports, files_of
+from edit_names import Names
 
 RECORD = "tools/edits.tried"
-# How many lines a crate has at most. Machines may have two versions of the toolchain, of which each voids what the other tried:
-# so the line before the newest stays. A line never says more than of its own texts and version.
+# How many digests an edit has at most. Machines may have two versions of the toolchain, of which each voids what the other tried: so the
+# one before the newest stays. A digest never says more than of its own grounds and version.
 MOST = 2
 # What tells a refusal from another answer.
-RULES = ("edits.py", "edit_checks.py", "edit_files.py")
+RULES = ("edit_trial.py", "edit_checks.py", "edit_files.py")
 
 
 def bytes_of(path: str) -> bytes:
@@ -47,46 +56,72 @@ def bytes_of(path: str) -> bytes:
         return it.read()
 
 
-def digest_of(crate: Crate, edits: str) -> str:
-    """A sum of all that the verdicts on this crate's edits, in its folder of this name, are made from."""
+def rules_of(kit: Kit) -> list[tuple[object, ...]]:
+    """What judges: the toolchain, and the files of this tool that do."""
     home = os.path.dirname(os.path.realpath(__file__))
+    return [("toolchain", kit.version), *((it, bytes_of(f"{home}/{it}")) for it in RULES)]
+
+
+def files_reached(crate: Crate, edits: str) -> list[tuple[object, ...]]:
+    """All that the verdicts on this crate's edits, in its folder of this name, are made from, by files."""
     folder, names = os.path.dirname(crate.folder), [*crate.below(), crate.name]
     imports = Imports(folder, names, crate.crates)
     own = [it for part in (*PARTS, edits) for it in files_of(f"{crate.folder}/{part}")]
     reached = imports.reached((crate.name, os.path.relpath(it, crate.folder)) for it in own)
     above = {it for file in reached for it in imports.above(file)} - reached
-    parts: list[tuple[object, ...]] = [("toolchain", crate.kit.version)]
-    parts += [(it, bytes_of(f"{home}/{it}")) for it in RULES]
-    parts += [(it, crate.crates[it]) for it in names]
+    parts: list[tuple[object, ...]] = [(it, crate.crates[it]) for it in names]
     parts += [(*it, bytes_of("/".join([folder, *it]))) for it in sorted(reached)]
-    parts += [(*it, imports.beside_modules(it)) for it in sorted(above)]
-    return hashlib.sha256(repr(parts).encode()).hexdigest()
+    return [*parts, *((*it, imports.beside_modules(it)) for it in sorted(above))]
+
+
+def sum_of(parts: object) -> str:
+    return hashlib.sha256(repr(parts).encode()).hexdigest()[:32]
+
+
+class Digests:
+    """Of edits sums of their grounds, as the texts stand now."""
+
+    def __init__(self, kit: Kit, crates: Mapping[str, Sequence[str]], needed: Sequence[str], edits: str) -> None:
+        """Of edits in the folders of this name, of such of these crates as stand on none but those that are needed."""
+        self.rules, self.folder = rules_of(kit), edits
+        self.grounds = Grounds(Names(f"{os.getcwd()}/crates", needed, crates))
+        self.by_files: dict[str, str] = {}
+        self.sums: dict[str, str] = {}
+
+    def of(self, crate: Crate, edit: Edit) -> str:
+        if edit.fault or not edit.functions:
+            if crate.name not in self.by_files:
+                self.by_files[crate.name] = sum_of([*self.rules, *files_reached(crate, self.folder)])
+            return sum_of((self.by_files[crate.name], edit.name))
+        path = f"{crate.folder}/{self.folder}/{edit.name}"
+        found = self.grounds.of(edit, path, crate.name, crate.below())
+        return sum_of([*self.rules, crate.name, *((key, self.sum(text)) for key, text in found)])
+
+    def sum(self, text: str) -> str:
+        if text not in self.sums:
+            self.sums[text] = sum_of(text)
+        return self.sums[text]
 
 
 class Record:
-    """The lines of tools/edits.tried, by crate, the newest first."""
+    """The digests of tools/edits.tried, by edit, the newest first."""
 
     def __init__(self) -> None:
-        # by crate; and those that were taken out
-        self.lines: dict[str, list[str]] = {}
-        self.dropped: dict[str, list[str]] = {}
-        for row in text_of(RECORD).splitlines() if os.path.isfile(RECORD) else []:
-            if row:
-                self.lines.setdefault(row.split(" ")[0], []).append(row)
+        rows = [it.split() for it in text_of(RECORD).splitlines()] if os.path.isfile(RECORD) else []
+        self.digests = {row[0]: row[1:] for row in rows if row}
 
-    def holds(self, name: str, digest: str, count: int) -> bool:
-        return f"{name} {digest} {count}" in self.lines.get(name, [])
+    def holds(self, edit: str, digest: str) -> bool:
+        return digest in self.digests.get(edit, [])
 
-    def put(self, name: str, digest: str, count: int) -> None:
-        line = f"{name} {digest} {count}"
-        others = [it for it in [*self.lines.get(name, []), *self.dropped.get(name, [])] if it != line]
-        self.lines[name] = [line, *others][:MOST]
+    def put(self, edit: str, digest: str) -> None:
+        others = [it for it in self.digests.get(edit, []) if it != digest]
+        self.digests[edit] = [digest, *others][:MOST]
 
-    def drop(self, name: str) -> None:
-        """Takes the lines of a crate out, until one is put down."""
-        self.dropped[name] = self.lines.pop(name, [])
+    def drop(self, edit: str) -> None:
+        """Takes an edit out that was not refused."""
+        self.digests.pop(edit, None)
 
-    def write(self, crates: Container[str]) -> None:
-        """Writes the lines of these crates, in order of name."""
+    def write(self, edits: Container[str]) -> None:
+        """Writes the lines of these edits, in order of name."""
         with open(RECORD, "w", encoding="utf-8") as it:
-            it.writelines(f"{line}\n" for name, lines in sorted(self.lines.items()) if name in crates for line in lines)
+            it.writelines(f"{' '.join([name, *digests])}\n" for name, digests in sorted(self.digests.items()) if name in edits)

@@ -1,204 +1,34 @@
 #!/usr/bin/env python3
-"""Tries the edits that must fail, many in one check: tools/edits/edits.py [CRATE ..], at the top of the repository.
+"""Tries the edits that must fail, many in one check: tools/edits/edits.py [CRATE | CRATE/NAME.edit ..], at the top of the repository.
 
-An edit is a file crates/CRATE/wrong/NAME.edit that makes a crate wrong, in the format of `rt must-fail`. Edits of the
-bodies of different functions go into one copy of the crate, and the prover is asked for those functions alone. An edit
-is refused where its own function, or a closure in it, has a goal of its own that is not proved: not because of what the
-function calls, and not because a proof file names what is gone. An edit of a constant is refused where a function that
-names it has such a goal. What is not clear so is tried alone, by a whole check, and judged as `rt must-fail` does.
+An edit is a file crates/CRATE/wrong/NAME.edit that makes a crate wrong, in the format of `rt must-fail`. tools/edits/edit_trial.py says how it is
+tried, and when it counts as refused.
 
 A crate that is not proved as it stands shows nothing of its edits. So each is checked first, whole, and its edits are tried over
 what that check proved. With --proved it is not, where `rt ci` has proved these very texts before; then each group proves what its
 functions call anew, so that is shorter only for a crate with few edits.
 
-Where no crate is named, a crate is passed over whose edits were all refused for the very texts that stand: tools/edits.tried
-has the digests, and tools/edits/edit_record.py says what they cover and what is trusted. --record writes that file after a run.
+Where none is named, an edit is passed over that was refused on the very grounds that stand: tools/edits.tried has the digests, and
+tools/edits/edit_record.py says what they cover and what is trusted. --record writes that file after a run.
 
-The libraries below a crate must be built (crates/*/out/rlib), by `rt ci` or `rt all check`. For each edit there is a
-line with the goal that refuses it, and for each crate passed over one with how many it has; the last line is
+The libraries below a crate must be built (crates/*/out/rlib), by `rt ci` or `rt all check`. For each edit there is a line with the goal that
+refuses it, and for each crate of which some are passed over one with how many; the last line is
 'N passed, M failed, K not tried again', and the status is 1 where one failed.
 """
 import argparse
 import os
-import re
-import shutil
-import tempfile
 import threading
 import time
 from collections.abc import Mapping, Sequence
 from concurrent.futures import ThreadPoolExecutor
+from dataclasses import dataclass
 
-from edit_checks import Crate, Kit, Report, check, crates_of, fault_of, path_of, told, word_of
-from edit_files import Edit, Function, constant_of, edits_in, joined, who_names
-from edit_record import Record, digest_of
+from edit_checks import Crate, Kit, crates_of
+from edit_files import Edit, edits_in
+from edit_record import Digests, Record
+from edit_trial import Trial, say
 
-
-def say(text: str) -> None:
-    print(text, flush=True)
-
-
-class Trial:
-    """The edits of one crate, tried."""
-
-    def __init__(self, crate: Crate, asked: argparse.Namespace, cores: threading.Semaphore) -> None:
-        self.crate, self.asked, self.cores = crate, asked, cores
-        self.edits = edits_in(f"{crate.folder}/{asked.folder}", crate.folder)
-        # Of all that the verdicts are made from, before the first check.
-        self.digest = digest_of(crate, asked.folder)
-        # What was found of each edit, what each check took, and how many edits met an answer by hand.
-        self.verdicts: list[bool] = []
-        self.reports: list[Report] = []
-        self.by_hand = 0
-        self.names: set[str] = set()
-        # Where its first whole check keeps what it proved, once there was one, and whether it proved the crate.
-        self.kept = ""
-        self.alone_first = threading.Lock()
-        self.is_proved: bool | None = None
-
-    def check(self, label: str, texts: Mapping[str, str], only: Sequence[str] = ()) -> Report:
-        with self.cores:
-            kept = None if only and self.is_proved is None else self.kept
-            report = check(self.crate, texts, kept, only, self.asked.logs)
-        self.reports.append(report)
-        took = f"{report.seconds:.0f} s, of a processor {report.processor:.0f}"
-        say(f"     {self.crate.name}: {label}: {took}; {report.last[:60]}")
-        return report
-
-    def tell(self, edit: Edit, is_refused: bool, why: str) -> None:
-        self.verdicts.append(is_refused)
-        say(f"{'ok  ' if is_refused else 'FAIL'} {self.crate.name}/{edit.name}: {why[:240]}")
-
-    def base(self) -> bool:
-        """Whether the crate is proved as it stands, by one whole check."""
-        with self.alone_first:
-            if self.is_proved is None:
-                report = self.check("as it stands", {})
-                self.names = {*report.proved()}
-                self.is_proved = report.is_proved
-        return self.is_proved
-
-    def by_readers(self, edit: Edit) -> bool:
-        """Tries an edit of a constant by the functions that name it, and says whether one refuses it."""
-        constant = constant_of(edit, self.crate.folder)
-        readers = who_names(constant, self.crate.folder) if constant else []
-        words = sorted({word for it in readers if (word := self.word(it))})
-        if not words:
-            return False
-        report = self.check(f"who names it, {edit.name}", edit.texts, words)
-        if report.unread({it.file for it in edit.splices}) or not report.last.startswith("only="):
-            return False
-        paths = {it: path for it in readers if (path := path_of(it, self.crate.name, self.reported(report)))}
-        fault = next((it for reader, path in paths.items() if (it := fault_of(reader, path, report))), None)
-        if fault:
-            self.tell(edit, True, f"refused, by who names {constant}: {fault.text}")
-        return bool(fault)
-
-    def alone(self, edit: Edit) -> None:
-        """Tries an edit by a whole check, and judges it as `rt must-fail` does, or harder: where only a proof file names
-        what the edit took away, that is no refusal."""
-        if self.by_readers(edit):
-            return
-        if not self.base():
-            self.tell(edit, False, "the crate itself is not proved")
-            return
-        report = self.check(f"alone, {edit.name}", edit.texts)
-        unread = report.unread(edit.texts)
-        line, is_more = told(report)
-        if unread:
-            self.tell(edit, False, f"BAD EDIT: the prover cannot read the edited text: {unread[0]}")
-        elif report.is_refused and is_more:
-            self.tell(edit, True, f"refused, tried alone: {line}")
-        elif report.is_refused:
-            self.tell(edit, False, f"refused only because a proof file names what the edit took away: {line}")
-        elif report.status == 0:
-            self.tell(edit, False, "NOT REFUSED: the crate is still proved with this edit")
-        else:
-            self.tell(edit, False, f"BAD EDIT: it did not reach the prover: {' / '.join(report.lines[:4])}")
-
-    def group(self, edits: list[Edit]) -> list[Edit]:
-        """Tries edits of different functions in one check, and returns those of which it says nothing clear."""
-        words = {it: word for edit in edits for it in edit.functions if (word := self.word(it))}
-        report = self.check(f"{len(edits)} edits", joined(edits, self.crate.folder), sorted({*words.values()}))
-        if report.misnamed:
-            odd = [it for it in edits if any(words[of] == report.misnamed for of in it.functions)]
-            rest = [it for it in edits if it not in odd]
-            return odd + (self.group(rest) if rest and odd else rest)
-        names = self.reported(report)
-        if report.unread({it.file for edit in edits for it in edit.splices}) or not report.last.startswith("only="):
-            return self.without_unread(edits, report)
-        unclear = []
-        for edit in edits:
-            paths = {it: path for it in edit.functions if (path := path_of(it, self.crate.name, names))}
-            faults = [fault_of(it, path, report) for it, path in paths.items()]
-            fault = next((it for it in faults if it), None)
-            if fault:
-                self.by_hand += not fault.is_searched
-                self.tell(edit, True, f"refused{'' if fault.is_searched else ', at an answer by hand'}: {fault.text}")
-            else:
-                unclear.append(edit)
-        return unclear
-
-    def without_unread(self, edits: list[Edit], report: Report) -> list[Edit]:
-        """Where a text of a group does not read: goes on without the edits at fault, or in halves."""
-        if len(edits) == 1:
-            return edits
-        errors = [re.match(r"(?:\./)?(src/[^:]+):(\d+):\d+: error", it) for it in report.lines]
-        places = [(it[1], int(it[2])) for it in errors if it]
-        at_fault = [it for it in edits if any(of.spans(*place) for of in it.functions for place in places)]
-        rest = [it for it in edits if it not in at_fault]
-        if at_fault:
-            return at_fault + (self.group(rest) if rest else [])
-        half = len(edits) // 2
-        return self.group(edits[:half]) + self.group(edits[half:])
-
-    @property
-    def is_refused(self) -> bool:
-        """Whether each edit was refused, for the texts that stand now."""
-        is_all = len(self.verdicts) == len(self.edits) > 0 and all(self.verdicts)
-        return is_all and self.digest == digest_of(self.crate, self.asked.folder)
-
-    def word(self, function: Function) -> str | None:
-        """What asks a check for a function: its name, where a whole check told it."""
-        is_told = self.is_proved is not None
-        return path_of(function, self.crate.name, self.names) if is_told else word_of(function, self.crate.name)
-
-    def reported(self, report: Report) -> set[str]:
-        """The names of the functions of which a check tells something."""
-        return {*report.proved(), *report.not_proved()}
-
-    def groups(self, edits: Sequence[Edit]) -> list[list[Edit]]:
-        """As few groups as the function with most edits needs, of like sizes; no two edits of a group change one."""
-        made: list[list[Edit]] = []
-        for edit in sorted(edits, key=lambda it: -self.rivals(it, edits)):
-            fits = [it for it in made if len(it) < self.asked.most and not any(edit.functions & of.functions for of in it)]
-            if fits:
-                min(fits, key=len).append(edit)
-            else:
-                made.append([edit])
-        return made
-
-    def rivals(self, edit: Edit, edits: Sequence[Edit]) -> int:
-        return sum(bool(edit.functions & it.functions) for it in edits)
-
-    def run(self) -> None:
-        for edit in self.edits:
-            if edit.fault:
-                self.tell(edit, False, f"BAD EDIT: {edit.fault}")
-        edits = [it for it in self.edits if not it.fault]
-        if not edits:
-            return
-        with tempfile.TemporaryDirectory(prefix="edits-kept-") as self.kept:
-            if self.asked.trust and os.path.isdir(f"{self.crate.folder}/out/incremental"):
-                shutil.copytree(f"{self.crate.folder}/out/incremental", self.kept, dirs_exist_ok=True)
-            if not self.asked.proved and not self.base():
-                for edit in edits:
-                    self.tell(edit, False, f"the crate itself is not proved: {self.reports[-1].last}")
-                return
-            plain = [it for it in edits if it.functions and all(map(self.word, it.functions))]
-            with ThreadPoolExecutor(self.asked.cores) as pool:
-                unclear = [it for group in pool.map(self.group, self.groups(plain)) for it in group]
-                unclear += [it for it in edits if it not in plain]
-                list(pool.map(self.alone, unclear))
+Crates = Mapping[str, Sequence[str]]
 
 
 def asked() -> argparse.Namespace:
@@ -210,64 +40,119 @@ def asked() -> argparse.Namespace:
     to.add_argument("--most", type=int, default=1000, help="edits in one check (1000)")
     to.add_argument("--logs", help="a folder for what each check says")
     to.add_argument("--all", action="store_true", help="try all, whatever tools/edits.tried says")
-    to.add_argument("--which", action="store_true", help="only tell which crates would be tried, and their digests")
-    to.add_argument("--record", action="store_true", help="write into tools/edits.tried the crates all of whose edits were refused")
-    to.add_argument("crates", nargs="*", metavar="CRATE", help="the crates to try (all)")
+    to.add_argument("--which", action="store_true", help="only tell how many edits of each crate would be tried")
+    to.add_argument("--edits", action="store_true", help="with --which: tell which these are, with their digests")
+    to.add_argument("--record", action="store_true", help="write into tools/edits.tried the edits that were refused")
+    to.add_argument("names", nargs="*", metavar="CRATE | CRATE/NAME.edit", help="what to try (all)")
     given = to.parse_args()
     if given.record and (given.trust or given.folder != "wrong"):
         to.error("--record takes neither --trust nor --folder: it says what a gate would find")
     return given
 
 
-def spared(given: argparse.Namespace, trials: Sequence[Trial]) -> list[Trial]:
-    """The crates that need not be tried, by what tools/edits.tried has. One that is named is always tried."""
-    record = Record()
-    same = [it for it in trials if it.edits and record.holds(it.crate.name, it.digest, len(it.edits))]
-    return [] if given.all or given.crates else same
+@dataclass(frozen=True)
+class Chosen:
+    """Of a crate the edits that are to be tried, and how many it has in all."""
+
+    crate: Crate
+    edits: list[Edit]
+    count: int
+
+    def name(self, edit: Edit) -> str:
+        """As tools/edits.tried names it."""
+        return f"{self.crate.name}/{edit.name}"
 
 
-def put_down(trials: Sequence[Trial]) -> None:
-    """Records the crates all of whose edits were refused, and takes out those where one was not."""
-    record = Record()
-    for trial in trials:
-        name = trial.crate.name
-        record.drop(name)
-        if trial.is_refused:
-            record.put(name, trial.digest, len(trial.edits))
-    record.write(crates_of())
+def named(given: argparse.Namespace, kit: Kit, crates: Crates) -> list[Chosen]:
+    """The edits that are named, or all of them."""
+    made = []
+    for name in dict.fromkeys(it.partition("/")[0] for it in given.names) if given.names else crates:
+        if name not in crates:
+            raise SystemExit(f"edits: crates.txt has no crate {name}")
+        crate = Crate(name, crates, kit)
+        edits = edits_in(f"{crate.folder}/{given.folder}", crate.folder)
+        alone = {it.partition("/")[2] for it in given.names if it.startswith(f"{name}/")}
+        if missing := alone - {it.name for it in edits}:
+            raise SystemExit(f"edits: there is no file crates/{name}/{given.folder}/{min(missing)}")
+        is_whole = not alone or name in given.names
+        made.append(Chosen(crate, [it for it in edits if is_whole or it.name in alone], len(edits)))
+    return [it for it in made if it.edits]
 
 
-def main() -> int:
-    given, began, kit, crates = asked(), time.time(), Kit(), crates_of()
-    unknown = [it for it in given.crates if it not in crates]
-    if unknown:
-        raise SystemExit(f"edits: crates.txt has no crate {unknown[0]}")
-    if given.logs:
-        os.makedirs(given.logs, exist_ok=True)
-    cores = threading.Semaphore(given.cores)
-    trials = [Trial(Crate(it, crates, kit), given, cores) for it in given.crates or crates]
-    same = spared(given, trials)
-    trials = [it for it in trials if it.edits and it not in same]
-    for it in same:
-        say(f"same {it.crate.name}: {len(it.edits)} edits, not tried again: unchanged since all were refused")
-    if given.which:
-        for it in trials:
-            say(f"try  {it.crate.name}: {len(it.edits)} edits, digest {it.digest}")
-        return 0
+def sums_of(chosen: Sequence[Chosen], given: argparse.Namespace, kit: Kit, crates: Crates) -> dict[str, str]:
+    """The digests of edits, as all texts stand now."""
+    needed = dict.fromkeys(name for it in chosen for name in [*it.crate.below(), it.crate.name])
+    digests = Digests(kit, crates, [*needed], given.folder)
+    return {it.name(edit): digests.of(it.crate, edit) for it in chosen for edit in it.edits}
+
+
+def untried(chosen: Sequence[Chosen], sums: Mapping[str, str]) -> list[Chosen]:
+    """The edits that tools/edits.tried does not have as they stand."""
+    record, made = Record(), []
+    for it in chosen:
+        left = [edit for edit in it.edits if not record.holds(it.name(edit), sums[it.name(edit)])]
+        same = it.count - len(left)
+        how_many, who = (f"{same} of {it.count}", "these") if left else (str(same), "all")
+        if same:
+            say(f"same {it.crate.name}: {how_many} edits, not tried again: unchanged since {who} were refused")
+        if left:
+            made.append(Chosen(it.crate, left, it.count))
+    return made
+
+
+def tell(chosen: Sequence[Chosen], sums: Mapping[str, str]) -> None:
+    """Tells what would be tried, and the digests where they are known."""
+    for it in chosen:
+        say(f"try  {it.crate.name}: {len(it.edits)} of {it.count} edits")
+        for name in map(it.name, it.edits):
+            if name in sums:
+                say(f"     {name} {sums[name]}")
+
+
+def tried(chosen: Sequence[Chosen], given: argparse.Namespace) -> list[Trial]:
+    """Tries edits. The crates that stand highest have most to load, and those with most edits most to try: these come first."""
+    cores, began = threading.Semaphore(given.cores), time.time()
+    trials = [Trial(it.crate, it.edits, given, cores) for it in chosen]
     with ThreadPoolExecutor(given.cores) as pool:
-        # The crates that stand highest have most to load, and those with most edits most to try: these first.
         weight = lambda it: len(it.edits) * (1 + len(it.crate.below()))
         list(pool.map(Trial.run, sorted(trials, key=weight, reverse=True)))
     reports = [it for trial in trials for it in trial.reports]
-    verdicts = [it for trial in trials for it in trial.verdicts]
     used = sum(it.processor for it in reports)
     say(f"{len(reports)} checks, {(time.time() - began) / 60:.1f} minutes, of processors {used / 60:.1f}")
     say(f"{sum(it.by_hand for it in trials)} of the edits are refused at an answer by hand")
+    return trials
+
+
+def put_down(verdicts: Mapping[str, bool], before: Mapping[str, str], now: Mapping[str, str], crates: Crates) -> None:
+    """Records the edits that were refused, of texts that are as before, and takes out those that were not refused."""
+    record = Record()
+    for name, is_refused in verdicts.items():
+        if not is_refused:
+            record.drop(name)
+        elif before[name] == now.get(name):
+            record.put(name, before[name])
+    folders = [(name, f"crates/{name}/wrong") for name in crates]
+    record.write({f"{name}/{it}" for name, folder in folders if os.path.isdir(folder) for it in os.listdir(folder)})
+
+
+def main() -> int:
+    given, kit, crates = asked(), Kit(), crates_of()
+    if given.logs:
+        os.makedirs(given.logs, exist_ok=True)
+    chosen = named(given, kit, crates)
+    is_chosen = given.all or bool(given.names)
+    sums = sums_of(chosen, given, kit, crates) if given.record or given.edits or not is_chosen else {}
+    left = chosen if is_chosen else untried(chosen, sums)
+    if given.which:
+        tell(left, sums if given.edits else {})
+        return 0
+    trials = tried(left, given)
+    verdicts = {f"{it.crate.name}/{name}": is_refused for it in trials for name, is_refused in it.verdicts.items()}
     if given.record:
-        put_down(trials)
-    failed, again = len(verdicts) - sum(verdicts), sum(len(it.edits) for it in same)
-    say(f"{sum(verdicts)} passed, {failed} failed, {again} not tried again")
-    return 0 if all(verdicts) else 1
+        put_down(verdicts, sums, sums_of(named(given, kit, crates), given, kit, crates), crates)
+    passed, again = sum(verdicts.values()), sum(len(it.edits) for it in chosen) - sum(len(it.edits) for it in left)
+    say(f"{passed} passed, {len(verdicts) - passed} failed, {again} not tried again")
+    return 0 if all(verdicts.values()) else 1
 
 
 if __name__ == "__main__":

@@ -4,19 +4,14 @@ each; and what it passes over, by tools/edits.tried: tools/edits/edits_test.py, 
 
 The crate is written here, since `rt ci` refuses a source that no crate of the repository reads.
 """
-import os
 import re
-import shutil
-import subprocess
-import sys
 import tempfile
-from collections.abc import Iterator, Mapping
+from collections.abc import Iterator
 
 from edit_checks import Report, told
-
-TOOLS = os.path.dirname(os.path.realpath(__file__))
-# What must hold: its name, whether it does, and what was said.
-Held = tuple[str, object, object]
+from edits_test_base import Held, edit_text, lay, ran, recorded
+from edits_test_files import changes
+from edits_test_items import changes as by_items, repository, taken_apart
 
 CRATE = {
     "src/lib.rt": """\
@@ -188,226 +183,68 @@ PLANTED = {
 }
 
 
-# Three crates, of which `planted` stands on `low` alone.
-THREE = {
-    "crates.txt": "low:\nbeside:\nplanted: low\n",
-    "crates/planted/src/user.rt": """\
-use low::{
-    deep::{inner::Inner, Deep},
-    named::Thing as Other,
-    Shown,
-};
-ghost use Rattle.low.specs.declared.told.Told.TheVariants as told;
-""",
-    "crates/planted/proofs/Mine.antt": "use Rattle.low.proofs.Laws.{law}\n",
-    "crates/low/src/lib.rt": "//! A lower crate.\n#![tactic(auto)]\npub mod apart;\npub mod named;\nmod shown;\npub use shown::{Aside, Shown};\n",
-    "crates/low/src/shown.rt": "pub struct Aside {}\npub struct Shown {}\n",
-    "crates/low/src/named.rt": "use super::through::Hidden;\nghost use Rattle.low.specs.deep.Words.{word};\npub struct Thing {}\n",
-    "crates/low/src/through.rt": "pub struct Hidden {}\n",
-    "crates/low/src/told.rt": "pub enum Told {}\n",
-    "crates/low/src/deep.rt": "pub mod inner;\npub mod kin;\n",
-    "crates/low/src/deep/inner.rt": "use super::super::under::Under;\n",
-    "crates/low/src/under.rt": "pub struct Under {}\n",
-    "crates/low/src/deep/kin.rt": "",
-    "crates/low/src/more.rt": "use crate::named::Thing;\npub trait Kept {}\nimpl<A: Kept> Thing {}\n",
-    "crates/low/src/apart.rt": "use crate::named::Thing;\npub struct Apart {}\nimpl From<Thing> for Apart {}\n",
-    "crates/low/specs/deep/Words.antt": "use Rattle.low.specs.Ground.{ground}\n",
-    "crates/low/specs/Ground.antt": "use Rattle.low.specs.Answers.{answers}\n",
-    "crates/low/specs/Answers.antt": "",
-    "crates/low/specs/Apart.antt": "use Rattle.low.specs.declared.apart.Apart.{Apart}\n",
-    "crates/low/proofs/Lib.antt": "pub mod Laws\npub mod Apart\n",
-    "crates/low/proofs/Laws.antt": "-- see Rattle.low.specs.Apart\nuse Rattle.low.proofs.Base.{base}\n",
-    "crates/low/proofs/Base.antt": "",
-    "crates/low/proofs/Apart.antt": "",
-    "crates/low/proofs/half/Answers.antt": "",
-    "crates/beside/src/lib.rt": "//! A crate beside.\n",
-}
-# What may be added to which file, and whether the edits of `planted` are then to be tried.
-CHANGES = {
-    "a body": ("crates/planted/src/counters.rt", "\n", True),
-    "a definition": ("crates/planted/specs/Twice.antt", "\n", True),
-    "a proof": ("crates/planted/proofs/twice/Answers.antt", "\n", True),
-    "an edit": ("crates/planted/wrong/wrong_method.edit", "\n", True),
-    "an edit more": ("crates/planted/wrong/one_more.edit", "\n", True),
-    "a lower module that code imports": ("crates/low/src/named.rt", "\n", True),
-    "one of which the root's face hands out what code imports": ("crates/low/src/shown.rt", "\n", True),
-    "one that it imports in a group": ("crates/low/src/deep/inner.rt", "\n", True),
-    "one that is imported by its place": ("crates/low/src/under.rt", "\n", True),
-    "one that a ghost import names": ("crates/low/src/told.rt", "\n", True),
-    "one that another module imports": ("crates/low/src/through.rt", "\n", True),
-    "one that has an impl of a type that is imported": ("crates/low/src/more.rt", "\n", True),
-    "a lower definition that a module imports": ("crates/low/specs/deep/Words.antt", "\n", True),
-    "one that a definition imports": ("crates/low/specs/Ground.antt", "\n", True),
-    "one with the name of a proof": ("crates/low/specs/Answers.antt", "\n", True),
-    "a lower lemma": ("crates/low/proofs/Laws.antt", "\n", True),
-    "one that a lemma imports": ("crates/low/proofs/Base.antt", "\n", True),
-    "what a lower root says": ("crates/low/src/lib.rt", "#![feature]\n", True),
-    "a lower module that is not imported": ("crates/low/src/apart.rt", "\n", False),
-    "a lower definition that is not imported": ("crates/low/specs/Apart.antt", "\n", False),
-    "a lower lemma that is not imported": ("crates/low/proofs/Apart.antt", "\n", False),
-    "a lower list of modules": ("crates/low/src/lib.rt", "/// A module more.\npub mod more;\n", False),
-    "a lower face": ("crates/low/src/lib.rt", "pub use apart::Apart;\n", False),
-    "a lower list of lemmas": ("crates/low/proofs/Lib.antt", "pub mod Base\n", False),
-    "a lower module more": ("crates/low/src/acts.rt", "pub struct Act {}\n", False),
-    "a lower proof": ("crates/low/proofs/half/Answers.antt", "\n", False),
-    "a lower edit": ("crates/low/wrong/other.edit", "\n", False),
-    "a page": ("crates/planted/README.md", "\n", False),
-    "what is built": ("crates/planted/out/kept", "\n", False),
-    "a crate beside": ("crates/beside/src/lib.rt", "\n", False),
-}
-# What `planted`, or a module of `low` that it imports, may say so that all of `low` counts.
-UNKNOWN = {
-    "no module": {"crates/planted/src/user.rt": "use low::{named::Thing, nowhere};\n"},
-    "no definition": {"crates/planted/proofs/Mine.antt": "use Rattle.low.specs.Nowhere.{word}\n"},
-    "a crate under another name": {"crates/planted/src/user.rt": "use low as other;\n"},
-    "all of a crate": {"crates/planted/src/user.rt": "use low::*;\n"},
-    "a group that is not read": {"crates/planted/src/user.rt": "use low::{named::Thing, {nowhere}};\n"},
-    "no module, in an edit": {"crates/planted/wrong/wrong_method.edit": "new: low::nowhere();\n"},
-    "a module in a module": {"crates/low/src/named.rt": "mod inside {\n    use super::super::through::Hidden;\n}\n"},
-    "no module, in a lower crate": {"crates/low/src/named.rt": "use super::nowhere::Thing;\n"},
-}
-
-
-def lay(top: str, files: Mapping[str, str]) -> None:
-    for file, text in files.items():
-        path = f"{top}/{file}"
-        os.makedirs(os.path.dirname(path), exist_ok=True)
-        with open(path, "w", encoding="utf-8") as it:
-            it.write(text)
-
-
-def edit_text(file: str, old: str, new: str) -> str:
-    # (an edit's texts are lines)
-    return f"file: {file}\nold: {old.strip(chr(10))}\nnew: {new.strip(chr(10))}\n"
-
-
-def ran(top: str, *words: str, tools: str = TOOLS, path: str = "") -> tuple[int, list[str]]:
-    env = {**os.environ, "PATH": path + os.environ["PATH"], "PYTHONDONTWRITEBYTECODE": "1"}
-    command = [sys.executable, f"{tools}/edits.py", *words]
-    it = subprocess.run(command, cwd=top, capture_output=True, text=True, errors="replace", env=env)
-    return it.returncode, it.stdout.splitlines() or [it.stderr]
-
-
-def tried(top: str, tools: str = TOOLS, path: str = "") -> bool:
-    """Whether the edits of `planted` would be tried."""
-    return any(it.startswith("try  planted: ") for it in ran(top, "--which", tools=tools, path=path)[1])
-
-
-def text_of(path: str) -> str:
-    with open(path, encoding="utf-8") as it:
-        return it.read()
-
-
-def recorded(top: str) -> list[list[str]]:
-    """What tools/edits.tried has, as lines of words."""
-    return [it.split() for it in text_of(f"{top}/tools/edits.tried").splitlines()]
-
-
 def verdicts() -> Iterator[Held]:
     """What must hold of the planted edits, one by one, and of the tool's last line and status."""
     with tempfile.TemporaryDirectory(prefix="edits-test-") as top:
         lay(top, {"crates.txt": "planted:\n"})
         lay(f"{top}/crates/planted", CRATE)
         lay(f"{top}/crates/planted/wrong", {f"{name}.edit": edit_text(*it[:3]) for name, it in PLANTED.items()})
-        lay(top, {"tools/edits.tried": "gone 0 1\nplanted 0 18\n"})
-        well = sum(it[3] in (REFUSED, BY_HAND, ALONE, BY_READER) for it in PLANTED.values())
-        last = f"{well} passed, {len(PLANTED) - well} failed, 0 not tried again"
+        lay(top, {"tools/edits.tried": "gone/a.edit 0\nplanted/gone.edit 0 1\nplanted/harmless_by_hand.edit 0\nplanted/wrong_callee.edit 0 1\n"})
+        well = [name for name, it in PLANTED.items() if it[3] in (REFUSED, BY_HAND, ALONE, BY_READER)]
+        last = f"{len(well)} passed, {len(PLANTED) - len(well)} failed, 0 not tried again"
         for words in (["--record"], ["planted", "--proved"]):
             status, lines = ran(top, *words)
             for name, (_, _, _, wanted) in PLANTED.items():
                 said = [it for it in lines if f" planted/{name}.edit: " in it]
                 yield f"{name}, {words[-1]}", len(said) == 1 and re.match(wanted.replace("NAME", rf"{name}\.edit"), said[0]), said
             yield f"the last line and the status, {words[-1]}", (status, lines[-1]) == (1, last), lines[-1:]
-        yield "what is not refused is not recorded", recorded(top) == [], recorded(top)
+        names = sorted(f"planted/{it}.edit" for it in well)
+        yield "what is refused is recorded, and nothing else", [*recorded(top)] == names, recorded(top)
+        yield "the newest digest stands first, with one more", recorded(top)["planted/wrong_callee.edit"][1:] == ["0"], recorded(top)
 
         # A crate that is not proved shows nothing of its edits.
         lay(f"{top}/crates/planted", {"src/lib.rt": CRATE["src/lib.rt"].replace("half(half(x))", "half(x)")})
-        lay(top, {"tools/edits.tried": "planted 0 18\n"})
+        before = recorded(top)
         status, lines = ran(top, "planted")
         last = f"0 passed, {len(PLANTED)} failed, 0 not tried again"
         yield "a crate that is not proved", (status, lines[-1]) == (1, last), lines[-3:]
-        yield "nothing is recorded unasked", recorded(top) == [["planted", "0", "18"]], recorded(top)
+        yield "nothing is recorded unasked", recorded(top) == before, recorded(top)
 
 
 def records() -> Iterator[Held]:
-    """What must hold of a crate all of whose edits were refused: it is recorded, and passed over from then on."""
+    """What must hold of an edit that was refused: it is recorded, and passed over from then on."""
     with tempfile.TemporaryDirectory(prefix="edits-test-") as top:
         lay(top, {"crates.txt": "planted:\n", "tools/edits.tried": ""})
         lay(f"{top}/crates/planted", CRATE)
         lay(f"{top}/crates/planted/wrong", {"wrong_method.edit": edit_text(*PLANTED["wrong_method"][:3])})
         status, lines = ran(top, "--record")
         yield "one is tried while there is no line", (status, lines[-1]) == (0, "1 passed, 0 failed, 0 not tried again"), lines[-3:]
-        name, digest, count = (recorded(top) or [["", "", ""]])[0]
-        yield "it is recorded", (name, count) == ("planted", "1") and re.fullmatch("[0-9a-f]{64}", digest), recorded(top)
+        name, digests = next(iter(recorded(top).items()), ("", [""]))
+        yield "it is recorded", name == "planted/wrong_method.edit" and len(digests) == 1 and re.fullmatch("[0-9a-f]{32}", digests[0]), recorded(top)
         status, lines = ran(top)
         yield "then it is passed over", (status, lines[-1]) == (0, "0 passed, 0 failed, 1 not tried again"), lines[-3:]
-        yield "and named so", lines[0].startswith("same planted: 1 edits, not tried again"), lines[:1]
-        for words in (["--all"], ["planted"]):
-            _, lines = ran(top, "--which", *words)
-            yield f"unless by {words[0]}", lines == [f"try  planted: 1 edits, digest {digest}"], lines
-        lay(top, {"tools/edits.tried": f"planted {digest} 2\n"})
-        yield "or by a line of other edits", ran(top, "--which")[1][0].startswith("try  planted"), recorded(top)
-        lay(top, {"tools/edits.tried": f"planted 0 1\nplanted {digest} 1\nplanted 1 1\n"})
-        yield "a second line of it counts too", ran(top, "--which")[1][0].startswith("same planted"), recorded(top)
-        lay(top, {"tools/edits.tried": "planted 0 1\nplanted 1 1\n"})
-        ran(top, "--record")
-        yield "the newest line stands first, with one more", recorded(top) == [["planted", digest, "1"], ["planted", "0", "1"]], recorded(top)
+        yield "and told so", lines[0].startswith("same planted: 1 edits, not tried again"), lines[:1]
+        for words in (["--all"], ["planted"], ["planted/wrong_method.edit"]):
+            _, lines = ran(top, "--which", "--edits", *words)
+            yield f"unless by {words[0]}", lines == ["try  planted: 1 of 1 edits", f"     {name} {digests[0]}"], lines
+        for word in ("other", "planted/other.edit", "planted/"):
+            status, lines = ran(top, "--which", word)
+            yield f"there is no {word}", status == 1 and lines[0].startswith("edits: "), lines
+        lay(top, {"tools/edits.tried": f"{name} 0\n"})
+        yield "another digest counts for nothing", ran(top, "--which")[1] == ["try  planted: 1 of 1 edits"], recorded(top)
+        lay(top, {"tools/edits.tried": f"{name} 0 {digests[0]}\n"})
+        yield "a second one counts too", ran(top, "--which")[1][0].startswith("same planted: 1 edits"), recorded(top)
+        yield from one_more(top, name, digests[0])
 
 
-def changed(top: str, file: str, added: str) -> bool:
-    """Whether the edits of `planted` would be tried once this is added to a file, which then is as before."""
-    before = text_of(f"{top}/{file}") if os.path.exists(f"{top}/{file}") else None
-    lay(top, {file: (before or "") + added})
-    is_tried = tried(top)
-    if before is None:
-        os.remove(f"{top}/{file}")
-    else:
-        lay(top, {file: before})
-    return is_tried
-
-
-def noted(top: str) -> None:
-    """Records the digest that stands."""
-    digest = ran(top, "--which")[1][-1].split(" ")[-1]
-    lay(top, {"tools/edits.tried": f"planted {digest} 1\n"})
-
-
-def changes() -> Iterator[Held]:
-    """What must hold as something changes, of the crate, below it, or of what judges."""
-    with tempfile.TemporaryDirectory(prefix="edits-test-") as top:
-        lay(f"{top}/crates/planted", CRATE)
-        lay(f"{top}/crates/planted/wrong", {"wrong_method.edit": edit_text(*PLANTED["wrong_method"][:3])})
-        lay(top, {**THREE, "tools/edits.tried": ""})
-        noted(top)
-        for change, (file, added, is_tried) in CHANGES.items():
-            yield f"once it changes: {change}", changed(top, file, added) == is_tried, recorded(top)
-        yield "once all is as it was", not tried(top), recorded(top)
-        for name, files in UNKNOWN.items():
-            before = {it: text_of(f"{top}/{it}") for it in files}
-            lay(top, files)
-            lay(top, {"tools/edits.tried": ""})
-            noted(top)
-            # (nothing else leads to this file)
-            yield f"all counts, by {name}", changed(top, "crates/low/proofs/Apart.antt", "\n"), recorded(top)
-            is_tried = changed(top, "crates/low/proofs/half/Answers.antt", "\n")
-            yield f"but not what proves one function, by {name}", not is_tried, recorded(top)
-            lay(top, before)
-        lay(top, {"tools/edits.tried": ""})
-        noted(top)
-        yield from judges(top)
-
-
-def judges(top: str) -> Iterator[Held]:
-    """What must hold as a crate's dependencies, the toolchain or the rules of judging change."""
-    lay(top, {"crates.txt": THREE["crates.txt"].replace("low:", "low: thiserror")})
-    yield "once a lower crate stands on more", tried(top), recorded(top)
-    lay(top, {"crates.txt": THREE["crates.txt"], "bin/rt": "#!/bin/sh\necho another version\n"})
-    os.chmod(f"{top}/bin/rt", 0o755)
-    yield "once the toolchain changes", tried(top, path=f"{top}/bin:"), recorded(top)
-    shutil.copytree(TOOLS, f"{top}/rules", ignore=shutil.ignore_patterns("__pycache__"))
-    yield "the tool lies elsewhere", not tried(top, tools=f"{top}/rules"), recorded(top)
-    lay(f"{top}/rules", {"edit_checks.py": text_of(f"{TOOLS}/edit_checks.py") + "\n"})
-    yield "once a rule of judging changes", tried(top, tools=f"{top}/rules"), recorded(top)
+def one_more(top: str, name: str, digest: str) -> Iterator[Held]:
+    """What must hold as an edit is added: it alone is tried, whatever becomes of it."""
+    other = "planted/wrong_callee.edit"
+    lay(f"{top}/crates/planted/wrong", {"wrong_callee.edit": edit_text(*PLANTED["wrong_callee"][:3])})
+    status, lines = ran(top, "--record")
+    yield "an edit more is tried alone", (status, lines[-1]) == (0, "1 passed, 0 failed, 1 not tried again"), lines
+    yield "and that is told", lines[0].startswith("same planted: 1 of 2 edits, not tried again"), lines
+    yield "it is recorded beside the other", [*recorded(top)] == [other, name] and recorded(top)[name] == ["0", digest], recorded(top)
 
 
 def reasons() -> Iterator[Held]:
@@ -429,7 +266,7 @@ def reasons() -> Iterator[Held]:
 
 def main() -> int:
     passed = failed = 0
-    for name, is_well, said in [*reasons(), *verdicts(), *records(), *changes()]:
+    for name, is_well, said in [*reasons(), *verdicts(), *records(), *changes(), *taken_apart(), *by_items(), *repository()]:
         passed, failed = passed + bool(is_well), failed + (not is_well)
         if not is_well:
             print(f"edits_test: {name}: it said {said}", flush=True)

@@ -24,8 +24,8 @@ WORK = ("ann set k 3", "ann initiate none", *(f"ann release {number}" for number
         "ann withdraw 65535", "ann close 12")
 
 
-def full_history() -> list[Move]:
-    """So many rows: each request is entered and approved, and then released and given back again and again; the last rows send some."""
+def full_history(count: int = ROWS_LEFT) -> list[Move]:
+    """So many rows, an even number: each request is entered and approved, and then released and given back again and again; the last rows send some."""
     rows: list[Move] = []
 
     def move(number: int, before: Place, to: Place, cause: Cause) -> None:
@@ -37,7 +37,7 @@ def full_history() -> list[Move]:
         move(number, Place.ENTERED, Place.APPROVED, Cause.APPROVE)
     on_their_way = len(QUEUED) + 2 * len(SENT)
     number = 0
-    while len(rows) < ROWS_LEFT - on_their_way:
+    while len(rows) < count - on_their_way:
         number = number % MOST_REQUESTS + 1
         move(number, Place.APPROVED, Place.QUEUED, Cause.RELEASE)
         move(number, Place.QUEUED, Place.APPROVED, Cause.GIVEBACK)
@@ -48,9 +48,9 @@ def full_history() -> list[Move]:
     return rows
 
 
-def full_tables() -> Tables:
-    """The tables of that desk."""
-    tables, moves = empty_tables(), full_history()
+def full_tables(count: int = ROWS_LEFT) -> Tables:
+    """The tables of that desk, with so many rows of the history."""
+    tables, moves = empty_tables(), full_history(count)
     places = places_by(moves)
     for number in range(1, MOST_REQUESTS + 1):
         apid, count = (number - 1) % 4 + 1, (number - 1) // 4

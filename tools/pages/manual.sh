@@ -2,8 +2,8 @@
 # Runs what the manual of the desk shows, and the rehearsals of examples/: tools/pages/manual.sh [PROGRAM], at any place.
 #
 # The fenced blocks of docs/OPERATORS.md are taken in order. A block ```sh is run by bash, in a new folder that has the program as
-# ./tcdesk and a copy of examples/ and of tools/views.sql; what it prints, on both its outputs, has to be the block without a word that
-# stands next behind it, or nothing where none does. A block ```csv PATH is the whole file PATH; a block ```text is a form, and not run.
+# ./tcdesk and a copy of examples/; what it prints, on both its outputs, has to be the block without a word that stands next behind it, or
+# nothing where none does. A block ```csv PATH is the whole file PATH; a block ```text is a form, and not run.
 # The section "The desk over HTTP" is left to tools/pages/curl_cases.sh.
 #
 # Then each examples/NAME.tc is run, by the command of its line `# ./tcdesk ..`, else by `./tcdesk run examples/NAME.tc`, in another
@@ -49,7 +49,7 @@ expect_said() {
 
 # folder NAME: a new folder as the top of the repository is to a person who types commands there; it is then the current one.
 folder() {
-    mkdir -p "$work/$1/tools" && cp -r "$top/examples" "$work/$1" && cp "$top/tools/views.sql" "$work/$1/tools" || exit 1
+    mkdir "$work/$1" && cp -r "$top/examples" "$work/$1" || exit 1
     printf '#!/bin/bash\nexec -a tcdesk %q "$@"\n' "$program" >"$work/$1/tcdesk" && chmod +x "$work/$1/tcdesk" || exit 1
     cd "$work/$1" || exit 1
 }
