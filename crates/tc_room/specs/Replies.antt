@@ -19,3 +19,15 @@ records_told execution records = map record_line (filter (λ (r : StepRecord). r
 -- the lines about an execution, where this step comes next, and these are the records of all
 abbrev pub execution_lines : BegunExecution → ℕ → List StepRecord → Reply
 execution_lines begun next records = execution_line begun.execution begun.procedure next ∷ records_told begun.execution records
+
+-- those of these steps that are of this procedure
+abbrev pub steps_in : LoadedProcedure → List ProcedureStep → List ProcedureStep
+steps_in loaded steps = filter (λ (s : ProcedureStep). is_same_name s.procedure loaded.name) steps
+
+-- their lines, in order
+abbrev pub steps_told : LoadedProcedure → List ProcedureStep → Reply
+steps_told loaded steps = map step_line (steps_in loaded steps)
+
+-- the lines of a procedure, where these are the steps of all
+abbrev pub procedure_told : LoadedProcedure → List ProcedureStep → Reply
+procedure_told loaded steps = procedure_lines (Some loaded) (steps_in loaded steps)

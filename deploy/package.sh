@@ -1,0 +1,94 @@
+#!/bin/bash
+# Makes the Debian package of the program that is kept in dist/: deploy/package.sh [OUT] puts tcdesk_VERSION_amd64.deb into the folder OUT, the folder
+# out/ of the repository where none is named, and prints its path.
+#
+# VERSION is what the program says of itself (`tcdesk --version`, the constant VERSION in crates/tc_words/src/commands.rt); no file of deploy/ says it again.
+# The same commit gives the same bytes, with the same dpkg-deb: all times are those of the last commit, or SOURCE_DATE_EPOCH where that is set; all belongs
+# to root, and lies in order.
+# What is not as the commit has it is packed as it stands.
+# The program has to be the very one that dist/ has the digest of. Where the sources that stand here are not those that it was made of, standard error
+# says so; a landing has none such. The status is 2 where there is no package.
+set -u
+export LC_ALL=C TZ=UTC
+umask 022
+top=$(cd "$(dirname "$(readlink -f "$0")")/.." && pwd) || exit 2
+. "$top/tools/program.sh" || exit 2
+from=$top/deploy/debian
+
+# refuse WHY: says why there is no package, and ends.
+refuse() {
+    echo "package: $1" >&2
+    exit 2
+}
+
+# put MODE FILE PATH: puts a file into the package.
+put() {
+    install -D -m "$1" "$2" "$root/$3" || exit 2
+}
+
+# packed FILE PATH: puts what stands in a file, packed without its name and time, into the package.
+packed() {
+    mkdir -p "$root/${2%/*}" && gzip -9nc "$1" >"$root/$2" && chmod 644 "$root/$2" || exit 2
+}
+
+# filled FILE: prints a file of deploy/debian with the version, the maintainers and the size in their places.
+filled() {
+    sed "s/@VERSION@/$version/; s/@MAINTAINER@/$maintainer/; s/@SIZE@/${size:-}/" "$from/$1" || exit 2
+}
+
+# The log of the package: its one version, with the head of each landing.
+changelog() {
+    printf 'tcdesk (%s) unstable; urgency=medium\n\n' "$version"
+    sed -n 's/^## //p' "$top/docs/CHANGELOG.md" | fold -s -w 72 | sed 's/ $//; s/^/    /; s/^    \([0-9]\{4\}-\)/  * \1/'
+    printf '\n -- %s  %s\n' "$maintainer" "$(date -R -d "@$SOURCE_DATE_EPOCH")"
+}
+
+# The page, where the package has what it names.
+page() {
+    sed 's,docs/OPERATORS\.md,/usr/share/doc/tcdesk/OPERATORS.md.gz,; s,examples/,/usr/share/doc/tcdesk/examples/,' "$top/docs/tcdesk.1"
+}
+
+(($# <= 1)) || refuse "one folder may be named"
+out=${1:-$own}
+command -v dpkg-deb >/dev/null || refuse "dpkg-deb is not installed (Debian: dpkg)"
+if ! is_program "$kept"; then
+    [[ -f $kept/tcdesk && -r $kept/tcdesk.built ]] || refuse "$why"
+    for line in "sha256 $(sum_of "$kept/tcdesk")" "version $(version_of "$kept/tcdesk")"; do
+        grep -qxF "$line" "$kept/tcdesk.built" || refuse "the program in ${kept#"$top/"} is not the one that was made, or does not run on this machine"
+    done
+    echo "package: $why; it is packed as it is" >&2
+fi
+version=$(version_of "$kept/tcdesk")
+version=${version#tcdesk }
+[[ $version =~ ^[0-9][0-9.]*$ ]] || refuse "the program says no version: $version"
+maintainer='Yuqasti maintainers <maintainers@users.noreply.yuqasti.example>'
+: "${SOURCE_DATE_EPOCH:=$(git -C "$top" log -1 --format=%ct 2>/dev/null)}"
+[[ $SOURCE_DATE_EPOCH =~ ^[0-9]+$ ]] || refuse "there is no commit whose time the files could have: set SOURCE_DATE_EPOCH"
+export SOURCE_DATE_EPOCH
+work=$(mktemp -d) || exit 2
+trap 'rm -rf "$work"' EXIT
+root=$work/root
+doc=usr/share/doc/tcdesk
+
+put 755 "$kept/tcdesk" usr/bin/tcdesk
+put 755 "$from/serve" usr/libexec/tcdesk/serve
+put 644 "$from/tcdesk@.service" usr/lib/systemd/system/tcdesk@.service
+put 644 "$from/sysusers" usr/lib/sysusers.d/tcdesk.conf
+put 644 "$from/completion" usr/share/bash-completion/completions/tcdesk
+put 644 "$top/tools/views.sql" usr/share/tcdesk/views.sql
+for file in "$top"/examples/*; do put 644 "$file" "$doc/examples/${file##*/}"; done
+page >"$work/page" && packed "$work/page" usr/share/man/man1/tcdesk.1.gz
+changelog >"$work/changelog" && packed "$work/changelog" "$doc/changelog.gz"
+packed "$top/docs/OPERATORS.md" "$doc/OPERATORS.md.gz"
+packed "$top/deploy/README.md" "$doc/README.Debian.gz"
+filled copyright >"$work/copyright" && put 644 "$work/copyright" "$doc/copyright"
+
+# what it takes on a disk: each file in whole kilobytes, and one for each folder
+size=$(find "$root" -mindepth 1 -printf '%y %s\n' | awk '{ k += $1 == "f" ? int(($2 + 1023) / 1024) : 1 } END { print k }')
+mkdir "$root/DEBIAN" && filled control >"$root/DEBIAN/control" || exit 2
+(cd "$root" && find usr -type f | sort | xargs -d '\n' md5sum) >"$root/DEBIAN/md5sums" || exit 2
+for file in postinst prerm postrm; do put 755 "$from/$file" "DEBIAN/$file"; done
+find "$root" -exec touch -h -d "@$SOURCE_DATE_EPOCH" {} + || exit 2
+mkdir -p "$out" && dpkg-deb --root-owner-group -Zxz -z6 --build "$root" "$work/package" >"$work/said" || refuse "dpkg-deb made none: $(<"$work/said")"
+mv -f "$work/package" "$out/tcdesk_${version}_amd64.deb" || exit 2
+echo "$out/tcdesk_${version}_amd64.deb"

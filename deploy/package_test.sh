@@ -1,0 +1,432 @@
+#!/bin/bash
+# deploy/package_test.sh [SUITE] makes the package of deploy/package.sh, twice, and looks at it: its bytes, its fields, what lintian says, and whether its
+# completion knows what `--help` tells. Then it is installed on a new Debian (that of SUITE, or of this machine), in a root of its own, and used there as
+# a new user would: scripts, a desk in a file, the page, the completion, and the service by hand; it is removed and purged, and what is left is told. Then
+# systemd is begun in that root, and the service is started, failed, killed, ended and upgraded; and all commands of deploy/README.md have to print what
+# that page shows.
+# The last line is `N passed, N failed`; the status is 1 where one failed. Wants dpkg-deb. The root wants root, and mmdebstrap or debootstrap with an
+# archive of Debian; systemd in it wants systemd-nspawn. What is not at hand is told in a line `not tried: ..`.
+set -u
+export LC_ALL=C
+top=$(cd "$(dirname "${BASH_SOURCE[0]}")/.." && pwd) || exit 1
+command -v dpkg-deb >/dev/null || { echo "package_test: dpkg-deb is not installed (Debian: dpkg)" >&2; exit 1; }
+work=$(mktemp -d) || exit 1
+me=package_test
+. "$top/tools/lib.sh"
+. "$top/tools/program.sh"
+trap end_all EXIT
+root=$work/root
+suite=${1:-stable}
+[[ -n ${1:-} ]] || ! grep -q '^ID=debian' /etc/os-release || suite=$(. /etc/os-release && echo "${VERSION_CODENAME:-stable}")
+machine=
+groups_before=
+untried=0
+
+# end_all: ends what was begun here, and removes the folder.
+end_all() {
+    stop_machine
+    end_cases
+}
+
+# not_tried WHAT: tells what is not at hand.
+not_tried() {
+    untried=$((untried + 1))
+    echo "not tried: $1"
+}
+
+# finish: tells what was seen, and ends.
+finish() {
+    ((untried == 0)) || echo "package: not tried: $untried"
+    echo "$passed passed, $failed failed"
+    [[ $failed == 0 ]]
+    exit
+}
+
+# make FOLDER: makes the package there.
+make() {
+    "$top/deploy/package.sh" "$1" >"$work/out" 2>"$work/err"
+}
+
+# ---- the package alone
+
+# offered WORD..: what the completion offers for the last of these words.
+offered() (
+    . "$top/deploy/debian/completion"
+    compopt() { :; }
+    COMP_WORDS=("$@")
+    COMP_CWORD=$(($# - 1))
+    _tcdesk
+    printf '%s\n' "${COMPREPLY[@]}" | sort
+)
+
+# options WORD..: the long options that the help of a command tells.
+options() {
+    "$kept/tcdesk" "$@" --help | grep -oE '^ +(-[hV], )?--[a-z]+' | grep -oE -- '--[a-z]+' | sort
+}
+
+bytes_cases() {
+    local name version=${1#tcdesk } need
+    (umask 077 && TZ=Asia/Tokyo make "$work/one")
+    tell "a package is made"
+    package=$(<"$work/out")
+    same "its name" "$work/one/tcdesk_${version}_amd64.deb" "$package"
+    [[ -e $package ]] || finish
+    sleep 2
+    (cd / && umask 002 && make "$work/two") && cmp "$package" "$work/two/${package##*/}"
+    tell "it is made again, and has the same bytes"
+    SOURCE_DATE_EPOCH=1000000000 make "$work/three" && ! cmp -s "$package" "$work/three/${package##*/}" &&
+        dpkg-deb -c "$work/three/${package##*/}" | awk '$4 != "2001-09-09" { exit 1 }'
+    tell "SOURCE_DATE_EPOCH is what all times are"
+    dpkg-deb -c "$package" >"$work/list"
+    [[ $(awk '{ print $2 }' "$work/list" | sort -u) == root/root && $(awk '{ print $4, $5 }' "$work/list" | sort -u | wc -l) == 1 ]]
+    tell "all of it is of root, and of one time"
+    awk '{ print $6 }' "$work/list" | sort -c
+    tell "it lies in order"
+    same "its version" "$version" "$(dpkg-deb -f "$package" Version)"
+    dpkg-deb -x "$package" "$work/files" && cmp "$work/files/usr/bin/tcdesk" "$kept/tcdesk"
+    tell "its program is that of dist/"
+    same "the manual" "$(sum_of "$top/docs/OPERATORS.md")" "$(gzip -dc "$work/files/usr/share/doc/tcdesk/OPERATORS.md.gz" | sum_of /dev/stdin)"
+    if command -v objdump >/dev/null; then
+        need=$(objdump -T "$kept/tcdesk" | grep -o 'GLIBC_[0-9.]*' | sort -Vu | tail -n 1)
+        grep -qF "libc6 (>= ${need#GLIBC_})," <(dpkg-deb -f "$package" Depends)
+        tell "it depends on the C library that its program wants: $need"
+    else
+        not_tried "which C library the program wants, since objdump is not installed (Debian: binutils)"
+    fi
+    if command -v lintian >/dev/null; then
+        lintian --allow-root -EIL +pedantic "$package" >"$work/out" 2>"$work/err"
+        ! grep -qE '^[EW]: ' "$work/out"
+        tell "lintian tells no error and no warning"
+        grep '^[A-Z]: ' "$work/out"
+    else
+        not_tried "lintian, which is not installed"
+    fi
+    for name in deploy/package.sh deploy/package_test.sh deploy/debian/{serve,postinst,prerm,postrm,completion}; do
+        bash -n "$top/$name" 2>"$work/err"
+        tell "$name is read by bash"
+    done
+    for name in run report check serve loop; do
+        same "completion of the options of $name" "$(options "$name")" "$(offered tcdesk "$name" -)"
+    done
+    same "completion of the options of the program" "$(options)" "$(offered tcdesk -)"
+    same "completion of commands" "$("$kept/tcdesk" --help | awk '/^Commands:/ { inside = 1; next } /^$/ { inside = 0 } inside { print $1 }' | sort)" \
+        "$(offered tcdesk '')"
+    same "completion of a command that is begun" serve "$(offered tcdesk se)"
+    same "completion of what can be checked" $'procedure\nstack' "$(offered tcdesk check '')"
+    same "completion behind an option with a number" $'--ring' "$(offered tcdesk run --w 20 --r)"
+    touch "$work/a desk.db" "$work/a script"
+    same "completion of a file" $'a desk.db\na script' "$(cd "$work" && offered tcdesk serve --at=7 'a ')"
+    same "completion of the file of an option" "a desk.db" "$(cd "$work" && offered tcdesk run --db = 'a d')"
+    same "no completion of a port" "" "$(cd "$work" && offered tcdesk serve desk.db '')"
+}
+
+# refused_cases: a copy of the repository whose program or commit is missing, or is another, makes no package.
+refused_cases() {
+    local copy=$work/copy
+    mkdir "$copy" && (cd "$top" && git ls-files -z --cached --others --exclude-standard | tar --null -T - -cf -) | tar -xf - -C "$copy"
+    same "no commit" "package: there is no commit whose time the files could have: set SOURCE_DATE_EPOCH"$'\n2' \
+        "$("$copy/deploy/package.sh" "$work/none" 2>&1 | grep -v 'is packed as it is'; echo "${PIPESTATUS[0]}")"
+    export SOURCE_DATE_EPOCH=1000000000
+    "$copy/deploy/package.sh" "$work/none" >"$work/out" 2>"$work/err" && cmp "$work/none/${package##*/}" "$work/three/${package##*/}"
+    tell "a copy with a time that is given makes the same package"
+    rm -r "$work/none"
+    printf x >>"$copy/dist/x86_64-linux-gnu/tcdesk"
+    "$copy/deploy/package.sh" "$work/none" >"$work/out" 2>"$work/err"
+    [[ $? == 2 && ! -e $work/none && $(<"$work/err") == "package: the program in dist/x86_64-linux-gnu is not the one that was made"* ]]
+    tell "a program that is not the one that was made"
+    rm "$copy/dist/x86_64-linux-gnu/tcdesk"
+    "$copy/deploy/package.sh" "$work/none" >"$work/out" 2>"$work/err"
+    [[ $? == 2 && ! -e $work/none && $(<"$work/err") == "package: there is no program in dist/x86_64-linux-gnu" ]]
+    tell "no program"
+    unset SOURCE_DATE_EPOCH
+}
+
+# ---- a root of its own
+
+# in_root LINE: runs a line of bash in the root, with processes of its own.
+in_root() {
+    unshare --mount --pid --fork --kill-child --mount-proc="$root/proc" chroot "$root" /usr/bin/env -i PATH=/usr/sbin:/usr/bin:/sbin:/bin HOME=/root LC_ALL=C.UTF-8 \
+        DEBIAN_FRONTEND=noninteractive bash -c "cd /root; $1" >"$work/out" 2>"$work/err" <&-
+}
+
+# by_user NAME LINE: the same, by a user, in the folder /tmp.
+by_user() {
+    in_root "cd /tmp; exec setpriv --reuid=$1 --regid=$(in_root "id -g $1" && cat "$work/out") --clear-groups bash -c $(printf %q "$2")"
+}
+
+# make_root: a new Debian. Where it cannot be had, $why says why.
+make_root() {
+    local more=man-db,bash-completion,curl
+    why="neither chroot nor unshare may be had here"
+    [[ $(id -u) == 0 ]] && unshare --mount --pid --fork chroot / true 2>/dev/null || return
+    if command -v mmdebstrap >/dev/null; then
+        mmdebstrap --variant=minbase --include=$more "$suite" "$root" >"$work/made" 2>&1
+    elif command -v debootstrap >/dev/null; then
+        debootstrap --variant=minbase --include=$more "$suite" "$root" >"$work/made" 2>&1
+    else
+        why="neither mmdebstrap nor debootstrap is installed"
+        return 1
+    fi
+    [[ $? == 0 ]] || { why="no root could be made: $(tail -n 1 "$work/made")"; return 1; }
+    cp -L /etc/resolv.conf "$root/etc/" && in_root "apt-get update" || { why="the archive of Debian is not reached"; return 1; }
+}
+
+# files_of_root: each file of the root but what is its log, cache or list of packages, and each user and group.
+files_of_root() {
+    (
+        cd "$root" || exit
+        find . -xdev \( -path ./proc -o -path ./root -o -path ./tmp -o -path ./run -o -path ./var/cache -o -path ./var/log -o -path ./var/lib/apt \
+            -o -path ./var/lib/dpkg -o -path ./var/lib/systemd -o -path ./var/tmp -o -path './etc/*-' -o -path ./etc/.pwd.lock \) -prune -o -print | sort
+        cut -d : -f 1 etc/passwd | sed 's/^/user /'
+        cut -d : -f 1 etc/group | sed 's/^/group /'
+    )
+}
+
+# changed_files: what the root has more than before ($work/before), and what it has no more.
+changed_files() {
+    files_of_root >"$work/after"
+    diff "$work/before" "$work/after" | sed -n 's/^> /+ /p; s/^< /- /p'
+}
+
+left='+ ./etc/default/tcdesk-hand
++ ./var/lib/tcdesk
++ ./var/lib/tcdesk/hand.db
++ ./var/lib/tcdesk/hand.db-wal
++ user tcdesk
++ group tcdesk'
+
+user_cases() {
+    local name line port turn
+    files_of_root >"$work/before"
+    cp "$package" "$root/root/"
+    in_root "apt-get install -y ./${package##*/}" && grep -q "Creating user 'tcdesk'" "$work/out" "$work/err"
+    tell "it is installed where systemd is not, and makes its user"
+    in_root "dpkg --verify tcdesk" && [[ ! -s $work/out ]]
+    tell "each file is as its sum says"
+    by_user nobody "cp -r /usr/share/doc/tcdesk/examples ."
+    for name in first-pass procedure stack; do
+        by_user nobody "tcdesk run examples/$name.tc"
+        cmp "$work/out" "$top/examples/$name.out" >&2
+        tell "a script: $name"
+    done
+    by_user nobody "tcdesk run --db desk.db examples/monday.tc" && cmp "$work/out" "$top/examples/monday.out" >&2 &&
+        [[ $(<"$work/err") == "tcdesk: desk.db is a new desk" ]]
+    tell "a shift on a file"
+    by_user nobody "tcdesk run --db desk.db --at 86400 examples/tuesday.tc && tcdesk report desk.db 0 86400" &&
+        cmp <(sed '/^SHIFT/,$d' "$work/out") "$top/examples/tuesday.out" >&2 && grep -q '^moves 9$' "$work/out"
+    tell "the next one, and the report"
+    in_root "man -P cat tcdesk" && grep -q 'spacecraft telecommand desk' "$work/out"
+    tell "the page"
+    in_root "ls \$(man -P cat tcdesk | grep -oE '/usr/share/doc/tcdesk/[A-Za-z/.-]*[a-z]' | sort -u)" && grep -q OPERATORS.md.gz "$work/out" &&
+        grep -q examples/monday.tc "$work/out"
+    tell "each file that the page names is there"
+    # shellcheck disable=SC2016
+    in_root '. /usr/share/bash-completion/bash_completion; for it in _completion_loader _comp_complete_load; do ! declare -F $it >/dev/null || $it tcdesk; done
+        complete -p tcdesk && COMP_WORDS=(tcdesk lo) COMP_CWORD=1 && _tcdesk && echo "${COMPREPLY[@]}"'
+    same "bash loads the completion" $'complete -F _tcdesk tcdesk\nloop' "$(<"$work/out")"
+
+    # what the unit runs, by hand
+    line=$(sed -n 's/^ExecStart=//p' "$top/deploy/debian/tcdesk@.service")
+    line=${line//%i/hand}
+    by_user tcdesk "$line"
+    [[ $? != 0 && $(<"$work/err") == *"/etc/default/tcdesk-hand has to say PORT=N"* ]]
+    tell "the service by hand: no port"
+    port=$(free_port)
+    echo "PORT=$port" >"$root/etc/default/tcdesk-hand"
+    in_root "install -d -o tcdesk -g tcdesk -m 700 /var/lib/tcdesk"
+    # shellcheck disable=SC2016
+    unshare --mount bash -c 'umask 077; mount -t proc proc "$0/proc" && exec chroot --userspec="$(stat -c %u:%g "$0/var/lib/tcdesk")" "$0" \
+        /usr/bin/env -i PATH=/usr/bin:/bin PORT="$1" ${*:2}' "$root" "$port" "$line" >"$work/out" 2>"$work/err" <&- &
+    server=$!
+    for ((turn = 0; turn < 200; turn++)); do
+        ! grep -q "listening on 127.0.0.1:$port" "$work/err" || break
+        sleep 0.05
+    done
+    same "the service by hand: what it says" "tcdesk: /var/lib/tcdesk/hand.db is a new desk"$'\n'"tcdesk: listening on 127.0.0.1:$port" "$(<"$work/err")"
+    by_user nobody "exec curl -s --max-time 20 http://127.0.0.1:$port/places"
+    same "the service by hand is answered" '{"lines":["places 0: 0 0 0 0 0 0 0 0 0 0 0 0 0 0 0"],"more":0,"refusal":0}' "$(<"$work/out")"
+    { kill "$server"; wait "$server"; } 2>/dev/null
+    server=
+    same "whose its file is" "600 $(stat -c %u:%g "$root/var/lib/tcdesk")" "$(stat -c '%a %u:%g' "$root/var/lib/tcdesk/hand.db")"
+
+    in_root "apt-get remove -y --autoremove tcdesk"
+    tell "it is removed"
+    same "what a removal leaves" "$left" "$(changed_files)"
+    in_root "apt-get purge -y tcdesk"
+    tell "it is purged"
+    same "what a purge leaves" "$left" "$(changed_files)"
+    rm -r "$root/var/lib/tcdesk/"* "$root/etc/default/tcdesk-hand"
+    in_root "apt-get install -y ./${package##*/} && apt-get purge -y --autoremove tcdesk"
+    tell "it is installed again, and purged at once"
+    same "what a purge leaves where no desk is" $'+ user tcdesk\n+ group tcdesk' "$(changed_files)"
+    in_root "userdel tcdesk"
+    same "and what the end of the user leaves" "" "$(changed_files)"
+}
+
+# ---- systemd in that root
+
+# boot: begins systemd in the root, without a network. Where it does not begin, $why says why.
+boot() {
+    local turn more=()
+    why="systemd-nspawn is not installed (Debian: systemd-container)"
+    command -v systemd-nspawn >/dev/null || return
+    # where systemd does not run here, it gives no unit
+    [[ -d /run/systemd/system ]] || more=(--keep-unit)
+    groups_before=$(find /sys/fs/cgroup -maxdepth 2 \( -name payload -o -name supervisor \) 2>/dev/null)
+    systemd-nspawn -D "$root" --boot --register=no "${more[@]}" --private-network --console=pipe </dev/null >"$work/console" 2>&1 &
+    machine=$!
+    why="systemd does not begin in it"
+    for ((turn = 0; turn < 120; turn++)); do
+        sleep 0.5
+        leader=$(pgrep -P "$machine") || continue
+        in_machine "systemctl is-system-running"
+        [[ $(<"$work/out") != running && $(<"$work/out") != degraded ]] || return 0
+    done
+    return 1
+}
+
+# in_machine LINE: runs a line of bash where systemd runs.
+in_machine() {
+    nsenter -t "$leader" --all env -i PATH=/usr/local/sbin:/usr/local/bin:/usr/sbin:/usr/bin:/sbin:/bin HOME=/root LC_ALL=C.UTF-8 DEBIAN_FRONTEND=noninteractive \
+        bash -c "cd /root; $1" >"$work/out" 2>"$work/err" <&-
+}
+
+# stop_machine: ends systemd in the root, and takes away the groups of processes that were made for it here.
+stop_machine() {
+    local group turn
+    [[ -n $machine ]] || return 0
+    kill "$machine" 2>/dev/null
+    for ((turn = 0; turn < 40; turn++)); do
+        kill -0 "$machine" 2>/dev/null || break
+        sleep 0.5
+    done
+    # a second one ends it at once
+    ! kill "$machine" 2>/dev/null || wait "$machine"
+    machine=
+    for group in $(find /sys/fs/cgroup -maxdepth 2 \( -name payload -o -name supervisor \) 2>/dev/null); do
+        [[ $groups_before == *"$group"* ]] || find "$group" -depth -type d -exec rmdir {} + 2>/dev/null
+    done
+}
+
+# machine_says NAME WANTED LINE: a line prints this there, on both its outputs.
+machine_says() {
+    in_machine "{ $3; } 2>&1"
+    same "$1" "$2" "$(<"$work/out")"
+}
+
+service_cases() {
+    # shellcheck disable=SC2016
+    local id='systemctl show -P MainPID tcdesk@one' said='journalctl -t tcdesk -o cat -u tcdesk@one' before exposure
+    in_machine "apt-get install -y ./${package##*/}"
+    tell "it is installed where systemd runs"
+    machine_says "systemd reads the unit" "" "systemd-analyze verify tcdesk@one.service"
+    in_machine "systemd-analyze security --no-pager --threshold=15 tcdesk@one.service"
+    tell "systemd finds the unit exposed by 1.5 of 10 at most"
+    exposure=$(grep -o 'exposure level .*' "$work/out")
+    echo "systemd-analyze security: $exposure"
+    in_machine "echo PORT=8080 >/etc/default/tcdesk-one; systemctl start tcdesk@one; curl -s http://127.0.0.1:8080/places" && grep -q '"places 0: ' "$work/out"
+    tell "a desk is served as soon as it is started"
+    machine_says "by whom, and with what" $'tcdesk\n0000000000000000\n0000000000000000\n1\n2' \
+        "stat -c %U /proc/\$($id); awk '/^(CapEff|CapBnd|NoNewPrivs|Seccomp):/ { print \$2 }' /proc/\$($id)/status"
+    machine_says "whose its file is" $'700 tcdesk:tcdesk /var/lib/tcdesk\n600 tcdesk:tcdesk /var/lib/tcdesk/one.db' \
+        "stat -c '%a %U:%G %n' /var/lib/tcdesk /var/lib/tcdesk/one.db"
+
+    in_machine "$id"
+    before=$(<"$work/out")
+    in_machine "apt-get install -y --reinstall ./${package##*/} && systemctl daemon-reload && $id" && [[ $(tail -n 1 "$work/out") == "$before" ]]
+    tell "an upgrade leaves the server alone"
+    in_machine "kill -9 \$($id)
+        for it in {1..60}; do sleep 1; it=\$($id); if [[ \$it != 0 && \$it != $before ]] && systemctl -q is-active tcdesk@one; then break; fi; done
+        $id; curl -s http://127.0.0.1:8080/places" && [[ $(head -n 1 "$work/out") != "$before" ]] && grep -q '"places 0: ' "$work/out"
+    tell "a server that was killed comes back"
+    machine_says "one that a person killed stays down" inactive "kill \$($id); sleep 8; systemctl is-active tcdesk@one"
+    machine_says "one that served its COUNT ends with 0, and comes back" $'tcdesk: ended after 2 connections\ntcdesk: listening on 127.0.0.1:8080\nactive' \
+        "mkdir -p /run/systemd/system/tcdesk@one.service.d
+        printf '[Service]\nExecStart=\nExecStart=/usr/local/bin/few one\n' >/run/systemd/system/tcdesk@one.service.d/few.conf
+        sed 's/\"\$PORT\"/& 2/' /usr/libexec/tcdesk/serve >/usr/local/bin/few && chmod 755 /usr/local/bin/few
+        systemctl daemon-reload && systemctl start tcdesk@one && for it in 1 2; do curl -s http://127.0.0.1:8080/places >/dev/null; done
+        for it in {1..60}; do sleep 1; if [[ \$($said | tail -n 1) == *listening* ]] && systemctl -q is-active tcdesk@one; then break; fi; done
+        $said | tail -n 2; systemctl is-active tcdesk@one"
+    in_machine "rm -r /run/systemd/system/tcdesk@one.service.d /usr/local/bin/few; systemctl daemon-reload; systemctl restart tcdesk@one"
+
+    machine_says "a file that is no desk's: the start fails, says why, and stays down after 5 starts" $'status 1\n5 tcdesk: cannot use /var/lib/tcdesk/two.db\nfailed' \
+        "echo PORT=8082 >/etc/default/tcdesk-two; install -o tcdesk -g tcdesk -m 600 /etc/hostname /var/lib/tcdesk/two.db
+        systemctl start tcdesk@two 2>/dev/null; echo status \$?; for it in {1..90}; do sleep 1; [[ \$(systemctl is-active tcdesk@two) != failed ]] || break; done
+        journalctl -t tcdesk -o cat -u tcdesk@two | uniq -c | sed 's/^ *//'; systemctl is-active tcdesk@two"
+    machine_says "no port: the start fails, and says why" $'status 1\nis not set, so /etc/default/tcdesk-three has to say PORT=N' \
+        "touch /etc/default/tcdesk-three; systemctl start tcdesk@three 2>/dev/null; echo status \$?; systemctl stop tcdesk@three
+        journalctl -t tcdesk -o cat -u tcdesk@three | head -n 1 | sed 's/.*PORT: //'"
+    in_machine "post() { curl -s --json \"{\\\"by\\\":\\\"\$1\\\",\\\"number\\\":\$2,\\\"act\\\":\\\"\$3\\\",\\\"moment\\\":7}\" http://127.0.0.1:8080/acts; }
+        post ann 1 'enter 5 ---c no 8 1 - - ok'; post bob 1 'approve 1'; post ann 2 'initiate none'; post ann 3 'release 1'
+        from=\$(date +%s); systemctl restart tcdesk@one
+        read -r _ _ at rest < <($said | grep ^move); echo; echo \$((at >= from && at <= from + 9)) \$rest"
+    same "a restart puts in doubt what is on its way, at the moment of the start" "1 desk 1 Sent Doubtful open" "$(tail -n 1 "$work/out")"
+    machine_says "its options are those of the file" "tcdesk: connection 1: answered" \
+        "echo 'OPTIONS=\"--w 10 --verbose\"' >>/etc/default/tcdesk-one; systemctl restart tcdesk@one; curl -s http://127.0.0.1:8080/places >/dev/null; sleep 1
+        $said | tail -n 1"
+
+    in_machine "systemctl enable tcdesk@one; apt-get remove -y tcdesk; curl -s --max-time 5 http://127.0.0.1:8080/places"
+    [[ $? == 7 ]]
+    tell "a removal ends the desks that are served"
+    machine_says "and leaves them, and their links" $'one.db\none.db-wal\ntwo.db\ntwo.db-wal\n/etc/systemd/system/multi-user.target.wants/tcdesk@one.service' \
+        "ls /var/lib/tcdesk; ls /etc/systemd/system/*/tcdesk*"
+    machine_says "a purge leaves the desks, and no links" $'one.db\none.db-wal\ntwo.db\ntwo.db-wal' \
+        "apt-get purge -y tcdesk >/dev/null 2>&1; ls /var/lib/tcdesk; ls /etc/systemd/system/*/ | grep tcdesk"
+    in_machine "rm -r /var/lib/tcdesk /etc/default/tcdesk-*; userdel tcdesk; systemctl reset-failed"
+}
+
+# page_cases: each block ```sh of deploy/README.md, in order, prints the block without a word that stands next behind it, or nothing where none does.
+page_cases() {
+    local file number
+    mkdir "$work/page" "$root/root/page"
+    awk -v folder="$work/page" '
+        /^```/ && inside { close(file); inside = 0; next }
+        /^```/ {
+            inside = 1
+            word = substr($0, 4)
+            if (word == "sh") { at = NR; printf "" >sprintf("%s/%03d.out", folder, at) }
+            file = word == "sh" ? sprintf("%s/%03d.sh", folder, at) : word == "" ? sprintf("%s/%03d.out", folder, at) : "/dev/null"
+            next
+        }
+        inside { print >file }' "$top/deploy/README.md"
+    in_machine "apt-get install -y ./${package##*/}"
+    for file in "$work"/page/*.sh; do
+        number=${file##*/}
+        number=$((10#${number%.sh}))
+        cp "$file" "$root/root/page.sh"
+        in_machine "cd page; bash ../page.sh 2>&1"
+        same "deploy/README.md, line $number" "$(plain <"${file%.sh}.out")" "$(plain <"$work/out")"
+    done
+    in_machine "rm -r page page.sh"
+    same "what is left behind the last of them" "" "$(changed_files)"
+}
+
+# plain: what hangs on the day, and on how this Debian tells of its units, is left out.
+plain() {
+    sed -E "s/\b[0-9]{10}\b/MOMENT/g; s,/usr/lib/systemd/,/lib/systemd/,g; s/'//g"
+}
+
+bytes_cases "$(version_of "$kept/tcdesk")"
+refused_cases
+if ! make_root; then
+    not_tried "the package on a Debian of its own, since $why"
+    finish
+fi
+user_cases
+if ! in_root "apt-get install -y systemd systemd-sysv"; then
+    not_tried "the service, since systemd could not be installed in the root"
+elif ! boot; then
+    in_root "apt-get install -y ./${package##*/}"
+    in_root "systemd-analyze verify tcdesk@one.service" && [[ ! -s $work/err ]]
+    tell "systemd reads the unit"
+    in_root "systemd-analyze security --no-pager --offline=true --threshold=15 tcdesk@one.service"
+    tell "systemd finds the unit exposed by 1.5 of 10 at most"
+    not_tried "the service under systemd, since $why"
+else
+    # a line may be on its way to the journal when it is asked
+    printf '#!/bin/sh\n/usr/bin/journalctl --sync; exec /usr/bin/journalctl "$@"\n' >"$root/usr/local/bin/journalctl" && chmod 755 "$root/usr/local/bin/journalctl"
+    files_of_root >"$work/before"
+    service_cases
+    page_cases
+fi
+finish
