@@ -14,6 +14,7 @@ use Rattle.tc_types.proofs.RideLemmas.{each_appended}
 use Rattle.tc_book.specs.Book.{request_in}
 use Rattle.tc_book.specs.Good.{IsGoodRequest, IsGoodOrigin, IsNextRow}
 use Rattle.tc_book.specs.Stacks.{has_stack, is_in_stack, is_row_of}
+use Rattle.tc_book.specs.Waiting.{BeginsStack}
 use Rattle.tc_book.proofs.RequestLemmas.{request_in-next}
 use Rattle.tc_book.proofs.StackLemmas.{same_name, name_itself}
 
@@ -145,11 +146,11 @@ module _ (name : List ℕ) (test : Request → Bool) where
 
   rows_follow : (before rest : List Request) → AllAfter IsGoodRequest before rest → has_stack name before ≡ true → count_by test (take_while (is_in_stack name) rest) ≡ count_by passes rest
   rows_follow before [] all there = refl
-  rows_follow before (r ∷ rest) all there = by_name (is_in_stack name r) refl
+  rows_follow before (r ∷ rest) all there = by_name (is_in_stack name r) refl (rows_follow (before ++ r ∷ []) rest all.1 (stack_more name before r there))
     where
-      by_name : (t : Bool) → is_in_stack name r ≡ t → count_by test (take_while (is_in_stack name) (r ∷ rest)) ≡ count_by passes (r ∷ rest)
-      by_name true is = row_counted r rest is (rows_follow (before ++ r ∷ []) rest all.1 (stack_more name before r there))
-      by_name false is =
+      by_name : (t : Bool) → is_in_stack name r ≡ t → count_by test (take_while (is_in_stack name) rest) ≡ count_by passes rest → count_by test (take_while (is_in_stack name) (r ∷ rest)) ≡ count_by passes (r ∷ rest)
+      by_name true is others = row_counted r rest is others
+      by_name false is others =
           let ended : take_while (is_in_stack name) (r ∷ rest) ≡ [] = take_while-cons (is_in_stack name) r rest ∙ ap (λ t. cond t (r ∷ take_while (is_in_stack name) rest) []) is in
           let none : has_stack name (r ∷ rest) ≡ false = or_from (is_in_stack name r) (has_stack name rest) is (none_follow name (before ++ r ∷ []) rest all.1 (stack_more name before r there) (ends_with name before r is)) in
           ap (count_by test) ended ∙ sym (none_counted (r ∷ rest) none)
@@ -182,7 +183,7 @@ module _ (name : List ℕ) (test : Request → Bool) where
       let skipped : count_by passes (x ∷ xs) ≡ count_by passes xs = sum_by-cons (λ y. cond (passes y) 1 0) x xs ∙ ap (λ t. cond t 1 0 + count_by passes xs) passed ∙ omega arith in
       (front.0, later.1 ∙ sym skipped)
 
-  pub rows_counted : (requests : List Request) (n : ℕ) → AllAfter IsGoodRequest [] requests → IsSomeAnd (request_in requests n) (λ (r : Request). IsSomeAnd r.origin (λ (o : Origin). (o.line ≡ 1) × (o.stack ≡ name)))
+  pub rows_counted : (requests : List Request) (n : ℕ) → AllAfter IsGoodRequest [] requests → IsSomeAnd (request_in requests n) (BeginsStack name)
       → count_by test (take_while (is_in_stack name) (drop (n - 1) requests)) ≡ count_by passes requests
   rows_counted requests n all begins = by_zero (n == 0) begins
     where
@@ -191,12 +192,12 @@ module _ (name : List ℕ) (test : Request → Bool) where
       by_origin r None found from begun = absurd begun
       by_origin r (Some o) found from begun = (rows_from [] requests (n - 1) r o tt all found from begun.0 begun.1).1
 
-      by_found : (found : Option Request) → slice_get requests (n - 1) ≡ found → IsSomeAnd found (λ (r : Request). IsSomeAnd r.origin (λ (o : Origin). (o.line ≡ 1) × (o.stack ≡ name)))
+      by_found : (found : Option Request) → slice_get requests (n - 1) ≡ found → IsSomeAnd found (BeginsStack name)
           → count_by test (take_while (is_in_stack name) (drop (n - 1) requests)) ≡ count_by passes requests
       by_found None e begun = absurd begun
       by_found (Some r) e begun = by_origin r r.origin e refl begun
 
-      by_zero : (t : Bool) → IsSomeAnd (if t then None else slice_get requests (n - 1)) (λ (r : Request). IsSomeAnd r.origin (λ (o : Origin). (o.line ≡ 1) × (o.stack ≡ name)))
+      by_zero : (t : Bool) → IsSomeAnd (if t then None else slice_get requests (n - 1)) (BeginsStack name)
           → count_by test (take_while (is_in_stack name) (drop (n - 1) requests)) ≡ count_by passes requests
       by_zero true begun = absurd begun
       by_zero false begun = by_found (slice_get requests (n - 1)) refl begun

@@ -1,10 +1,12 @@
 -- What waits, one after the other; and what is told of interlocks is so.
-use Rattle.std.proofs.Common.{◌≡◌, ℕ, suc, ◌+◌, ◌-◌, ◌<◌, ◌==◌, Bool, true, false, ◌||◌, if◌then◌else◌, is_some, is_none, Option, Some, None, List, [], ◌∷◌, ◌++◌, length, take, get_or, inl, inr, refl, sym, ◌∙◌, ap, subst, arith}
+use Rattle.std.proofs.Common.{◌≡◌, ℕ, suc, ◌+◌, ◌-◌, ◌<◌, ◌==◌, Bool, true, false, ◌||◌, if◌then◌else◌, is_some, is_none, min, Option, Some, None, List, [], ◌∷◌, ◌++◌, length, take, drop, get_or, inl, inr, refl, sym, ◌∙◌, ap, subst, arith}
 use Rattle.std.specs.Prelude.{IfSome, IsSomeAnd, nat_lt}
 use Rattle.std.specs.List.{AllByRecursion, cons_option, filter_map, list_any, slice_get}
 use Rattle.std.specs.Option.{option_and_then, option_map, option_map_or, option_or}
 use Rattle.std.proofs.lemmas.Bool.Decides.{nat_tests}
-use Rattle.std.proofs.lemmas.List.{append_assoc, take_more}
+use Rattle.std.proofs.Common.{take-append-drop}
+use Rattle.std.proofs.lemmas.Bool.{cases_lt}
+use Rattle.std.proofs.lemmas.List.{append_assoc, drop_all, drop_more, take_more}
 use Rattle.std.proofs.lemmas.List.Elements.{filter_map-append}
 use Rattle.std.proofs.lemmas.Option.{slice_get_cases}
 use Rattle.tc_types.specs.declared.history.places.Place.{Place}
@@ -92,12 +94,35 @@ first_tells book (n ∷ numbers) = by_lock (lock_of book n) (lock_tells book n) 
     by_lock (Some lock) here rest = rw (← here) refl
 
 -- one that is found, or none, as a loop comes to it
-pub locks_none : (book : Book) (numbers : List ℕ) (i n : ℕ) → i < length numbers → n ≡ get_or numbers i n → filter_map (lock_of book) (take i numbers) ≡ [] → lock_of book n ≡ None → filter_map (lock_of book) (take (i + 1) numbers) ≡ []
-locks_none book numbers i n low is before none =
-    ap (filter_map (lock_of book)) (take_more numbers i n low ∙ ap (λ m. take i numbers ++ m ∷ []) (sym is))
-    ∙ filter_map-append (lock_of book) (take i numbers) (n ∷ [])
-    ∙ ap (λ l. l ++ cons_option (lock_of book n) []) before
+pub locks_none : (book : Book) (numbers : List ℕ) (i d : ℕ) → i < length numbers → filter_map (lock_of book) (take i numbers) ≡ [] → lock_of book (get_or numbers i d) ≡ None → filter_map (lock_of book) (take (i + 1) numbers) ≡ []
+locks_none book numbers i d low before none =
+    ap (filter_map (lock_of book)) (take_more numbers i d low)
+    ∙ filter_map-append (lock_of book) (take i numbers) (get_or numbers i d ∷ [])
+    ∙ ap (λ l. l ++ cons_option (lock_of book (get_or numbers i d)) []) before
     ∙ ap (λ lock. cons_option lock []) none
+
+pub locks_found : (book : Book) (numbers : List ℕ) (i d : ℕ) (lock : Lock) → i < length numbers → filter_map (lock_of book) (take i numbers) ≡ [] → lock_of book (get_or numbers i d) ≡ Some lock → Some lock ≡ first_lock_of book numbers
+locks_found book numbers i d lock low before found =
+    let n = get_or numbers i d in
+    let parts : numbers ≡ take i numbers ++ n ∷ drop (i + 1) numbers = sym (take-append-drop i numbers) ∙ ap (λ l. take i numbers ++ l) (drop_more numbers i d low) in
+    let given : filter_map (lock_of book) numbers ≡ lock ∷ filter_map (lock_of book) (drop (i + 1) numbers) =
+    ap (filter_map (lock_of book)) parts
+    ∙ filter_map-append (lock_of book) (take i numbers) (n ∷ drop (i + 1) numbers)
+    ∙ ap (λ l. l ++ cons_option (lock_of book n) (filter_map (lock_of book) (drop (i + 1) numbers))) before
+    ∙ ap (λ o. cons_option o (filter_map (lock_of book) (drop (i + 1) numbers))) found in
+    sym (ap (λ l. slice_get l 0) given)
+
+-- ---- the requests behind a number
+
+-- past the last there is none
+pub behind_all : {X : Type 0} (xs : List X) (n : ℕ) → drop (min (length xs) n) xs ≡ drop n xs
+behind_all xs n =
+    elim (cases_lt (length xs) n) [
+      | inl past ↦
+          let all : min (length xs) n ≡ length xs = omega (arith, past) in
+          ap (λ m. drop m xs) all ∙ drop_all (length xs) xs (omega arith) ∙ sym (drop_all n xs (omega (arith, past)))
+      | inr low ↦ let some : min (length xs) n ≡ n = omega (arith, low) in ap (λ m. drop m xs) some
+    ]
 
 -- ---- what is told
 

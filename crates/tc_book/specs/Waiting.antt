@@ -24,6 +24,10 @@ use Rattle.tc_book.specs.Stacks.{is_in_stack, stack_approval_at, is_interlocked}
 abbrev pub wanting_of : ApprovalState → Wanting
 wanting_of s = record { author = s.author; critical = s.critical; by = slice_get s.persons 0 }
 
+-- a request is on line 1 of this stack
+abbrev pub BeginsStack : List ℕ → Request → Type 0
+BeginsStack name r = IsSomeAnd r.origin (λ (o : Origin). (o.line ≡ 1) × (o.stack ≡ name))
+
 -- a request is a row of this stack, and stands at Entered
 abbrev pub is_entered_row : Book → List ℕ → Request → Bool
 is_entered_row book name r = is_in_stack name r && stands book r.number (Entered ∷ [])

@@ -45,9 +45,9 @@ waiting = route (codes "/waiting") (codes "/waiting") [] kind.Waiting
 abbrev pub row : RouteOf RouteKind → List ℕ × RouteOf RouteKind
 row route = (route.pattern, route)
 
--- the rows in their order
+-- the rows in their order: one that goes on comes before what it starts with
 abbrev pub rows : KindRoutes
-rows = row acts ∷ row history ∷ row moves ∷ row places ∷ row procedures ∷ row procedure ∷ row report ∷ row request ∷ row stacks ∷ row waiting ∷ []
+rows = row acts ∷ row history ∷ row moves ∷ row places ∷ row procedure ∷ row procedures ∷ row report ∷ row request ∷ row stacks ∷ row waiting ∷ []
 
 pub desk_rows : desk_routes ≡ rows
 unfolding matchit_on_literals with_route desk_routes

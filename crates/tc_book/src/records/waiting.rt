@@ -1,21 +1,25 @@
 //! What waits for a person, and which requests stand at a place.
-ghost use Rattle.std.specs.Prelude.{◌≡◌, ◌≤◌, ◌++◌, [], IfOk, IsSomeAnd, MatchOption, None, OnOk, Some, length, take};
-ghost use Rattle.std.specs.List.{cons_option, filter_map};
-ghost use Rattle.std.specs.Option.{option_and_then};
+ghost use Rattle.std.specs.Prelude.{◌≡◌, ◌≤◌, ◌++◌, ◌∷◌, [], ◌&&◌, IfOk, IsSomeAnd, MatchOption, None, OnOk, Some, count_by, drop, filter, length, take, take_while};
+ghost use Rattle.std.specs.List.{cons_option, filter_map, find};
+ghost use Rattle.std.specs.Option.{option_and_then, option_copied};
 ghost use Rattle.tc_types.specs.declared.history.places.Place.TheVariants.{Entered};
-ghost use Rattle.tc_types.specs.declared.requests.Origin.{Origin as SomeOrigin};
-ghost use Rattle.tc_types.specs.declared.requests.Request.{Request as SomeRequest};
+ghost use Rattle.tc_types.specs.History.{AllAfter, place_of};
+ghost use Rattle.tc_types.specs.Lawful.{is_among};
 ghost use Rattle.tc_types.specs.Limits.{most_requests};
+ghost use Rattle.tc_types.specs.Names.{is_same_name};
 ghost use Rattle.tc_proc.specs.Logs.{execution_at, procedure_at};
-ghost use Rattle.tc_book.specs.Book.{approval_at, place_in, request_at};
-ghost use Rattle.tc_book.specs.Waiting.{wanting_of, entered_rows, begun_waits, lock_of, first_lock_of, first_lock, waits_at, request_waits, execution_waits, waiting_of, standing_past};
+ghost use Rattle.tc_book.specs.Book.{approval_at, place_in, request_at, request_in};
+ghost use Rattle.tc_book.specs.Good.{IsGoodRequest};
+ghost use Rattle.tc_book.specs.Stacks.{is_in_stack};
+ghost use Rattle.tc_book.specs.Waiting.{BeginsStack, wanting_of, entered_rows, begun_waits, lock_of, first_lock_of, first_lock, waits_at, request_waits, execution_waits, waiting_of, standing_past};
 
 use crate::approvals::approvals_of;
+use crate::histories::History;
 use crate::records::Records;
 use crate::stacks::is_in_stack;
 use std::alloc::{AllocError, Allocator};
 use tc_stack::Approvals;
-use tc_types::{LoadedProcedure, Name, Place, ProcedureStep, Request, is_same_name};
+use tc_types::{LoadedProcedure, Name, Place, ProcedureStep, Request, is_among, is_same_name};
 use tc_waits::{Lock, Waiting, Wanting};
 
 /// How far an approval has come that is not complete.
@@ -42,25 +46,93 @@ fn add_one<A: Allocator>(
     Ok(())
 }
 
+/// How many of the rows of a stack that these begin with stand at Entered.
+fn count_entered<A: Allocator + Copy + Drop>(
+    rows: &[Request],
+    history: &History<A>,
+    name: &Name,
+) -> usize
+    ensures count { result ≡ count_by (λ r. is_among (Entered ∷ []) (place_of history.now.rows r.number)) (take_while (is_in_stack name.now) rows.now) }
+    ensures few { result ≤ length rows.now }
+{
+    rows.iter()
+        .take_while(|row| is_in_stack(row, name))
+        .filter(|row| is_among(history.place_of(row.number.get()), &[Place::Entered]))
+        .count()
+}
+
+/// How many rows of a stack stand at Entered, where request `n` is on its line 1: they stand one after the other.
+fn count_from_first<A: Allocator + Copy + Drop>(
+    requests: &[Request],
+    history: &History<A>,
+    name: &Name,
+    n: u32,
+) -> usize
+    requires good { AllAfter IsGoodRequest [] requests.now }
+    requires begun { IsSomeAnd (request_in requests.now n) (BeginsStack name.now) }
+    ensures count { result ≡ count_by (λ r. is_in_stack name.now r && is_among (Entered ∷ []) (place_of history.now.rows r.number)) requests.now }
+    ensures few { result ≤ length requests.now }
+{
+    count_entered(&requests[n as usize - 1..], history, name)
+}
+
+/// Those of these requests that stand at this place, in order, the first `most` of them. Fails where memory is refused.
+fn standing_among<A: Allocator + Copy + Drop>(
+    alloc: A,
+    requests: &[Request],
+    history: &History<A>,
+    place: Place,
+    most: usize,
+) -> Result<Vec<Request, A>, AllocError>
+    ensures { IfOk result (λ found. found.items ≡ take most (filter (λ r. is_among (place ∷ []) (place_of history.now.rows r.number)) requests.now)) }
+{
+    requests
+        .iter()
+        .filter(|request| is_among(history.place_of(request.number.get()), &[place]))
+        .take(most)
+        .copied()
+        .collect(alloc)
+}
+
+/// The same of the requests with a greater number than `after`.
+fn standing_behind<A: Allocator + Copy + Drop>(
+    alloc: A,
+    requests: &[Request],
+    history: &History<A>,
+    place: Place,
+    after: u32,
+    most: usize,
+) -> Result<Vec<Request, A>, AllocError>
+    ensures { IfOk result (λ found. found.items ≡ take most (filter (λ r. is_among (place ∷ []) (place_of history.now.rows r.number)) (drop after requests.now))) }
+{
+    let behind = &requests[requests.len().min(after as usize)..];
+    standing_among(alloc, behind, history, place, most)
+}
+
+/// The procedure with this name among these.
+fn procedure_in<'a>(loaded: &'a [LoadedProcedure], name: &Name) -> Option<&'a LoadedProcedure>
+    ensures { option_copied result ≡ find (λ l. is_same_name l.name name.now) loaded.now }
+{
+    loaded
+        .iter()
+        .find(|procedure| is_same_name(&procedure.name, name))
+}
+
 impl<A: Allocator + Copy + Drop> Records<A> {
     /// The approval of request `n`.
-    fn approvals(&self, n: u32) -> Option<Approvals>
-        ensures { MatchOption result (approval_at self.now.book n ≡ None) (λ kept. approval_at self.now.book n ≡ Some kept) }
+    fn approvals(&self, n: u32) -> Option<&Approvals>
+        ensures { MatchOption result (approval_at self.now.book n ≡ None) (λ kept. approval_at self.now.book n ≡ Some kept.now) }
     {
-        approvals_of(&self.approved, n).copied()
+        approvals_of(&self.approved, n)
     }
 
-    /// How many rows of a stack stand at Entered, where request `n` is on its line 1: they stand one after the other.
+    /// How many rows of a stack stand at Entered, where request `n` is on its line 1.
     fn entered_rows(&self, name: &Name, n: u32) -> usize
-        requires { IsSomeAnd (request_at self.now.book n) (λ (r : SomeRequest). IsSomeAnd r.origin (λ (o : SomeOrigin). (o.line ≡ 1) × (o.stack ≡ name.now))) }
+        requires { IsSomeAnd (request_at self.now.book n) (BeginsStack name.now) }
         ensures rows { result ≡ entered_rows self.now.book name.now }
         ensures few { result ≤ most_requests }
     {
-        self.requests[n as usize - 1..]
-            .iter()
-            .take_while(|row| is_in_stack(row, name))
-            .filter(|row| self.stands(row.number.get(), &[Place::Entered]))
-            .count()
+        count_from_first(&self.requests, &self.history, name, n)
     }
 
     /// What is said of a stack on its line 1, if request `n` is there: that it waits for approval, where a row of it stands at Entered.
@@ -130,7 +202,7 @@ impl<A: Allocator + Copy + Drop> Records<A> {
         if request.origin.is_some() {
             return None;
         }
-        let approval = wanting(&self.approvals(n)?);
+        let approval = wanting(self.approvals(n)?);
         Some(Waiting::Request {
             request: request.number.get(),
             approval,
@@ -181,7 +253,7 @@ impl<A: Allocator + Copy + Drop> Records<A> {
             execution: begun.execution,
             procedure: begun.procedure,
             step,
-            is_countersigned: self.log.is_next_countersigned(e),
+            is_countersigned: self.is_next_countersigned(e),
         })
     }
 
@@ -226,23 +298,14 @@ impl<A: Allocator + Copy + Drop> Records<A> {
     ) -> Result<Vec<Request, A>, AllocError>
         ensures { IfOk result (λ found. found.items ≡ take most (standing_past self.now.book place after)) }
     {
-        self.requests[self.requests.len().min(after as usize)..]
-            .iter()
-            .filter(|request| self.stands(request.number.get(), &[place]))
-            .take(most)
-            .copied()
-            .collect(alloc)
+        standing_behind(alloc, &self.requests, &self.history, place, after, most)
     }
 
     /// The procedure with this name, as it was loaded; `None` where there is none.
     pub fn procedure(&self, name: &Name) -> Option<LoadedProcedure>
         ensures { result ≡ procedure_at self.now.book.log name.now }
     {
-        self.log
-            .loaded()
-            .iter()
-            .find(|loaded| is_same_name(&loaded.name, name))
-            .copied()
+        procedure_in(self.log.loaded(), name).copied()
     }
 
     /// The steps of all procedures, those of one in order.
