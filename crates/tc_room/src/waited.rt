@@ -1,18 +1,15 @@
 //! The texts of replies to who looks before he reads: what waits, who stands at a place, and what a procedure says. Each of their lines is
 //! ended by LF, and has no other LF in it.
-ghost use Rattle.std.specs.Prelude.{◌≡◌, [], ◌∷◌, ◌++◌, IfOk, OnOk, map, take};
+ghost use Rattle.std.specs.Prelude.{◌≡◌, ◌++◌, ◌∷◌, [], IfOk, OnOk, length, map};
 ghost use Rattle.std.specs.String.{string_bytes};
-ghost use Rattle.tc_types.specs.declared.requests.Request.{Request as SomeRequest};
-ghost use Rattle.tc_types.specs.Names.{is_same_name};
-ghost use Rattle.tc_waits.specs.StepLines.{step_line};
 ghost use Rattle.tc_waits.specs.WaitingLines.{waiting_line};
 ghost use Rattle.tc_desk.specs.Replies.{named_request, standing_lines, waiting_lines};
-ghost use Rattle.tc_room.specs.Replies.{AreLines, ended, procedure_told, steps_told};
+ghost use Rattle.tc_room.specs.Replies.{AreLines, ended, procedure_told, steps_in, steps_told};
 
-use crate::replies::MOST_SHOWN;
+use crate::replies::{MOST_SHOWN, front};
 use std::alloc::{AllocError, Global};
 use tc_report::add_line;
-use tc_types::{LoadedProcedure, Place, ProcedureStep, Request, is_same_name};
+use tc_types::{LoadedProcedure, Name, Place, ProcedureStep, Request, is_same_name};
 use tc_waits::{
     Waiting, named_text, procedure_head_text, standing_text, step_text, waiting_count_text,
     waiting_text,
@@ -57,7 +54,7 @@ pub fn standing_reply(alloc: Global, place: Place, found: &[Request]) -> Result<
     ensures text { IfOk result (λ text. string_bytes text ≡ ended (standing_lines place found.now)) }
     ensures lines { OnOk result (AreLines (standing_lines place found.now)) }
 {
-    let shown = &found[..found.len().min(MOST_SHOWN)];
+    let shown = front(found, MOST_SHOWN);
     let more = found.len() > MOST_SHOWN;
     let mut reply = standing_text(alloc, place, shown.len() as u32, more)?;
     reply.push_str("\n")?;
@@ -66,45 +63,59 @@ pub fn standing_reply(alloc: Global, place: Place, found: &[Request]) -> Result<
 }
 
 /// How many of these steps are of the procedure with this name.
-fn count_steps(steps: &[ProcedureStep], loaded: &LoadedProcedure) -> usize
-    ensures { result ≡ count_by (λ s. is_same_name s.procedure loaded.now.name) steps.now }
+fn count_steps(name: &Name, steps: &[ProcedureStep]) -> usize
+    ensures { result ≡ length (steps_in name.now steps.now) }
 {
     steps
         .iter()
-        .filter(|step| is_same_name(&step.procedure, &loaded.name))
+        .filter(|step| is_same_name(&step.procedure, name))
         .count()
 }
 
-/// Adds a line for each of these steps that is of this procedure to a reply.
+/// Adds the line of a step to a reply, if it is of the procedure with this name.
+fn add_step(
+    alloc: Global,
+    reply: &mut String,
+    name: &Name,
+    step: &ProcedureStep,
+) -> Result<(), AllocError>
+    ensures added { OnOk result (string_bytes reply.new ≡ string_bytes reply.old ++ ended (steps_told name.now (step.now ∷ []))) }
+    ensures lines { OnOk result (AreLines (steps_told name.now (step.now ∷ []))) }
+{
+    if !is_same_name(&step.procedure, name) {
+        return Ok(());
+    }
+    add_line(reply, step_text(alloc, step)?.as_str())
+}
+
+/// Adds a line for each of these steps that is of the procedure with this name to a reply.
 fn add_steps(
     alloc: Global,
     reply: &mut String,
-    loaded: &LoadedProcedure,
+    name: &Name,
     steps: &[ProcedureStep],
 ) -> Result<(), AllocError>
-    ensures added { OnOk result (string_bytes reply.new ≡ string_bytes reply.old ++ ended (steps_told loaded.now steps.now)) }
-    ensures lines { OnOk result (AreLines (steps_told loaded.now steps.now)) }
+    ensures added { OnOk result (string_bytes reply.new ≡ string_bytes reply.old ++ ended (steps_told name.now steps.now)) }
+    ensures lines { OnOk result (AreLines (steps_told name.now steps.now)) }
 {
-    for step in steps
-        .iter()
-        .filter(|step| is_same_name(&step.procedure, &loaded.name))
-    {
-        add_line(reply, step_text(alloc, step)?.as_str())?;
+    for step in steps {
+        add_step(alloc, reply, name, step)?;
     }
     Ok(())
 }
 
-/// The reply to `steps`, where these are the steps of all procedures.
+/// The reply to `steps`, of the procedure with this name, which was loaded so, where these are the steps of all.
 pub fn procedure_reply(
     alloc: Global,
+    name: &Name,
     loaded: &LoadedProcedure,
     steps: &[ProcedureStep],
 ) -> Result<String, AllocError>
-    ensures text { IfOk result (λ text. string_bytes text ≡ ended (procedure_told loaded.now steps.now)) }
-    ensures lines { OnOk result (AreLines (procedure_told loaded.now steps.now)) }
+    ensures text { IfOk result (λ text. string_bytes text ≡ ended (procedure_told name.now loaded.now steps.now)) }
+    ensures lines { OnOk result (AreLines (procedure_told name.now loaded.now steps.now)) }
 {
-    let mut reply = procedure_head_text(alloc, loaded, count_steps(steps, loaded) as u32)?;
+    let mut reply = procedure_head_text(alloc, loaded, count_steps(name, steps))?;
     reply.push_str("\n")?;
-    add_steps(alloc, &mut reply, loaded, steps)?;
+    add_steps(alloc, &mut reply, name, steps)?;
     Ok(reply)
 }

@@ -90,10 +90,10 @@ standing_one place shown more small =
 pub named_one : (n : ℕ) (identity : Identity) → n < 2 ^ 32 → identity.apid < 2048 → identity.count < 16384 → IsTrue (is_one_line (named_line n identity))
 named_one n identity small apid count = spaced_one (codes "request" ∷ decimal n ∷ identity_word identity ∷ []) (rw (number_one n (omega arith), identity_one identity apid count) refl)
 
-pub procedure_one : (loaded : LoadedProcedure) (steps : ℕ) → IsName loaded.name → IsName loaded.author → steps < 2 ^ 32 → IsTrue (is_one_line (procedure_head_line loaded steps))
+pub procedure_one : (loaded : LoadedProcedure) (steps : ℕ) → IsName loaded.name → IsName loaded.author → steps < 2 ^ 64 → IsTrue (is_one_line (procedure_head_line loaded steps))
 procedure_one loaded steps named author small =
     spaced_one (codes "procedure" ∷ loaded.name ∷ codes "author" ∷ loaded.author ∷ codes "steps" ∷ decimal steps ∷ [])
-    (rw (name_one loaded.name named, name_one loaded.author author, number_one steps (omega arith)) refl)
+    (rw (name_one loaded.name named, name_one loaded.author author, number_one steps small) refl)
 
 -- what is printable is no LF
 printable_one : (byte : ℕ) → is_printable byte ≡ true → eqb byte 10 ≡ false

@@ -13,7 +13,7 @@ use tc_types::{LoadedProcedure, ProcedureStep, RequestNumber, yes_no};
 pub fn procedure_head_text<A: Allocator + Copy>(
     alloc: A,
     loaded: &LoadedProcedure,
-    steps: u32,
+    steps: usize,
 ) -> Result<String<A>, AllocError>
     ensures text { IfOk result (λ t. string_bytes t ≡ procedure_head_line loaded.now steps) }
     ensures one_line { IfOk result (λ t. IsTrue (is_one_line (procedure_head_line loaded.now steps))) }
