@@ -9,13 +9,14 @@ use Rattle.httparse.specs.Spans.{name_and_value}
 use Rattle.tc_types.specs.declared.acts.Query.{Query}
 use Rattle.tc_types.specs.declared.acts.Query.TheVariants as query
 use Rattle.tc_types.specs.Grammar.{Reads, IsNumber}
+use Rattle.tc_types.specs.Names.{IsName}
 use Rattle.tc_types.specs.Numbers.{IsMoment}
 use Rattle.tc_routes.specs.declared.paths.Post.{Post}
 use Rattle.tc_front.specs.declared.judge.Refused.{Refused}
 use Rattle.tc_front.specs.declared.judge.Refused.TheVariants as refused
 use Rattle.tc_front.specs.declared.judge.Judgement.{Judgement}
 use Rattle.tc_front.specs.declared.judge.Judgement.TheVariants as judgement
-use Rattle.tc_routes.specs.Paths.{Texts, places_text, request_text, history_text, report_text, Named, posts_to, asks_for, path_of, same}
+use Rattle.tc_routes.specs.Paths.{Texts, places_text, request_text, history_text, report_text, waiting_text, moves_text, procedure_text, Named, posts_to, asks_for, path_of, same}
 use Rattle.tc_front.specs.Fields.{values, Held, absent, single, several, found_of, IsDecimal}
 
 -- ---- a question
@@ -40,12 +41,23 @@ abbrev pub AsksReport : List ℕ → List ℕ → Option Query → Type 0
 AsksReport first second asked =
     (n : Option ℕ) × (m : Option ℕ) × Reads decimal IsMoment first n × Reads decimal IsMoment second m × (asked ≡ both (λ n m. query.Report n m) n m)
 
+-- the moves behind a row
+abbrev pub AsksMoves : List ℕ → Option Query → Type 0
+AsksMoves first asked = (n : Option ℕ) × Reads decimal IsNumber first n × (asked ≡ option_map (λ n. query.Moves n) n)
+
+-- the procedure of a name
+abbrev pub AsksProcedure : List ℕ → Option Query → Type 0
+AsksProcedure first asked = (name : Option (List ℕ)) × Reads (λ name. name) IsName first name × (asked ≡ option_map (λ name. query.Steps name) name)
+
 -- the question of a path; none where a number in it is not in form
 abbrev pub AsksFor : Texts → Option Query → Type 0
 AsksFor places_text asked = asked ≡ Some query.Places
 AsksFor (request_text number) asked = AsksRequest number asked
 AsksFor (history_text first after) asked = AsksHistory first after asked
 AsksFor (report_text from to) asked = AsksReport from to asked
+AsksFor waiting_text asked = asked ≡ Some query.Waiting
+AsksFor (moves_text after) asked = AsksMoves after asked
+AsksFor (procedure_text name) asked = AsksProcedure name asked
 
 -- what is refused as bad
 abbrev pub bad : Judgement

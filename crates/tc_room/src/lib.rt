@@ -12,6 +12,7 @@ mod loadings;
 mod opening;
 mod replies;
 mod rooms;
+mod waited;
 mod writes;
 
 pub use answers::{

@@ -22,6 +22,9 @@ pub(crate) enum RouteKind {
     Request,
     History,
     Report,
+    Waiting,
+    Moves,
+    Procedure,
 }
 
 /// The path of this kind with these texts, which are empty where it has none.
@@ -42,6 +45,9 @@ fn path_at<'a>(kind: RouteKind, first: &'a [u8], second: &'a [u8]) -> Path<'a>
             from: first,
             to: second,
         }),
+        RouteKind::Waiting => Path::Asks(Question::Waiting),
+        RouteKind::Moves => Path::Asks(Question::Moves { after: first }),
+        RouteKind::Procedure => Path::Asks(Question::Procedure { name: first }),
     }
 }
 
@@ -105,6 +111,9 @@ impl Routes {
             RouteKind::History,
         )?;
         add(&mut router, "/report/{from}/{to}", RouteKind::Report)?;
+        add(&mut router, "/waiting", RouteKind::Waiting)?;
+        add(&mut router, "/moves/{after}", RouteKind::Moves)?;
+        add(&mut router, "/procedures/{name}", RouteKind::Procedure)?;
         Ok(Routes { router })
     }
 
