@@ -56,10 +56,13 @@ pub fn refusal_of<A: Allocator + Copy + Drop>(records: &Records<A>, query: Query
         | Query::Waiting
         | Query::Moves { .. }
         | Query::Standing { .. } => None,
-        Query::Steps { procedure } => match records.procedure(&procedure) {
-            Some(_) => None,
-            None => Some(Refusal::UnknownProcedure),
-        },
+        Query::Steps { procedure } => {
+            if records.procedure(&procedure).is_none() {
+                Some(Refusal::UnknownProcedure)
+            } else {
+                None
+            }
+        }
         Query::History { request, .. } | Query::Request { request } => {
             if records.is_unknown(request) {
                 Some(Refusal::UnknownRequest)
