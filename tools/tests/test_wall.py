@@ -1,6 +1,7 @@
 """What waits, three more questions over the whole desk, and the page of the wall screen, as the plain desk makes them: answers that are written by hand; on
 the page each open request once and at its place, the counts, texts of persons, the axis, the bounds, and a closed file. The program is not run.
 """
+import os
 import random
 import re
 import unittest
@@ -15,6 +16,7 @@ from model.facts import FINAL, PLACE_WORDS, place_word
 from model.report import time_of
 from model.rows import empty_tables
 from model.wall import board_page
+from page_parts import MADE, PARTS, made
 from tests.wall_desks import BEGIN, LONG, STEP_TEXT, Scene, busy, empty, full, in_doubt, quiet
 
 SEED, DAYS = 20261126, 12
@@ -457,8 +459,13 @@ class Parts(unittest.TestCase):
 
     def test_parts(self) -> None:
         """They are ASCII, end with LF, and load nothing."""
-        for name in ("head.html", "style.css", "refresh.html", "heading.html", "tiles.html", "waits.html", "schedule.html", "ways.html", "ways-head.html",
-                     "moves.html", "foot.html"):
-            text = wall.fixed(name)
-            self.assertTrue(text.endswith("\n") and "\r" not in text and "\t" not in text, name)
-            self.assertEqual([], re.findall(r"@import|https?:|url\((?!#)", text), name)
+        for part in PARTS:
+            text = wall.fixed(part.file)
+            self.assertTrue(text.endswith("\n") and "\r" not in text and "\t" not in text, part.file)
+            self.assertEqual([], re.findall(r"@import|https?:|url\((?!#)", text), part.file)
+        self.assertEqual(sorted(os.listdir(wall.FOLDER)), sorted(part.file for part in PARTS))
+
+    def test_constants(self) -> None:
+        """The crate has them as they are: after an edit tools/page_parts.py writes its constants."""
+        with open(MADE, encoding="ascii") as file:
+            self.assertEqual(made(), file.read())
