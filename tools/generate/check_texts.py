@@ -58,6 +58,7 @@ WHOLE_STACKS = [
     (NO_STACK, b'"' + STACK + ROW),
     (NO_STACK, STACK[:-1]+ b"\0\n" + ROW),
     (NO_STACK, b"x\n"),
+    (NO_STACK, b"PK\3\4\x14\0\x06\0\b\0[Content_Types].xml"),
     (NO_STACK, STACK[:-1] + b" \n1,5\n"),
     ("line 1: missing", STACK),
     ("line 1: missing", STACK[:-1]),

@@ -76,9 +76,9 @@ def text_faults(recorded: Recorded) -> Iterator[str]:
     from model.check import told_of
     for it in recorded.texts:
         told = told_of(it.kind, it.data)
-        if told.line != it.told:
-            yield f"check {it.kind} {it.data!r:.80}: {told.line!r}, and not {it.told!r}"
-        if (told.refusal != 0) != (it.told != "ok"):
+        if told.text() != it.told:
+            yield f"check {it.kind} {it.data!r:.80}: {told.text()!r}, and not {it.told!r}"
+        if told.refusal and it.told.split("\n")[0] == "ok":
             yield f"check {it.kind} {it.data!r:.80}: its load is refused with {told.refusal}"
 
 
