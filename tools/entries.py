@@ -36,6 +36,8 @@ ENTRIES = (
           needs="python3"),
     Entry("report", "the shift report beside a plain printer; files that are no desk's, and rows that do not read",
           modules=("tests.test_report", "tests.test_report_files")),
+    Entry("backup", "copies of a desk that works, or that nobody has open: each holds what was answered; stopped, failed, and under names that are taken",
+          modules=("tests.test_backup",), needs=C_COMPILER, takes_seed=True),
     Entry("plain-desk", "the plain desk itself: it answers scripts and days, and leaves rows, as they are written by hand",
           modules=("tests.test_cases", "tests.test_model")),
     Entry("plain-book", "acts on the book: each printed line and all tables beside the plain desk", modules=("tests.test_plain_book",),

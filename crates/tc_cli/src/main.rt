@@ -6,18 +6,23 @@
 //!
 //! `tcdesk report DB FROM TO` prints the shift report of the desk that the file DB keeps, which it only reads.
 //!
+//! `tcdesk backup DB COPY` copies that desk to another file, also while it runs.
+//!
 //! `tcdesk check KIND FILE` says whether the file of a stack or of a procedure can be loaded, or what is wrong with it.
 //!
 //! `tcdesk serve DB PORT [COUNT]` serves that desk over HTTP at a port of 127.0.0.1, and ends after so many connections.
 //! `tcdesk loop DB SCRIPT` sends the lines of a script over HTTP to a desk that it serves itself, and prints what is answered.
 #![tactic(auto)]
 
+mod backup;
 mod checking;
 mod closed;
+mod copying;
 mod files;
 mod kept;
 mod laws;
 mod looping;
+mod marking;
 mod numbered;
 mod opened;
 mod paths;
@@ -28,7 +33,9 @@ mod script;
 mod serving;
 mod unserved;
 
+use backup::backup;
 use checking::{text_of, write_check};
+use copying::{CopyFault, MOST_COPIES};
 use files::{open_desk, open_script, text_at};
 use kept::run_kept;
 use looping::send_to_file;
@@ -106,6 +113,7 @@ fn run_line(rt: &HostRuntime, line: CommandLine<'_>) -> u8 {
             moment,
         } => run_kept_in(rt, script, database, &Opening { config, moment }),
         CommandLine::Report { database, from, to } => report_in(rt, database, from, to),
+        CommandLine::Backup { database, copy } => backup_in(rt, database, copy),
         CommandLine::Check { kind, file } => check_in(rt, kind, file),
         CommandLine::Serve {
             database,
@@ -151,6 +159,25 @@ fn run_kept_in(rt: &HostRuntime, script: &str, file: &str, opening: &Opening) ->
 fn report_in(rt: &HostRuntime, file: &str, from: Moment, to: Moment) -> u8 {
     let printed = print_report(rt, file, from, to);
     status_of(rt, printed.map(|()| 0), file, file, file)
+}
+
+fn backup_in(rt: &HostRuntime, file: &str, copy: &str) -> u8 {
+    match backup(rt, file, copy) {
+        Ok(()) => 0,
+        Err(CopyFault::Desk) => cannot_use(rt, file),
+        Err(CopyFault::Copy) => cannot_use(rt, copy),
+        Err(CopyFault::Memory) => cannot_use(rt, "memory"),
+        Err(CopyFault::Output) => cannot_use(rt, "output"),
+        Err(CopyFault::Taken(file)) => {
+            let suffix = file.suffix();
+            let _ = eprintln!(rt; "tcdesk: {copy}{suffix} is there already");
+            UNUSABLE
+        }
+        Err(CopyFault::Restless) => {
+            let _ = eprintln!(rt; "tcdesk: {file} was too busy at each of {MOST_COPIES} copies");
+            UNUSABLE
+        }
+    }
 }
 
 fn check_in(rt: &HostRuntime, kind: LoadKind, file: &str) -> u8 {

@@ -15,8 +15,8 @@ use tc_types::{Counted, Moment};
 /// The desk's file, and its log beside it, which is a file that a reader has to make where there is none.
 #[derive(Drop)]
 pub(crate) struct Kept {
-    database: String,
-    log: String,
+    pub(crate) database: String,
+    pub(crate) log: String,
     had_log: bool,
 }
 

@@ -26,6 +26,10 @@ checked_rule = required_rule (codes "FILE")
 abbrev pub file_rule : Rule
 file_rule = required_rule (codes "DB")
 
+-- COPY: the file that a desk is copied to
+abbrev pub copy_rule : Rule
+copy_rule = required_rule (codes "COPY")
+
 -- FROM: the first moment of a shift
 abbrev pub from_rule : Rule
 from_rule = required_rule (codes "FROM")
@@ -124,6 +128,10 @@ run_app = with_database script_app
 abbrev pub report_app : App
 report_app = with_rule (with_rule (with_rule (new_app (codes "report")) file_rule) from_rule) to_rule
 
+-- backup DB COPY
+abbrev pub backup_app : App
+backup_app = with_rule (with_rule (new_app (codes "backup")) file_rule) copy_rule
+
 -- check KIND FILE
 abbrev pub check_app : App
 check_app = with_rule (with_rule (new_app (codes "check")) kind_rule) checked_rule
@@ -153,6 +161,10 @@ bare_app = let new = new_app (codes "tcdesk") in
 abbrev pub script_apps : App
 script_apps = with_subcommand (with_subcommand bare_app run_app.top) report_app.top
 
+-- .. with the one that copies a desk
+abbrev pub with_backup : App → App
+with_backup app = with_subcommand app backup_app.top
+
 -- .. with the one that checks a file
 abbrev pub with_check : App → App
 with_check app = with_subcommand app check_app.top
@@ -163,4 +175,4 @@ with_http app = with_subcommand (with_subcommand app serve_app.top) loop_app.top
 
 -- the program, with its commands
 abbrev pub desk_app : App
-desk_app = with_http (with_check script_apps)
+desk_app = with_http (with_check (with_backup script_apps))

@@ -1,6 +1,6 @@
 //! The arguments of the commands: which have to be given, which values pass, and what stands where none is given.
 ghost use Rattle.std.specs.Prelude.{◌≡◌};
-ghost use Rattle.tc_words.specs.Commands.{channel_rule, checked_rule, count_rule, database_rule, file_rule, first_rule, from_rule, kind_rule, moment_rule, port_rule};
+ghost use Rattle.tc_words.specs.Commands.{channel_rule, checked_rule, copy_rule, count_rule, database_rule, file_rule, first_rule, from_rule, kind_rule, moment_rule, port_rule};
 ghost use Rattle.tc_words.specs.Commands.{required_rule, ring_rule, script_rule, to_rule, verbose_rule, window_rule};
 
 use clap::builder::ValueParser;
@@ -76,6 +76,16 @@ pub(crate) fn read_file_arg<'a>(alloc: Global) -> Argument<'a>
     ensures { result ≡ file_rule }
 {
     required_arg(alloc, "DB", "The database file that keeps the desk")
+}
+
+pub(crate) fn copy_arg<'a>(alloc: Global) -> Argument<'a>
+    ensures { result ≡ copy_rule }
+{
+    required_arg(
+        alloc,
+        "COPY",
+        "The file that the desk is copied to, which is not there yet",
+    )
 }
 
 pub(crate) fn from_arg<'a>(alloc: Global) -> Argument<'a>

@@ -1,13 +1,13 @@
 //! The program's commands, and the matches of words that name one.
 ghost use Rattle.std.specs.Prelude.{◌≡◌, [], IfErr, IfOk, OnOk, map, true};
 ghost use Rattle.clap.specs.Words.{HasKind, fault_of, kind_of, new_app, subcommand_of, subcommand_rows_of, takes, with_rule, with_subcommand};
-ghost use Rattle.tc_words.specs.Commands.{bare_app, bare_serve_app, check_app, desk_app, loop_app, report_app, run_app, script_apps, serve_app};
-ghost use Rattle.tc_words.specs.Commands.{with_check, with_desk, with_http, with_link};
+ghost use Rattle.tc_words.specs.Commands.{backup_app, bare_app, bare_serve_app, check_app, desk_app, loop_app, report_app, run_app, script_apps, serve_app};
+ghost use Rattle.tc_words.specs.Commands.{with_backup, with_check, with_desk, with_http, with_link};
 
 use crate::arguments::{
-    Argument, channel_arg, checked_arg, count_arg, database_arg, file_arg, first_arg, from_arg,
-    kind_arg, moment_arg, port_arg, read_file_arg, ring_arg, script_arg, to_arg, verbose_arg,
-    window_arg,
+    Argument, channel_arg, checked_arg, copy_arg, count_arg, database_arg, file_arg, first_arg,
+    from_arg, kind_arg, moment_arg, port_arg, read_file_arg, ring_arg, script_arg, to_arg,
+    verbose_arg, window_arg,
 };
 use clap::error::ErrorKind;
 use clap::{ArgMatches, Command};
@@ -23,6 +23,7 @@ Examples:
   tcdesk run examples/first-pass.tc            a pass, on a desk in memory
   tcdesk run --db desk.db examples/monday.tc   a shift, on a desk that a file keeps
   tcdesk report desk.db 0 86400                what happened in it
+  tcdesk backup desk.db copy.db                a copy of it, also while it runs
   tcdesk check stack examples/stack.csv        whether a stack can be loaded";
 
 /// A command with those below it, each of whose arguments is its own alone. A contract sees it as what it takes.
@@ -92,7 +93,8 @@ pub(crate) fn matches<'a>(
 fn desk_command<'a>(alloc: Global) -> Result<Tree<'a>, AllocError>
     ensures { IfOk result (λ desk. desk ≡ desk_app) }
 {
-    with_http(alloc, with_check(alloc, script_commands(alloc)?)?)
+    let commands = with_backup(alloc, script_commands(alloc)?)?;
+    with_http(alloc, with_check(alloc, commands)?)
 }
 
 /// The program with the commands that run a script, or print what one came to.
@@ -102,6 +104,13 @@ fn script_commands<'a>(alloc: Global) -> Result<Tree<'a>, AllocError>
     bare_command(alloc)?
         .subcommand(run_command(alloc)?)?
         .subcommand(report_command(alloc)?)
+}
+
+/// With the command that copies a desk.
+fn with_backup<'a>(alloc: Global, command: Tree<'a>) -> Result<Tree<'a>, AllocError>
+    ensures { IfOk result (λ more. more ≡ with_backup command.entry) }
+{
+    command.subcommand(backup_command(alloc)?)
 }
 
 /// With the command that checks a file.
@@ -174,6 +183,18 @@ fn report_command<'a>(alloc: Global) -> Result<Tree<'a>, AllocError>
     .arg(read_file_arg(alloc))?
     .arg(from_arg(alloc))?
     .arg(to_arg(alloc))
+}
+
+fn backup_command<'a>(alloc: Global) -> Result<Tree<'a>, AllocError>
+    ensures { IfOk result (λ backup. backup ≡ backup_app) }
+{
+    Tree::new(
+        alloc,
+        "backup",
+        "Copy a desk that is kept in a file to another file, also while the desk runs",
+    )
+    .arg(read_file_arg(alloc))?
+    .arg(copy_arg(alloc))
 }
 
 fn check_command<'a>(alloc: Global) -> Result<Tree<'a>, AllocError>

@@ -26,6 +26,11 @@ pub enum CommandLine<'a> {
         from: Moment,
         to: Moment,
     },
+    /// Copy the desk that a database file keeps to another file, which is not there yet. The desk may be open meanwhile.
+    Backup {
+        database: &'a str,
+        copy: &'a str,
+    },
     /// Whether the file at this path, or the standard input where it is `-`, can be loaded as a stack or as a procedure.
     Check {
         kind: LoadKind,
