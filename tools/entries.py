@@ -75,6 +75,8 @@ ENTRIES = (
           needs="nginx and openssl, or that is not tried"),
     Entry("login", "the proxy of deploy/nginx, which holds each login to its own name, before a served desk",
           command=("../deploy/nginx/login_test.py", "--program", "PROGRAM"), needs="nginx with njs, and openssl, or that is not tried"),
+    Entry("replica", "three machines that keep one desk, of deploy/replica: its parts, and the whole while programs are killed and stand still",
+          command=("../deploy/replica/replica_test.py", "--program", "PROGRAM"), needs="etcd (Debian: etcd-server), or the whole is not tried"),
     Entry("soak", "ten good clients beside rude peers for five minutes, or --count of them", modules=("bench.http_soak",), takes_seed=True,
           by_hand=True),
     Entry("full-stops", "a desk of 65,535 requests and 989,000 rows, stopped at 200 random calls, or --count of them", modules=("faults.stop_full",),
