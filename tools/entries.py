@@ -84,6 +84,8 @@ ENTRIES = (
           needs="dpkg-deb, lintian, mmdebstrap or debootstrap with an archive of Debian, systemd-nspawn (systemd-container), and root; or that is not tried"),
     Entry("postgres", "the loader of deploy/postgres: copies of desks into a real PostgreSQL, again and again, and all that it has to refuse",
           modules=("tests.test_postgres",), needs="PostgreSQL's server and sqlite3 (Debian: postgresql, sqlite3), or that is not tried"),
+    Entry("replica", "three machines that keep one desk, of deploy/replica: its parts, and the whole while programs are killed and stand still",
+          command=("../deploy/replica/replica_test.py", "--program", "PROGRAM"), needs="etcd (Debian: etcd-server), or the whole is not tried"),
     Entry("soak", "ten good clients beside rude peers for five minutes, or --count of them", modules=("bench.http_soak",), takes_seed=True,
           by_hand=True),
     Entry("full-stops", "a desk of 65,535 requests and 989,000 rows, stopped at 200 random calls, or --count of them", modules=("faults.stop_full",),

@@ -1,0 +1,162 @@
+"""The desk of this machine: a `tcdesk serve` that began as all others did, how it is begun, and how it is asked."""
+import fcntl
+import hashlib
+import http.client
+import json
+import os
+import secrets
+import shutil
+import signal
+import time
+from contextlib import suppress
+from typing import Callable, NamedTuple, NoReturn, Optional, Sequence
+
+PATIENCE = 60.0  # seconds that a desk has for an answer
+QUESTION = {"by": "replica", "moment": 0, "number": 4294967295}
+
+
+class Answer(NamedTuple):
+    """What a desk answered."""
+    status: int
+    body: bytes
+
+
+class Ended(Exception):
+    """The desk that was asked is there no more."""
+
+
+class Opening(NamedTuple):
+    """A desk that runs: its mark, its process and port, and after how many connections it ends."""
+    mark: str
+    process: int
+    port: int
+    most: int
+
+
+class Desk:
+    """What a folder has of the desk of this machine: `desk.db`, its file; `opening`, which the process that has it open holds locked; and `begun`."""
+
+    def __init__(self, folder: str) -> None:
+        """Nothing is begun yet."""
+        self.folder = folder
+
+    def path(self, name: str) -> str:
+        """The path of a file of the folder."""
+        return f"{self.folder}/{name}"
+
+    def opening(self) -> Optional[Opening]:
+        """The desk that runs; none where none does."""
+        try:
+            with open(self.path("opening"), encoding="ascii") as file:
+                fcntl.flock(file, fcntl.LOCK_SH | fcntl.LOCK_NB)
+        except FileNotFoundError:
+            pass
+        except BlockingIOError:
+            return self.told()
+        return None
+
+    def told(self) -> Optional[Opening]:
+        """What the process that holds the lock has written of itself, once it has."""
+        with open(self.path("opening"), encoding="ascii") as file:
+            words = file.read().split()
+        return Opening(words[0], *map(int, words[1:])) if len(words) == 4 else None
+
+    def ask(self, opening: Opening, method: str, path: str, body: Optional[bytes] = None) -> Answer:
+        """What this desk answers. Where no answer comes it is asked again, as long as it runs: it takes connections in their order, so what came before is done
+        before what comes again. It is sent nothing before it is known that it runs still, and that it is no other one which took the connection."""
+        while self.opening() == opening:
+            peer = http.client.HTTPConnection("127.0.0.1", opening.port, timeout=PATIENCE)
+            try:
+                peer.connect()
+                if self.opening() != opening:
+                    break
+                peer.request(method, path, body)
+                answer = peer.getresponse()
+                return Answer(answer.status, answer.read())
+            except (OSError, http.client.HTTPException):
+                time.sleep(0.02)
+            finally:
+                peer.close()
+        raise Ended("the desk has ended")
+
+    def question(self, opening: Opening, act: str) -> Answer:
+        """What this desk answers to a question that has no path of its own."""
+        return self.ask(opening, "POST", "/acts", json.dumps({"act": act, **QUESTION}).encode())
+
+    def copy(self, folder: str) -> None:
+        """Copies its file and the log beside it, while nobody asks it anything, into a folder."""
+        os.makedirs(folder, exist_ok=True)
+        for name in ("desk.db", "desk.db-wal"):
+            if os.path.exists(self.path(name)):
+                shutil.copyfile(self.path(name), f"{folder}/{name}")
+
+    def begin(self, place: int, asked: int, mark: str) -> None:
+        """Writes down that this place is begun, and how often the desk was asked by then. It has to outlive this process alone: a machine that stops has no
+        desk any more."""
+        file = os.open(self.path("begun"), os.O_WRONLY | os.O_CREAT, 0o640)
+        os.pwrite(file, f"{mark} {place:12d} {asked:12d}\n".encode(), 0)
+        os.close(file)
+
+    def begun(self, mark: str) -> tuple[int, int]:
+        """The place that was begun last at the desk of this mark, and how often it was asked by then."""
+        try:
+            with open(self.path("begun"), encoding="ascii") as file:
+                words = file.read().split()
+        except FileNotFoundError:
+            words = []
+        return (int(words[1]), int(words[2])) if words[:1] == [mark] else (1, 0)
+
+    def end(self, opening: Opening) -> None:
+        """Ends this desk, if it runs."""
+        while self.opening() == opening:
+            with suppress(ProcessLookupError):
+                os.kill(opening.process, signal.SIGKILL)
+            time.sleep(0.02)
+
+
+class Way(NamedTuple):
+    """How a desk of this machine begins: the program, its port and COUNT, the file of which it has a copy, none where its own is empty, and more options."""
+    program: str
+    port: int
+    most: int
+    first: Optional[str]
+    options: Sequence[str]
+
+    def told(self) -> bytes:
+        """What of it has to be the same on all machines."""
+        digests = [digest_of(it) if it else "" for it in (self.program, self.first)]
+        return json.dumps({"program": digests[0], "first": digests[1], "options": list(self.options)}).encode()
+
+
+def digest_of(path: str) -> str:
+    """The digest of a file."""
+    with open(path, "rb") as file:
+        return hashlib.sha256(file.read()).hexdigest()
+
+
+def begin_desk(folder: str, way: Way, agrees: Callable[[bytes], bool]) -> NoReturn:
+    """Becomes a desk with an empty file, or with a copy of the first one, if all machines agree on that. The file of the one before is `left.db`, for who wants
+    to know why it ended. The lock is the process's own, whatever program it runs."""
+    os.makedirs(folder, exist_ok=True)
+    desk = Desk(folder)
+    lock = os.open(desk.path("opening"), os.O_RDWR | os.O_CREAT, 0o640)
+    for _ in range(20):  # a follower that looks whether a desk runs has it for a moment
+        with suppress(BlockingIOError):
+            fcntl.flock(lock, fcntl.LOCK_EX | fcntl.LOCK_NB)
+            break
+        time.sleep(0.01)
+    else:
+        raise SystemExit(f"replica: a desk of {folder} runs already")
+    os.ftruncate(lock, 0)
+    if not agrees(way.told()):
+        raise SystemExit("replica: the other machines have another program, another first file, or other options")
+    for end in ("", "-wal"):
+        if os.path.exists(desk.path("left.db" + end)):
+            os.remove(desk.path("left.db" + end))
+        if os.path.exists(desk.path("desk.db" + end)):
+            os.replace(desk.path("desk.db" + end), desk.path("left.db" + end))
+    if way.first:
+        shutil.copyfile(way.first, desk.path("desk.db"))
+    os.pwrite(lock, f"{secrets.token_hex(8)} {os.getpid()} {way.port} {way.most}\n".encode(), 0)
+    os.set_inheritable(lock, True)
+    os.execv(way.program, [way.program, "serve", *way.options, desk.path("desk.db"), str(way.port), str(way.most)])

@@ -1,0 +1,374 @@
+#!/usr/bin/env python3
+"""Three machines that keep one desk, tried on one real machine: three etcd, three desks and three replicas, which are killed, stopped and cut from each other
+while ten clients send random posts.
+
+    deploy/replica/trial.py [--program PATH] [--seed N] [--posts N]      the long form; as root each machine has a network of its own, and is cut off too
+    deploy/replica/trial.py --short                                      some faults, on 127.0.0.1
+    deploy/replica/trial.py --rates                                      acts a second of a desk alone, of one machine, of three, and of two of three
+
+At its end the plain desk of tools/model carries the log out. Each answer that a client got has to be the plain desk's at its place, byte for byte; what was
+accepted stands once on each machine; `link` and `schedule` are answered alike by all; and the tables of all files are those of the plain desk, row by row.
+What could not be tried is told in a line `not tried: ..`; the last line is `N passed, N failed`.
+"""
+import argparse
+import json
+import os
+import random
+import shutil
+import signal
+import sys
+import tempfile
+import time
+from typing import Callable, Optional, Sequence
+
+sys.path[1:1] = [f"{os.path.dirname(os.path.realpath(__file__))}/../../tools"]
+
+from run import program_of  # noqa: E402
+from model.rows import Tables, empty_tables  # noqa: E402
+from tests.asked import TOP  # noqa: E402
+from tests.http_peer import Fault, run  # noqa: E402
+from tests.plain_runs import kept_tables  # noqa: E402
+from tests.runs import made_shim, quick_folder  # noqa: E402
+from trial_checks import carried_out, done_wrongly, entries_of, wrong_answers, wrong_files  # noqa: E402
+from trial_clients import AT_ONCE, Client, Dealer, Post, random_posts  # noqa: E402
+from trial_machines import LEASE, CutNet, Member, Net, Unit, wait_for  # noqa: E402
+
+NAME = "desk"
+Planned = tuple[str, Callable[[], Optional[str]]]
+
+
+def first_tables(program: str, folder: str) -> Tables:
+    """Makes the file with which all desks begin, of requests that were on their way, and gives its tables."""
+    with open(f"{TOP}/examples/monday.tc", encoding="ascii") as file:
+        run(program, folder, file.read().splitlines(), "--db", "first.db")
+    tables = kept_tables(f"{folder}/first.db")
+    assert tables, "it is a desk's"
+    return tables
+
+
+class Trial:
+    """So many machines, and what was found of them."""
+
+    def __init__(self, asked: argparse.Namespace, folder: str, net: Net, count: int, first_counts: Sequence[int] = ()) -> None:
+        """None runs yet."""
+        self.asked, self.folder, self.net, self.dice = asked, folder, net, random.Random(asked.seed)
+        self.first = first_tables(asked.program, folder)
+        counts = [*first_counts, *[1_000_000] * count]
+        self.members = [Member(net, at, folder, asked.program, asked.every, counts[at]) for at in range(count)]
+        self.passed, self.failed = 0, 0
+        self.clients: list[Client] = []
+        self.dealer = Dealer([])
+
+    def __enter__(self) -> "Trial":
+        """All machines are in."""
+        for it in self.members:
+            it.go()
+        wait_for("all machines in", self.are_in)
+        return self
+
+    def __exit__(self, *_: object) -> None:
+        """Nothing runs any more."""
+        self.dealer.end()
+        for it in self.members:
+            it.each(lambda unit: unit.end())
+        self.net.end()
+
+    def are_in(self) -> bool:
+        """Whether all machines answer."""
+        return all(it.is_in() for it in self.members)
+
+    def tell(self, what: str, faults: Sequence[str]) -> None:
+        """Counts what was looked at, and prints its faults."""
+        self.passed, self.failed = self.passed + (not faults), self.failed + bool(faults)
+        print(f"{what}: {'as it has to be' if not faults else ''}", flush=True)
+        for it in faults[:10]:
+            print(f"  FAILED {it}", flush=True)
+
+    # ---- posts
+
+    def send(self, posts: Sequence[Post], members: Optional[Sequence[Member]] = None) -> None:
+        """Has clients for these posts; none is let go yet."""
+        self.dealer = Dealer(posts)
+        self.clients = [Client(self.dealer, members or self.members, at % len(members or self.members)) for at in range(AT_ONCE)]
+        for it in self.clients:
+            it.start()
+
+    def answered(self) -> int:
+        """How many posts were answered."""
+        return sum(len(it.told) for it in self.clients)
+
+    def let_go(self, count: int) -> None:
+        """Lets so many posts go, and waits until they are answered."""
+        end = self.answered() + count
+        self.dealer.let_go(count)
+        wait_for("posts answered", lambda: self.answered() >= end - AT_ONCE or self.answered() == len(self.dealer.posts) or self.broken())
+
+    def broken(self) -> bool:
+        """Whether a client went no further."""
+        if any(it.fault for it in self.clients):
+            raise Fault(f"a client: {[it.fault for it in self.clients if it.fault]}")
+        return False
+
+    def silence(self, since: float) -> float:
+        """The longest time in which nobody was answered, from then on."""
+        times = sorted([since, *(it.at for client in self.clients for it in client.told if it.at > since)])
+        return max((late - early for early, late in zip(times, times[1:])), default=0.0)
+
+    # ---- faults
+
+    def fault(self, what: str, does: Callable[[], Optional[str]], stage: int) -> None:
+        """Half a stage of posts, a fault, and the other half; and then few posts, until all machines are in again."""
+        self.let_go(stage // 2)
+        began = time.monotonic()
+        more = does()
+        self.let_go(stage - stage // 2)
+        wait_for("all machines in again", self.are_in)
+        took = time.monotonic() - began
+        print(f"{what}: at place {max(it.told[-1].place for it in self.clients if it.told)}, nobody was answered for {self.silence(began):.1f} s, "
+              f"all were in again after {took:.1f} s{more or ''}", flush=True)
+        self.broken()
+
+    def leader(self) -> Member:
+        """The machine whose etcd leads, once one does."""
+        wait_for("a leader", lambda: any(it.leads() for it in self.members))
+        return next(it for it in self.members if it.leads())
+
+    def kill_leader(self) -> None:
+        """The etcd that leads is killed."""
+        self.leader().units["etcd"].signal(signal.SIGKILL)
+
+    def kill(self, unit: str, number: int = signal.SIGKILL) -> Callable[[], None]:
+        """A program of some machine gets a signal."""
+        return lambda: self.dice.choice(self.members).units[unit].signal(number)
+
+    def kill_machine(self) -> None:
+        """All programs of a machine are killed, and begin some seconds later."""
+        it = self.dice.choice(self.members)
+        it.each(lambda unit: unit.hold())
+        self.let_go(self.asked.stage // 4)
+        it.go()
+
+    def kill_all(self) -> None:
+        """All programs of all machines are killed at once."""
+        for it in self.members:
+            it.each(lambda unit: unit.hold())
+        time.sleep(1)
+        for it in self.members:
+            it.go()
+
+    def stop_machine(self) -> None:
+        """All programs of a machine stand still for longer than its lease."""
+        it = self.dice.choice(self.members)
+        it.each(lambda unit: unit.signal(signal.SIGSTOP))
+        began = time.monotonic()
+        self.let_go(self.asked.stage // 4)
+        time.sleep(max(0.0, began + 3 * LEASE - time.monotonic()))
+        it.each(lambda unit: unit.signal(signal.SIGCONT))
+
+    def stop_desk(self) -> None:
+        """A desk stands still for a while."""
+        it = self.dice.choice(self.members).units["desk"]
+        it.signal(signal.SIGSTOP)
+        time.sleep(2 * LEASE)
+        it.signal(signal.SIGCONT)
+
+    def cut(self) -> None:
+        """The machine whose etcd leads is cut from the others, and its clients go on to reach it."""
+        assert isinstance(self.net, CutNet)
+        at = self.leader().at
+        self.net.cut(at, True)
+        began = time.monotonic()
+        self.let_go(self.asked.stage // 4)
+        time.sleep(max(0.0, began + 4 * LEASE - time.monotonic()))
+        self.net.cut(at, False)
+
+    def cut_all(self) -> None:
+        """All machines are cut from each other."""
+        assert isinstance(self.net, CutNet)
+        for at in range(self.net.count):
+            self.net.cut(at, True)
+        time.sleep(2 * LEASE)
+        for at in range(self.net.count):
+            self.net.cut(at, False)
+
+    def post_beside_the_log(self) -> str:
+        """A desk is posted something that is not in the log. It has a row more than the others from then on, which no answer shows."""
+        it = self.dice.choice(self.members)
+        before = it.said("not those of most")
+        it.ask_desk({"act": "loseup 4294967295", "by": "replica", "moment": 0, "number": 4_000_000_000})
+        self.let_go(self.asked.every + AT_ONCE)
+        took = wait_for("the other tables found", lambda: it.said("not those of most") > before)
+        return f" (found {took:.1f} s behind the next comparison)"
+
+    def fail_disk(self) -> str:
+        """A desk begins anew on a disk that fails some acts later: it is told 31."""
+        it = self.dice.choice(self.members)
+        before = it.said("31 Store")
+        calls = 3 * max(client.told[-1].place for client in self.clients)
+        it.desk_env = {"LD_PRELOAD": made_shim("stop_io", self.folder), "STOP_FILE": f"{it.folder}/desk/desk.db", "FAIL_FROM": str(calls)}
+        it.units["desk"].signal(signal.SIGKILL)
+        self.let_go(self.asked.stage // 2)
+        wait_for("a desk told 31", lambda: it.said("31 Store") > before)
+        return ""
+
+    # ---- what is looked at in the end
+
+    def end_of_posts(self) -> None:
+        """No more posts; all machines have carried out the whole log, and their followers end."""
+        self.dealer.end()
+        for client in self.clients:
+            client.join()
+        self.broken()
+        wait_for("all machines in", self.are_in)
+        places = [it.ask("GET", "/places?newest")[2] for it in self.members]
+        self.tell(f"{self.answered()} posts were answered, and the log has {max(places)} places", [])
+        for it in self.members:
+            it.units["replica"].hold()
+
+    def look(self) -> None:
+        """Everything."""
+        told = [it for client in self.clients for it in client.told]
+        self.end_of_posts()
+        entries = entries_of(self.members[0], NAME)
+        marks = {it.mark for it in entries}
+        self.tell("each entry of the log has a mark of its own", ["one mark comes twice"] * (len(marks) != len(entries)))
+        carried = carried_out(entries, self.first)
+        self.tell("each answer is the plain desk's at its place", wrong_answers(carried, told))
+        late = [f"{it}" for client in self.clients for it in client.places if it[1] < it[0]]
+        self.tell(f"{sum(len(it.places) for it in self.clients)} questions for the newest are no older than the post before", late)
+        self.look_at_links(carried.desk.acts)
+        for it in self.members:
+            it.units["desk"].goes.clear()
+            it.units["desk"].signal(signal.SIGTERM)
+        wait_for("all desks ended", lambda: all(it.units["desk"].ended() for it in self.members))
+        self.tell("the tables of all files are the plain desk's, row by row", wrong_files(carried, self.members))
+        self.tell("what was accepted is kept once, as it was answered", done_wrongly(carried.desk.tables(), told))
+        again = sum(it.tries > 1 for it in told)
+        statuses = sorted({it.status for it in told})
+        print(f"{again} posts were sent again, {sum(it.tries for it in told) - len(told)} times; "
+              + ", ".join(f"{sum(it.status == status for it in told)} answered {status}" for status in statuses))
+
+    def look_at_links(self, asks: Callable[[str, int, str], list[str]]) -> None:
+        """The questions that no table answers."""
+        faults = []
+        for act in ("link", "schedule", "places"):
+            wanted = asks("zed", 0, act)
+            for it in self.members:
+                lines = json.loads(it.ask_desk({"act": act, "by": "zed", "moment": 0, "number": 4_294_967_295}))["lines"]
+                faults += [f"{act} of {it.name}: {lines}, and not {wanted}"] * (lines != wanted)
+        self.tell("link, schedule and places are answered alike by all", faults)
+
+
+def plan(trial: Trial) -> list[Planned]:
+    """The faults, in their order."""
+    told: list[Planned] = [("the etcd that leads is killed", trial.kill_leader), ("a desk is killed", trial.kill("desk")),
+                           ("a replica is killed", trial.kill("replica"))]
+    if trial.asked.short:
+        return told + [("a machine is killed", trial.kill_machine), ("a machine stands still", trial.stop_machine)]
+    more = [("a replica is killed", trial.kill("replica")), ("a wanted restart of a desk", trial.kill("desk", signal.SIGTERM)),
+            ("a desk stands still", trial.stop_desk), ("a machine is killed", trial.kill_machine), ("a machine stands still", trial.stop_machine),
+            ("a desk is told 31", trial.fail_disk), ("a desk is posted something beside the log", trial.post_beside_the_log)]
+    if trial.net.can_cut:
+        more += [("the machine that leads is cut from the others", trial.cut), ("all machines are cut from each other", trial.cut_all)]
+    return told + more + [("the etcd that leads is killed", trial.kill_leader), ("all programs are killed at once", trial.kill_all)]
+
+
+def faults(asked: argparse.Namespace, folder: str) -> int:
+    """The trial with faults."""
+    net = Net(3)
+    if not asked.short and os.getuid() == 0 and shutil.which("ip"):
+        net = CutNet(3)
+    elif not asked.short:
+        print("not tried: machines that are cut from each other (root and iproute2 are wanted for that)")
+    print(f"replica: seed {asked.seed}", flush=True)
+    with Trial(asked, folder, net, 3, [asked.stage // 2]) as trial:
+        told = plan(trial)
+        trial.send(random_posts(asked.seed, asked.posts * 2, trial.first))
+        began = time.monotonic()
+        trial.fault(f"a desk ends after its COUNT, {asked.stage // 2}", lambda: None, asked.stage)
+        for what, does in told:
+            trial.fault(what, does, asked.stage)
+        trial.let_go(max(0, asked.posts - trial.answered()))
+        print(f"{trial.answered()} posts in {time.monotonic() - began:.0f} s", flush=True)
+        trial.look()
+    print(f"{trial.passed} passed, {trial.failed} failed")
+    return int(trial.failed > 0)
+
+
+class Alone(Member):
+    """A desk without a replica: its clients ask itself."""
+
+    def __init__(self, folder: str, program: str) -> None:
+        """It is not begun yet."""
+        net = Net(1)
+        net.ports[0][2] = net.ports[0][3]
+        super().__init__(net, 0, folder, program, 1)
+        words = [program, "serve", f"{self.folder}/desk/desk.db", str(self.desk_port)]
+        self.units = {"desk": Unit(lambda: words, f"{self.folder}/desk.log")}
+
+
+def rates(asked: argparse.Namespace, folder: str) -> int:
+    """Acts a second."""
+    posts = random_posts(asked.seed, asked.posts, empty_tables())
+    os.mkdir(f"{folder}/alone")
+    with Trial(asked, f"{folder}/alone", Net(0), 0) as trial:
+        trial.members = [Alone(f"{folder}/alone", asked.program)]
+        trial.members[0].go()
+        wait_for("it there", trial.are_in)
+        rate("a desk alone", trial, posts, trial.members)
+    for what, count, dead in (("one machine", 1, 0), ("three machines", 3, 0), ("three machines, one of them dead", 3, 1)):
+        os.mkdir(f"{folder}/{count}{dead}")
+        with Trial(asked, f"{folder}/{count}{dead}", Net(count), count) as trial:
+            for it in trial.members[count - dead:]:
+                it.each(lambda unit: unit.hold())
+            rate(what, trial, posts, trial.members[:count - dead])
+            if not dead:
+                rejoin(trial.members[0])
+    return 0
+
+
+def rate(what: str, trial: Trial, posts: Sequence[Post], alive: Sequence[Member]) -> None:
+    """How many of these posts are answered a second by the machines that are there."""
+    trial.send(posts, alive)
+    began, spent = time.monotonic(), sum(it.spent() for it in alive)
+    trial.let_go(len(posts))
+    took, spent = time.monotonic() - began, sum(it.spent() for it in alive) - spent
+    print(f"{what}: {trial.answered() / took:.0f} posts a second of {AT_ONCE} clients; {spent * 1000 / len(alive) / trial.answered():.1f} ms of a "
+          f"processor each on each machine; a load of {os.getloadavg()[0]:.0f}", flush=True)
+
+
+def rejoin(member: Member) -> None:
+    """How long a machine takes to be in again, of which the desk alone ended."""
+    places = member.ask("GET", "/places")[2]
+    member.units["desk"].signal(signal.SIGKILL)
+    began = time.monotonic()
+    wait_for("it out", lambda: not member.is_in())
+    wait_for("it in", member.is_in)
+    took = time.monotonic() - began
+    print(f"  in again after {took:.1f} s, at {places} places: {took * 10000 / places:.0f} s for 10,000", flush=True)
+
+
+def main() -> int:
+    """Does what the words ask for."""
+    parser = argparse.ArgumentParser(prog="trial.py", description=__doc__, formatter_class=argparse.RawDescriptionHelpFormatter)
+    parser.add_argument("--program", metavar="PATH", help="the program that is run")
+    parser.add_argument("--seed", type=int, default=1, metavar="N", help="of the posts and the faults (1)")
+    parser.add_argument("--posts", type=int, metavar="N", help="at least so many (20,000; short 700; rates 3,000)")
+    parser.add_argument("--folder", metavar="PATH", help="a folder on the disk that is used (short: memory)")
+    parser.add_argument("--short", action="store_true", help="some faults, on 127.0.0.1, in memory")
+    parser.add_argument("--rates", action="store_true", help="acts a second, without faults")
+    asked = parser.parse_args()
+    signal.signal(signal.SIGTERM, lambda *_: sys.exit(2))  # so that all that runs is ended
+    if not shutil.which("etcd"):
+        print("not tried: etcd is not installed (Debian: etcd-server)")
+        return 0
+    asked.program = program_of(asked.program)
+    asked.posts = asked.posts or (700 if asked.short else 3000 if asked.rates else 20_000)
+    asked.stage, asked.every = asked.posts // (7 if asked.short else 15), asked.posts // 20
+    within = asked.folder or quick_folder() if asked.short else asked.folder
+    with tempfile.TemporaryDirectory(prefix="replica-", dir=within) as folder:
+        return rates(asked, folder) if asked.rates else faults(asked, folder)
+
+
+if __name__ == "__main__":
+    sys.exit(main())

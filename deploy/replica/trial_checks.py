@@ -1,0 +1,96 @@
+"""What the trial looks at behind its faults: the log, each answer, and all rows of all files, beside the plain desk of tools/model, which carries the log out."""
+import json
+from typing import Iterable, NamedTuple, Sequence
+
+from etcd import Etcd, span
+from generate.http_words import post
+from log import COMPARE, Entry, Log, entry_of
+from model.calls import Calls
+from model.desk import Desk
+from model.http import Refused, answer_to, refused_response, reply_response
+from model.rows import Tables
+from tests.plain_runs import kept_tables, unlike
+from trial_clients import Told
+from trial_machines import Member
+
+SHOWN = 200  # lines of a reply that an answer shows
+
+
+class Carried(NamedTuple):
+    """A log that the plain desk has carried out: each entry with its answer, status and body, and the desk in the end."""
+    entries: list[Entry]
+    answers: list[tuple[int, bytes]]
+    desk: Desk
+
+
+def entries_of(member: Member, name: str) -> list[Entry]:
+    """The whole log, as of now."""
+    etcd = Etcd(member.etcd_port, 30.0, member.host)
+    log, entries = Log(etcd, name), list[Entry]()
+    while True:
+        found = etcd.ask(span(log.key(len(entries) + 1), log.end, 500))
+        for it in found.pairs:
+            assert it.key == log.key(len(entries) + 1), f"the log has a gap before {it.key}"
+            entries.append(entry_of(it.value))
+        if not found.pairs:
+            return entries
+
+
+def carried_out(entries: Sequence[Entry], first: Tables) -> Carried:
+    """What the plain desk makes of a log, opened over the tables with which all desks begin."""
+    calls = Calls(Desk.opened(first, 0))
+    answers = [answer_by(calls, it) for it in entries]
+    return Carried(list(entries), answers, calls.desk)
+
+
+def answer_by(calls: Calls, it: Entry) -> tuple[int, bytes]:
+    """What the plain desk answers to an entry."""
+    if it.path == COMPARE:
+        return 200, b""
+    asked = answer_to(post(it.path, it.body))
+    assert asked is not None, "an entry is a whole request"
+    response = refused_response(asked) if isinstance(asked, Refused) else reply_response(calls.reply(asked))
+    head, body = response.split(b"\r\n\r\n", 1)
+    return int(head.split(b" ")[1]), body
+
+
+def wrong_answers(carried: Carried, told: Iterable[Told]) -> list[str]:
+    """Answers that are not those of the plain desk at their places, and those of posts that are not there."""
+    faults = []
+    for it in told:
+        if it.place == 0:
+            asked = answer_to(post(it.post.path, it.post.body))
+            is_right = it.status == 413 and isinstance(asked, Refused) and asked.status == 413
+        else:
+            entry = carried.entries[it.place - 1]
+            is_right = (entry.path, entry.body) == it.post and carried.answers[it.place - 1] == (it.status, it.answer)
+        if not is_right:
+            faults.append(f"place {it.place}: {it.post.body[:200]!r} was answered {it.status} {it.answer[:200]!r}")
+    return faults
+
+
+def done_wrongly(tables: Tables, told: Iterable[Told]) -> list[str]:
+    """Acts and loads that were accepted, by these answers, and whose reply is not the one that a file keeps under their number."""
+    kept = {(it.person, it.number): it.body for it in tables.reply}
+    faults = [f"{len(tables.reply)} rows of replies have {len(kept)} callers"] * (len(kept) != len(tables.reply))
+    for it in told:
+        if it.status != 200:
+            continue
+        keys, lines = json.loads(it.post.body), json.loads(it.answer)["lines"]
+        is_question = it.post.path == "/acts" and keys["act"].split(" ")[0] in ("places", "history", "request", "link", "schedule", "log", "report")
+        body = kept.get((keys["by"], keys["number"]))
+        if body is None and is_question:
+            continue
+        if body is None or not is_question and body.split("\n")[:-1][:SHOWN] != lines:
+            faults.append(f"{it.post.body[:200]!r} was answered {lines[:3]}, and kept is {body}")
+    return faults
+
+
+def wrong_files(carried: Carried, members: Sequence[Member]) -> list[str]:
+    """Files of desks that have ended whose tables are not those of the plain desk, row by row."""
+    faults = []
+    for it in members:
+        found = kept_tables(f"{it.folder}/desk/desk.db", "mode=rw")
+        why = unlike(found, carried.desk.tables()) if found != carried.desk.tables() else ""
+        faults += [f"the file of {it.name}: {why}"] * (why != "" or found != carried.desk.tables())
+    return faults
