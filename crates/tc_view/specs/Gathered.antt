@@ -11,9 +11,9 @@ use Rattle.tc_view.specs.declared.opens.Open.{Open}
 use Rattle.tc_view.specs.declared.trails.Trail.{Trail}
 
 -- these are open: the first of them, and how many there are
-pub record IsOpenOf {A : Type 0} (seen : List Request) (open : Open A) : Type 0 where
-  pub first : open.first.items ≡ take MOST_OPEN seen
-  pub count : open.count ≡ length seen
+pub record IsOpenOf {A : Type 0} (seen : List Request) (found : Open A) : Type 0 where
+  pub first : found.first.items ≡ take MOST_OPEN seen
+  pub count : found.count ≡ length seen
 
 -- a request has one of so many numbers
 pub record IsNumbered (count : ℕ) (r : Request) : Type 0 where

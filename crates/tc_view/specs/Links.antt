@@ -1,6 +1,5 @@
 -- How the link stands, in the words of the board; and the on-board schedule.
-use Rattle.std.specs.Prelude.{◌≡◌, length}
-use Rattle.std.specs.List.{IsPermutation, IsSortedBy}
+use Rattle.std.specs.Prelude.{◌≡◌, length, IsPermutation, IsSortedBy}
 use Rattle.tc_farm.specs.declared.farms.FarmState.{FarmState}
 use Rattle.tc_farm.specs.declared.farms.FarmState.TheVariants as farm
 use Rattle.tc_farm.specs.declared.farms.FarmView.{FarmView}
