@@ -82,6 +82,8 @@ ENTRIES = (
     Entry("package", "the package of deploy/ for Debian: its bytes, lintian, a new Debian on which it is installed, used and removed, and the commands of its pages",
           command=("../deploy/package_test.sh",),
           needs="dpkg-deb, lintian, mmdebstrap or debootstrap with an archive of Debian, systemd-nspawn (systemd-container), and root; or that is not tried"),
+    Entry("browser", "the wall screen's page in Chromium: counts, requests and texts; nothing overflows, on the screen or on paper",
+          modules=("pages.browser",), needs="chromium, chromium-driver and poppler-utils (Debian), or that is not tried"),
     Entry("postgres", "the loader of deploy/postgres: copies of desks into a real PostgreSQL, again and again, and all that it has to refuse",
           modules=("tests.test_postgres",), needs="PostgreSQL's server and sqlite3 (Debian: postgresql, sqlite3), or that is not tried"),
     Entry("replica", "three machines that keep one desk, of deploy/replica: its parts, and the whole while programs are killed and stand still",

@@ -10,9 +10,6 @@ Looked for are the counts, each open request at its place, texts of persons as t
 loaded besides and no script is there, how long a page takes to open, and the headings of what is printed. Where Chromium, its driver or pdftotext is not
 installed it says that this was not tried.
 """
-# The entry that is proposed for tools/entries.py, behind `proxy`:
-#     Entry("browser", "the wall screen's page in Chromium: counts, requests and texts; nothing overflows, on the screen or on paper",
-#           modules=("pages.browser",), needs="chromium, chromium-driver and poppler-utils (Debian), or that is not tried"),
 import argparse
 import base64
 import json
