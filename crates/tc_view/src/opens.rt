@@ -41,20 +41,20 @@ fn is_open_at(place: Option<Place>) -> bool
 
 /// Looks at a request: one more is open, or none.
 fn look_at<A: Allocator + Copy + Drop>(
-    open: &mut Open<A>,
+    found: &mut Open<A>,
     records: &Records<A>,
     request: &Request,
 ) -> Result<(), AllocError>
-    requires few { open.old.count < most_requests }
-    ensures { (seen : List SomeRequest) → IsOpenOf seen open.old → OnOk result (IsOpenOf (seen ++ filter (is_open records.now.book) (request.now ∷ [])) open.new) }
+    requires few { found.old.count < most_requests }
+    ensures { (seen : List SomeRequest) → IsOpenOf seen found.old → OnOk result (IsOpenOf (seen ++ filter (is_open records.now.book) (request.now ∷ [])) found.new) }
 {
     if !is_open_at(records.place_of(request.number.get())) {
         return Ok(());
     }
-    if open.first.len() < MOST_OPEN {
-        add(&mut open.first, request)?;
+    if found.first.len() < MOST_OPEN {
+        add(&mut found.first, request)?;
     }
-    open.count += 1;
+    found.count += 1;
     Ok(())
 }
 
@@ -63,16 +63,16 @@ pub(crate) fn open_of<A: Allocator + Copy + Drop>(
     alloc: A,
     records: &Records<A>,
 ) -> Result<Open<A>, AllocError>
-    ensures { IfOk result (λ open. IsOpenOf (open_of records.now.book) open) }
+    ensures { IfOk result (λ found. IsOpenOf (open_of records.now.book) found) }
 {
-    let mut open = Open {
+    let mut found = Open {
         first: Vec::new(alloc),
         count: 0,
     };
     for at in 0..records.count() {
         if let Some(request) = records.request(at + 1) {
-            look_at(&mut open, records, &request)?;
+            look_at(&mut found, records, &request)?;
         }
     }
-    Ok(open)
+    Ok(found)
 }

@@ -26,11 +26,13 @@ fn page_of<A: Allocator + Copy + Drop>(
     ensures page { IfOk result (λ t. (board : SomeBoard) × ShowsBook records.now.book board × (board.live ≡ live.entry) × (string_bytes t ≡ board_page board)) }
     ensures few { IfOk result (λ t. string_len t ≤ MOST_BYTES) }
 {
+    // read for the proof alone: the book is good
+    let _mark = records.mark();
     let waiting = records.waiting(alloc)?;
     let waits = waits_of(alloc, records.procedure_steps(), &waiting)?;
-    let open = open_of(alloc, records)?;
-    let gathered = gather(alloc, records, &open.first)?;
-    let trails = trails_of(alloc, records, &gathered, &open.first)?;
+    let found = open_of(alloc, records)?;
+    let gathered = gather(alloc, records, &found.first)?;
+    let trails = trails_of(alloc, records, &gathered, &found.first)?;
     let ways = ways_of(alloc, &trails)?;
     let counts = records.tallies();
     let moves = records.rows();
@@ -41,7 +43,7 @@ fn page_of<A: Allocator + Copy + Drop>(
         waiting: waiting.len(),
         live,
         ways: &ways,
-        opened: open.count,
+        opened: found.count,
         moves,
         moved: moves.len(),
     };
