@@ -18,7 +18,8 @@ use tc_front::length_line;
 pub const MOST_LINES: usize = 200;
 
 /// The header lines of a page: it is HTML, no copy of an earlier one, its styles are its own, nothing else is loaded or run, and no other page frames it.
-const PAGE_LINES: &str = "Content-Type: text/html; charset=utf-8\r\nCache-Control: no-store\r\nContent-Security-Policy: default-src 'none'; style-src 'unsafe-inline'; frame-ancestors 'none'\r\nX-Content-Type-Options: nosniff\r\n";
+const PAGE_LINES: &str =
+    "Content-Type: text/html; charset=utf-8\r\nCache-Control: no-store\r\nContent-Security-Policy: default-src 'none'; style-src 'unsafe-inline'; frame-ancestors 'none'\r\nX-Content-Type-Options: nosniff\r\n";
 
 /// What stands before, between and behind the LFs of a text.
 fn pieces_of<'a>(alloc: Global, text: &'a str) -> Result<Vec<&'a str>, AllocError>

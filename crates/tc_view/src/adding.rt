@@ -4,10 +4,7 @@ ghost use Rattle.std.specs.Prelude.{◌≡◌, ◌++◌, ◌∷◌, [], OnOk};
 use std::alloc::{AllocError, Allocator};
 
 /// Appends an item. Fails where memory is refused.
-pub(crate) fn add<T: Copy, A: Allocator>(
-    items: &mut Vec<T, A>,
-    item: &T,
-) -> Result<(), AllocError>
+pub(crate) fn add<T: Copy, A: Allocator>(items: &mut Vec<T, A>, item: &T) -> Result<(), AllocError>
     ensures { OnOk result (items.new.items ≡ items.old.items ++ item.now ∷ []) }
 {
     items.push(*item)?;

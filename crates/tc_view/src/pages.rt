@@ -62,11 +62,7 @@ pub fn file_page<A: Allocator + Copy + Drop>(
 }
 
 /// The page of a desk that is open. Fails where memory is refused.
-pub fn desk_page<
-    U: Carrier<Frame> + Drop,
-    D: Carrier<Report> + Drop,
-    A: Allocator + Copy + Drop,
->(
+pub fn desk_page<U: Carrier<Frame> + Drop, D: Carrier<Report> + Drop, A: Allocator + Copy + Drop>(
     alloc: A,
     desk: &Desk<U, D, A>,
 ) -> Result<String<A>, AllocError>

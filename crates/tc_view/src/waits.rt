@@ -24,7 +24,9 @@ fn text_of(steps: &[ProcedureStep], waiting: &Waiting) -> Option<StepText>
 {
     match waiting {
         Waiting::Step {
-            procedure, step, ..
+            procedure,
+            step,
+            ..
         } => step_text(steps, procedure, *step),
         _ => None,
     }

@@ -13,10 +13,10 @@ pub returns-in_err-write_whole : goal.returns-in_err-write_whole
 returns-in_err-write_whole g c = λ reply has.
     let gone : c.from_residual.result ≡ Err WriteFault = is_err _ _ c.from_residual.ensures.1 in
     part_put _ c.from_residual.result _ _ _ c.args.served.now reply gone c.in_err-write_whole.ensures
-        (response_told c.args.served.now _ reply _ c.in-Some.is (c.as_bytes.ensures.value ∙ c.in-Ok.ensures reply (held_text _ _ reply c.in-Some.is has)))
+    (response_told c.args.served.now _ reply _ c.in-Some.is (c.as_bytes.ensures.value ∙ c.in-Ok.ensures reply (held_text _ _ reply c.in-Some.is has)))
 
 pub returns : goal.returns
 returns g c = λ reply has.
     let tells = held_text _ _ reply c.in-Some.is has in
     all_put tt _ _ _ c.args.served.now reply c.in_ok-write_whole.ensures
-        (response_told c.args.served.now _ reply _ c.in-Some.is (c.as_bytes.ensures.value ∙ c.in-Ok.ensures reply tells)) (lines_told _ reply tells)
+    (response_told c.args.served.now _ reply _ c.in-Some.is (c.as_bytes.ensures.value ∙ c.in-Ok.ensures reply tells)) (lines_told _ reply tells)
