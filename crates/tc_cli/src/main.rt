@@ -8,6 +8,8 @@
 //!
 //! `tcdesk backup DB COPY` copies that desk to another file, also while it runs.
 //!
+//! `tcdesk board DB` prints the board of that desk, as a page of HTML; it only reads the file.
+//!
 //! `tcdesk check KIND FILE` says whether the file of a stack or of a procedure can be loaded, or what is wrong with it.
 //!
 //! `tcdesk serve DB PORT [COUNT]` serves that desk over HTTP at a port of 127.0.0.1, and ends after so many connections.
@@ -15,6 +17,7 @@
 #![tactic(auto)]
 
 mod backup;
+mod boards;
 mod checking;
 mod closed;
 mod copying;
@@ -34,6 +37,7 @@ mod serving;
 mod unserved;
 
 use backup::backup;
+use boards::print_board;
 use checking::{text_of, write_check};
 use copying::{CopyFault, MOST_COPIES};
 use files::{open_desk, open_script, text_at};
@@ -114,6 +118,7 @@ fn run_line(rt: &HostRuntime, line: CommandLine<'_>) -> u8 {
         } => run_kept_in(rt, script, database, &Opening { config, moment }),
         CommandLine::Report { database, from, to } => report_in(rt, database, from, to),
         CommandLine::Backup { database, copy } => backup_in(rt, database, copy),
+        CommandLine::Board { database } => board_in(rt, database),
         CommandLine::Check { kind, file } => check_in(rt, kind, file),
         CommandLine::Serve {
             database,
@@ -158,6 +163,11 @@ fn run_kept_in(rt: &HostRuntime, script: &str, file: &str, opening: &Opening) ->
 
 fn report_in(rt: &HostRuntime, file: &str, from: Moment, to: Moment) -> u8 {
     let printed = print_report(rt, file, from, to);
+    status_of(rt, printed.map(|()| 0), file, file, file)
+}
+
+fn board_in(rt: &HostRuntime, file: &str) -> u8 {
+    let printed = print_board(rt, file);
     status_of(rt, printed.map(|()| 0), file, file, file)
 }
 

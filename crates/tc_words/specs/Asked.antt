@@ -11,13 +11,14 @@ use Rattle.tc_stack.specs.StackTexts.{IsInstant}
 
 -- A command with what it was given. Where a desk is made or opened, its window, its channel and how many items the rings of its links hold,
 -- where they are rings; where it is kept in a file, that file, and where it is opened there the moment of the opening. A run has a script; a report
--- what stands for FROM and TO; a backup the file that is copied to; a server its port, how many connections it serves and whether it says how each ended; a loop a script, and the number of
+-- what stands for FROM and TO; a backup the file that is copied to; a board its file alone; a server its port, how many connections it serves and whether it says how each ended; a loop a script, and the number of
 -- the first line that it sends; a check what stands for KIND, and a file.
 pub data Asked : Type 0 where
   run : (script : Text) (window channel : ℕ) (ring : Option ℕ) → Asked
   run_kept : (script : Text) (window channel : ℕ) (ring : Option ℕ) (database : Text) (moment : ℕ) → Asked
   report : (database begins ends : Text) → Asked
   backup : (database copy : Text) → Asked
+  board : (database : Text) → Asked
   check : (kind file : Text) → Asked
   serve : (database : Text) (port count window channel : ℕ) (ring : Option ℕ) (moment : ℕ) (verbose : Bool) → Asked
   loop : (database script : Text) (window channel : ℕ) (ring : Option ℕ) (moment first : ℕ) → Asked
@@ -91,6 +92,10 @@ asked_report rows = report (given (codes "DB") rows) (given (codes "FROM") rows)
 abbrev pub asked_backup : List Row → Asked
 asked_backup rows = backup (given (codes "DB") rows) (given (codes "COPY") rows)
 
+-- what a board was given
+abbrev pub asked_board : List Row → Asked
+asked_board rows = board (given (codes "DB") rows)
+
 -- what a check was given
 abbrev pub asked_check : List Row → Asked
 asked_check rows = check (given (codes "KIND") rows) (given (codes "FILE") rows)
@@ -111,6 +116,7 @@ abbrev pub asked_of : Text → List Row → Asked
 asked_of name rows =
     if bytes_eq name (codes "report") then asked_report rows else
     if bytes_eq name (codes "backup") then asked_backup rows else
+    if bytes_eq name (codes "board") then asked_board rows else
     if bytes_eq name (codes "check") then asked_check rows else
     if bytes_eq name (codes "serve") then asked_serve rows else
     if bytes_eq name (codes "loop") then asked_loop rows else asked_run rows
