@@ -17,14 +17,7 @@ use Rattle.tc_view.specs.Ways.{is_open, open_of}
 
 -- ---- one request
 
-one_kept : {X : Type 0} (p : X → Bool) (x : X) (t : Bool) → p x ≡ t → filter p (x ∷ []) ≡ cond t (x ∷ []) []
-one_kept p x t is = ap (λ b. cond b (x ∷ []) []) is
-
--- it is not open
-pub not_open : {A : Type 0} (book : Book) (r : Request) (found : Open A) (seen : List Request) → is_open book r ≡ false → IsOpenOf seen found → IsOpenOf (seen ++ filter (is_open book) (r ∷ [])) found
-not_open {A} book r found seen is before = subst (λ l. IsOpenOf l found) (sym (ap (λ l. seen ++ l) (one_kept (is_open book) r false is) ∙ append-nil seen)) before
-
-first_more : {X : Type 0} (m : ℕ) (seen first : List X) (x : X) → first ≡ take m seen → length first < m → first ++ x ∷ [] ≡ take m (seen ++ x ∷ [])
+pub first_more : {X : Type 0} (m : ℕ) (seen first : List X) (x : X) → first ≡ take m seen → length first < m → first ++ x ∷ [] ≡ take m (seen ++ x ∷ [])
 first_more m seen first x is few =
     let size : length first ≡ length (take m seen) = ap length is in
     let cut = length-take m seen in
@@ -32,28 +25,12 @@ first_more m seen first x is few =
     let more = length-append seen (x ∷ []) in
     ap (λ l. l ++ x ∷ []) (is ∙ take_all m seen (omega (arith, short))) ∙ sym (take_all m (seen ++ x ∷ []) (omega (arith, short, more)))
 
-first_full : {X : Type 0} (m : ℕ) (seen first : List X) (x : X) → first ≡ take m seen → m ≤ length first → first ≡ take m (seen ++ x ∷ [])
+pub first_full : {X : Type 0} (m : ℕ) (seen first : List X) (x : X) → first ≡ take m seen → m ≤ length first → first ≡ take m (seen ++ x ∷ [])
 first_full m seen first x is full =
     let size : length first ≡ length (take m seen) = ap length is in
     let cut = length-take m seen in
     let long : m ≤ length seen = grind (arith, size, cut, full) in
     is ∙ sym (take-append-le m seen (x ∷ []) long)
-
--- it is open, and is one of the first
-pub opened_first : {A : Type 0} (book : Book) (r : Request) (old new : Open A) (seen : List Request) → is_open book r ≡ true → length old.first.items < MOST_OPEN → new.first.items ≡ old.first.items ++ r ∷ [] → new.count ≡ old.count + 1
-    → IsOpenOf seen old → IsOpenOf (seen ++ filter (is_open book) (r ∷ [])) new
-opened_first {A} book r old new seen is few first count before = subst (λ l. IsOpenOf (seen ++ l) new) (sym (one_kept (is_open book) r true is)) (record {
-  first = first ∙ first_more MOST_OPEN seen old.first.items r before.first few;
-  count = count ∙ ap (λ n. n + 1) before.count ∙ sym (length-append seen (r ∷ []));
-})
-
--- it is open, and is none of them
-pub opened_behind : {A : Type 0} (book : Book) (r : Request) (old new : Open A) (seen : List Request) → is_open book r ≡ true → MOST_OPEN ≤ length old.first.items → new.first.items ≡ old.first.items → new.count ≡ old.count + 1
-    → IsOpenOf seen old → IsOpenOf (seen ++ filter (is_open book) (r ∷ [])) new
-opened_behind {A} book r old new seen is full first count before = subst (λ l. IsOpenOf (seen ++ l) new) (sym (one_kept (is_open book) r true is)) (record {
-  first = first ∙ first_full MOST_OPEN seen old.first.items r before.first full;
-  count = count ∙ ap (λ n. n + 1) before.count ∙ sym (length-append seen (r ∷ []));
-})
 
 -- ---- each request by its number
 
@@ -70,17 +47,26 @@ looked_more {A} book i r found low is after = elim (slice_get_cases book.request
   | inl (x, _, there, same) ↦
       let next : Some x ≡ Some r = sym there ∙ sym (numbered_next book.requests i) ∙ is in
       let it : x ≡ r = cc in
-      let parts : take (i + 1) book.requests ≡ take i book.requests ++ r ∷ [] = take_more book.requests i x low ∙ ap (λ y. take i book.requests ++ y ∷ []) (sym same ∙ it) in
+      let parts : take (i + 1) book.requests ≡ take i book.requests ++ r ∷ [] = take_more book.requests i x low ∙ ap (λ y. take i book.requests ++ y ∷ []) (same ∙ it) in
       subst (λ l. IsOpenOf l found) (sym (ap (filter (is_open book)) parts ∙ filter-append (is_open book) (take i book.requests) (r ∷ []))) after
   | inr (past, _) ↦ absurd (omega (arith, past, low))
 ]
 
--- there is a next one
-pub next_there : (book : Book) (i : ℕ) → i < length book.requests → request_at book (i + 1) ≡ None → ⊥
-next_there book i low none = elim (slice_get_cases book.requests i).1 [
-  | inl (x, _, there, same) ↦ let gone : Some x ≡ None = sym there ∙ sym (numbered_next book.requests i) ∙ none in absurd cc
-  | inr (past, _) ↦ absurd (omega (arith, past, low))
-]
+few_passed : {X : Type 0} (p : X → Bool) (xs : List X) → length (filter p xs) ≤ length xs
+few_passed p [] = omega arith
+few_passed p (x ∷ xs) = by (p x) (few_passed p xs)
+  where
+    by : (t : Bool) → length (filter p xs) ≤ length xs → length (cond t (x ∷ filter p xs) (filter p xs)) ≤ length (x ∷ xs)
+    by true few = omega (arith, few)
+    by false few = omega (arith, few)
+
+-- no more are open than were looked at
+pub few_open : {A : Type 0} (book : Book) (i most : ℕ) (found : Open A) → i < length book.requests → length book.requests ≤ most → IsOpenOf (filter (is_open book) (take i book.requests)) found → found.count < most
+few_open {A} book i most found low few is =
+    let passed = few_passed (is_open book) (take i book.requests) in
+    let taken = length-take i book.requests in
+    let count = is.count in
+    grind (arith, passed, taken, count, low, few)
 
 -- ---- of all
 

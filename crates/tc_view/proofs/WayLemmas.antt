@@ -36,3 +36,7 @@ trails_end book (r ∷ q ∷ qs) [] trail are = absurd are.1
 trails_end book (r ∷ rs) (t ∷ ts) trail are =
     let ends = trails_end book rs ts trail are.1 in
     record { front = r ∷ ends.front; last = ends.last; are = ap (λ l. r ∷ l) ends.are; before = (are.0, ends.before); one = ends.one }
+
+pub none_are : (A : Type 0) (book : Book) (rs : List Request) → AreTrailsOf {A = A} book rs [] → AreWaysOf book rs []
+none_are A book [] are = tt
+none_are A book (r ∷ rs) are = absurd are

@@ -1,5 +1,5 @@
 //! The requests that are open.
-ghost use Rattle.std.specs.Prelude.{◌≡◌, ◌<◌, ◌++◌, ◌∷◌, [], IfOk, List, OnOk, filter};
+ghost use Rattle.std.specs.Prelude.{◌≡◌, ◌<◌, ◌++◌, ◌∷◌, [], IfOk, List, OnOk, filter, take};
 ghost use Rattle.tc_types.specs.declared.requests.Request.{Request as SomeRequest};
 ghost use Rattle.tc_types.specs.Limits.{most_requests};
 ghost use Rattle.tc_view.specs.Gathered.{IsOpenOf};
@@ -7,18 +7,9 @@ ghost use Rattle.tc_view.specs.Ways.{is_open, is_open_at, open_of};
 
 use crate::adding::add;
 use std::alloc::{AllocError, Allocator};
-use tc_book::Records;
+use tc_book::{FINAL_PLACES, Records};
 use tc_types::{Place, Request};
 use tc_wall::MOST_OPEN;
-
-/// The places that no request leaves.
-const FINAL: [Place; 5] = [
-    Place::Completed,
-    Place::Failed,
-    Place::Withdrawn,
-    Place::Deleted,
-    Place::Closed,
-];
 
 /// The first requests that are open, and how many are.
 #[derive(Drop)]
@@ -34,12 +25,30 @@ fn is_open_at(place: Option<Place>) -> bool
     ensures { result ≡ is_open_at place }
 {
     match place {
-        Some(place) => !place.is_one_of(&FINAL),
+        Some(place) => !place.is_one_of(&FINAL_PLACES),
         None => false,
     }
 }
 
-/// Looks at a request: one more is open, or none.
+/// Whether a request is.
+fn is_open<A: Allocator + Copy + Drop>(records: &Records<A>, request: &Request) -> bool
+    ensures { result ≡ is_open records.now.book request.now }
+{
+    is_open_at(records.place_of(request.number.get()))
+}
+
+/// One more is open: it is one of the first, while there are few. Fails where memory is refused.
+fn add_first<A: Allocator>(first: &mut Vec<Request, A>, request: &Request) -> Result<(), AllocError>
+    ensures { (seen : List SomeRequest) → first.old.items ≡ take MOST_OPEN seen → OnOk result (first.new.items ≡ take MOST_OPEN (seen ++ request.now ∷ [])) }
+{
+    if first.len() >= MOST_OPEN {
+        return Ok(());
+    }
+    add(first, request)?;
+    Ok(())
+}
+
+/// Looks at a request: one more is open, or none. Fails where memory is refused.
 fn look_at<A: Allocator + Copy + Drop>(
     found: &mut Open<A>,
     records: &Records<A>,
@@ -48,12 +57,10 @@ fn look_at<A: Allocator + Copy + Drop>(
     requires few { found.old.count < most_requests }
     ensures { (seen : List SomeRequest) → IsOpenOf seen found.old → OnOk result (IsOpenOf (seen ++ filter (is_open records.now.book) (request.now ∷ [])) found.new) }
 {
-    if !is_open_at(records.place_of(request.number.get())) {
+    if !is_open(records, request) {
         return Ok(());
     }
-    if found.first.len() < MOST_OPEN {
-        add(&mut found.first, request)?;
-    }
+    add_first(&mut found.first, request)?;
     found.count += 1;
     Ok(())
 }
@@ -70,9 +77,8 @@ pub(crate) fn open_of<A: Allocator + Copy + Drop>(
         count: 0,
     };
     for at in 0..records.count() {
-        if let Some(request) = records.request(at + 1) {
-            look_at(&mut found, records, &request)?;
-        }
+        let request = records.request(at + 1).unwrap();
+        look_at(&mut found, records, &request)?;
     }
     Ok(found)
 }

@@ -57,7 +57,14 @@ fn each_of<A: Allocator + Copy>(
     Ok(waits)
 }
 
-/// The first of what waits. Fails where memory is refused.
+/// The first of these, at most so many.
+fn first_of<T>(items: &[T], most: usize) -> &[T]
+    ensures { result.now ≡ take most items.now }
+{
+    &items[..most.min(items.len())]
+}
+
+/// The first of what waits, each with the text of its step. Fails where memory is refused.
 pub(crate) fn waits_of<A: Allocator + Copy>(
     alloc: A,
     steps: &[ProcedureStep],
@@ -65,5 +72,5 @@ pub(crate) fn waits_of<A: Allocator + Copy>(
 ) -> Result<Vec<Wait, A>, AllocError>
     ensures { IfOk result (λ waits. waits.items ≡ map (wait_of steps.now) (take MOST_WAITS waiting.now)) }
 {
-    each_of(alloc, steps, &waiting[..waiting.len().min(MOST_WAITS)])
+    each_of(alloc, steps, first_of(waiting, MOST_WAITS))
 }
