@@ -3,7 +3,8 @@ ghost use Rattle.std.specs.Prelude.{◌≡◌, ◌≤◌, ◌⊎◌, IfErr, IfOk
 ghost use Rattle.std.specs.String.{string_bytes, string_len};
 ghost use Rattle.tc_room.specs.Boards.{ReadsBoard};
 ghost use Rattle.tc_types.specs.Images.{rows_in};
-ghost use Rattle.tc_book.specs.Sound.{IsSound, Judges, book_of};
+ghost use Rattle.tc_book.specs.Sound.{IsSound, book_of};
+ghost use Rattle.tc_view.specs.Shown.{IsFilePage};
 
 use crate::closed::refusal_of;
 use sqlite::Alter;
@@ -28,6 +29,16 @@ fn records_of(alloc: Global, image: &Image) -> Result<Records<Global>, Refusal>
     }
 }
 
+/// The page of the book that these tables tell of. `Store` where no desk could have written them, and `Memory` where that is refused.
+fn page_of(alloc: Global, image: &Image) -> Result<String, Refusal>
+    ensures told { IfOk result (λ page. IsSound (rows_in image.now) × IsFilePage (book_of (rows_in image.now)) (string_bytes page)) }
+    ensures few { IfOk result (λ page. string_len page ≤ MOST_BYTES) }
+    ensures kind { IfErr result (λ refusal. (refusal ≡ Refusal.Memory) ⊎ (refusal ≡ Refusal.Store)) }
+{
+    let records = records_of(alloc, image)?;
+    Ok(file_page(alloc, &records)?)
+}
+
 /// The page of the board of these tables, which are of this version. They are only read. `Store` where they cannot be read, or no desk could have written them;
 /// `Memory` where that is refused.
 pub fn closed_board<S: Alter + Drop>(
@@ -39,10 +50,8 @@ pub fn closed_board<S: Alter + Drop>(
     ensures few { IfOk result (λ page. string_len page ≤ MOST_BYTES) }
     ensures kind { IfErr result (λ refusal. (refusal ≡ Refusal.Memory) ⊎ (refusal ≡ Refusal.Store)) }
 {
-    let image = match tables.load(version) {
-        Ok(image) => image,
-        Err(fault) => return Err(refusal_of(fault)),
-    };
-    let records = records_of(alloc, &image)?;
-    Ok(file_page(alloc, &records)?)
+    match tables.load(version) {
+        Ok(image) => page_of(alloc, &image),
+        Err(fault) => Err(refusal_of(fault)),
+    }
 }

@@ -1,3 +1,4 @@
 pub mod GatherLemmas
 pub mod OpenLemmas
 pub mod WayLemmas
+pub mod PageLemmas

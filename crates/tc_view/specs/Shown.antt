@@ -35,12 +35,12 @@ pub record ShowsLive {U D : Type 0} (up : Kind U Frame) (down : Kind D Report) (
 
 -- a board shows a desk that is open
 pub record ShowsDesk {U D : Type 0} (up : Kind U Frame) (down : Kind D Report) (desk : State U D) (board : Board) : Type 0 where
-  pub book : ShowsBook desk.book board
+  pub shown : ShowsBook desk.book board
   pub live : IsSomeAnd board.live (ShowsLive up down desk)
 
 -- a board shows the book of a file that nobody has open
 pub record ShowsFile (book : Book) (board : Board) : Type 0 where
-  pub book : ShowsBook book board
+  pub shown : ShowsBook book board
   pub live : board.live ≡ None
 
 -- the page of an open desk, and that of a file that nobody has open
