@@ -18,7 +18,7 @@ use Rattle.tc_room.specs.Joined.{Standing}
 -- a room that goes on tells the page of its desk
 pub record TellsBoard {S : Type 0} (room : Standing S) (page : List ℕ) : Type 0 where
   pub going : room.stopped ≡ false
-  pub page : IsDeskPage either either room.desk page
+  pub told : IsDeskPage either either room.desk page
 
 -- it refuses to: one that has stopped says so, and else memory was refused
 abbrev pub RefusesBoard : {S : Type 0} → Standing S → Refusal → Type 0

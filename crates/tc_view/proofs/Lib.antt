@@ -2,3 +2,4 @@ pub mod GatherLemmas
 pub mod OpenLemmas
 pub mod WayLemmas
 pub mod PageLemmas
+pub mod OneLemmas

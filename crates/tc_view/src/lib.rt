@@ -5,6 +5,7 @@
 
 mod adding;
 mod gathering;
+pub mod laws;
 mod lives;
 mod opens;
 mod pages;
