@@ -66,6 +66,8 @@ ENTRIES = (
     Entry("store", "the calls on the files of a desk failed, from each one on", modules=("faults.fail_store",), needs=C_COMPILER),
     Entry("http", "the desk over sockets: each byte of each answer beside a plain reading; peers that cut, drip and go away",
           modules=("tests.test_http",)),
+    Entry("board", "the page of the board, by GET and of files, beside the plain one, byte for byte", modules=("tests.test_wall", "tests.test_board"),
+          takes_seed=True),
     Entry("calls", "calls that come twice: the worked cases of tools/cases/http; desks that are closed, killed and opened between a call and its repeat",
           modules=("tests.test_calls",)),
     Entry("repeats", "3,000 random posts, or --count of them, of which a third repeat a call, over stops and openings, beside the plain desk",
