@@ -27,13 +27,13 @@ use Rattle.tc_types.specs.declared.loads.LoadKind.TheVariants as kind
 use Rattle.tc_types.specs.Numbers.{IsMoment, IsNumber, IsService, IsSubtype}
 use Rattle.tc_types.specs.Schedule.{is_schedule}
 use Rattle.tc_types.specs.Grammar.{ack_word, outcome_word, IsOutcome, command_words, IsCommand, listed, target_word, time_word, IsRide, AreRides, entry_words, IsEntry}
-use Rattle.tc_types.specs.ActGrammar.{book_act_words, IsBookAct, query_words, IsQuery, act_words, IsAct, line_words, IsLine}
+use Rattle.tc_types.specs.ActGrammar.{book_act_words, IsBookAct, query_words, IsQuery, step_words, IsStepAct, act_words, IsAct, line_words, IsLine}
 use Rattle.tc_types.specs.LinkGrammar.{directive_words, IsDirective, link_act_words, IsLinkAct}
-use Rattle.tc_types.specs.StepGrammar.{step_words, IsStepAct}
 use Rattle.tc_types.specs.Loads.{LoadLine, kind_word, load_words, IsLoad}
 use Rattle.tc_types.specs.Words.{words}
 use Rattle.tc_types.proofs.WordLaws.{words_joined}
-use Rattle.tc_types.proofs.Spellings.{targets_parted, times_parted, line_parted, load_parted}
+use Rattle.tc_types.proofs.Spellings.{targets_parted, times_parted, load_parted}
+use Rattle.tc_types.proofs.ActSpellings.{line_parted}
 use Rattle.tc_script.specs.declared.slots.Slot.TheVariants as slot
 use Rattle.tc_script.specs.Slots.{completes, parts}
 use Rattle.tc_script.specs.Sorts.{is_scheduling}
@@ -182,6 +182,10 @@ query_follows query.Link is = (refl, tt)
 query_follows query.Schedule is = (refl, tt)
 query_follows (query.Log execution) is = (refl, ((execution, refl, is), tt))
 query_follows (query.Report from to) is = (refl, ((from, refl, is.0), ((to, refl, is.1), tt)))
+query_follows query.Waiting is = (refl, tt)
+query_follows (query.Moves after) is = (refl, ((after, refl, is), tt))
+query_follows (query.Standing place after) is = (refl, ((place, refl, tt), ((after, refl, is), tt)))
+query_follows (query.Steps procedure) is = (refl, (is, tt))
 
 act_follows : (given : Act) → IsAct given → Follow (Some slot.Verb) (act_words given)
 act_follows (act.Book given) is = book_follows given is

@@ -331,6 +331,15 @@ history_from (r ∷ a ∷ []) f =
     inl (act.Ask (query.History request after), (λ i. codes "history" ∷ request_is i ∷ after_is i ∷ []), (small, less))
 history_from (r ∷ a ∷ x ∷ xs) f = absurd f.1.1
 
+standing_from : (rest : List (List ℕ)) → Follow (Some slot.StandingAt) rest → ActFrom (codes "standing" ∷ rest)
+standing_from [] f = absurd f
+standing_from (p ∷ []) f = absurd f.1
+standing_from (p ∷ a ∷ []) f =
+    let (place, place_is, tt_of) = f.0 in
+    let (after, after_is, small) = f.1.0 in
+    inl (act.Ask (query.Standing place after), (λ i. codes "standing" ∷ place_is i ∷ after_is i ∷ []), small)
+standing_from (p ∷ a ∷ x ∷ xs) f = absurd f.1.1
+
 report_from : (rest : List (List ℕ)) → Follow (Some slot.From) rest → ActFrom (codes "report" ∷ rest)
 report_from [] f = absurd f
 report_from (r ∷ []) f = absurd f.1
@@ -421,6 +430,10 @@ act_from verb.Link rest f = bare_act _ rest (act.Ask query.Link) refl tt f
 act_from verb.Schedule rest f = bare_act _ rest (act.Ask query.Schedule) refl tt f
 act_from verb.Log rest f = numbered slot.Execution _ rest IsNumber (λ n. act.Ask (query.Log n)) (λ w. refl) (λ w is. is) (λ n. refl) (λ n is. is) f
 act_from verb.Report rest f = report_from rest f
+act_from verb.Waiting rest f = bare_act _ rest (act.Ask query.Waiting) refl tt f
+act_from verb.Moves rest f = numbered slot.After _ rest IsNumber (λ n. act.Ask (query.Moves n)) (λ w. refl) (λ w is. is) (λ n. refl) (λ n is. is) f
+act_from verb.Standing rest f = standing_from rest f
+act_from verb.Steps rest f = named _ rest (λ name. act.Ask (query.Steps name)) (λ name. refl) (λ name is. is) f
 act_from verb.Stack rest f = load_from kind.Stack rest f
 act_from verb.Procedure rest f = load_from kind.Procedure rest f
 

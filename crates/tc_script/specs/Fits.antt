@@ -6,6 +6,7 @@ use Rattle.tc_types.specs.Numbers.{IsMoment, IsNumber, IsOffset, IsApid, IsSubty
 use Rattle.tc_types.specs.Names.{IsName, IsPerson}
 use Rattle.tc_types.specs.Grammar.{ack_word, yes_no, outcome_word, IsOutcome}
 use Rattle.tc_types.specs.Inserts.{most_inserted}
+use Rattle.tc_types.specs.Lines.{place_name}
 use Rattle.tc_types.specs.Loads.{IsPath}
 use Rattle.tc_types.specs.StepGrammar.{verdict_word, second_word, IsSecond}
 use Rattle.tc_script.specs.declared.sorts.Sort.{Sort}
@@ -91,6 +92,8 @@ Fits slot.Verb word = IsTrue (is_some (verb_in word))
 Fits slot.Request word = Spells decimal IsNumber word
 Fits slot.HistoryOf word = Spells decimal IsNumber word
 Fits slot.After word = Spells decimal IsNumber word
+Fits slot.StandingAt word = Spells place_name (λ place. ⊤) word
+Fits slot.Past word = Spells decimal IsNumber word
 Fits slot.Execution word = Spells decimal IsNumber word
 Fits slot.StepOf word = Spells decimal IsNumber word
 Fits slot.Step word = Spells decimal IsNumber word

@@ -16,13 +16,15 @@ fn first_slot(verb: Verb) -> Option<Slot>
         Verb::Withdraw | Verb::Approve | Verb::Close | Verb::Release | Verb::Request => {
             Some(Slot::Request)
         }
-        Verb::ApproveStack | Verb::Begin => Some(Slot::Name),
+        Verb::ApproveStack | Verb::Begin | Verb::Steps => Some(Slot::Name),
         Verb::Step => Some(Slot::StepOf),
         Verb::Initiate => Some(Slot::Initiation),
         Verb::Set => Some(Slot::Setting),
         Verb::LoseUp | Verb::LoseDown => Some(Slot::Item),
         Verb::Clock => Some(Slot::Time),
         Verb::History => Some(Slot::HistoryOf),
+        Verb::Moves => Some(Slot::After),
+        Verb::Standing => Some(Slot::StandingAt),
         Verb::Log => Some(Slot::Execution),
         Verb::Report => Some(Slot::From),
         Verb::Stack | Verb::Procedure => Some(Slot::NewName),
@@ -34,7 +36,8 @@ fn first_slot(verb: Verb) -> Option<Slot>
         | Verb::Work
         | Verb::Places
         | Verb::Link
-        | Verb::Schedule => None,
+        | Verb::Schedule
+        | Verb::Waiting => None,
     }
 }
 
@@ -109,6 +112,7 @@ pub(crate) fn behind(slot: Slot, word: &[u8]) -> Option<Slot>
         Slot::Person => Some(Slot::Verb),
         Slot::Verb => first_slot(Verb::read(word)?),
         Slot::HistoryOf => Some(Slot::After),
+        Slot::StandingAt => Some(Slot::Past),
         Slot::StepOf => Some(Slot::Step),
         Slot::Step => Some(Slot::Verdict),
         Slot::Verdict => Some(Slot::Second),

@@ -4,8 +4,8 @@ ghost use Rattle.tc_script.specs.Fits.{Fits, FitsOffset, FitsTarget};
 
 use crate::forms::{
     is_ack, is_apid, is_counter, is_dash, is_initiation, is_limit, is_moment, is_name, is_number,
-    is_offset, is_outcome, is_path, is_person, is_second, is_service, is_setting, is_subtype,
-    is_ticks, is_verdict, is_window, is_yes_or_no,
+    is_offset, is_outcome, is_path, is_person, is_place, is_second, is_service, is_setting,
+    is_subtype, is_ticks, is_verdict, is_window, is_yes_or_no,
 };
 use crate::lists::{are_moments, are_requests};
 use crate::slots::Slot;
@@ -44,10 +44,12 @@ pub(crate) fn fits(slot: Slot, word: &[u8]) -> bool
         Slot::Request
         | Slot::HistoryOf
         | Slot::After
+        | Slot::Past
         | Slot::Execution
         | Slot::StepOf
         | Slot::Step
         | Slot::Item => is_number(word),
+        Slot::StandingAt => is_place(word),
         Slot::Verdict => is_verdict(word),
         Slot::Second => is_second(word),
         Slot::Name | Slot::NewName => is_name(word),

@@ -6,8 +6,11 @@ ghost use Rattle.std.specs.Str.{IsUtf8};
 ghost use Rattle.tc_types.specs.Numbers.{IsMoment, IsNumber, IsOffset, IsApid, IsCounter, IsWindow, IsTicks, IsTransmissionLimit};
 ghost use Rattle.tc_types.specs.Names.{IsName, IsPerson};
 ghost use Rattle.tc_types.specs.Grammar.{ack_word, yes_no, outcome_word, IsOutcome};
+ghost use Rattle.tc_types.specs.declared.history.places.TheConstants.{ALL_PLACES};
+ghost use Rattle.tc_types.specs.Lines.{place_name};
 ghost use Rattle.tc_types.specs.Loads.{IsPath};
 ghost use Rattle.tc_types.specs.StepGrammar.{verdict_word, second_word, IsSecond};
+ghost use Rattle.tc_script.specs.Verbs.{same};
 ghost use Rattle.tc_script.specs.Fits.{FitsOutcome, FitsSubtype, IsDash, IsServiceFor, Spells, initiations, is_one_of, schedule_subtypes, settings};
 
 use crate::verbs::same;
@@ -17,7 +20,7 @@ use tc_types::read::readers::{
     ack, apid, counter, is, moment, number, offset, subtype, ticks, transmission_limit, window,
     yes_or_no,
 };
-use tc_types::{Name, Person};
+use tc_types::{ALL_PLACES, Name, Person};
 
 /// A number.
 #[tactic(auto, using(crate::proofs::FormLemmas::read_spells))]
@@ -133,6 +136,22 @@ pub(crate) fn is_verdict(word: &[u8]) -> bool
     ensures { IsTrue result ↔ Spells verdict_word (λ verdict. ⊤) word.now }
 {
     is(word, b"done") || is(word, b"skipped") || is(word, b"failed")
+}
+
+/// Whether one of all places has this name.
+fn is_named(word: &[u8]) -> bool
+    ensures { result ≡ list_any (λ place. same (place_name place) word.now) ALL_PLACES }
+{
+    ALL_PLACES
+        .iter()
+        .any(|place| same(place.name().as_bytes(), word))
+}
+
+/// The name of a place.
+pub(crate) fn is_place(word: &[u8]) -> bool
+    ensures { IsTrue result ↔ Spells place_name (λ place. ⊤) word.now }
+{
+    is_named(word)
 }
 
 /// Whether a space is among these bytes.

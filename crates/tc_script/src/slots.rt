@@ -16,6 +16,10 @@ pub enum Slot {
     HistoryOf,
     /// The number of the move behind which they begin.
     After,
+    /// The place whose requests are asked for.
+    StandingAt,
+    /// The number of the request behind which they begin.
+    Past,
     /// The number of an execution.
     Execution,
     /// The number of the execution of which a step is recorded.

@@ -81,6 +81,7 @@ fn number_text(slot: Slot) -> &'static str
     match slot {
         Slot::Request | Slot::HistoryOf => "the number of a request in plain digits",
         Slot::After => "the number of a move, or 0, in plain digits",
+        Slot::Past => "the number of a request, or 0, in plain digits",
         Slot::Execution | Slot::StepOf => "the number of an execution in plain digits",
         Slot::Step => "the number of a step in plain digits",
         Slot::Item => "the place of an item, from 0, in plain digits",
@@ -102,6 +103,7 @@ impl Slot {
             }
             Slot::Person => "a person, 1 to 16 of a-z and 0-9 and not desk",
             Slot::Verb => "an act, a question or a load",
+            Slot::StandingAt => "a place as it is printed, such as Approved",
             Slot::Verdict => "done, skipped or failed",
             Slot::Second => "a person, or - for none",
             Slot::Name | Slot::NewName => "a name, 1 to 16 of a-z and 0-9",

@@ -57,6 +57,14 @@ pub enum Verb {
     Log,
     /// What moved in a shift.
     Report,
+    /// What waits for a person.
+    Waiting,
+    /// The moves of all requests.
+    Moves,
+    /// The requests at a place.
+    Standing,
+    /// The steps of a procedure.
+    Steps,
     /// A stack is loaded.
     Stack,
     /// A procedure is loaded.
@@ -64,7 +72,7 @@ pub enum Verb {
 }
 
 /// All of them.
-pub(crate) const VERBS: [Verb; 28] = [
+pub(crate) const VERBS: [Verb; 32] = [
     Verb::Enter,
     Verb::Withdraw,
     Verb::Approve,
@@ -91,6 +99,10 @@ pub(crate) const VERBS: [Verb; 28] = [
     Verb::Schedule,
     Verb::Log,
     Verb::Report,
+    Verb::Waiting,
+    Verb::Moves,
+    Verb::Standing,
+    Verb::Steps,
     Verb::Stack,
     Verb::Procedure,
 ];
@@ -134,6 +146,10 @@ impl Verb {
             Verb::Schedule => "schedule",
             Verb::Log => "log",
             Verb::Report => "report",
+            Verb::Waiting => "waiting",
+            Verb::Moves => "moves",
+            Verb::Standing => "standing",
+            Verb::Steps => "steps",
             Verb::Stack => "stack",
             Verb::Procedure => "procedure",
         }
