@@ -10,9 +10,10 @@ from generate.http_words import body_of, get, post
 from generate.scripts import PERSONS
 from model.calls import Calls
 from model.facts import LAST_MOMENT, LAST_NUMBER, MOST_ROWS, MOST_SHOWN, Place
-from model.http import Asks, Refused, answer_to, refused_response, reply_response
+from model.http import Asks, Refused, Shows, answer_to, page_response, refused_response, reply_response
 from model.lines import LOAD
 from model.rows import Tables
+from model.wall import board_page
 
 REPEATS = 1 / 3  # of all posts
 RECENT = 40
@@ -78,7 +79,7 @@ class PostedDay(Day):
         """A question by a GET, now and then of what is none."""
         number, rows = self.pick(Place.ENTERED, Place.APPROVED), len(self.book.history)
         after = self.dice.choice([0, rows, max(0, rows - MOST_SHOWN), max(0, rows - MOST_SHOWN - 1), LAST_NUMBER, LAST_NUMBER + 1, "x"])
-        self.answer(None, get(self.dice.choice(["/places", "/waiting", "/waiting", f"/moves/{after}", f"/moves/{after}", f"/requests/{number}",
+        self.answer(None, get(self.dice.choice(["/places", "/waiting", "/waiting", "/board", f"/moves/{after}", f"/moves/{after}", f"/requests/{number}",
                                                 f"/history/{number}/0", f"/procedures/{self.name(self.book.procedures)}"])))
 
     def load_many(self) -> None:
@@ -99,10 +100,12 @@ class PostedDay(Day):
     def answer(self, call: Optional[Call], raw: bytes) -> None:
         """One exchange more."""
         asked, is_kept = answer_to(raw), False
+        assert asked, "a whole request asks something"
         if isinstance(asked, Refused):
             response = refused_response(asked)
+        elif isinstance(asked, Shows):
+            response = page_response(board_page(self.calls.desk, False))
         else:
-            assert asked, "a whole request asks something"
             is_kept = not isinstance(asked, Asks) and self.calls.kept_for(asked) is not None
             response = reply_response(self.calls.reply(asked))
         self.exchanges.append(Exchange(call, raw, response, is_kept))

@@ -130,6 +130,8 @@ PATHS: Sequence[tuple[str, Want]] = [
     ("/stacks/", NO_PATH), ("/stack", NO_PATH), ("/stacks/s1", NO_PATH),
     ("/waiting", 0), ("/waiting/", NO_PATH), ("/waiting/1", NO_PATH), ("/waiting?", NO_PATH), ("/Waiting", NO_PATH), ("/wait", NO_PATH),
     ("/waitings", NO_PATH), ("//waiting", NO_PATH), ("waiting", NO_PATH),
+    ("/board", 0), ("/board/", NO_PATH), ("/board/1", NO_PATH), ("/board?", NO_PATH), ("/board?x=1", NO_PATH), ("/Board", NO_PATH), ("/boards", NO_PATH),
+    ("/boar", NO_PATH), ("//board", NO_PATH), ("board", NO_PATH),
     ("/moves/0", 0), ("/moves/1", 0), ("/moves/2", 0), ("/moves/4294967295", 0), ("/moves/4294967296", 1), ("/moves/" + "1" * 300, 1), ("/moves/00", 1),
     ("/moves/01", 1), ("/moves/-1", 1), ("/moves/+1", 1), ("/moves/1.0", 1), ("/moves/one", 1), ("/moves/%31", 1), ("/moves/1?", 1), ("/moves/{after}", 1),
     ("/moves/١", 1), ("/moves", NO_PATH), ("/moves/", NO_PATH), ("/moves/1/", NO_PATH), ("/moves/1/2", NO_PATH), ("/moves//1", NO_PATH),
@@ -152,7 +154,7 @@ def routes() -> Iterator[Case]:
 def methods() -> Iterator[Case]:
     """Methods that a path does not have, and that none has."""
     for method in "PUT POST DELETE HEAD OPTIONS PATCH TRACE CONNECT get Get GETT GE X !".split():
-        for path in ("/places", "/requests/1", "/requests/x", "/history/1/0", "/report/0/1", "/waiting", "/moves/0", "/moves/x", "/procedures/p1",
+        for path in ("/places", "/requests/1", "/requests/x", "/history/1/0", "/report/0/1", "/waiting", "/board", "/moves/0", "/moves/x", "/procedures/p1",
                      "/procedures/P1"):
             yield Case(f"{method} {path}", get(path).replace(b"GET", method.encode(), 1), OTHER_METHOD)
         yield Case(f"{method} /none", get("/none").replace(b"GET", method.encode(), 1), NO_PATH)

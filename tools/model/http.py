@@ -26,6 +26,10 @@ class Asks(NamedTuple):
     act: str
 
 
+class Shows(NamedTuple):
+    """The board."""
+
+
 class Acts(NamedTuple):
     """An act, or a question, that a person posts under a number of the person's own; the moment is none where it is out of form."""
     by: str
@@ -51,7 +55,7 @@ class Post(NamedTuple):
 
 
 Called = Union[Acts, Loads]
-Asked = Union[Refused, Asks, Called]
+Asked = Union[Refused, Asks, Shows, Called]
 Headers = Sequence[tuple[bytes, bytes]]
 BAD, LARGE = (Refused(status_of(it), it) for it in (Refusal.BAD_TEXT, Refusal.TOO_LONG))
 NO_PATH, OTHER_METHOD = (Refused(it, Refusal.BAD_TEXT) for it in (NO_PATH_STATUS, OTHER_METHOD_STATUS))
@@ -84,6 +88,7 @@ QUESTIONS: list[tuple[re.Pattern[bytes], str, Callable[[bytes], bool]]] = [
     (re.compile(rb"/history/([^/]+)/([^/]+)"), "history", IS_NUMBER), (re.compile(rb"/report/([^/]+)/([^/]+)"), "report", IS_MOMENT),
     (re.compile(rb"/waiting"), "waiting", IS_NUMBER), (re.compile(rb"/moves/([^/]+)"), "moves", IS_NUMBER),
     (re.compile(rb"/procedures/([^/]+)"), "steps", lambda text: is_name(text.decode("utf-8")))]
+BOARD = (re.compile(rb"/board"), "", IS_NUMBER)  # which no act asks for
 
 
 def head_end(text: bytes) -> Optional[int]:
@@ -114,21 +119,21 @@ def posted_to(kind: str, lengths: list[bytes]) -> Union[Refused, Post]:
     return LARGE if is_large else Post(kind, int(lengths[0]))
 
 
-def asked(word: str, texts: Sequence[bytes], is_right: Callable[[bytes], bool], lengths: list[bytes]) -> Union[Refused, Asks]:
-    """What a head asks that gets a question with these texts, each of which has to be right, and has these Content-Lengths."""
+def asked(word: str, texts: Sequence[bytes], is_right: Callable[[bytes], bool], lengths: list[bytes]) -> Union[Refused, Asks, Shows]:
+    """What a head asks that gets the board, or a question with these texts, each of which has to be right, and has these Content-Lengths."""
     if lengths not in ([], [b"0"]) or not all(is_right(it) for it in texts):
         return BAD
-    return Asks(" ".join([word] + [it.decode() for it in texts]))
+    return Asks(" ".join([word] + [it.decode() for it in texts])) if word else Shows()
 
 
-def judged(head: bytes) -> Union[Refused, Asks, Post]:
+def judged(head: bytes) -> Union[Refused, Asks, Shows, Post]:
     """What a head text asks, in the order of the tests."""
     found = HEAD.fullmatch(head)
     fields = re.findall(FIELD, found[3]) if found else []
     if not found or len(fields) > MOST_FIELDS or not is_utf8(found[2]):
         return LARGE if head.count(b"\n") > MOST_LINE_ENDS else BAD
     method, target = found[1], found[2]
-    question = next(((word, match.groups(), is_right) for form, word, is_right in QUESTIONS for match in [form.fullmatch(target)] if match), None)
+    question = next(((word, match.groups(), is_right) for form, word, is_right in [*QUESTIONS, BOARD] for match in [form.fullmatch(target)] if match), None)
     if target not in POSTS and not question:
         return NO_PATH
     if method != (b"POST" if target in POSTS else b"GET"):
@@ -240,6 +245,22 @@ def response(status: int, lines: Sequence[str], refusal: int) -> bytes:
     body = f'{{"lines":[{",".join(quoted(it) for it in shown)}],"more":{more},"refusal":{int(refusal)}}}'.encode("utf-8")
     head = [f"HTTP/1.1 {status} {PHRASES[status]}", "Content-Type: application/json", f"Content-Length: {len(body)}", "Connection: close", ""]
     return "".join(f"{it}\r\n" for it in head).encode("ascii") + body
+
+
+PAGE_LINES = ["Content-Type: text/html; charset=utf-8", "Cache-Control: no-store",
+              "Content-Security-Policy: default-src 'none'; style-src 'unsafe-inline'; frame-ancestors 'none'", "X-Content-Type-Options: nosniff"]
+
+
+def page_response(page: bytes) -> bytes:
+    """The bytes of the response with this page."""
+    head = ["HTTP/1.1 200 OK", *PAGE_LINES, f"Content-Length: {len(page)}", "Connection: close", ""]
+    return "".join(f"{it}\r\n" for it in head).encode("ascii") + page
+
+
+def refusal_in(answer: bytes) -> int:
+    """The number of the refusal that a response tells; 0 where that is none, as in a page."""
+    found = re.search(rb'"refusal":([0-9]+)\}\Z', answer)
+    return int(found[1]) if found else 0
 
 
 def refused_response(refused: Refused) -> bytes:

@@ -14,7 +14,8 @@ from generate.http_words import NOTHING, Case
 from model.calls import Calls
 from model.desk import Desk
 from model.facts import status_of
-from model.http import Asks, Called, Loads, Refused, answer_to, fault_of, refused_response, reply_response
+from model.http import Asks, Called, Loads, Refused, Shows, answer_to, fault_of, page_response, refusal_in, refused_response, reply_response
+from model.wall import board_page
 from tests.new_desks import said_first, said_then
 from tests.runs import Ended
 
@@ -219,7 +220,10 @@ class Expected:
         self.disputed: list[tuple[Case, object]] = []
         for at, case in enumerate(cases):
             asked = answer_to(case.raw)
-            self.add(case, b"" if asked is None else refused_response(asked) if isinstance(asked, Refused) else self.answer(asked, folder, at))
+            if isinstance(asked, Shows):
+                self.add(case, page_response(board_page(self.calls.desk, False)))
+            else:
+                self.add(case, b"" if asked is None else refused_response(asked) if isinstance(asked, Refused) else self.answer(asked, folder, at))
 
     def answer(self, asked: Union[Asks, Called], folder: str, at: int) -> bytes:
         """The response of the desk."""
@@ -235,7 +239,7 @@ class Expected:
         self.responses.append(response)
         found: object = NOTHING
         if response:
-            status, refusal = response.split(b" ")[1].decode(), int(response.rsplit(b":", 1)[1][:-1])
+            status, refusal = response.split(b" ")[1].decode(), refusal_in(response)
             self.refusals.add(refusal)
             found = (status, refusal)
         want = case.want

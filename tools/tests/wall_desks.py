@@ -1,5 +1,5 @@
 """Plain desks whose pages are looked at: quiet, busy, empty, in doubt, and full. Their scripts are written by hand, and no line of them is refused."""
-from typing import Sequence
+from typing import Optional, Sequence
 
 from model.desk import Desk
 from model.facts import MOST_REQUESTS
@@ -16,11 +16,25 @@ SHORT = ("ann", "bob", "eve", "dan")
 LONG = ("alexandrasmith01", "bartholomew00002", "evangelinabrow03", "dominikusmeier04")
 
 
+class Noted(Desk):
+    """A plain desk that has the lines that it was told."""
+
+    def __init__(self, files: Optional[dict[str, bytes]] = None) -> None:
+        """It was told none."""
+        super().__init__(files=files)
+        self.lines: list[str] = []
+
+    def line(self, line: str) -> list[str]:
+        """One more, and what it prints."""
+        self.lines.append(line)
+        return super().line(line)
+
+
 class Scene:
     """A plain desk that is told one act after the other; the moment goes on between them."""
 
     def __init__(self, persons: Sequence[str] = SHORT) -> None:
-        self.desk = Desk(files={name: text.encode("ascii") for name, text in FILES.items()})
+        self.desk = Noted({name: text.encode("ascii") for name, text in FILES.items()})
         self.moment = BEGIN
         self.ann, self.bob, self.eve, self.dan = persons
 
@@ -60,12 +74,12 @@ class Scene:
             self.says("down", after=2)
 
 
-def empty() -> Desk:
+def empty() -> Noted:
     """A desk on which nothing was done."""
-    return Desk()
+    return Noted()
 
 
-def quiet() -> Desk:
+def quiet() -> Noted:
     """A desk with few requests, none of them in doubt."""
     it = Scene()
     it.says("initiate none")
@@ -94,7 +108,7 @@ def put_on_board(it: Scene, count: int) -> None:
     it.all_down()
 
 
-def busy(persons: Sequence[str] = SHORT) -> Desk:
+def busy(persons: Sequence[str] = SHORT) -> Noted:
     """A desk with 40 open requests, which stand at all places, and with some at each final place."""
     it = Scene(persons)
     it.says("initiate none")
@@ -143,7 +157,7 @@ def busy(persons: Sequence[str] = SHORT) -> Desk:
     return it.desk
 
 
-def in_doubt(count: int = 40) -> Desk:
+def in_doubt(count: int = 40) -> Noted:
     """A desk on which all that is open is in doubt: the premise is broken, and the FARM is locked out."""
     it = Scene()
     it.says("initiate none", "set k 10")
@@ -156,9 +170,9 @@ def in_doubt(count: int = 40) -> Desk:
     return it.desk
 
 
-def full() -> Desk:
+def full() -> Noted:
     """A desk of as many requests as it holds: the last are open, and the others withdrawn."""
-    desk = Desk()
+    desk = Noted()
     for number in range(1, MOST_REQUESTS + 1):
         desk.line(f"{BEGIN + number} ann enter {number % 2048} a--c no 8 1 - - ok")
         if number <= MOST_REQUESTS - 240:

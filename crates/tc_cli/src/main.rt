@@ -9,6 +9,8 @@
 //!
 //! `tcdesk backup DB COPY` copies that desk to another file, also while it runs.
 //!
+//! `tcdesk board DB` prints the board of that desk, as a page of HTML; it only reads the file.
+//!
 //! `tcdesk check KIND FILE` says what is wrong with a script, or with the file of a stack or of a procedure.
 //!
 //! `tcdesk serve DB PORT [COUNT]` serves that desk over HTTP at a port of 127.0.0.1, and ends after so many connections.
@@ -17,6 +19,7 @@
 
 mod backup;
 mod because;
+mod boards;
 mod checking;
 mod closed;
 mod copying;
@@ -41,6 +44,7 @@ mod watching;
 
 use backup::backup;
 use because::Unusable;
+use boards::print_board;
 use checking::{text_of, write_check, write_script_check};
 use faults::{
     UNUSABLE, cannot_read, cannot_read_script, cannot_use, copy_status, kept_status, report_status,
@@ -130,6 +134,9 @@ fn run_line(rt: &HostRuntime, line: CommandLine<'_>) -> u8 {
         }
         CommandLine::Backup { database, copy } => {
             copy_status(rt, backup(rt, database, copy), database, copy)
+        }
+        CommandLine::Board { database } => {
+            report_status(rt, print_board(rt, database), database)
         }
         CommandLine::Check { kind, file } => check_in(rt, kind, file),
         CommandLine::CheckScript { file } => check_script_in(rt, file),

@@ -67,7 +67,7 @@ pub(crate) fn open_kept(
 }
 
 /// The tables of a desk in this database, and which version they are of.
-fn tables_in(
+pub(crate) fn tables_in(
     rt: &HostRuntime,
     kept: &Kept,
     store: Connection<FileStore<FileFrom<Wary>>>,

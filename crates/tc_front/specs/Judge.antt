@@ -16,7 +16,7 @@ use Rattle.tc_front.specs.declared.judge.Refused.{Refused}
 use Rattle.tc_front.specs.declared.judge.Refused.TheVariants as refused
 use Rattle.tc_front.specs.declared.judge.Judgement.{Judgement}
 use Rattle.tc_front.specs.declared.judge.Judgement.TheVariants as judgement
-use Rattle.tc_routes.specs.Paths.{Texts, places_text, request_text, history_text, report_text, waiting_text, moves_text, procedure_text, Named, posts_to, asks_for, path_of, same}
+use Rattle.tc_routes.specs.Paths.{Texts, places_text, request_text, history_text, report_text, waiting_text, moves_text, procedure_text, Named, posts_to, asks_for, shows_board, path_of, same}
 use Rattle.tc_front.specs.Fields.{values, Held, absent, single, several, found_of, IsDecimal}
 
 -- ---- a question
@@ -74,11 +74,14 @@ JudgesQuestion texts j = (asked : Option Query) × AsksFor texts asked × (j ≡
 
 -- ---- the body's length
 
--- a question has no length of a body, or exactly one that is 0
+-- what is asked by GET has no length of a body, or exactly one that is 0; else it is bad
+abbrev pub without_body : Held → Judgement → Judgement
+without_body absent asked = asked
+without_body (single value) asked = if same value (codes "0") then asked else bad
+without_body several asked = bad
+
 abbrev pub JudgesGet : Held → Texts → Judgement → Type 0
-JudgesGet absent texts j = JudgesQuestion texts j
-JudgesGet (single value) texts j = MatchBool (same value (codes "0")) (JudgesQuestion texts j) (j ≡ bad)
-JudgesGet several texts j = j ≡ bad
+JudgesGet lengths texts j = (asked : Judgement) × JudgesQuestion texts asked × (j ≡ without_body lengths asked)
 
 -- a decimal, and at most 65,536
 abbrev pub JudgesLength : List ℕ → Post → Judgement → Type 0
@@ -96,6 +99,7 @@ JudgesPost several post j = j ≡ bad
 abbrev pub JudgesBody : Held → Named → Judgement → Type 0
 JudgesBody lengths (posts_to post) j = JudgesPost lengths post j
 JudgesBody lengths (asks_for texts) j = JudgesGet lengths texts j
+JudgesBody lengths shows_board j = j ≡ without_body lengths judgement.ShowsBoard
 
 -- ---- the tests in their order: path, method, transfer coding, length
 
@@ -109,6 +113,7 @@ JudgesCoding several lengths named j = j ≡ bad
 abbrev pub method_of : Named → List ℕ
 method_of (posts_to post) = codes "POST"
 method_of (asks_for texts) = codes "GET"
+method_of shows_board = codes "GET"
 
 -- a path is served, and by this method
 abbrev pub JudgesPath : List ℕ → List (List ℕ × List ℕ) → Option Named → Judgement → Type 0

@@ -25,6 +25,7 @@ pub(crate) enum RouteKind {
     Waiting,
     Moves,
     Procedure,
+    Board,
 }
 
 /// The path of this kind with these texts, which are empty where it has none.
@@ -48,6 +49,7 @@ fn path_at<'a>(kind: RouteKind, first: &'a [u8], second: &'a [u8]) -> Path<'a>
         RouteKind::Waiting => Path::Asks(Question::Waiting),
         RouteKind::Moves => Path::Asks(Question::Moves { after: first }),
         RouteKind::Procedure => Path::Asks(Question::Procedure { name: first }),
+        RouteKind::Board => Path::Board,
     }
 }
 
@@ -114,6 +116,7 @@ impl Routes {
         add(&mut router, "/waiting", RouteKind::Waiting)?;
         add(&mut router, "/moves/{after}", RouteKind::Moves)?;
         add(&mut router, "/procedures/{name}", RouteKind::Procedure)?;
+        add(&mut router, "/board", RouteKind::Board)?;
         Ok(Routes { router })
     }
 

@@ -143,6 +143,10 @@ report_app = with_rule (with_rule (with_rule (new_app (codes "report")) file_rul
 abbrev pub backup_app : App
 backup_app = with_rule (with_rule (new_app (codes "backup")) file_rule) copy_rule
 
+-- board DB
+abbrev pub board_app : App
+board_app = with_rule (new_app (codes "board")) file_rule
+
 -- check KIND FILE
 abbrev pub check_app : App
 check_app = with_rule (with_rule (new_app (codes "check")) kind_rule) checked_rule
@@ -179,6 +183,10 @@ script_apps = with_subcommand (with_subcommand bare_app run_app.top) report_app.
 abbrev pub with_backup : App → App
 with_backup app = with_subcommand app backup_app.top
 
+-- .. with the one that prints the board of one
+abbrev pub with_board : App → App
+with_board app = with_subcommand app board_app.top
+
 -- .. with the one that checks a file
 abbrev pub with_check : App → App
 with_check app = with_subcommand app check_app.top
@@ -189,4 +197,4 @@ with_http app = with_subcommand (with_subcommand app serve_app.top) loop_app.top
 
 -- the program, with its commands
 abbrev pub desk_app : App
-desk_app = with_http (with_check (with_backup script_apps))
+desk_app = with_http (with_check (with_board (with_backup script_apps)))

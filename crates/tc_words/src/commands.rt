@@ -1,8 +1,8 @@
 //! The program's commands, and the matches of words that name one.
 ghost use Rattle.std.specs.Prelude.{◌≡◌, [], IfErr, IfOk, OnOk, map, true};
 ghost use Rattle.clap.specs.Words.{HasKind, fault_of, kind_of, new_app, subcommand_of, subcommand_rows_of, takes, with_rule, with_subcommand};
-ghost use Rattle.tc_words.specs.Commands.{backup_app, bare_app, bare_serve_app, check_app, desk_app, loop_app, report_app, run_app, script_apps, send_app, serve_app};
-ghost use Rattle.tc_words.specs.Commands.{with_backup, with_check, with_database, with_desk, with_http, with_link, with_told};
+ghost use Rattle.tc_words.specs.Commands.{backup_app, bare_app, bare_serve_app, board_app, check_app, desk_app, loop_app, report_app, run_app, script_apps, send_app, serve_app};
+ghost use Rattle.tc_words.specs.Commands.{with_backup, with_board, with_check, with_database, with_desk, with_http, with_link, with_told};
 
 use crate::arguments::{
     Argument, channel_arg, checked_arg, copy_arg, count_arg, database_arg, echo_arg, file_arg,
@@ -95,6 +95,7 @@ fn desk_command<'a>(alloc: Global) -> Result<Tree<'a>, AllocError>
     ensures { IfOk result (λ desk. desk ≡ desk_app) }
 {
     let commands = with_backup(alloc, script_commands(alloc)?)?;
+    let commands = with_board(alloc, commands)?;
     with_http(alloc, with_check(alloc, commands)?)
 }
 
@@ -112,6 +113,13 @@ fn with_backup<'a>(alloc: Global, command: Tree<'a>) -> Result<Tree<'a>, AllocEr
     ensures { IfOk result (λ more. more ≡ with_backup command.entry) }
 {
     command.subcommand(backup_command(alloc)?)
+}
+
+/// With the command that prints the board of one.
+fn with_board<'a>(alloc: Global, command: Tree<'a>) -> Result<Tree<'a>, AllocError>
+    ensures { IfOk result (λ more. more ≡ with_board command.entry) }
+{
+    command.subcommand(board_command(alloc)?)
 }
 
 /// With the command that checks a file.
@@ -208,6 +216,17 @@ fn backup_command<'a>(alloc: Global) -> Result<Tree<'a>, AllocError>
     )
     .arg(read_file_arg(alloc))?
     .arg(copy_arg(alloc))
+}
+
+fn board_command<'a>(alloc: Global) -> Result<Tree<'a>, AllocError>
+    ensures { IfOk result (λ board. board ≡ board_app) }
+{
+    Tree::new(
+        alloc,
+        "board",
+        "Print the board of a desk that is kept in a file, as a page of HTML",
+    )
+    .arg(read_file_arg(alloc))
 }
 
 fn check_command<'a>(alloc: Global) -> Result<Tree<'a>, AllocError>

@@ -1,0 +1,3 @@
+pub mod GatherLemmas
+pub mod OpenLemmas
+pub mod WayLemmas
