@@ -17,8 +17,13 @@ use std::marker::Model;
 /// The version of the program, which `--version` prints behind its name.
 const VERSION: &str = "0.1.0";
 
+/// How the program is called: without a word it runs the script that the standard input has.
+const USAGE: &str = "tcdesk [COMMAND]";
+
 /// What stands below the help of the program.
 const EXAMPLES: &str = "\
+Without a command: tcdesk run -
+
 Examples:
   tcdesk run examples/first-pass.tc            a pass, on a desk in memory
   tcdesk run --db desk.db examples/monday.tc   a shift, on a desk that a file keeps
@@ -143,6 +148,7 @@ fn bare_command<'a>(alloc: Global) -> Result<Tree<'a>, AllocError>
 {
     let command = Command::new(alloc, "tcdesk")
         .about("A spacecraft telecommand desk")
+        .override_usage(USAGE)
         .version(VERSION)
         .after_help(EXAMPLES)
         .subcommand_required(true)
