@@ -1,5 +1,5 @@
 -- The lines of a script, told one after the other.
-use Rattle.std.proofs.Common.{◌≡◌, ◌⊎◌, ◌∙◌, inl, inr, ℕ, ◌+◌, Option, Some, None, Result, Ok, Err, List, [], ◌∷◌, ◌++◌, length, refl, sym, ap, subst, append_assoc, arith}
+use Rattle.std.proofs.Common.{◌≡◌, ◌∙◌, inl, inr, ℕ, ◌+◌, Option, Some, None, Result, Ok, Err, List, [], ◌∷◌, ◌++◌, length, refl, sym, ap, subst, append_assoc, arith}
 use Rattle.std.specs.Prelude.{IsOkAnd, ◌↔◌, option_to_list}
 use Rattle.std.proofs.lemmas.List.{append-nil}
 use Rattle.tc_types.specs.ActGrammar.{HasLongAct}
@@ -9,7 +9,7 @@ use Rattle.tc_types.specs.declared.refusals.Refusal.{Refusal}
 use Rattle.tc_types.specs.declared.refusals.Refusal.TheVariants.{TooLong}
 use Rattle.tc_check.specs.declared.findings.Findings.{Findings}
 use Rattle.tc_check.specs.Findings.{Shows}
-use Rattle.tc_check.specs.Scripts.{IsLoadLine, SaysOfFile, SaysOfLine, SaysOfLines, SaysOfWhole, SaysSeen}
+use Rattle.tc_check.specs.Scripts.{IsLoadLine, SaysOfFile, SaysOfLine, SaysOfLines, SaysSeen}
 use Rattle.tc_check.specs.Sources.{Gives, Seen, seen_at}
 
 -- ---- what was seen
