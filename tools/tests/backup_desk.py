@@ -18,6 +18,7 @@ from model.kept import sqlite3
 from model.rows import Tables
 from tests.asked import ASKED
 from tests.http_peer import PATIENCE, Fault, Server
+from tests.new_desks import without_beside
 from tests.plain_runs import kept_tables, unlike
 from tests.runs import Ended
 
@@ -145,7 +146,7 @@ class Folder(NamedTuple):
     def run(self, *words: str) -> Ended:
         """Runs the program."""
         ran = subprocess.run([ASKED.program, *words], cwd=self.path, stdin=subprocess.DEVNULL, capture_output=True, timeout=900, check=False)
-        return Ended(ran.returncode, ran.stdout.decode("latin-1"), ran.stderr.decode("latin-1"))
+        return Ended(ran.returncode, ran.stdout.decode("latin-1"), without_beside(ran.stderr.decode("latin-1")))
 
     def forget(self, *names: str) -> None:
         """Takes these away, where they are there."""
@@ -157,7 +158,7 @@ class Folder(NamedTuple):
 def ended(process: "subprocess.Popen[bytes]") -> Ended:
     """How a program ended, once it has."""
     out, err = process.communicate(timeout=900)
-    return Ended(process.returncode, out.decode("latin-1"), err.decode("latin-1"))
+    return Ended(process.returncode, out.decode("latin-1"), without_beside(err.decode("latin-1")))
 
 
 def told_of(tables: Tables) -> str:

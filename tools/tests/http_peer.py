@@ -16,7 +16,7 @@ from model.desk import Desk
 from model.facts import status_of
 from model.http import Asks, Called, Loads, Refused, Shows, answer_to, fault_of, page_response, refusal_in, refused_response, reply_response
 from model.wall import board_page
-from tests.new_desks import said_first, said_then
+from tests.new_desks import said_first, said_then, without_beside
 from tests.runs import Ended
 
 PATIENCE = float(os.environ.get("PATIENCE", "20"))  # seconds for one exchange, or for the program to begin or to end
@@ -114,7 +114,7 @@ class Server:
         for file in self.files:
             file.seek(0)
             texts.append(file.read().decode("latin-1"))
-        return Ended(self.process.returncode, *texts)
+        return Ended(self.process.returncode, texts[0], without_beside(texts[1]))
 
     def end(self) -> Ended:
         """Waits for the program to end by itself."""

@@ -12,3 +12,4 @@ pub mod Notes
 pub mod Checks
 pub mod LineTexts
 pub mod Scripts
+pub mod Sources

@@ -13,9 +13,11 @@ mod places;
 mod records;
 mod scripts;
 mod shown;
+mod sources;
 mod told;
 mod words;
 
 pub use checks::{Checked, check_text};
 pub use findings::Findings;
 pub use scripts::{check_script, load_line, script_line};
+pub use sources::Texts;

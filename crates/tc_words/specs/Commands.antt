@@ -49,12 +49,20 @@ count_rule = record (new_rule (codes "COUNT")) {
   parser = Some (parser.Unsigned 1 1000000);
 }
 
--- --verbose: whether it is said how each connection ended
-abbrev pub verbose_rule : Rule
-verbose_rule = record (new_rule (codes "verbose")) {
-  long = Some (codes "verbose");
+-- an option that has no value
+abbrev pub flag_rule : Text → Rule
+flag_rule name = record (new_rule name) {
+  long = Some name;
   action = Some Count;
 }
+
+-- --echo: whether each line is shown before its answer
+abbrev pub echo_rule : Rule
+echo_rule = flag_rule (codes "echo")
+
+-- --verbose: whether all is told
+abbrev pub verbose_rule : Rule
+verbose_rule = flag_rule (codes "verbose")
 
 -- --w N: the window W of the FARM, 2 to 254, and 20 where it is not given
 abbrev pub window_rule : Rule
@@ -89,13 +97,12 @@ database_rule = record (new_rule (codes "db")) {
   value_names = 1;
 }
 
--- --at MOMENT: when the desk in the file is opened, 0 to 4,102,444,799, and 0 where it is not given
+-- --at MOMENT: when the desk in the file is opened, and 0 where it is not given
 abbrev pub moment_rule : Rule
 moment_rule = record (new_rule (codes "at")) {
   long = Some (codes "at");
   value_names = 1;
   defaults = codes "0" ∷ [];
-  parser = Some (parser.Unsigned 0 4102444799);
 }
 
 -- --first N: the number of the first line that is sent, 1 to 4,294,967,295, and 1 where it is not given
@@ -121,8 +128,12 @@ script_app = with_link (with_rule (new_app (codes "run")) script_rule)
 abbrev pub with_database : App → App
 with_database app = with_rule (with_rule app database_rule) moment_rule
 
+-- .. [--echo] [--verbose]
+abbrev pub with_told : App → App
+with_told app = with_rule (with_rule app echo_rule) verbose_rule
+
 abbrev pub run_app : App
-run_app = with_database script_app
+run_app = with_told (with_database script_app)
 
 -- report DB FROM TO
 abbrev pub report_app : App
@@ -153,8 +164,11 @@ abbrev pub serve_app : App
 serve_app = with_rule (with_desk bare_serve_app) verbose_rule
 
 -- loop DB SCRIPT [--w N] [--vc N] [--ring N] [--at MOMENT] [--first N]
+abbrev pub send_app : App
+send_app = with_rule (with_desk (with_rule (with_rule (new_app (codes "loop")) file_rule) script_rule)) first_rule
+
 abbrev pub loop_app : App
-loop_app = with_rule (with_desk (with_rule (with_rule (new_app (codes "loop")) file_rule) script_rule)) first_rule
+loop_app = with_told send_app
 
 -- the program's name, without its commands; one of them has to be named, and it has a version
 abbrev pub bare_app : App

@@ -1,13 +1,13 @@
 //! The program's commands, and the matches of words that name one.
 ghost use Rattle.std.specs.Prelude.{◌≡◌, [], IfErr, IfOk, OnOk, map, true};
 ghost use Rattle.clap.specs.Words.{HasKind, fault_of, kind_of, new_app, subcommand_of, subcommand_rows_of, takes, with_rule, with_subcommand};
-ghost use Rattle.tc_words.specs.Commands.{backup_app, bare_app, bare_serve_app, board_app, check_app, desk_app, loop_app, report_app, run_app, script_apps, serve_app};
-ghost use Rattle.tc_words.specs.Commands.{with_backup, with_board, with_check, with_desk, with_http, with_link};
+ghost use Rattle.tc_words.specs.Commands.{backup_app, bare_app, bare_serve_app, board_app, check_app, desk_app, loop_app, report_app, run_app, script_apps, send_app, serve_app};
+ghost use Rattle.tc_words.specs.Commands.{with_backup, with_board, with_check, with_database, with_desk, with_http, with_link, with_told};
 
 use crate::arguments::{
-    Argument, channel_arg, checked_arg, copy_arg, count_arg, database_arg, file_arg, first_arg,
-    from_arg, kind_arg, moment_arg, port_arg, read_file_arg, ring_arg, script_arg, to_arg,
-    verbose_arg, window_arg,
+    Argument, channel_arg, checked_arg, copy_arg, count_arg, database_arg, echo_arg, file_arg,
+    first_arg, from_arg, kind_arg, lines_arg, moment_arg, port_arg, read_file_arg, ring_arg,
+    script_arg, to_arg, verbose_arg, window_arg,
 };
 use clap::error::ErrorKind;
 use clap::{ArgMatches, Command};
@@ -17,13 +17,19 @@ use std::marker::Model;
 /// The version of the program, which `--version` prints behind its name.
 const VERSION: &str = "0.1.0";
 
+/// How the program is called: without a word it runs the script that the standard input has.
+const USAGE: &str = "tcdesk [COMMAND]";
+
 /// What stands below the help of the program.
 const EXAMPLES: &str = "\
+Without a command: tcdesk run -
+
 Examples:
   tcdesk run examples/first-pass.tc            a pass, on a desk in memory
   tcdesk run --db desk.db examples/monday.tc   a shift, on a desk that a file keeps
   tcdesk report desk.db 0 86400                what happened in it
   tcdesk backup desk.db copy.db                a copy of it, also while it runs
+  tcdesk check script examples/monday.tc       what is wrong with its lines
   tcdesk check stack examples/stack.csv        whether a stack can be loaded";
 
 /// A command with those below it, each of whose arguments is its own alone. A contract sees it as what it takes.
@@ -142,6 +148,7 @@ fn bare_command<'a>(alloc: Global) -> Result<Tree<'a>, AllocError>
 {
     let command = Command::new(alloc, "tcdesk")
         .about("A spacecraft telecommand desk")
+        .override_usage(USAGE)
         .version(VERSION)
         .after_help(EXAMPLES)
         .subcommand_required(true)
@@ -158,9 +165,21 @@ fn run_command<'a>(alloc: Global) -> Result<Tree<'a>, AllocError>
         "Run the lines of a script on a desk: a new one, or one that is kept in a file",
     )
     .arg(script_arg(alloc))?;
-    with_link(alloc, run)?
-        .arg(database_arg(alloc))?
-        .arg(moment_arg(alloc))
+    with_told(alloc, with_database(alloc, with_link(alloc, run)?)?)
+}
+
+/// With the options of a desk that may be kept in a file.
+fn with_database<'a>(alloc: Global, command: Tree<'a>) -> Result<Tree<'a>, AllocError>
+    ensures { IfOk result (λ more. more ≡ with_database command.entry) }
+{
+    command.arg(database_arg(alloc))?.arg(moment_arg(alloc))
+}
+
+/// With the options of what is told of the lines of a script.
+fn with_told<'a>(alloc: Global, command: Tree<'a>) -> Result<Tree<'a>, AllocError>
+    ensures { IfOk result (λ more. more ≡ with_told command.entry) }
+{
+    command.arg(echo_arg(alloc))?.arg(lines_arg(alloc))
 }
 
 /// With the options of a desk, wherever it is kept.
@@ -222,7 +241,7 @@ fn check_command<'a>(alloc: Global) -> Result<Tree<'a>, AllocError>
     Tree::new(
         alloc,
         "check",
-        "Say whether the file of a stack or of a procedure can be loaded, or what is wrong with it",
+        "Say what is wrong with a script, or with the file of a stack or of a procedure",
     )
     .arg(kind_arg(alloc))?
     .arg(checked_arg(alloc))
@@ -249,6 +268,12 @@ fn bare_serve_command<'a>(alloc: Global) -> Result<Tree<'a>, AllocError>
 
 fn loop_command<'a>(alloc: Global) -> Result<Tree<'a>, AllocError>
     ensures { IfOk result (λ sending. sending ≡ loop_app) }
+{
+    with_told(alloc, send_command(alloc)?)
+}
+
+fn send_command<'a>(alloc: Global) -> Result<Tree<'a>, AllocError>
+    ensures { IfOk result (λ sending. sending ≡ send_app) }
 {
     let sending = Tree::new(
         alloc,
