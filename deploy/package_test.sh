@@ -361,7 +361,7 @@ service_cases() {
         "stat -c %U /proc/\$($id); awk '/^(CapEff|CapBnd|NoNewPrivs|Seccomp):/ { print \$2 }' /proc/\$($id)/status"
     machine_says "of the disk it may write its own folder alone, also root there" $'written: /var/lib/tcdesk' \
         "for it in / /boot /etc /home /opt /root /srv /usr /usr/local /var /var/cache /var/lib /var/lib/tcdesk /var/log; do
-            ! nsenter -t \$($id) -m touch \$it/probe 2>/dev/null || { echo written: \$it; nsenter -t \$($id) -m rm \$it/probe; }; done"
+            ! nsenter --mount=/proc/\$($id)/ns/mnt touch \$it/probe 2>/dev/null || { echo written: \$it; nsenter --mount=/proc/\$($id)/ns/mnt rm \$it/probe; }; done"
     machine_says "whose its file is" $'700 tcdesk:tcdesk /var/lib/tcdesk\n600 tcdesk:tcdesk /var/lib/tcdesk/one.db' \
         "stat -c '%a %U:%G %n' /var/lib/tcdesk /var/lib/tcdesk/one.db"
 
