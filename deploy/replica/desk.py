@@ -13,12 +13,19 @@ from typing import Callable, NamedTuple, NoReturn, Optional, Sequence
 
 PATIENCE = 60.0  # seconds that a desk has for an answer
 QUESTION = {"by": "replica", "moment": 0, "number": 4294967295}
+MEMORY_OR_DISK = 503  # what a desk answers that was refused memory (30), or whose file failed (31, 32)
+OWN = ("connection", "content-length")  # header lines of a connection, and not of what is answered
 
 
 class Answer(NamedTuple):
-    """What a desk answered."""
+    """What a desk answered, with the header lines that belong to it."""
     status: int
     body: bytes
+    headers: tuple[tuple[str, str], ...] = (("Content-Type", "application/json"),)
+
+    def has_failed(self) -> bool:
+        """Whether it says that the desk's file failed. A question that was refused memory left the desk as it was."""
+        return self.status == MEMORY_OR_DISK and not self.body.endswith(b'"refusal":30}')
 
 
 class Ended(Exception):
@@ -72,7 +79,7 @@ class Desk:
                     break
                 peer.request(method, path, body)
                 answer = peer.getresponse()
-                return Answer(answer.status, answer.read())
+                return Answer(answer.status, answer.read(), tuple(it for it in answer.getheaders() if it[0].lower() not in OWN))
             except (OSError, http.client.HTTPException):
                 time.sleep(0.02)
             finally:
