@@ -13,12 +13,19 @@ from typing import Callable, NamedTuple, NoReturn, Optional, Sequence
 
 PATIENCE = 60.0  # seconds that a desk has for an answer
 QUESTION = {"by": "replica", "moment": 0, "number": 4294967295}
+MEMORY_OR_DISK = 503  # what a desk answers that was refused memory (30), or whose file failed (31, 32)
+OWN = ("connection", "content-length")  # header lines of a connection, and not of what is answered
 
 
 class Answer(NamedTuple):
-    """What a desk answered."""
+    """What a desk answered, with the header lines that belong to it."""
     status: int
     body: bytes
+    headers: tuple[tuple[str, str], ...] = (("Content-Type", "application/json"),)
+
+    def has_failed(self) -> bool:
+        """Whether it says that the desk's file failed. A question that was refused memory left the desk as it was."""
+        return self.status == MEMORY_OR_DISK and not self.body.endswith(b'"refusal":30}')
 
 
 class Ended(Exception):
@@ -72,7 +79,7 @@ class Desk:
                     break
                 peer.request(method, path, body)
                 answer = peer.getresponse()
-                return Answer(answer.status, answer.read())
+                return Answer(answer.status, answer.read(), tuple(it for it in answer.getheaders() if it[0].lower() not in OWN))
             except (OSError, http.client.HTTPException):
                 time.sleep(0.02)
             finally:
@@ -136,9 +143,11 @@ def digest_of(path: str) -> str:
 
 def begin_desk(folder: str, way: Way, agrees: Callable[[bytes], bool]) -> NoReturn:
     """Becomes a desk with an empty file, or with a copy of the first one, if all machines agree on that. The file of the one before is `left.db`, for who wants
-    to know why it ended. The lock is the process's own, whatever program it runs."""
+    to know why it ended; one that was no such desk's is left alone. The lock is the process's own, whatever program it runs."""
     os.makedirs(folder, exist_ok=True)
     desk = Desk(folder)
+    if os.path.exists(desk.path("desk.db")) and not os.path.exists(desk.path("opening")):
+        raise SystemExit(f"replica: {desk.path('desk.db')} is no desk of a replica: it is left as it is, and another folder is wanted")
     lock = os.open(desk.path("opening"), os.O_RDWR | os.O_CREAT, 0o640)
     for _ in range(20):  # a follower that looks whether a desk runs has it for a moment
         with suppress(BlockingIOError):

@@ -157,7 +157,8 @@ class Handler(BaseHTTPRequestHandler):
     def reply(self, answer: Answer, place: Optional[int] = None) -> None:
         """Writes an answer."""
         self.send_response_only(answer.status)
-        self.send_header("Content-Type", "application/json")
+        for name, value in answer.headers:
+            self.send_header(name, value)
         self.send_header("Content-Length", str(len(answer.body)))
         if place is not None:
             self.send_header("Tcdesk-Place", str(place))

@@ -8,13 +8,12 @@ from queue import Empty, SimpleQueue
 from typing import Callable, NamedTuple, NoReturn, Optional, Protocol
 
 from compare import Comparison
-from desk import Answer, Desk, Ended, Opening
+from desk import MEMORY_OR_DISK, Answer, Desk, Ended, Opening
 from etcd import Unanswered
 from log import COMPARE, MOST_AT_ONCE, PAUSE, Entry, LogLost, now
 
 IDLE = 0.25  # seconds after which it looks into the log again, where nobody calls
 AGAIN = 30.0  # seconds after which a machine that is out asks for a comparison once more
-MEMORY_OR_DISK = 503  # what a desk answers that was refused memory (30), or whose file failed (31, 32)
 
 
 def say(text: str) -> None:
@@ -199,10 +198,12 @@ class Machine:
                 self.later.append(self.questions.get_nowait())
         except Empty:
             pass
-        due = [it for it in self.later if not opening or it.least <= self.place]
-        self.later = [it for it in self.later if it not in due]
-        for it in due:
+        for it in [it for it in self.later if not opening or it.least <= self.place]:
             if opening and self.is_in:
-                it.told.set_result(Carried(self.place, self.ask_desk(opening, "GET", it.path, None)))
+                answer = self.ask_desk(opening, "GET", it.path, None)
+                if answer.has_failed():
+                    raise Left(f"behind place {self.place} the desk answered {answer.body.decode()}")
+                it.told.set_result(Carried(self.place, answer))
             else:
                 it.told.set_exception(Ended("the machine is out"))
+            self.later.remove(it)

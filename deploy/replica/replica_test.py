@@ -44,6 +44,7 @@ from tests.runs import quick_folder  # noqa: E402
 HERE = os.path.dirname(os.path.realpath(__file__))
 PROGRAM = ""
 LONG = 120.0  # seconds for anything
+SOON = 3.0  # seconds behind which somebody is told that nothing is known, where a test waits for that
 
 
 def waits() -> bool:
@@ -350,7 +351,7 @@ class DeskInMemory(Desk):
         super().__init__(folder)
         self.runs = Opening("mark", 0, 0, 1000)
         self.posts: list[bytes] = []
-        self.status = 200
+        self.status, self.body, self.headers = 200, b"", (("Content-Type", "text/plain"), ("Cache-Control", "no-store"))
         self.step: Callable[[], None] = lambda: None
         self.is_ended = False
 
@@ -366,7 +367,7 @@ class DeskInMemory(Desk):
             self.step()
             self.posts.append(body or b"")
             self.step()
-        return Answer(self.status, b"%d" % len(self.posts))
+        return Answer(self.status, self.body or b"%d" % len(self.posts), self.headers)
 
     def begin(self, place: int, asked: int, mark: str) -> None:
         """The place is written down."""
@@ -441,7 +442,7 @@ class Followers(unittest.TestCase):
         machine = self.begun()
         told = machine.waiting[self.entries[4].mark] = type(machine.ask("/x", 9))()
         machine.go_on(self.desk.runs)
-        self.assertEqual((5, Answer(200, b"5")), told.result(0))
+        self.assertEqual((5, Answer(200, b"5", self.desk.headers)), told.result(0))
         self.assertEqual({}, machine.waiting)
 
     def test_leaves(self) -> None:
@@ -463,7 +464,7 @@ class Followers(unittest.TestCase):
         machine.is_in = True
         early, late = machine.ask("/places", 20), machine.ask("/places", 21)
         machine.go_on(self.desk.runs)
-        self.assertEqual((20, Answer(200, b"20")), early.result(0))
+        self.assertEqual((20, Answer(200, b"20", self.desk.headers)), early.result(0))
         self.assertRaises(Late, late.result, 0)
         self.log.append([Wanted(entry(20), waits)])
         machine.go_on(self.desk.runs)
@@ -472,6 +473,21 @@ class Followers(unittest.TestCase):
         out = machine.ask("/places", 0)
         machine.go_on(self.desk.runs)
         self.assertRaises(Ended, out.result, 0)
+
+    def test_failed_questions(self) -> None:
+        """A question that is refused memory is answered so. Where it tells that the file failed the machine is out, and all who wait are told so."""
+        machine = self.begun()
+        machine.is_in, self.desk.status = True, 503
+        machine.place, self.desk.body = 20, b'{"lines":["refused 30 Memory"],"more":0,"refusal":30}'
+        told = machine.ask("/report/0/1", 0)
+        machine.go_on(self.desk.runs)
+        self.assertEqual(503, told.result(0).answer.status)
+        self.desk.body = b'{"lines":["refused 31 Store"],"more":0,"refusal":31}'
+        asked = [machine.ask("/places", 0), machine.ask("/places", 0), machine.ask("/places", 99)]
+        self.assertRaises(Left, machine.go_on, self.desk.runs)
+        machine.leave(self.desk.runs, "why")
+        for it in asked:
+            self.assertRaises(Ended, it.result, 0)
 
     def compared(self) -> list[tuple[int, str, bool]]:
         """The comparisons that it had made by now."""
@@ -546,7 +562,7 @@ class Followers(unittest.TestCase):
 class Served:
     """A machine that runs in this process, over a log and a desk, with its entrance."""
 
-    def __init__(self, log: Log, desk: Desk, name: str, patience: float = 5.0, every: int = 100) -> None:
+    def __init__(self, log: Log, desk: Desk, name: str, patience: float = LONG, every: int = 100) -> None:
         """It follows."""
         self.machine = Machine(log, desk, every)
         self.present = Present(log.etcd, log.root, name, 5)
@@ -598,7 +614,7 @@ class Entrances(unittest.TestCase):
         self.addCleanup(folder.cleanup)
         self.etcd, self.desk = StandIn(), DeskInMemory(folder.name)
         self.log = Log(self.etcd, "desk")
-        self.served = Served(self.log, self.desk, "a", 1.0)
+        self.served = Served(self.log, self.desk, "a")
         self.served.wait(lambda: self.served.machine.is_in)
 
     def test_posts(self) -> None:
@@ -629,16 +645,23 @@ class Entrances(unittest.TestCase):
         self.assertEqual((200, "2", "1"), self.served.ask("GET", "/places?newest"))
         self.etcd.is_away = True
         self.assertEqual((200, "2", "1"), self.served.ask("GET", "/places"))
-        self.assertEqual(504, self.served.ask("GET", "/places?newest")[0])
+        self.assertEqual(504, self.given_up("GET", "/places?newest"))
+
+    def given_up(self, method: str, path: str, body: Optional[bytes] = None) -> int:
+        """The status of an answer of an entrance that has little patience."""
+        self.served.entrance.patience = SOON
+        status = self.served.ask(method, path, body)[0]
+        self.served.entrance.patience = LONG
+        return status
 
     def test_unknown(self) -> None:
         """Where etcd does not answer nothing is known: 504. Then it is put where it was tried, or nowhere."""
         self.etcd.is_away = True
-        self.assertEqual(504, self.served.ask("POST", "/acts", b"1")[0])
+        self.assertEqual(504, self.given_up("POST", "/acts", b"1"))
         self.etcd.is_away = False
         self.served.wait(lambda: self.desk.posts == [b"1"])
         self.etcd.is_away = True
-        self.assertEqual(504, self.served.ask("POST", "/acts", b"2")[0])
+        self.assertEqual(504, self.given_up("POST", "/acts", b"2"))
         self.etcd.keys[self.log.key(3).encode()] = Entry("b-0-0", "/acts", b"3").text(), "0"
         self.etcd.is_away = False
         self.assertEqual((200, "4", "3"), self.served.ask("POST", "/acts", b"4"))
@@ -656,7 +679,6 @@ class Entrances(unittest.TestCase):
 
     def test_out_early(self) -> None:
         """A machine that leaves while a post has no place: it is told 504 at once, and the post is put behind nothing that comes then."""
-        self.served.entrance.patience = LONG
         self.etcd.is_away, told = True, list[int]()
         asks = threading.Thread(target=lambda: told.append(self.served.ask("POST", "/acts", b"1")[0]))
         asks.start()
@@ -668,6 +690,15 @@ class Entrances(unittest.TestCase):
         self.etcd.is_away, self.desk.runs, self.desk.is_ended = False, Opening("another", 0, 0, 1000), False
         self.served.wait(lambda: self.served.machine.is_in)
         self.assertEqual([b"2"], self.desk.posts)
+
+    def test_headers(self) -> None:
+        """The header lines of an answer are those of the desk, whatever it answers."""
+        peer = http.client.HTTPConnection("127.0.0.1", self.served.entrance.server_port, timeout=LONG)
+        peer.request("GET", "/board")
+        with peer.getresponse() as answer:
+            names = ("Content-Type", "Cache-Control", "Tcdesk-Place", "Content-Length", "Connection")
+            self.assertEqual([["text/plain"], ["no-store"], ["1"], ["1"], None], [answer.headers.get_all(it) for it in names])
+        peer.close()
 
     def test_full(self) -> None:
         """A log that is as long as a desk can serve takes no more."""
@@ -752,6 +783,16 @@ class Real(unittest.TestCase):
                 self.assertIn(b"ok request %d 5/1" % number, told.body)
                 desk.end(opening)
                 process.wait(LONG)
+
+    def test_foreign_desk(self) -> None:
+        """A desk that was there before is not put aside."""
+        with tempfile.TemporaryDirectory(prefix="replica-", dir=quick_folder()) as folder:
+            os.mkdir(f"{folder}/a")
+            with open(f"{folder}/a/desk.db", "w", encoding="ascii") as file:
+                file.write("a history")
+            self.assertEqual(1, self.begin(f"{folder}/a", free_port()).wait(LONG))
+            with open(f"{folder}/a/desk.db", encoding="ascii") as file:
+                self.assertEqual((["desk.db"], "a history"), (os.listdir(f"{folder}/a"), file.read()))
 
     def test_lock(self) -> None:
         """A second desk of a folder is not begun, and the file of the first is kept by the next one."""

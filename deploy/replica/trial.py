@@ -30,7 +30,7 @@ from tests.http_peer import Fault, run  # noqa: E402
 from tests.plain_runs import kept_tables  # noqa: E402
 from tests.runs import made_shim, quick_folder  # noqa: E402
 from trial_checks import carried_out, done_wrongly, entries_of, wrong_answers, wrong_files  # noqa: E402
-from trial_clients import AT_ONCE, Client, Dealer, Post, random_posts  # noqa: E402
+from trial_clients import AT_ONCE, Client, Dealer, Script, random_script  # noqa: E402
 from trial_machines import LEASE, CutNet, Member, Net, Unit, wait_for  # noqa: E402
 
 NAME = "desk"
@@ -57,7 +57,7 @@ class Trial:
         self.members = [Member(net, at, folder, asked.program, asked.every, counts[at]) for at in range(count)]
         self.passed, self.failed = 0, 0
         self.clients: list[Client] = []
-        self.dealer = Dealer([])
+        self.dealer = Dealer(Script([], []))
 
     def __enter__(self) -> "Trial":
         """All machines are in."""
@@ -86,9 +86,9 @@ class Trial:
 
     # ---- posts
 
-    def send(self, posts: Sequence[Post], members: Optional[Sequence[Member]] = None) -> None:
+    def send(self, script: Script, members: Optional[Sequence[Member]] = None) -> None:
         """Has clients for these posts; none is let go yet."""
-        self.dealer = Dealer(posts)
+        self.dealer = Dealer(script)
         self.clients = [Client(self.dealer, members or self.members, at % len(members or self.members)) for at in range(AT_ONCE)]
         for it in self.clients:
             it.start()
@@ -227,15 +227,16 @@ class Trial:
 
     def look(self) -> None:
         """Everything."""
-        told = [it for client in self.clients for it in client.told]
         self.end_of_posts()
+        told, looks = [it for client in self.clients for it in client.told], [it for client in self.clients for it in client.looks]
         entries = entries_of(self.members[0], NAME)
         marks = {it.mark for it in entries}
         self.tell("each entry of the log has a mark of its own", ["one mark comes twice"] * (len(marks) != len(entries)))
-        carried = carried_out(entries, self.first)
+        carried = carried_out(entries, self.first, looks)
         self.tell("each answer is the plain desk's at its place", wrong_answers(carried, told))
-        late = [f"{it}" for client in self.clients for it in client.places if it[1] < it[0]]
-        self.tell(f"{sum(len(it.places) for it in self.clients)} questions for the newest are no older than the post before", late)
+        self.tell(f"{len(looks)} questions by GET are answered as the plain desk answers at their places", carried.wrong_looks + ["there are none"] * (not looks))
+        newest = [it for it in looks if it.least]
+        self.tell(f"{len(newest)} of them for the newest, none as of an older place than the post before", [f"{it}" for it in newest if it.place < it.least])
         self.look_at_links(carried.desk.acts)
         for it in self.members:
             it.units["desk"].goes.clear()
@@ -283,7 +284,7 @@ def faults(asked: argparse.Namespace, folder: str) -> int:
     print(f"replica: seed {asked.seed}", flush=True)
     with Trial(asked, folder, net, 3, [asked.stage // 2]) as trial:
         told = plan(trial)
-        trial.send(random_posts(asked.seed, asked.posts * 2, trial.first))
+        trial.send(random_script(asked.seed, asked.posts * 2, trial.first))
         began = time.monotonic()
         trial.fault(f"a desk ends after its COUNT, {asked.stage // 2}", lambda: None, asked.stage)
         for what, does in told:
@@ -309,29 +310,29 @@ class Alone(Member):
 
 def rates(asked: argparse.Namespace, folder: str) -> int:
     """Acts a second."""
-    posts = random_posts(asked.seed, asked.posts, empty_tables())
+    script = random_script(asked.seed, asked.posts, empty_tables())
     os.mkdir(f"{folder}/alone")
     with Trial(asked, f"{folder}/alone", Net(0), 0) as trial:
         trial.members = [Alone(f"{folder}/alone", asked.program)]
         trial.members[0].go()
         wait_for("it there", trial.are_in)
-        rate("a desk alone", trial, posts, trial.members)
+        rate("a desk alone", trial, script, trial.members)
     for what, count, dead in (("one machine", 1, 0), ("three machines", 3, 0), ("three machines, one of them dead", 3, 1)):
         os.mkdir(f"{folder}/{count}{dead}")
         with Trial(asked, f"{folder}/{count}{dead}", Net(count), count) as trial:
             for it in trial.members[count - dead:]:
                 it.each(lambda unit: unit.hold())
-            rate(what, trial, posts, trial.members[:count - dead])
+            rate(what, trial, script, trial.members[:count - dead])
             if not dead:
                 rejoin(trial.members[0])
     return 0
 
 
-def rate(what: str, trial: Trial, posts: Sequence[Post], alive: Sequence[Member]) -> None:
+def rate(what: str, trial: Trial, script: Script, alive: Sequence[Member]) -> None:
     """How many of these posts are answered a second by the machines that are there."""
-    trial.send(posts, alive)
+    trial.send(script, alive)
     began, spent = time.monotonic(), sum(it.spent() for it in alive)
-    trial.let_go(len(posts))
+    trial.let_go(len(script.posts))
     took, spent = time.monotonic() - began, sum(it.spent() for it in alive) - spent
     print(f"{what}: {trial.answered() / took:.0f} posts a second of {AT_ONCE} clients; {spent * 1000 / len(alive) / trial.answered():.1f} ms of a "
           f"processor each on each machine; a load of {os.getloadavg()[0]:.0f}", flush=True)

@@ -1,26 +1,32 @@
 """What the trial looks at behind its faults: the log, each answer, and all rows of all files, beside the plain desk of tools/model, which carries the log out."""
 import json
+from collections import defaultdict
 from typing import Iterable, NamedTuple, Sequence
 
 from etcd import Etcd, span
-from generate.http_words import post
+from generate.http_words import get, post
 from log import COMPARE, Entry, Log, entry_of
 from model.calls import Calls
-from model.desk import Desk
+from model.desk import QUESTIONS, Desk
 from model.http import Refused, answer_to, refused_response, reply_response
 from model.rows import Tables
+from tables import digest_of
 from tests.plain_runs import kept_tables, unlike
-from trial_clients import Told
+from trial_clients import Look, Told
 from trial_machines import Member
 
 SHOWN = 200  # lines of a reply that an answer shows
 
 
+Answer = tuple[int, bytes]  # a status, and a body
+
+
 class Carried(NamedTuple):
-    """A log that the plain desk has carried out: each entry with its answer, status and body, and the desk in the end."""
+    """A log that the plain desk has carried out: each entry with its answer, the desk in the end, and what was wrong of questions on the way."""
     entries: list[Entry]
-    answers: list[tuple[int, bytes]]
+    answers: list[Answer]
     desk: Desk
+    wrong_looks: list[str]
 
 
 def entries_of(member: Member, name: str) -> list[Entry]:
@@ -36,19 +42,23 @@ def entries_of(member: Member, name: str) -> list[Entry]:
             return entries
 
 
-def carried_out(entries: Sequence[Entry], first: Tables) -> Carried:
-    """What the plain desk makes of a log, opened over the tables with which all desks begin."""
-    calls = Calls(Desk.opened(first, 0))
-    answers = [answer_by(calls, it) for it in entries]
-    return Carried(list(entries), answers, calls.desk)
+def carried_out(entries: Sequence[Entry], first: Tables, looks: Iterable[Look]) -> Carried:
+    """What the plain desk makes of a log, opened over the tables with which all desks begin. Each question is asked of it at the place of its answer."""
+    calls, answers, faults, looks_at = Calls(Desk.opened(first, 0)), list[Answer](), list[str](), defaultdict[int, list[Look]](list)
+    for look in looks:
+        looks_at[look.place].append(look)
+    for place, it in enumerate(entries, 1):
+        answers.append(answer_by(calls, post(it.path, it.body)) if it.path != COMPARE else (200, b""))
+        faults += [f"place {place}: {look.path} was answered {look.status} {look.answer[:200]!r}" for look in looks_at.pop(place, [])
+                   if (look.status, look.answer) != answer_by(calls, get(look.path))]
+    faults += [f"place {it.place} is none: {it.path} was answered {it.status}" for more in looks_at.values() for it in more]
+    return Carried(list(entries), answers, calls.desk, faults)
 
 
-def answer_by(calls: Calls, it: Entry) -> tuple[int, bytes]:
-    """What the plain desk answers to an entry."""
-    if it.path == COMPARE:
-        return 200, b""
-    asked = answer_to(post(it.path, it.body))
-    assert asked is not None, "an entry is a whole request"
+def answer_by(calls: Calls, request: bytes) -> Answer:
+    """What the plain desk answers to a request."""
+    asked = answer_to(request)
+    assert asked is not None, "it is a whole one"
     response = refused_response(asked) if isinstance(asked, Refused) else reply_response(calls.reply(asked))
     head, body = response.split(b"\r\n\r\n", 1)
     return int(head.split(b" ")[1]), body
@@ -77,7 +87,7 @@ def done_wrongly(tables: Tables, told: Iterable[Told]) -> list[str]:
         if it.status != 200:
             continue
         keys, lines = json.loads(it.post.body), json.loads(it.answer)["lines"]
-        is_question = it.post.path == "/acts" and keys["act"].split(" ")[0] in ("places", "history", "request", "link", "schedule", "log", "report")
+        is_question = it.post.path == "/acts" and keys["act"].split(" ")[0] in QUESTIONS
         body = kept.get((keys["by"], keys["number"]))
         if body is None and is_question:
             continue
@@ -87,8 +97,8 @@ def done_wrongly(tables: Tables, told: Iterable[Told]) -> list[str]:
 
 
 def wrong_files(carried: Carried, members: Sequence[Member]) -> list[str]:
-    """Files of desks that have ended whose tables are not those of the plain desk, row by row."""
-    faults = []
+    """Files of desks that have ended whose tables are not those of the plain desk, row by row, or not those of the others, with the numbers of the rows."""
+    faults = ["the digests of the files are not the same"] * (len({digest_of(f"{it.folder}/desk/desk.db") for it in members}) > 1)
     for it in members:
         found = kept_tables(f"{it.folder}/desk/desk.db", "mode=rw")
         why = unlike(found, carried.desk.tables()) if found != carried.desk.tables() else ""

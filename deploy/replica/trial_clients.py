@@ -1,4 +1,5 @@
-"""Clients for the trial: each sends its posts one after the other, and each post again, to the next machine, until an answer says what became of it."""
+"""Clients for the trial: each sends its posts one after the other, and each post again, to the next machine, until an answer says what became of it. Now and
+then it asks a question, mostly for the newest."""
 import random
 import threading
 import time
@@ -11,6 +12,8 @@ from model.rows import Tables
 from trial_machines import PATIENCE, Member
 
 AT_ONCE = 10
+LOOKS = 10  # posts between two questions of a client
+NEWEST = "?newest"
 
 
 class Post(NamedTuple):
@@ -29,19 +32,36 @@ class Told(NamedTuple):
     at: float
 
 
-def random_posts(seed: int, count: int, tables: Tables) -> list[Post]:
-    """So many posts by a seed, or a few more, for a desk that has these tables. A third of them repeat one of before, or spoil it."""
-    made = posted_day(random.Random(seed), tables, 0, 1, [], count)
-    return [Post(it.call.path, body_of(dict(it.call.keys)).encode()) for it in made.exchanges]
+class Look(NamedTuple):
+    """A question by GET, its answer, the place as of which that is, and the place of the answer before, where the newest was asked for; else 0."""
+    path: str
+    status: int
+    answer: bytes
+    place: int
+    least: int
+
+
+class Script(NamedTuple):
+    """What the clients send, in this order, and the paths that they ask for."""
+    posts: list[Post]
+    paths: list[str]
+
+
+def random_script(seed: int, count: int, tables: Tables) -> Script:
+    """So many posts by a seed, or a few less, for a desk that has these tables. A third of them repeat one of before, or spoil it."""
+    made = posted_day(random.Random(seed), tables, 0, 1, [], count).exchanges
+    posts = [Post(it.call.path, body_of(dict(it.call.keys)).encode()) for it in made if it.call]
+    paths = [it.raw.split(b" ", 2)[1].decode() for it in made if not it.call]
+    return Script(posts, [*paths, "/places", "/report/0/4102444799"])
 
 
 class Dealer:
     """Deals out posts: so many at once as were let go, and then a few a second."""
     SLOWLY = 0.05
 
-    def __init__(self, posts: Sequence[Post]) -> None:
+    def __init__(self, script: Script) -> None:
         """None is let go yet."""
-        self.posts, self.dealt, self.free, self.is_over = list(posts), 0, 0, False
+        self.posts, self.paths, self.dealt, self.free, self.is_over = script.posts, script.paths, 0, 0, False
         self.changed = threading.Condition()
 
     def let_go(self, count: int) -> None:
@@ -75,15 +95,15 @@ class Client(threading.Thread):
         super().__init__(daemon=True)
         self.dealer, self.members, self.home, self.at = dealer, members, at, at
         self.told: list[Told] = []
-        self.places: list[tuple[int, int]] = []  # of questions: that of the answer to the post before, and that of the answer
-        self.fault = ""
+        self.looks: list[Look] = []
+        self.dice, self.fault = random.Random(at), ""
 
     def run(self) -> None:
         """All posts that it is dealt."""
         try:
             while post := self.dealer.next():
                 self.told.append(self.send(post))
-                if len(self.told) % 20 == 0:
+                if len(self.told) % LOOKS == 0:
                     self.at = self.home
                     self.look(self.told[-1].place)
         except Exception as why:  # which the trial tells
@@ -107,10 +127,11 @@ class Client(threading.Thread):
         except (OSError, HTTPException):
             return None
 
-    def look(self, least: int) -> None:
-        """Asks another machine for the newest: its answer is as of no earlier place than that of the last post."""
-        told = self.ask((self.at + 1) % len(self.members), "GET", "/places?newest", None, 1.0)
-        if told and told[0] == 200:
-            self.places.append((least, told[2]))
+    def look(self, place: int) -> None:
+        """Asks some machine a question, in two of three times for the newest: then its answer is as of no earlier place than this one, that of the last post."""
+        path, is_newest = self.dice.choice(self.dealer.paths), self.dice.randrange(3) > 0
+        told = self.ask(self.dice.randrange(len(self.members)), "GET", path + NEWEST * is_newest, None, 2.0)
+        if told and told[0] not in (502, 503, 504):
+            self.looks.append(Look(path, *told, place * is_newest))
 
 
