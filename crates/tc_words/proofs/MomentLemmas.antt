@@ -1,5 +1,5 @@
 -- Texts that spell moments, or none.
-use Rattle.std.proofs.Common.{◌≡◌, Option, Some, None, Result, Ok, Err, codes, inl, refl, arith}
+use Rattle.std.proofs.Common.{◌≡◌, Option, Some, None, Result, codes, inl, refl, arith}
 use Rattle.std.specs.Prelude.{IfErr, IfNone, ok_or}
 use Rattle.std.specs.Fmt.{digits}
 use Rattle.tc_words.specs.Asked.{SpellsMoment}
