@@ -24,6 +24,7 @@ from tests.runs import Ended
 DESK, COPY, LAST = "desk.db", "copy.db", 4102444799
 PARTS = (f"{COPY}.part", f"{COPY}.part-wal")
 TOLD = re.compile(r"copied (\d+) requests, (?:no move|last move (\d+) at (\S+))\n")
+BECAUSE = re.compile(r"\A(tcdesk: cannot use [^\n]*\n)tcdesk: because [^\n]*\n\Z")
 WHOLE_HEAD = 32  # bytes of a log's head
 
 
@@ -155,9 +156,9 @@ class Folder(NamedTuple):
 
 
 def ended(process: "subprocess.Popen[bytes]") -> Ended:
-    """How a program ended, once it has."""
+    """How a program ended, once it has; of what it said, all but the line behind the first that tells why."""
     out, err = process.communicate(timeout=900)
-    return Ended(process.returncode, out.decode("latin-1"), err.decode("latin-1"))
+    return Ended(process.returncode, out.decode("latin-1"), BECAUSE.sub(r"\1", err.decode("latin-1")))
 
 
 def told_of(tables: Tables) -> str:
