@@ -139,7 +139,7 @@ class Files(Reported):
         self.refuses("a folder", folder, ["."], f"{cannot}.\n")
         for words in ([], ["desk.db", "more"], ["desk.db", "--at", "1"]):
             self.refuses("words", folder, words, "Usage")
-        for name, statement in (("a place", "UPDATE request SET place = 3 WHERE number = 1"), ("a tally", "UPDATE tally SET amount = amount + 1 WHERE place = 1"),
+        for name, statement in (("a place", "UPDATE request SET place = 3 WHERE num = 1"), ("a tally", "UPDATE tally SET amount = amount + 1 WHERE place = 1"),
                                 ("a row that does not read", "UPDATE move SET cause = 99 WHERE seq = 1"), ("a move that is gone", "DELETE FROM move WHERE seq = 2")):
             copy = self.cases.copy(folder)
             change(copy, statement)
