@@ -1,4 +1,4 @@
-"""What the trial looks at behind its faults: the log, each answer, and all rows of all files, beside the plain desk of tools/model, which carries the log out."""
+"""What the trial looks at behind its faults: the log, each answer, and all rows of all files, beside the plain desk of tools/model, which carries out the log."""
 import json
 from collections import defaultdict
 from typing import Iterable, NamedTuple, Sequence

@@ -128,7 +128,7 @@ class Client(threading.Thread):
             return None
 
     def look(self, place: int) -> None:
-        """Asks some machine a question, in two of three times for the newest: then its answer is as of no earlier place than this one, that of the last post."""
+        """Asks some machine a question, two times of three for the newest: then its answer is as of no earlier place than this one, that of the last post."""
         path, is_newest = self.dice.choice(self.dealer.paths), self.dice.randrange(3) > 0
         told = self.ask(self.dice.randrange(len(self.members)), "GET", path + NEWEST * is_newest, None, 2.0)
         if told and told[0] not in (502, 503, 504):
