@@ -153,15 +153,19 @@ fn reason(alloc: Global, refusal: Refusal, line: &[u8]) -> Option<String> {
     }
 }
 
+/// Whether an act is a question.
+fn is_question(act: &Act) -> bool {
+    matches!(act, Act::Ask(_))
+}
+
 /// The moment of a line that asks for more than an answer, if it is one.
 fn moment_of(line: &[u8]) -> Option<Moment> {
     if let Ok(load) = read_load(line) {
         return Some(load.moment);
     }
-    let line = read_line(line).ok()?;
-    match line.act {
-        Act::Ask(_) => None,
-        _ => Some(line.moment),
+    match read_line(line) {
+        Ok(line) if !is_question(&line.act) => Some(line.moment),
+        _ => None,
     }
 }
 
