@@ -99,7 +99,7 @@ class PostedDay(Day):
     def answer(self, call: Optional[Call], raw: bytes) -> None:
         """One exchange more."""
         asked = answer_to(raw)
-        assert asked, "a whole request asks something"
+        assert asked is not None, "a whole request asks something"
         is_kept = isinstance(asked, (Acts, Loads)) and self.calls.kept_for(asked) is not None
         self.exchanges.append(Exchange(call, raw, self.calls.response(asked), is_kept))
 

@@ -164,7 +164,7 @@ def served_faults(served: Served) -> Iterator[str]:
     calls = Calls(desk)
     for at, it in enumerate(served.exchanges, 1):
         asked = answer_to(it.raw)
-        response = calls.response(asked) if asked else b""
+        response = b"" if asked is None else calls.response(asked)
         if response != it.response:
             yield f"{served.title}, {at}, {it.raw!r:.80}: {response!r:.120}, and not {it.response!r:.120}"
     yield table_fault(served.title, rows_by(desk.tables()), served.tables)
