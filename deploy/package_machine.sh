@@ -145,9 +145,9 @@ removed_cases() {
     tell "a removal ends the desks that are served, and the timers"
     machine_says "and leaves them, their copies and their links" \
         $'one.db\none.db-wal\ntwo.db\ntwo.db-wal\none\none\nmulti-user.target.wants/tcdesk@one.service\ntimers.target.wants/tcdesk-backup@one.timer' \
-        "ls /var/lib/tcdesk; ls /var/backups/tcdesk | cut -d - -f 1; cd /etc/systemd/system; ls */tcdesk*"
+        "ls /var/lib/tcdesk; ls /var/backups/tcdesk | grep Z.db | cut -d - -f 1; cd /etc/systemd/system; ls */tcdesk*"
     machine_says "a purge leaves the desks and their copies, and no links" $'one.db\none.db-wal\ntwo.db\ntwo.db-wal\none\none' \
-        "apt-get purge -y tcdesk >/dev/null 2>&1; ls /var/lib/tcdesk; ls /var/backups/tcdesk | cut -d - -f 1; ls /etc/systemd/system/*/ | grep tcdesk"
+        "apt-get purge -y tcdesk >/dev/null 2>&1; ls /var/lib/tcdesk; ls /var/backups/tcdesk | grep Z.db | cut -d - -f 1; ls /etc/systemd/system/*/ | grep tcdesk"
     in_machine "rm -r /var/lib/tcdesk /var/backups/tcdesk /etc/default/tcdesk-*; userdel tcdesk; systemctl reset-failed"
 }
 
