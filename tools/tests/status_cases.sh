@@ -22,6 +22,7 @@ commands=(
     "run examples/first-run.tc"
     "run --db kept.db examples/first-run.tc"
     "report kept.db 0 86400"
+    "board kept.db"
     "check stack examples/stack.csv"
     "check procedure examples/stack.csv"
     "loop other.db examples/first-run.tc"

@@ -121,7 +121,7 @@ class Files(Reported):
         with Server(ASKED.program, folder, "desk.db", 2) as server:
             server.exchange(get("/places"))
             ran = self.cases.call(folder, ["board", "desk.db"])
-            self.cases.tell("a file that is served", "" if ran == (2, "", "tcdesk: cannot use desk.db\n") else f"{ran}")
+            self.cases.tell("a file that is served", "" if ran[:2] == (2, "") and ran.err.startswith("tcdesk: cannot use desk.db\n") else f"{ran}")
             server.exchange(get("/places"))
             server.end()
 

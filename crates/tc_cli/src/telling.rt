@@ -4,8 +4,10 @@ use crate::watching::{Answered, Watch};
 use std::alloc::{AllocError, Global};
 use std::io::IsTerminal;
 use tc_check::script_line;
+use tc_script::Verb;
 use tc_types::read::load_reader::read_load;
-use tc_types::{Act, LoadKind, Moment, Refusal, read_line};
+use tc_types::read::readers::moment;
+use tc_types::{LoadKind, Moment, Refusal, cut};
 use tc_words::Telling;
 
 /// Who is told by the standard error of this machine.
@@ -153,16 +155,39 @@ fn reason(alloc: Global, refusal: Refusal, line: &[u8]) -> Option<String> {
     }
 }
 
+/// What a line asks for, by its third word.
+fn verb_of(line: &[u8]) -> Option<Verb> {
+    let (_, behind) = cut(line, b' ');
+    let (_, behind) = cut(behind?, b' ');
+    let (word, _) = cut(behind?, b' ');
+    Verb::read(word)
+}
+
+/// Whether it asks for an answer alone.
+fn is_question(verb: Verb) -> bool {
+    matches!(
+        verb,
+        Verb::Places
+            | Verb::History
+            | Verb::Request
+            | Verb::Link
+            | Verb::Schedule
+            | Verb::Log
+            | Verb::Report
+            | Verb::Waiting
+            | Verb::Moves
+            | Verb::Standing
+            | Verb::Steps
+    )
+}
+
 /// The moment of a line that asks for more than an answer, if it is one.
 fn moment_of(line: &[u8]) -> Option<Moment> {
-    if let Ok(load) = read_load(line) {
-        return Some(load.moment);
+    if is_question(verb_of(line)?) {
+        return None;
     }
-    let line = read_line(line).ok()?;
-    match line.act {
-        Act::Ask(_) => None,
-        _ => Some(line.moment),
-    }
+    let (first, _) = cut(line, b' ');
+    moment(first)
 }
 
 impl HostWatch<'_> {

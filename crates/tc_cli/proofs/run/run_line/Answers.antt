@@ -33,10 +33,10 @@ pub returns-in_err-answer : goal.returns-in_err-answer
 returns-in_err-answer g c =
     let gone : c.from_residual.result ≡ Err c.in_err-answer.field-0.0 = is_fault _ _ c.from_residual.ensures.1 in
     let why = c.in_err-answer.ensures.unanswered in
-    rw gone (ends_by _ _ _ _ _ (stopped_unanswered g.S.Store _ _ _ _ _ _ _ _ (sym c.is_skipped.ensures ∙ c.if-is_skipped.false) why)
-    (not_script g.S.Store _ _ _ _ _ _ _ why) (λ none. none ∙ not_written g.S.Store _ Bool _ _ _ _ _ _ why))
+    rw gone (ends_by _ _ _ _ _ (stopped_unanswered g.S.Store (g.T.Watch.echoes c.args.watch.now) _ _ _ _ _ _ _ (sym c.is_skipped.ensures ∙ c.if-is_skipped.false) why)
+    (not_script g.S.Store (g.T.Watch.echoes c.args.watch.now) _ _ _ _ _ _ why) (λ none. none ∙ not_written g.S.Store (g.T.Watch.echoes c.args.watch.now) Bool _ _ _ _ _ _ why))
 
 pub returns-in_err-shown : goal.returns-in_err-shown
 returns-in_err-shown g c =
     let gone : c.from_residual-in_err-shown.result ≡ Err Memory = is_fault _ _ c.from_residual-in_err-shown.ensures.1 in
-    rw gone (ends_by _ _ _ _ _ (stopped_unshown g.S.Store _ _ _ _ _ _ _ c.in_ok-answer.answer.refusal _ (search rules) c.in_ok-answer.ensures.answered) memory_is_other (λ none. none))
+    rw gone (ends_by _ _ _ _ _ (stopped_unshown g.S.Store (g.T.Watch.echoes c.args.watch.now) _ _ _ _ _ _ c.in_ok-answer.answer.refusal _ (search rules) c.in_ok-answer.ensures.answered) memory_is_other (λ none. none))
