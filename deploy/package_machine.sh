@@ -145,9 +145,9 @@ removed_cases() {
     tell "a removal ends the desks that are served, and the timers"
     machine_says "and leaves them, their copies and their links" \
         $'one.db\none.db-wal\ntwo.db\ntwo.db-wal\none\none\nmulti-user.target.wants/tcdesk@one.service\ntimers.target.wants/tcdesk-backup@one.timer' \
-        "ls /var/lib/tcdesk; ls /var/backups/tcdesk | cut -d - -f 1; cd /etc/systemd/system; ls */tcdesk*"
+        "ls /var/lib/tcdesk; ls /var/backups/tcdesk | grep Z.db | cut -d - -f 1; cd /etc/systemd/system; ls */tcdesk*"
     machine_says "a purge leaves the desks and their copies, and no links" $'one.db\none.db-wal\ntwo.db\ntwo.db-wal\none\none' \
-        "apt-get purge -y tcdesk >/dev/null 2>&1; ls /var/lib/tcdesk; ls /var/backups/tcdesk | cut -d - -f 1; ls /etc/systemd/system/*/ | grep tcdesk"
+        "apt-get purge -y tcdesk >/dev/null 2>&1; ls /var/lib/tcdesk; ls /var/backups/tcdesk | grep Z.db | cut -d - -f 1; ls /etc/systemd/system/*/ | grep tcdesk"
     in_machine "rm -r /var/lib/tcdesk /var/backups/tcdesk /etc/default/tcdesk-*; userdel tcdesk; systemctl reset-failed"
 }
 
@@ -206,8 +206,8 @@ replica_cases() {
     machine_says "systemd reads its units" "" "systemd-analyze verify tcdesk-desk.service tcdesk-replica.service"
     in_machine "systemd-analyze security --no-pager --threshold=20 tcdesk-desk.service tcdesk-replica.service"
     tell "systemd finds its units exposed by 2 of 10 at most"
-    machine_says "it is in" $'places 1\nmachine a in' "till '$status | grep -q \"machine a in\"'; $status"
-    in_machine "cd page; . ./${parts[5]}" && grep -q '^Tcdesk-Place: 2' "$work/out" && grep -qF '{"lines":["ok request 1 5/0"' "$work/out"
+    machine_says "it is in" "machine a in" "till '$status | grep -q \"machine a in\"'; $status | grep machine"
+    in_machine "cd page; . ./${parts[5]}" && grep -q '^Tcdesk-Place: ' "$work/out" && grep -qF '{"lines":["ok request 1 5/0"' "$work/out"
     tell "an act is carried out"
     machine_says "of the disk it has a folder of its own" $'700 tcdesk:tcdesk /var/lib/tcdesk-replica\n600 tcdesk:tcdesk /var/lib/tcdesk-replica/desk.db' \
         "stat -c '%a %U:%G %n' /var/lib/tcdesk-replica /var/lib/tcdesk-replica/desk.db; ls -A /var/lib/tcdesk"
@@ -215,7 +215,7 @@ replica_cases() {
         in_machine "$name; till '$ask | grep -q \"places 1: 1 0\"' && $ask"
         tell "it goes on behind: $name"
     done
-    in_machine "cd page; . ./${parts[7]} && . ./${parts[8]}; till '$ask | grep -q \"places 1: 1 0\"' && $status | grep -qx 'places 1'"
+    in_machine "cd page; . ./${parts[7]} && . ./${parts[8]}; till '$ask | grep -q \"places 1: 1 0\"' && grep -qx LOG=desk2 /etc/default/tcdesk-replica"
     tell "another log begins with the file of the one before"
     in_machine "systemctl disable --now etcd tcdesk-desk tcdesk-replica; apt-get purge -y etcd-server tcdesk; ls -A /usr/share/tcdesk
         rm -r page /etc/tcdesk-first.db /etc/default/etcd /etc/default/tcdesk-replica /etc/etcd /etc/systemd/system/etcd.service.d /var/lib/tcdesk-replica

@@ -52,7 +52,7 @@ def random_script(seed: int, count: int, tables: Tables) -> Script:
     made = posted_day(random.Random(seed), tables, 0, 1, [], count).exchanges
     posts = [Post(it.call.path, body_of(dict(it.call.keys)).encode()) for it in made if it.call]
     paths = [it.raw.split(b" ", 2)[1].decode() for it in made if not it.call]
-    return Script(posts, [*paths, "/places", "/report/0/4102444799"])
+    return Script(posts, [*paths, "/places", "/requests/1", "/history/1/0", "/none"])
 
 
 class Dealer:

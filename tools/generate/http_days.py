@@ -10,10 +10,9 @@ from generate.http_words import body_of, get, post
 from generate.scripts import PERSONS
 from model.calls import Calls
 from model.facts import LAST_MOMENT, LAST_NUMBER, MOST_ROWS, MOST_SHOWN, Place
-from model.http import Asks, Refused, Shows, answer_to, page_response, refused_response, reply_response
+from model.http import Acts, Loads, answer_to
 from model.lines import LOAD
 from model.rows import Tables
-from model.wall import board_page
 
 REPEATS = 1 / 3  # of all posts
 RECENT = 40
@@ -99,16 +98,10 @@ class PostedDay(Day):
 
     def answer(self, call: Optional[Call], raw: bytes) -> None:
         """One exchange more."""
-        asked, is_kept = answer_to(raw), False
-        assert asked, "a whole request asks something"
-        if isinstance(asked, Refused):
-            response = refused_response(asked)
-        elif isinstance(asked, Shows):
-            response = page_response(board_page(self.calls.desk, False))
-        else:
-            is_kept = not isinstance(asked, Asks) and self.calls.kept_for(asked) is not None
-            response = reply_response(self.calls.reply(asked))
-        self.exchanges.append(Exchange(call, raw, response, is_kept))
+        asked = answer_to(raw)
+        assert asked is not None, "a whole request asks something"
+        is_kept = isinstance(asked, (Acts, Loads)) and self.calls.kept_for(asked) is not None
+        self.exchanges.append(Exchange(call, raw, self.calls.response(asked), is_kept))
 
     def repeat(self) -> None:
         """A call of before is repeated in some way."""

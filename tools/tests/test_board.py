@@ -137,7 +137,8 @@ class Files(Reported):
         cannot = "tcdesk: cannot use "
         self.refuses("no file", folder, ["missing.db"], f"{cannot}missing.db\n")
         self.refuses("a folder", folder, ["."], f"{cannot}.\n")
-        for words in ([], ["desk.db", "more"], ["desk.db", "--at", "1"]):
+        wrong: list[list[str]] = [[], ["desk.db", "more"], ["desk.db", "--at", "1"]]
+        for words in wrong:
             self.refuses("words", folder, words, "Usage")
         for name, statement in (("a place", "UPDATE request SET place = 3 WHERE num = 1"), ("a tally", "UPDATE tally SET amount = amount + 1 WHERE place = 1"),
                                 ("a row that does not read", "UPDATE move SET cause = 99 WHERE seq = 1"), ("a move that is gone", "DELETE FROM move WHERE seq = 2")):
