@@ -30,13 +30,14 @@ def members(archive: BinaryIO) -> Iterator[tuple[str, bytes]]:
 
 
 def unpack(library: str, kept: str) -> None:
-    """Puts the modules of a library into a folder of what is kept, where the toolchain that built it looks for them."""
+    """Puts the modules of a library into a folder of what is kept, where the toolchain that built it looks for them. What is there
+    already stays."""
     with open(f"{library}/format", encoding="utf-8") as it:
         build = next(row.split(" ", 1)[1].strip() for row in it if row.startswith("rattle-build "))
     home = f"{kept}/{build.replace('/', '_')}"
     os.makedirs(home, exist_ok=True)
     with open(f"{library}/toolchain/checked.a", "rb") as archive:
         for name, content in members(archive):
-            if name.endswith(".oantt") and "/" not in name:
+            if name.endswith(".oantt") and "/" not in name and not os.path.exists(f"{home}/{name}"):
                 with open(f"{home}/{name}", "wb") as to:
                     to.write(content)
