@@ -20,7 +20,7 @@ root=$work/root
 suite=${1:-stable}
 [[ -n ${1:-} ]] || ! grep -q '^ID=debian' /etc/os-release || suite=$(. /etc/os-release && echo "${VERSION_CODENAME:-stable}")
 machine=
-groups_before=
+groups=()
 untried=0
 
 # end_all: ends what was begun here, and removes the folder.
@@ -296,7 +296,7 @@ user_cases() {
     unshare --mount bash -c 'umask 077; mount -t proc proc "$0/proc" && exec chroot --userspec="$(stat -c %u:%g "$0/var/lib/tcdesk")" "$0" \
         /usr/bin/env -i PATH=/usr/bin:/bin PORT="$1" ${*:2}' "$root" "$port" "$line" >"$work/out" 2>"$work/err" <&- &
     server=$!
-    for ((turn = 0; turn < 200; turn++)); do
+    for ((turn = 0; turn < 2400; turn++)); do
         ! grep -q "listening on 127.0.0.1:$port" "$work/err" || break
         sleep 0.05
     done
@@ -332,13 +332,20 @@ user_cases() {
 
 # boot: begins systemd in the root, without a network. Where it does not begin, $why says why.
 boot() {
-    local turn more=()
+    local turn group more=()
     why="systemd-nspawn is not installed (Debian: systemd-container)"
     command -v systemd-nspawn >/dev/null || return
-    # where systemd does not run here, it gives no unit
-    [[ -d /run/systemd/system ]] || more=(--keep-unit)
-    groups_before=$(find /sys/fs/cgroup -maxdepth 2 \( -name payload -o -name supervisor \) 2>/dev/null)
-    systemd-nspawn -D "$root" --boot --register=no "${more[@]}" --private-network --console=pipe </dev/null >"$work/console" 2>&1 &
+    # Where systemd does not run here it gives no unit, and so no group of processes of its own: two machines that run at the same time would have the same.
+    if [[ ! -d /run/systemd/system ]]; then
+        more=(--keep-unit)
+        for group in /sys/fs/cgroup /sys/fs/cgroup/{systemd,unified}; do
+            [[ -f $group/cgroup.procs ]] && mkdir "$group/package-test.$$" && groups+=("$group/package-test.$$")
+        done
+    fi
+    (
+        for group in "${groups[@]}"; do echo "$BASHPID" >"$group/cgroup.procs"; done
+        exec systemd-nspawn -D "$root" --boot --register=no "${more[@]}" --private-network --console=pipe </dev/null >"$work/console" 2>&1
+    ) &
     machine=$!
     why="systemd does not begin in it"
     for ((turn = 0; turn < 1200; turn++)); do
@@ -371,9 +378,7 @@ stop_machine() {
     # a second one ends it at once
     ! kill "$machine" 2>/dev/null || wait "$machine"
     machine=
-    for group in $(find /sys/fs/cgroup -maxdepth 2 \( -name payload -o -name supervisor \) 2>/dev/null); do
-        [[ $groups_before == *"$group"* ]] || find "$group" -depth -type d -exec rmdir {} + 2>/dev/null
-    done
+    for group in "${groups[@]}"; do find "$group" -depth -type d -exec rmdir {} + 2>/dev/null; done
 }
 
 # machine_says NAME WANTED LINE: a line prints this there, on both its outputs.
@@ -523,8 +528,8 @@ replica_cases() {
         sed -i 's,10\.0\.0\.1,127.0.0.1,; s,^ETCD_INITIAL_CLUSTER=.*,ETCD_INITIAL_CLUSTER=a=https://127.0.0.1:2380,' /etc/default/etcd; . ./${parts[3]}"
     tell "a machine that keeps a desk with others is set up by the page"
     machine_says "systemd reads its units" "" "systemd-analyze verify tcdesk-desk.service tcdesk-replica.service"
-    in_machine "systemd-analyze security --no-pager --threshold=25 tcdesk-desk.service tcdesk-replica.service"
-    tell "systemd finds its units exposed by 2.5 of 10 at most"
+    in_machine "systemd-analyze security --no-pager --threshold=20 tcdesk-desk.service tcdesk-replica.service"
+    tell "systemd finds its units exposed by 2 of 10 at most"
     machine_says "it is in" $'places 1\nmachine a in' "till '$status | grep -q \"machine a in\"'; $status"
     in_machine "cd page; . ./${parts[5]}" && grep -q '^Tcdesk-Place: 2' "$work/out" && grep -qF '{"lines":["ok request 1 5/0"' "$work/out"
     tell "an act is carried out"

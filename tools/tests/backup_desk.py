@@ -156,7 +156,7 @@ class Folder(NamedTuple):
 
 
 def ended(process: "subprocess.Popen[bytes]") -> Ended:
-    """How a program ended, once it has."""
+    """How a program ended, once it has; of what it said, all but the line behind the first that tells why."""
     out, err = process.communicate(timeout=900)
     return Ended(process.returncode, out.decode("latin-1"), without_beside(err.decode("latin-1")))
 

@@ -6,8 +6,8 @@ use Rattle.tc_api.proofs.exchange.respond.Goals as goal
 pub returns-in_default : goal.returns-in_default
 returns-in_default g c = λ reply has. not_made _ _ _ _ refl (c.untold.ensures reply)
 
-pub returns-in_default-response : goal.returns-in_default-response
-returns-in_default-response g c = λ reply has. not_made _ _ _ _ refl (c.untold-in_default-response.ensures reply)
+pub returns-in_default-response_of : goal.returns-in_default-response_of
+returns-in_default-response_of g c = λ reply has. not_made _ _ _ _ refl (c.untold-in_default-response_of.ensures reply)
 
 pub returns-in_err-write_whole : goal.returns-in_err-write_whole
 returns-in_err-write_whole g c = λ reply has.
