@@ -80,16 +80,19 @@ class Untrue(Exception):
 class Prover:
     """Proves functions of crates over sources, and what it proves serves the next."""
 
-    def __init__(self, kit: Kit, built: str, kept: str) -> None:
-        self.kit, self.built, self.kept = kit, built, kept
+    def __init__(self, given: argparse.Namespace, kept: str) -> None:
+        self.kit, self.built, self.kept, self.jobs = Kit(), given.built, kept, given.jobs
         self.unpacked: set[str] = set()
+
+    def library(self, name: str) -> str:
+        """Where the library of a crate lies, if it is built."""
+        return f"{self.built}/{name}.rlib" if self.built else f"{TOP}/crates/{name}/out/rlib/{name}.rlib"
 
     def prepare(self, names: Sequence[str]) -> None:
         """Has the modules at hand that the libraries of these crates hold."""
         for name in names:
-            library = self.built.replace("NAME", name)
-            if name not in self.unpacked and os.path.isdir(library):
-                unpack(library, self.kept)
+            if name not in self.unpacked and os.path.isdir(self.library(name)):
+                unpack(self.library(name), self.kept)
                 self.unpacked.add(name)
 
     def words(self, crate: Crate, functions: Sequence[str]) -> list[str]:
@@ -102,7 +105,7 @@ class Prover:
         for name in below:
             made += ["--lib", f"{name}:{','.join(['std', *known[name]])}=../{name}/src/lib.rt"]
         made += ["--antt-project", f"{kit.top}/rattle/logic/antt-project.json", "--logic-built", f"{kit.top}/logic_built"]
-        made += ["--links", f"{crate.name}=", "--incremental", self.kept, "--jobs", "1"]
+        made += ["--links", f"{crate.name}=", "--incremental", self.kept, "--jobs", str(self.jobs)]
         return [*made, *(word for name in functions for word in ("--only", name))]
 
     def prove(self, crate: Crate, functions: Sequence[str]) -> None:
@@ -127,21 +130,27 @@ class Prover:
         )
 
 
-def try_patch(patch: Patch, kit: Kit, built: str, kept: str) -> None:
+def try_patch(patch: Patch, given: argparse.Namespace) -> None:
     """Raises Untrue where the page of this patch is not true."""
     if strays := patch.strays():
         raise Untrue(f"no page lists {', '.join(strays)}")
     with patch.applied() as room, tempfile.TemporaryDirectory(prefix="extend-kept-") as own:
         os.chdir(room)
-        prover, crates = Prover(kit, built, kept or own), crates_of()
+        prover, crates = Prover(given, given.kept or own), crates_of()
         for name, *functions in patch.asked:
-            prover.prove(Crate(name, crates, kit), functions)
+            prover.prove(Crate(name, crates, prover.kit), functions)
+
+
+def whole(path: str) -> str:
+    """A path from the root, since checks run elsewhere."""
+    return os.path.abspath(path)
 
 
 def asked(patches: Sequence[str]) -> argparse.Namespace:
     to = argparse.ArgumentParser(description=__doc__, formatter_class=argparse.RawDescriptionHelpFormatter)
-    to.add_argument("--built", metavar="FOLDER", help="where the libraries lie, as FOLDER/CRATE.rlib (crates/CRATE/out/rlib)")
-    to.add_argument("--kept", metavar="FOLDER", help="a folder for what is proved, which serves a later run (none)")
+    to.add_argument("--built", metavar="FOLDER", type=whole, help="where the libraries lie, as FOLDER/CRATE.rlib (crates/CRATE/out/rlib)")
+    to.add_argument("--kept", metavar="FOLDER", type=whole, help="a folder for what is proved, which serves a later run (none)")
+    to.add_argument("--jobs", type=int, default=1, help="how many functions the prover takes at once (1)")
     to.add_argument("names", nargs="*", metavar="NAME", help=f"of {', '.join(patches)} (all)")
     given = to.parse_args()
     if unknown := [it for it in given.names if it not in patches]:
@@ -151,14 +160,12 @@ def asked(patches: Sequence[str]) -> argparse.Namespace:
 
 def main() -> int:
     patches = sorted(it.removesuffix(".patch") for it in os.listdir(HOME) if it.endswith(".patch"))
-    given, kit, failed = asked(patches), Kit(), 0
-    built = f"{os.path.abspath(given.built)}/NAME.rlib" if given.built else f"{TOP}/crates/NAME/out/rlib/NAME.rlib"
-    kept = os.path.abspath(given.kept) if given.kept else ""
+    given, failed = asked(patches), 0
     names = given.names or patches
     for name in names:
         patch = Patch(name)
         try:
-            try_patch(patch, kit, built, kept)
+            try_patch(patch, given)
         except Untrue as why:
             failed += 1
             print(f"FAIL {name}: {why}", flush=True)
