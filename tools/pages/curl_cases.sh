@@ -93,7 +93,7 @@ for case in "${cases[@]}"; do
     tell "$(<"$case")"
 done
 ended "a server of $sent connections"
-"$program" run --db "$work/desk.db" /dev/null >"$work/out" 2>"$work/err"
+"$program" run --db "$work/desk.db" --at 4102444799 /dev/null >"$work/out" 2>"$work/err"
 [[ $(<"$work/out") == "places 4: 3 1 0 0 0 0 0 0 0 0 0 0 0 0 0" && ! -s $work/err ]]
 tell "the desk that is left"
 
