@@ -83,7 +83,7 @@ ENTRIES = (
           needs="nginx and openssl, or that is not tried"),
     Entry("login", "the proxy of deploy/nginx, which holds each login to its own name, before a served desk",
           command=("../deploy/nginx/login_test.py", "--program", "PROGRAM"), needs="nginx with njs, and openssl, or that is not tried"),
-    Entry("package", "the package of deploy/ for Debian: its bytes, lintian, a new Debian on which it is installed, used and removed, and the commands of its pages",
+    Entry("package", "the package of deploy/ for Debian: its bytes, lintian, a new Debian on which it is installed, used and removed; its services, and its pages",
           command=("../deploy/package_test.sh",),
           needs="dpkg-deb, lintian, mmdebstrap or debootstrap with an archive of Debian, systemd-nspawn (systemd-container), and root; or that is not tried"),
     Entry("browser", "the wall screen's page in Chromium: counts, requests and texts; nothing overflows, on the screen or on paper",
