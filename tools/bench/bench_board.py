@@ -34,7 +34,8 @@ PATHS = ("/board", "/waiting", "/places")
 
 def long_tables() -> Tables:
     """The tables of a desk of many requests, of which a few are open and the others withdrawn."""
-    tables, moves = empty_tables(), []
+    tables = empty_tables()
+    moves: list[Move] = []
     for number in range(1, LONG + 1):
         moves.append(Move(len(moves) + 1, number, Place.NOWHERE, Place.ENTERED, Cause.ENTER, "ann", len(moves)))
         if number % (LONG // OPEN):
