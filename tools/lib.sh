@@ -32,7 +32,12 @@ same() {
 expect_new() {
     local file='' before='' word
     case ${1:-} in
-    serve | loop) file=${2:-} ;;
+    serve | loop)
+        for word in "${@:2}"; do
+            [[ $before == --@(w|vc|ring|at|first) || $word == --* ]] || { file=$word; break; }
+            before=$word
+        done
+        ;;
     run)
         for word in "$@"; do
             [[ $before != --db ]] || file=$word
