@@ -293,8 +293,10 @@ check "a word too many" 2 "" "unexpected argument 'more'" run link more
 check "an option twice" 2 "" "'--w <N>' cannot be used multiple times" run --w 20 --w 20 link
 check "an option without its value" 2 "" "a value is required for '--w <N>' but none was supplied" run link --w
 [[ ! -e none.db ]] || { failed=$((failed + 1)); echo "program_cases: words that are refused made a file" >&2; }
-check "the version" 0 $'tcdesk 0.1.0\n' "" --version
-check "the version in short" 0 $'tcdesk 0.1.0\n' "" -V
+for word in --version -V; do
+    "$program" "$word" >out 2>err && [[ $(<out) =~ ^tcdesk\ 0\.1\.0\ \(commit\ [0-9a-f]{12}\)$ && ! -s err ]]
+    tell "the version and its commit, $word"
+done
 cp "$top/examples/first-run.tc" input
 check "no words" 0 "$first" ""
 check "standard input by its name" 0 "$first" "" run -
