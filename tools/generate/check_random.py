@@ -130,7 +130,7 @@ def other_instant(dice: Random, records: Records) -> Records:
     row, kind = dice.choice(inserts), dice.randrange(8)
     times = records[row][5].split(";")
     at = dice.randrange(len(times))
-    others = [[times[at]] * 2, [], [dice.choice(LEAPS)]]
+    others: list[list[str]] = [[times[at]] * 2, [], [dice.choice(LEAPS)]]
     times[at:at + 1] = others[kind] if kind < 3 else [spelled_instant(dice)]
     return with_field(records, row, 5, joined(times))
 
