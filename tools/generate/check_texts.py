@@ -152,6 +152,8 @@ LIMIT_STACKS = [
     (LONG_FILE, b"x\n" * 32769),
     ("line 1: not 10 fields", STACK + b"," * (65536 - len(STACK))),
     ("line 1, field apid: not 0 to 2047 in plain digits", STACK + b"1," + b"5" * 65400 + b",8,1,,,---c,no,,ok\n"),
+    ("line 1, field apid: not 0 to 2047 in plain digits", STACK + counted(b"%d,x,8,1,,,---c,no,,ok\n", 20)),
+    ("line 1, field apid: not 0 to 2047 in plain digits", STACK + counted(b"%d,x,8,1,,,---c,no,,ok\n", 21)),
     ("line 200, field after: neither empty nor an earlier line", STACK + counted(ANY_ROW, 199) + b"200,5,8,1,,,---c,no,200,ok\n"),
     ("ok", STACK + counted(ANY_ROW, 199) + b"200,5,8,1,,,---c,no,199,ok\n"),
     ("line 200, field target: a line of service 11, one whose ack has no a, or one that is named twice",
@@ -169,6 +171,8 @@ LIMIT_PROCEDURES = [
     ("ok", filled(STEPS + STEP, 65536)),
     (LONG_FILE, filled(STEPS + STEP, 65537)),
     (LONG_FILE, filled(MARK + STEPS + counted(ANY_STEP, 101), 65537)),
+    ("step 1, field second: neither yes nor no", STEPS + counted(b"%d,check it,,\n", 20)),
+    ("step 1, field second: neither yes nor no", STEPS + counted(b"%d,check it,,\n", 21)),
     ("step 100, field second: neither yes nor no", STEPS + counted(ANY_STEP, 99) + b"100,check it,,\n"),
     ("step 1, field text: not 1 to 80 printable characters of ASCII", STEPS + b"1," + b"~" * 65000 + b",no,\n"),
 ]

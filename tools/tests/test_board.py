@@ -17,6 +17,8 @@ from tests.report_cases import Reported, change, digests
 from tests.runs import write_files
 from tests.wall_desks import LONG, Noted, busy, empty, full, in_doubt, quiet
 
+# How many lines of a desk one script has: it may have 1,048,576 bytes.
+AT_ONCE = 20_000
 SEED, DAYS, EVERY = 20261128, 6, 12
 SHOWN = Case("the board", get("/board"), 0)
 
@@ -91,8 +93,10 @@ class Files(Reported):
         """A folder with this desk in a file."""
         folder = self.cases.folder()
         write_files(folder, desk.files)
-        ran = self.cases.run(folder, desk.lines, "--db", "desk.db")
-        self.cases.tell("a desk is made", "" if ran.status == 0 and not ran.err else f"status {ran.status}: {ran.err}")
+        for at in range(0, max(1, len(desk.lines)), AT_ONCE):
+            lines = desk.lines[at:at + AT_ONCE]
+            ran = self.cases.run(folder, lines, "--db", "desk.db", *(["--at", lines[0].split(" ")[0]] if at else []))
+            self.cases.tell("a desk is made", "" if ran.status == 0 and not ran.err else f"status {ran.status}: {ran.err}")
         return folder
 
     def test_scenes(self) -> None:
