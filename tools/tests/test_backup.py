@@ -437,7 +437,7 @@ class Copies(Tried):
             ran = subprocess.run([script, f"{folder.path}/{DESK}", store, "3"], env={**os.environ, "TCDESK": ASKED.program}, capture_output=True, check=False)
             self.same(f"turn {turn}", (0, b""), (ran.returncode, ran.stderr))
             self.same(f"turn {turn}: how many there are", min(turn, 3), len(os.listdir(store)))
-            for name in os.listdir(store):
+            for name in sorted(os.listdir(store)):  # the oldest first, so that no name is taken
                 os.rename(f"{store}/{name}", f"{store}/{older(name)}")
         copies = sorted(os.listdir(store))
         self.same("a copy that the script made", told_of(tables_of_copy(Folder(store), copies[-1])), told_of(tables_of_copy(Folder(store), copies[0])))
