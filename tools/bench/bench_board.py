@@ -42,7 +42,7 @@ def long_tables() -> Tables:
             moves.append(Move(len(moves) + 1, number, Place.ENTERED, Place.WITHDRAWN, Cause.WITHDRAW, "bob", len(moves)))
     places = places_by(moves)
     for number in range(1, LONG + 1):
-        tables.request.append(Request(number, number % 8, number // 8, 0, 0, 8, 1, 0, 0, "ok", "ann", "", 0, 0, int(places[number])))
+        tables.request.append(Request(number, (number - 1) % 8, (number - 1) // 8, 0, 0, 8, 1, 0, 0, "ok", "ann", "", 0, 0, int(places[number])))
     tables.move, tables.tally = moves, tallies_by(moves)
     return tables
 
