@@ -31,7 +31,7 @@ ENTRIES = (
           command=("pages/manual.sh", "PROGRAM"), needs="curl"),
     Entry("man-page", "whether docs/tcdesk.1 says what the manual and --help say", command=("pages/man_cases.sh", "PROGRAM"),
           needs="curl; mandoc or man, or that is not tried"),
-    Entry("check", "each line of `check` on 786 texts that are judged by hand, and on random ones", modules=("tests.test_check",), takes_seed=True),
+    Entry("check", "each line of `check` on 796 texts that are judged by hand, and on random ones", modules=("tests.test_check",), takes_seed=True),
     Entry("told", "what is told besides the answers: each line before its answer, refusals with their reason, why something cannot be used, moments that go back",
           modules=("tests.test_told",)),
     Entry("kept", "desks that are kept in a file: made and told so, opened, copied, killed, two programs at once", command=("tests/kept_cases.sh", "PROGRAM"),
