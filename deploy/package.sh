@@ -35,8 +35,9 @@ paged() {
     sed -E 's,\./tcdesk([ ;]|$),tcdesk\1,g
         s,(^|[^/])docs/(OPERATORS|SCALE)\.md,\1/usr/share/doc/tcdesk/\2.md.gz,g
         s,(^|[^/])deploy/README\.md,\1/usr/share/doc/tcdesk/README.Debian.gz,g
-        s,(^|[^/])deploy/(nginx|postgres)/README\.md,\1/usr/share/doc/tcdesk/\2.md.gz,g
-        s,(^|[^/])deploy/(nginx/authority|nginx/\{|nginx`|postgres/tables|postgres/load|postgres`),\1/usr/share/tcdesk/\2,g' "$1" >"$work/page" || exit 2
+        s,(^|[^/])deploy/(nginx|postgres|backup|replica)/README\.md,\1/usr/share/doc/tcdesk/\2.md.gz,g
+        s,(^|[^/])deploy/(nginx/authority|nginx/\{|nginx`|postgres/tables|postgres/load|postgres`|replica/systemd/|replica/replica\.py|replica`),\1/usr/share/tcdesk/\2,g
+        s,(^|[^/])deploy/backup`,\1/usr/share/doc/tcdesk/backup.md.gz`,g' "$1" >"$work/page" || exit 2
     packed "$work/page" "$2"
 }
 
@@ -81,19 +82,22 @@ doc=usr/share/doc/tcdesk
 put 755 "$kept/tcdesk" usr/bin/tcdesk
 put 755 "$from/serve" usr/libexec/tcdesk/serve
 put 644 "$from/tcdesk@.service" usr/lib/systemd/system/tcdesk@.service
+put 755 "$top/deploy/backup/tcdesk-backup" usr/libexec/tcdesk/tcdesk-backup
+for file in "$top"/deploy/backup/*.{service,timer} "$top"/deploy/replica/systemd/*.service; do put 644 "$file" "usr/lib/systemd/system/${file##*/}"; done
 put 644 "$from/sysusers" usr/lib/sysusers.d/tcdesk.conf
 put 644 "$from/completion" usr/share/bash-completion/completions/tcdesk
 for file in "$top"/examples/*; do put 644 "$file" "$doc/examples/${file##*/}"; done
 for file in "$top"/deploy/nginx/{authority.cnf,conf.d/*,njs/*,sites-available/*,snippets/*}; do put 644 "$file" "usr/share/tcdesk/${file#"$top/deploy/"}"; done
 for file in "$top"/deploy/postgres/*.sql; do put 644 "$file" "usr/share/tcdesk/postgres/${file##*/}"; done
 put 755 "$top/deploy/postgres/load.sh" usr/share/tcdesk/postgres/load.sh
+for file in compare desk entrance etcd log machine replica tables; do put 644 "$top/deploy/replica/$file.py" "usr/share/tcdesk/replica/$file.py"; done
+for file in "$top"/deploy/replica/systemd/{*.default,*.conf}; do put 644 "$file" "usr/share/tcdesk/replica/systemd/${file##*/}"; done
 page >"$work/page" && packed "$work/page" usr/share/man/man1/tcdesk.1.gz
 changelog >"$work/changelog" && packed "$work/changelog" "$doc/changelog.gz"
 paged "$top/docs/OPERATORS.md" "$doc/OPERATORS.md.gz"
 paged "$top/docs/SCALE.md" "$doc/SCALE.md.gz"
 paged "$top/deploy/README.md" "$doc/README.Debian.gz"
-paged "$top/deploy/nginx/README.md" "$doc/nginx.md.gz"
-paged "$top/deploy/postgres/README.md" "$doc/postgres.md.gz"
+for file in nginx postgres backup replica; do paged "$top/deploy/$file/README.md" "$doc/$file.md.gz"; done
 filled copyright >"$work/copyright" && put 644 "$work/copyright" "$doc/copyright"
 
 # what it takes on a disk: each file in whole kilobytes, and one for each folder

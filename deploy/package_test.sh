@@ -1,9 +1,10 @@
 #!/bin/bash
-# deploy/package_test.sh [SUITE] makes the package of deploy/package.sh, twice, and looks at it: its bytes, its fields, its files, what lintian says, and whether
-# its completion knows what `--help` tells. Then it is installed on a new Debian (that of SUITE, or of this machine), in a root of its own, and used there as
-# a new user would: scripts, a desk in a file, the page, the completion, and the service by hand; it is removed and purged, and what is left is told. Then
-# systemd is begun in that root, and the service is started, failed, killed, ended and upgraded; and all commands of the pages deploy/README.md,
-# docs/SCALE.md and deploy/postgres/README.md, as the package has them, have to print what is shown there.
+# deploy/package_test.sh [SUITE] makes the package of deploy/package.sh, twice, and looks at it: its bytes, its fields, its files, what lintian says, and
+# whether its completion knows what `--help` tells. Then it is installed on a new Debian (that of SUITE, or of this machine), in a root of its own, and used
+# there as a new user would: scripts, a desk in a file, a copy of it, the page, the completion, and the service by hand; it is removed and purged, and what is
+# left is told. Then systemd is begun in that root. The service is started, failed, killed, ended and upgraded, the timer copies its desk, and one of three
+# machines of deploy/replica is set up by its page. All commands of the pages deploy/README.md, docs/SCALE.md, deploy/backup/README.md and
+# deploy/postgres/README.md, as the package has them, have to print what is shown there.
 # The last line is `N passed, N failed`; the status is 1 where one failed. Wants dpkg-deb. The root wants root, and mmdebstrap or debootstrap with an
 # archive of Debian; systemd in it wants systemd-nspawn. What is not at hand is told in a line `not tried: ..`.
 set -u
@@ -14,12 +15,11 @@ work=$(mktemp -d) || exit 1
 me=package_test
 . "$top/tools/lib.sh"
 . "$top/tools/program.sh"
+. "$top/deploy/package_machine.sh"
 trap end_all EXIT
 root=$work/root
 suite=${1:-stable}
 [[ -n ${1:-} ]] || ! grep -q '^ID=debian' /etc/os-release || suite=$(. /etc/os-release && echo "${VERSION_CODENAME:-stable}")
-machine=
-groups_before=
 untried=0
 
 # end_all: ends what was begun here, and removes the folder.
@@ -102,27 +102,30 @@ bytes_cases() {
         not_tried "lintian, which is not installed"
     fi
     file_cases
-    for name in deploy/package.sh deploy/package_test.sh deploy/postgres/load.sh deploy/debian/{serve,postinst,prerm,postrm,completion}; do
+    for name in deploy/package{,_test,_machine}.sh deploy/postgres/load.sh deploy/backup/tcdesk-backup deploy/debian/{serve,postinst,prerm,postrm,completion}; do
         bash -n "$top/$name" 2>"$work/err"
         tell "$name is read by bash"
     done
-    for name in run report check serve loop; do
+    for name in run report board backup check serve loop; do
         same "completion of the options of $name" "$(options "$name")" "$(offered tcdesk "$name" -)"
     done
     same "completion of the options of the program" "$(options)" "$(offered tcdesk -)"
     same "completion of commands" "$("$kept/tcdesk" --help | awk '/^Commands:/ { inside = 1; next } /^$/ { inside = 0 } inside { print $1 }' | sort)" \
         "$(offered tcdesk '')"
     same "completion of a command that is begun" serve "$(offered tcdesk se)"
-    same "completion of what can be checked" $'procedure\nstack' "$(offered tcdesk check '')"
+    same "completion of what can be checked" $'procedure\nscript\nstack' "$(offered tcdesk check '')"
     same "completion behind an option with a number" $'--ring' "$(offered tcdesk run --w 20 --r)"
     touch "$work/a desk.db" "$work/a script"
     same "completion of a file" $'a desk.db\na script' "$(cd "$work" && offered tcdesk serve --at=7 'a ')"
     same "completion of the file of an option" "a desk.db" "$(cd "$work" && offered tcdesk run --db = 'a d')"
+    same "completion of the second file of a copy" "a desk.db" "$(cd "$work" && offered tcdesk backup desk.db 'a d')"
+    same "completion of a script that is checked" "a script" "$(cd "$work" && offered tcdesk check script 'a s')"
+    same "completion of the desk of a board" "a desk.db" "$(cd "$work" && offered tcdesk board 'a d')"
     same "no completion of a port" "" "$(cd "$work" && offered tcdesk serve desk.db '')"
 }
 
-# file_cases: the package has each example, and the files of the login and of the loader; its pages have their lines, and what they name is there; the unit holds
-# the server as it has to.
+# file_cases: the package has each example, and the files of the login, of the loader, of the copies and of three machines; its pages have their lines, and
+# what they name is there; the units hold what they begin as they have to.
 file_cases() {
     local doc=$work/files/usr/share/doc/tcdesk from page name
     diff -r "$top/examples" "$doc/examples" >"$work/out" 2>"$work/err"
@@ -131,7 +134,19 @@ file_cases() {
         diff -r "$top/deploy/$name" "$work/files/usr/share/tcdesk/$name" >"$work/out" 2>"$work/err"
         tell "deploy/$name"
     done
-    for page in OPERATORS.md=docs/OPERATORS.md SCALE.md=docs/SCALE.md README.Debian=deploy/README.md nginx.md=deploy/nginx/README.md postgres.md=deploy/postgres/README.md; do
+    for name in "$top"/deploy/backup/*.{service,timer} "$top"/deploy/replica/systemd/*.service; do
+        cmp "$name" "$work/files/usr/lib/systemd/system/${name##*/}" >"$work/out" 2>"$work/err"
+        tell "${name#"$top/"}"
+    done
+    for name in "$top"/deploy/replica/systemd/{*.default,*.conf} "$top"/deploy/replica/*.py; do
+        case ${name##*/} in
+        trial*.py | replica_test.py) [[ ! -e $work/files/usr/share/tcdesk/${name#"$top/deploy/"} ]] ;;
+        *) cmp "$name" "$work/files/usr/share/tcdesk/${name#"$top/deploy/"}" >"$work/out" 2>"$work/err" ;;
+        esac
+        tell "${name#"$top/"}"
+    done
+    for page in OPERATORS.md=docs/OPERATORS.md SCALE.md=docs/SCALE.md README.Debian=deploy/README.md {nginx,postgres,backup,replica}.md; do
+        [[ $page == *=* ]] || page=$page=deploy/${page%.md}/README.md
         from=${page#*=} page=${page%%=*}
         gzip -dc "$doc/$page.gz" >"$work/page.md" 2>"$work/err" && [[ $(wc -l <"$work/page.md") == "$(wc -l <"$top/$from")" ]] &&
             ! grep -nE '\./tcdesk([ ;]|$)' "$work/page.md" >"$work/out"
@@ -141,8 +156,14 @@ file_cases() {
             tell "the page $from names $name"
         done < <(grep -oE '/usr/(bin|libexec|share)/[A-Za-z/._-]*tcdesk[A-Za-z/._-]*' "$work/page.md" | sed 's/\.$//' | sort -u)
     done
-    for name in User=tcdesk Group=tcdesk UMask=0077 Restart=on-failure StateDirectory=tcdesk StateDirectoryMode=0700 NoNewPrivileges=yes CapabilityBoundingSet= ProtectSystem=strict \
-        ProtectHome=yes PrivateTmp=yes PrivateDevices=yes ProtectKernelTunables=yes ProtectControlGroups=yes RestrictNamespaces=yes MemoryDenyWriteExecute=yes; do
+    for page in tcdesk@ tcdesk-backup@ tcdesk-desk tcdesk-replica; do
+        for name in User=tcdesk Group=tcdesk UMask=0077 NoNewPrivileges=yes CapabilityBoundingSet= ProtectSystem=strict ProtectHome=yes PrivateTmp=yes \
+            PrivateDevices=yes ProtectKernelTunables=yes ProtectControlGroups=yes RestrictNamespaces=yes MemoryDenyWriteExecute=yes; do
+            grep -qxF "$name" "$work/files/usr/lib/systemd/system/$page.service"
+            tell "the unit $page has $name"
+        done
+    done
+    for name in Restart=on-failure StateDirectory=tcdesk StateDirectoryMode=0700; do
         grep -qxF "$name" "$work/files/usr/lib/systemd/system/tcdesk@.service"
         tell "the unit has $name"
     done
@@ -206,7 +227,8 @@ files_of_root() {
     (
         cd "$root" || exit
         find . -xdev \( -path ./proc -o -path ./root -o -path ./tmp -o -path ./run -o -path ./var/cache -o -path ./var/log -o -path ./var/lib/apt \
-            -o -path ./var/lib/dpkg -o -path ./var/lib/systemd -o -path ./var/lib/postgresql -o -path ./var/lib/nginx -o -path ./var/tmp -o -path './etc/*-' -o -path ./etc/.pwd.lock \) -prune -o -print | sort
+            -o -path ./var/lib/dpkg -o -path ./var/lib/systemd -o -path ./var/lib/postgresql -o -path ./var/lib/nginx -o -path ./var/tmp \
+            -o -path './var/backups/*.[0-9]*' -o -path './etc/*-' -o -path ./etc/.pwd.lock \) -prune -o -print | sort
         cut -d : -f 1 etc/passwd | sed 's/^/user /'
         cut -d : -f 1 etc/group | sed 's/^/group /'
     )
@@ -215,10 +237,12 @@ files_of_root() {
 # changed_files: what the root has more than before ($work/before), and what it has no more.
 changed_files() {
     files_of_root >"$work/after"
-    diff "$work/before" "$work/after" | sed -n 's/^> /+ /p; s/^< /- /p'
+    diff "$work/before" "$work/after" | sed -n 's/^> /+ /p; s/^< /- /p' | sed -E 's/[0-9]{8}T[0-9]{6}Z/INSTANT/'
 }
 
 left='+ ./etc/default/tcdesk-hand
++ ./var/backups/tcdesk
++ ./var/backups/tcdesk/hand-INSTANT.db
 + ./var/lib/tcdesk
 + ./var/lib/tcdesk/hand.db
 + ./var/lib/tcdesk/hand.db-wal
@@ -233,8 +257,8 @@ user_cases() {
     tell "it is installed where systemd is not, and makes its user"
     in_root "dpkg --verify tcdesk" && [[ ! -s $work/out ]]
     tell "each file is as its sum says"
-    in_root "stat -c '%a %U:%G' /var/lib/tcdesk; ls -A /var/lib/tcdesk"
-    same "whose the folder of desks is, which is empty" "700 tcdesk:tcdesk" "$(<"$work/out")"
+    in_root "stat -c '%a %U:%G' /var/lib/tcdesk /var/backups/tcdesk; ls -A /var/lib/tcdesk /var/backups/tcdesk | grep db"
+    same "whose the folders of desks and of copies are, which are empty" $'700 tcdesk:tcdesk\n700 tcdesk:tcdesk' "$(<"$work/out")"
     by_user nobody "cp -r /usr/share/doc/tcdesk/examples ."
     for name in first-pass procedure stack; do
         by_user nobody "tcdesk run examples/$name.tc"
@@ -247,6 +271,9 @@ user_cases() {
     by_user nobody "tcdesk run --db desk.db --at 86400 examples/tuesday.tc && tcdesk report desk.db 0 86400" &&
         cmp <(sed '/^SHIFT/,$d' "$work/out") "$top/examples/tuesday.out" >&2 && grep -q '^moves 9$' "$work/out"
     tell "the next one, and the report"
+    by_user nobody "tcdesk backup desk.db copy.db && tcdesk report copy.db 0 86400" && grep -q '^copied 4 requests, last move 15 ' "$work/out" &&
+        grep -q '^moves 9$' "$work/out"
+    tell "a copy, and its report"
     in_root "man -P cat tcdesk" && grep -q 'spacecraft telecommand desk' "$work/out"
     tell "the page"
     in_root "ls \$(man -P cat tcdesk | grep -oE '/usr/share/doc/tcdesk/[A-Za-z/.-]*[a-z]' | sort -u)" && grep -q OPERATORS.md.gz "$work/out" &&
@@ -269,13 +296,20 @@ user_cases() {
     unshare --mount bash -c 'umask 077; mount -t proc proc "$0/proc" && exec chroot --userspec="$(stat -c %u:%g "$0/var/lib/tcdesk")" "$0" \
         /usr/bin/env -i PATH=/usr/bin:/bin PORT="$1" ${*:2}' "$root" "$port" "$line" >"$work/out" 2>"$work/err" <&- &
     server=$!
-    for ((turn = 0; turn < 200; turn++)); do
+    for ((turn = 0; turn < 2400; turn++)); do
         ! grep -q "listening on 127.0.0.1:$port" "$work/err" || break
         sleep 0.05
     done
     same "the service by hand: what it says" "tcdesk: /var/lib/tcdesk/hand.db is a new desk"$'\n'"tcdesk: listening on 127.0.0.1:$port" "$(<"$work/err")"
     by_user nobody "exec curl -s --max-time 20 http://127.0.0.1:$port/places"
     same "the service by hand is answered" '{"lines":["places 0: 0 0 0 0 0 0 0 0 0 0 0 0 0 0 0"],"more":0,"refusal":0}' "$(<"$work/out")"
+    # what the unit of the copies runs, while the desk is served
+    line=$(sed -n 's/^ExecStart=//p' "$top/deploy/backup/tcdesk-backup@.service")
+    line=${line//%i/hand}
+    by_user tcdesk "umask 077; KEEP=2; $line"
+    same "a copy by hand" "copied 0 requests, no move" "$(<"$work/out")"
+    in_root "stat -c '%a %U:%G' /var/backups/tcdesk/hand-*Z.db"
+    same "whose it is" "600 tcdesk:tcdesk" "$(<"$work/out")"
     { kill "$server"; wait "$server"; } 2>/dev/null
     server=
     same "whose its file is" "600 $(stat -c %u:%g "$root/var/lib/tcdesk")" "$(stat -c '%a %u:%g' "$root/var/lib/tcdesk/hand.db")"
@@ -286,180 +320,12 @@ user_cases() {
     in_root "apt-get purge -y tcdesk"
     tell "it is purged"
     same "what a purge leaves" "$left" "$(changed_files)"
-    rm -r "$root/var/lib/tcdesk/"* "$root/etc/default/tcdesk-hand"
+    rm -r "$root/var/lib/tcdesk/"* "$root/var/backups/tcdesk/"* "$root/etc/default/tcdesk-hand"
     in_root "apt-get install -y ./${package##*/} && apt-get purge -y --autoremove tcdesk"
     tell "it is installed again, and purged at once"
     same "what a purge leaves where no desk is" $'+ user tcdesk\n+ group tcdesk' "$(changed_files)"
     in_root "userdel tcdesk"
     same "and what the end of the user leaves" "" "$(changed_files)"
-}
-
-# ---- systemd in that root
-
-# boot: begins systemd in the root, without a network. Where it does not begin, $why says why.
-boot() {
-    local turn more=()
-    why="systemd-nspawn is not installed (Debian: systemd-container)"
-    command -v systemd-nspawn >/dev/null || return
-    # where systemd does not run here, it gives no unit
-    [[ -d /run/systemd/system ]] || more=(--keep-unit)
-    groups_before=$(find /sys/fs/cgroup -maxdepth 2 \( -name payload -o -name supervisor \) 2>/dev/null)
-    systemd-nspawn -D "$root" --boot --register=no "${more[@]}" --private-network --console=pipe </dev/null >"$work/console" 2>&1 &
-    machine=$!
-    why="systemd does not begin in it"
-    for ((turn = 0; turn < 360; turn++)); do
-        sleep 0.5
-        leader=$(pgrep -P "$machine") || continue
-        in_machine "systemctl is-system-running"
-        [[ $(<"$work/out") != running && $(<"$work/out") != degraded ]] || return 0
-    done
-    return 1
-}
-
-# in_machine LINE: runs a line of bash where systemd runs.
-in_machine() {
-    timeout 900 nsenter -t "$leader" --all env -i PATH=/usr/local/sbin:/usr/local/bin:/usr/sbin:/usr/bin:/sbin:/bin HOME=/root LC_ALL=C.UTF-8 DEBIAN_FRONTEND=noninteractive \
-        bash -c "cd /root; $1" >"$work/out" 2>"$work/err" <&-
-}
-
-# stop_machine: ends systemd in the root, and takes away the groups of processes that were made for it here.
-stop_machine() {
-    local group turn
-    [[ -n $machine ]] || return 0
-    kill "$machine" 2>/dev/null
-    for ((turn = 0; turn < 40; turn++)); do
-        kill -0 "$machine" 2>/dev/null || break
-        sleep 0.5
-    done
-    # a second one ends it at once
-    ! kill "$machine" 2>/dev/null || wait "$machine"
-    machine=
-    for group in $(find /sys/fs/cgroup -maxdepth 2 \( -name payload -o -name supervisor \) 2>/dev/null); do
-        [[ $groups_before == *"$group"* ]] || find "$group" -depth -type d -exec rmdir {} + 2>/dev/null
-    done
-}
-
-# machine_says NAME WANTED LINE: a line prints this there, on both its outputs.
-machine_says() {
-    in_machine "{ $3; } 2>&1"
-    same "$1" "$2" "$(<"$work/out")"
-}
-
-service_cases() {
-    # shellcheck disable=SC2016
-    local id='systemctl show -P MainPID tcdesk@one' said='journalctl -t tcdesk -o cat -u tcdesk@one' before exposure next=$work/next
-    in_machine "apt-get install -y ./${package##*/}"
-    tell "it is installed where systemd runs"
-    machine_says "systemd reads the unit" "" "systemd-analyze verify tcdesk@one.service"
-    in_machine "systemd-analyze security --no-pager --threshold=15 tcdesk@one.service"
-    tell "systemd finds the unit exposed by 1.5 of 10 at most"
-    exposure=$(grep -o 'exposure level .*' "$work/out")
-    echo "systemd-analyze security: $exposure"
-    in_machine "echo PORT=8080 >/etc/default/tcdesk-one; systemctl start tcdesk@one; curl -s http://127.0.0.1:8080/places" && grep -q '"places 0: ' "$work/out"
-    tell "a desk is served as soon as it is started"
-    machine_says "by whom, and with what" $'tcdesk\n0000000000000000\n0000000000000000\n1\n2' \
-        "stat -c %U /proc/\$($id); awk '/^(CapEff|CapBnd|NoNewPrivs|Seccomp):/ { print \$2 }' /proc/\$($id)/status"
-    machine_says "of the disk it may write its own folder alone, also root there" $'written: /var/lib/tcdesk' \
-        "for it in / /boot /etc /home /opt /root /srv /usr /usr/local /var /var/cache /var/lib /var/lib/tcdesk /var/log; do
-            ! nsenter -t \$($id) -m touch \$it/probe 2>/dev/null || { echo written: \$it; nsenter -t \$($id) -m rm \$it/probe; }; done"
-    machine_says "whose its file is" $'700 tcdesk:tcdesk /var/lib/tcdesk\n600 tcdesk:tcdesk /var/lib/tcdesk/one.db' \
-        "stat -c '%a %U:%G %n' /var/lib/tcdesk /var/lib/tcdesk/one.db"
-
-    in_machine "$id"
-    before=$(<"$work/out")
-    # the next version is the same but for its number
-    dpkg-deb -R "$package" "$next" && sed -i 's/^Version: .*/&+next/' "$next/DEBIAN/control" && dpkg-deb --root-owner-group -b "$next" "$root/root/next.deb" >"$work/out"
-    in_machine "apt-get install -y ./next.deb && dpkg-query -W -f '\${Version}\n' tcdesk && $id" && [[ $(tail -n 2 "$work/out") == *+next$'\n'$before ]]
-    tell "an upgrade leaves the server alone"
-    in_machine "kill -9 \$($id)
-        for it in {1..60}; do sleep 1; it=\$($id); if [[ \$it != 0 && \$it != $before ]] && systemctl -q is-active tcdesk@one; then break; fi; done
-        $id; curl -s http://127.0.0.1:8080/places" && [[ $(head -n 1 "$work/out") != "$before" ]] && grep -q '"places 0: ' "$work/out"
-    tell "a server that was killed comes back"
-    machine_says "one that a person killed stays down" inactive "kill \$($id); sleep 8; systemctl is-active tcdesk@one"
-    machine_says "one that served its COUNT ends with 0, and stays down" $'tcdesk: ended after 2 connections\ninactive' \
-        "mkdir -p /run/systemd/system/tcdesk@one.service.d
-        printf '[Service]\nExecStart=\nExecStart=/usr/local/bin/few one\n' >/run/systemd/system/tcdesk@one.service.d/few.conf
-        sed 's/\"\$PORT\"/& 2/' /usr/libexec/tcdesk/serve >/usr/local/bin/few && chmod 755 /usr/local/bin/few
-        systemctl daemon-reload && systemctl start tcdesk@one && for it in 1 2; do curl -s http://127.0.0.1:8080/places >/dev/null; done
-        sleep 8; $said | tail -n 1; systemctl is-active tcdesk@one"
-    # its next starts are no more than a person may make
-    in_machine "rm -r /run/systemd/system/tcdesk@one.service.d /usr/local/bin/few; systemctl daemon-reload; systemctl reset-failed tcdesk@one; systemctl restart tcdesk@one"
-
-    machine_says "a file that is no desk's: the start fails, says why, and stays down after 5 starts" $'status 1\n5 tcdesk: cannot use /var/lib/tcdesk/two.db\nfailed' \
-        "echo PORT=8082 >/etc/default/tcdesk-two; install -o tcdesk -g tcdesk -m 600 /etc/hostname /var/lib/tcdesk/two.db
-        systemctl start tcdesk@two 2>/dev/null; echo status \$?; for it in {1..240}; do sleep 1; [[ \$(systemctl is-active tcdesk@two) != failed ]] || break; done
-        journalctl -t tcdesk -o cat -u tcdesk@two | uniq -c | sed 's/^ *//'; systemctl is-active tcdesk@two"
-    machine_says "no port: the start fails, and says why" $'status 1\nis not set, so /etc/default/tcdesk-three has to say PORT=N' \
-        "touch /etc/default/tcdesk-three; systemctl start tcdesk@three 2>/dev/null; echo status \$?; systemctl stop tcdesk@three
-        journalctl -t tcdesk -o cat -u tcdesk@three | head -n 1 | sed 's/.*PORT: //'"
-    in_machine "post() { curl -s --json \"{\\\"by\\\":\\\"\$1\\\",\\\"number\\\":\$2,\\\"act\\\":\\\"\$3\\\",\\\"moment\\\":7}\" http://127.0.0.1:8080/acts; }
-        post ann 1 'enter 5 ---c no 8 1 - - ok'; post bob 1 'approve 1'; post ann 2 'initiate none'; post ann 3 'release 1'
-        from=\$(date +%s); systemctl restart tcdesk@one
-        read -r _ _ at rest < <($said | grep ^move); echo; echo \$((at >= from && at <= \$(date +%s))) \$rest"
-    same "a restart puts in doubt what is on its way, at the moment of the start" "1 desk 1 Sent Doubtful open" "$(tail -n 1 "$work/out")"
-    machine_says "its options are those of the file" "tcdesk: connection 1: answered" \
-        "echo 'OPTIONS=\"--w 10 --verbose\"' >>/etc/default/tcdesk-one; systemctl restart tcdesk@one; curl -s http://127.0.0.1:8080/places >/dev/null; sleep 1
-        $said | tail -n 1"
-
-    in_machine "systemctl enable tcdesk@one; apt-get remove -y tcdesk; curl -s --max-time 5 http://127.0.0.1:8080/places"
-    [[ $? == 7 ]]
-    tell "a removal ends the desks that are served"
-    machine_says "and leaves them, and their links" $'one.db\none.db-wal\ntwo.db\ntwo.db-wal\n/etc/systemd/system/multi-user.target.wants/tcdesk@one.service' \
-        "ls /var/lib/tcdesk; ls /etc/systemd/system/*/tcdesk*"
-    machine_says "a purge leaves the desks, and no links" $'one.db\none.db-wal\ntwo.db\ntwo.db-wal' \
-        "apt-get purge -y tcdesk >/dev/null 2>&1; ls /var/lib/tcdesk; ls /etc/systemd/system/*/ | grep tcdesk"
-    in_machine "rm -r /var/lib/tcdesk /etc/default/tcdesk-*; userdel tcdesk; systemctl reset-failed"
-}
-
-# page_cases NAME [LINES]: the blocks ```sh of a page, as the package has it, are run one behind the other by one bash, behind these lines. Each has to print the block
-# without a word that stands next behind it, or nothing where none does.
-page_cases() {
-    local page=$work/page-$1 file number
-    mkdir "$page" "$root/root/page"
-    in_machine "apt-get install -y ./${package##*/} && zcat /usr/share/doc/tcdesk/$1.gz"
-    sed -n '/^# /,$p' "$work/out" | awk -v folder="$page" '
-        /^```/ && inside { close(file); inside = 0; next }
-        /^```/ {
-            inside = 1
-            word = substr($0, 4)
-            if (word == "sh") { at = NR; printf "" >sprintf("%s/%03d.out", folder, at) }
-            file = word == "sh" ? sprintf("%s/%03d.sh", folder, at) : word == "" ? sprintf("%s/%03d.out", folder, at) : "/dev/null"
-            next
-        }
-        inside { print >file }'
-    {
-        echo "${2:-}"
-        for file in "$page"/*.sh; do
-            echo "echo; echo '== ${file##*/}'"
-            cat "$file"
-        done
-    } >"$root/root/page.sh"
-    in_machine "cd page; bash ../page.sh 2>&1"
-    cp "$work/out" "$page/printed"
-    for file in "$page"/*.sh; do
-        number=${file##*/}
-        awk -v head="== $number" '/^== [0-9]+\.sh$/ { inside = $0 == head; next } inside' "$page/printed" >"$work/out"
-        number=$((10#${number%.sh}))
-        same "the page $1, line $number" "$(plain <"${file%.sh}.out")" "$(plain <"$work/out")"
-    done
-    in_machine "rm -r page page.sh"
-}
-
-# pages_cases: all pages whose commands are tried, and what is left behind the last of them.
-pages_cases() {
-    files_of_root >"$work/before"
-    page_cases README.Debian
-    same "what is left behind it" "" "$(changed_files)"
-    page_cases SCALE.md
-    in_machine "apt-get purge -y tcdesk; rm -r /var/lib/tcdesk /etc/default/tcdesk-* /srv/copies /srv/standby; userdel tcdesk; systemctl reset-failed"
-    in_machine "for it in {1..60}; do ! su -c 'createuser root && createdb --owner root tcdesk' postgres || break; sleep 1; done"
-    tell "root has a database"
-    page_cases postgres.md "export PGDATABASE=tcdesk; cp -r /usr/share/doc/tcdesk/examples ."
-}
-
-# plain: what hangs on the day, and on how this Debian tells of its units, is left out.
-plain() {
-    sed -E "s/\b[0-9]{10}\b/MOMENT/g; s,/usr/lib/systemd/,/lib/systemd/,g; s/'//g"
 }
 
 bytes_cases "$(version_of "$kept/tcdesk")"
@@ -471,7 +337,8 @@ fi
 user_cases
 if ! in_root "apt-get install -y systemd systemd-sysv"; then
     not_tried "the service, since systemd could not be installed in the root"
-elif ! in_root "apt-get install -y --no-install-recommends nginx-light libnginx-mod-http-js openssl postgresql rsync sqlite3"; then
+elif ! in_root "apt-get install -y --no-install-recommends nginx-light libnginx-mod-http-js openssl postgresql rsync sqlite3 &&
+    apt-get install -y --no-install-recommends --download-only etcd-server python3"; then
     not_tried "the service, since what its pages want could not be installed in the root"
 elif ! boot; then
     in_root "apt-get install -y ./${package##*/}"
@@ -485,5 +352,6 @@ else
     printf '#!/bin/sh\n/usr/bin/journalctl --sync; exec /usr/bin/journalctl "$@"\n' >"$root/usr/local/bin/journalctl" && chmod 755 "$root/usr/local/bin/journalctl"
     service_cases
     pages_cases
+    replica_cases
 fi
 finish

@@ -1,7 +1,8 @@
 #!/bin/bash
 # Whether the program that is kept in dist/ is the one that these sources make: the digest beside it is that of the sources and of this
 # toolchain, and the program that rt ci has just built is, stripped, the same byte for byte. tools/kept_program.sh [--keep]: --keep puts that
-# program into dist/ first. Then ./tcdesk is timed, from its start to the program's.
+# program into dist/ first. The commit that the version names has to have these sources, but for the line that names it. Then ./tcdesk is timed, from its start to
+# the program's.
 # The status is 1 where they are not the same.
 set -u
 top=$(cd "$(dirname "$(readlink -f "$0")")/.." && pwd) || exit 1
@@ -25,6 +26,21 @@ milliseconds() {
     done | sort -n | awk 'NR == 11 { printf "%.1f", $1 / 1000 }'
 }
 
+# same_commit: whether the commit that the version names has the sources that stand here, but for the line that names it. Lines that differ are printed. Where this clone
+# has no such commit, that is said, and nothing is wrong.
+same_commit() {
+    local commit file=crates/tc_words/src/commands.rt
+    local -a paths
+    commit=$(sed -nE 's/^const VERSION: .* \(commit ([0-9a-f]{12})\)";$/\1/p' "$top/$file")
+    [ -n "$commit" ] || return
+    if ! git -C "$top" cat-file -e "$commit^{commit}" 2>/dev/null; then
+        echo "not tried: this clone has no commit $commit, which the version names"
+        return 0
+    fi
+    mapfile -t paths < <(program_crates | sed 's,.*,crates/&/src,')
+    ! git -C "$top" diff --unified=0 "$commit" -- crates.txt HANDLES "${paths[@]}" | grep '^[-+]' | grep -vE '^(---|\+\+\+) |^[-+]const VERSION: '
+}
+
 [ -x "$built" ] || { echo "kept_program: rt ci has built no program" >&2; exit 1; }
 toolchain=$(rt version) || exit 1
 sources=$(sources_digest "$toolchain") || exit 1
@@ -37,5 +53,6 @@ work=$(mktemp -d) || exit 1
 trap 'rm -rf "$work"' EXIT
 strip -o "$work/tcdesk" "$built" || exit 1
 cmp "$work/tcdesk" "$kept/tcdesk" >&2 || fail "what rt ci built is not, byte for byte, the program in dist/"
+same_commit || fail "the version does not name the commit of these sources: commit them, put its first 12 digits into VERSION of tc_words, and build the program again"
 echo "kept program: $(stat -c %s "$kept/tcdesk") bytes, SHA-256 $(sum_of "$kept/tcdesk"), of the sources $sources"
 echo "kept program: ./tcdesk --version in $(milliseconds "$top/tcdesk" --version) ms, the program alone in $(milliseconds "$kept/tcdesk" --version) ms"

@@ -32,7 +32,12 @@ same() {
 expect_new() {
     local file='' before='' word
     case ${1:-} in
-    serve | loop) file=${2:-} ;;
+    serve | loop)
+        for word in "${@:2}"; do
+            [[ $before == --@(w|vc|ring|at|first) || $word == --* ]] || { file=$word; break; }
+            before=$word
+        done
+        ;;
     run)
         for word in "$@"; do
             [[ $before != --db ]] || file=$word
@@ -57,6 +62,11 @@ take_new() {
     fi
 }
 
+# take_beside: takes from the file err why something cannot be used, and that an opening lies before the last move: test_told.py looks for these.
+take_beside() {
+    sed -i -E '/^tcdesk: (because .*|opened at [0-9]+, before the last move at [0-9]+)$/d' err
+}
+
 # check NAME STATUS STDOUT STDERR WORD..: runs the program on the words in the folder $work, with its file `input` as standard input. STDERR
 # is a piece that standard error holds; nothing at all is wanted there where it is empty, but that a desk is new where it is.
 check() {
@@ -66,6 +76,7 @@ check() {
     "$program" "$@" <input >out 2>err
     local got=$?
     take_new $got
+    take_beside
     [[ $got == "$status" && $(cat out; echo .) == "$out." ]] &&
         { [[ -z $err && ! -s err ]] || { [[ -n $err ]] && grep -qF -- "$err" err; }; }
     tell "$name: status $got"

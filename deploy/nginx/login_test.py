@@ -159,7 +159,8 @@ def paths(cases: Cases, proxy: Proxy, desk: int) -> None:
     ann = Client(proxy, ANN)
     before = ann.get()
     for method, path in [("GET", it) for it in ("/places", "/requests/1", "/requests/99999", "/requests/x", "/history/1/0", "/report/0/4102444799",
-                                                "/places/", "/places?", "/none", "/", "/acts", "/stacks", "/procedures", "/history/1")] + [
+                                                "/places/", "/places?", "/none", "/", "/acts", "/stacks", "/procedures", "/history/1", "/waiting", "/moves/0",
+                                                "/moves/x", "/procedures/s1", "/procedures/S", "/board/")] + [
                          (it, "/places") for it in ("POST", "PUT", "DELETE", "PATCH")] + [
                          (it, "/acts") for it in ("PUT", "DELETE", "PATCH")] + [("POST", it) for it in ("/none", "/acts/", "/acts?x", "/act")]:
         cases.tell(f"{method} {path}", direct(desk, method, path, "" if method != "GET" else None), ann.ask(method, path))
@@ -176,6 +177,19 @@ def paths(cases: Cases, proxy: Proxy, desk: int) -> None:
     after = ann.get()
     cases.tell("a question with a body", after, ann.ask("GET", "/places", entry(303)))
     cases.tell("what was done then", after, ann.get())
+
+
+def board(cases: Cases, proxy: Proxy, desk: int) -> None:
+    """The page of the board comes through as it is, with the lines of its head, each once."""
+    peer = HTTPConnection(HERE, desk, timeout=60)
+    peer.request("GET", "/board")
+    with peer.getresponse() as own:
+        text, lines = own.read().decode(), [(it, own.getheader(it)) for it in ("Content-Type", "Content-Security-Policy")]
+    peer.close()
+    ann = Client(proxy, ANN)
+    cases.tell("the board", Answer(own.status, text), ann.ask("GET", "/board"))
+    cases.tell("the lines of its head", lines, [(it, ann.lines.get(it)) for it, _ in lines])
+    cases.tell("that it is kept nowhere", ["no-store"], ann.lines.get_all("Cache-Control"))
 
 
 def too_large(client: Client, size: int) -> int:
@@ -584,6 +598,7 @@ def passwords(cases: Cases, folder: str) -> None:
         logins(cases, proxy)
         sites(cases, proxy, others(cases, proxy))
         paths(cases, proxy, server.port)
+        board(cases, proxy, server.port)
         at_once(cases, proxy)
         stalls(cases, proxy)
 

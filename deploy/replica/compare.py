@@ -17,8 +17,8 @@ IN, OUT = b"in", b"out"
 
 
 class Comparison(NamedTuple):
-    """A place, the machine that asked for it, if one did, and whether this desk is in once its tables are right there; the mark of the desk, a copy of its file, and
-    how its link stood."""
+    """A place, the machine that asked for it, if one did, and whether this desk is in once its tables are right there; the mark of the desk, a copy of its file,
+    and how its link stood."""
     place: int
     asker: str
     brings_in: bool

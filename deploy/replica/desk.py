@@ -143,9 +143,11 @@ def digest_of(path: str) -> str:
 
 def begin_desk(folder: str, way: Way, agrees: Callable[[bytes], bool]) -> NoReturn:
     """Becomes a desk with an empty file, or with a copy of the first one, if all machines agree on that. The file of the one before is `left.db`, for who wants
-    to know why it ended. The lock is the process's own, whatever program it runs."""
+    to know why it ended; one that was no such desk's is left alone. The lock is the process's own, whatever program it runs."""
     os.makedirs(folder, exist_ok=True)
     desk = Desk(folder)
+    if os.path.exists(desk.path("desk.db")) and not os.path.exists(desk.path("opening")):
+        raise SystemExit(f"replica: {desk.path('desk.db')} is no desk of a replica: it is left as it is, and another folder is wanted")
     lock = os.open(desk.path("opening"), os.O_RDWR | os.O_CREAT, 0o640)
     for _ in range(20):  # a follower that looks whether a desk runs has it for a moment
         with suppress(BlockingIOError):

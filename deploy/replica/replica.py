@@ -16,12 +16,14 @@ from contextlib import suppress
 from queue import Empty
 from typing import Optional
 
-from compare import Comparison, Judge, Present
-from desk import Desk, Way, begin_desk
-from entrance import Entrance
-from etcd import Etcd, Unanswered
-from log import Log
-from machine import Machine, give_up, say
+sys.dont_write_bytecode = True  # what root runs leaves nothing in a folder of the package
+
+from compare import Comparison, Judge, Present  # noqa: E402
+from desk import Desk, Way, begin_desk  # noqa: E402
+from entrance import Entrance  # noqa: E402
+from etcd import Etcd, Unanswered  # noqa: E402
+from log import Log  # noqa: E402
+from machine import Machine, give_up, say  # noqa: E402
 
 EVERY = 10_000
 SECOND = 1.0
@@ -89,8 +91,9 @@ def parsed(words: list[str]) -> argparse.Namespace:
     parser.add_argument("--log", type=named, default="desk", metavar="NAME", help="the name of the desk, the same on all machines (desk)")
     parser.add_argument("--name", type=named, metavar="NAME", help="run: the name of this machine, of its own")
     parser.add_argument("--etcd", type=int, default=2379, metavar="PORT", help="where etcd listens on 127.0.0.1 (2379)")
-    parser.add_argument("--folder", default="/var/lib/tcdesk", metavar="PATH", help="desk, run: where the file of the desk lies (/var/lib/tcdesk)")
-    parser.add_argument("--program", default="/usr/local/bin/tcdesk", metavar="PATH", help="desk: the program (/usr/local/bin/tcdesk)")
+    parser.add_argument("--folder", default="/var/lib/tcdesk-replica", metavar="PATH",
+                        help="desk, run: where the file of the desk lies, which nothing else uses (/var/lib/tcdesk-replica)")
+    parser.add_argument("--program", default="/usr/bin/tcdesk", metavar="PATH", help="desk: the program (/usr/bin/tcdesk)")
     parser.add_argument("--first", metavar="PATH", help="desk: it begins with a copy of this file, the same on all machines (with an empty one)")
     parser.add_argument("--port", type=int, default=8081, metavar="PORT", help="desk: where it listens on 127.0.0.1 (8081)")
     parser.add_argument("--count", type=int, default=1_000_000, metavar="N", help="desk: it ends after so many connections (1,000,000)")

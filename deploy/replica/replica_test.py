@@ -784,6 +784,16 @@ class Real(unittest.TestCase):
                 desk.end(opening)
                 process.wait(LONG)
 
+    def test_foreign_desk(self) -> None:
+        """A desk that was there before is not put aside."""
+        with tempfile.TemporaryDirectory(prefix="replica-", dir=quick_folder()) as folder:
+            os.mkdir(f"{folder}/a")
+            with open(f"{folder}/a/desk.db", "w", encoding="ascii") as file:
+                file.write("a history")
+            self.assertEqual(1, self.begin(f"{folder}/a", free_port()).wait(LONG))
+            with open(f"{folder}/a/desk.db", encoding="ascii") as file:
+                self.assertEqual((["desk.db"], "a history"), (os.listdir(f"{folder}/a"), file.read()))
+
     def test_lock(self) -> None:
         """A second desk of a folder is not begun, and the file of the first is kept by the next one."""
         with tempfile.TemporaryDirectory(prefix="replica-", dir=quick_folder()) as folder:

@@ -341,12 +341,13 @@ def rate(what: str, trial: Trial, script: Script, alive: Sequence[Member]) -> No
 def rejoin(member: Member) -> None:
     """How long a machine takes to be in again, of which the desk alone ended."""
     places = member.ask("GET", "/places")[2]
+    began, spent = time.monotonic(), member.spent("etcd", "replica")
     member.units["desk"].signal(signal.SIGKILL)
-    began = time.monotonic()
     wait_for("it out", lambda: not member.is_in())
     wait_for("it in", member.is_in)
-    took = time.monotonic() - began
-    print(f"  in again after {took:.1f} s, at {places} places: {took * 10000 / places:.0f} s for 10,000", flush=True)
+    took, spent = time.monotonic() - began, member.spent() - spent
+    print(f"  in again after {took:.1f} s, and {spent:.1f} of processors, at {places} places: {took * 10000 / places:.0f} s, and {spent * 10000 / places:.0f} "
+          "of processors, for 10,000", flush=True)
 
 
 def main() -> int:

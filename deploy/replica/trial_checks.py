@@ -1,4 +1,4 @@
-"""What the trial looks at behind its faults: the log, each answer, and all rows of all files, beside the plain desk of tools/model, which carries the log out."""
+"""What the trial looks at behind its faults: the log, each answer, and all rows of all files, beside the plain desk of tools/model, which carries out the log."""
 import json
 from collections import defaultdict
 from typing import Iterable, NamedTuple, Sequence
@@ -8,7 +8,7 @@ from generate.http_words import get, post
 from log import COMPARE, Entry, Log, entry_of
 from model.calls import Calls
 from model.desk import QUESTIONS, Desk
-from model.http import Refused, answer_to, refused_response, reply_response
+from model.http import Refused, answer_to
 from model.rows import Tables
 from tables import digest_of
 from tests.plain_runs import kept_tables, unlike
@@ -59,8 +59,7 @@ def answer_by(calls: Calls, request: bytes) -> Answer:
     """What the plain desk answers to a request."""
     asked = answer_to(request)
     assert asked is not None, "it is a whole one"
-    response = refused_response(asked) if isinstance(asked, Refused) else reply_response(calls.reply(asked))
-    head, body = response.split(b"\r\n\r\n", 1)
+    head, body = calls.response(asked).split(b"\r\n\r\n", 1)
     return int(head.split(b" ")[1]), body
 
 

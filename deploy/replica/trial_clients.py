@@ -52,7 +52,7 @@ def random_script(seed: int, count: int, tables: Tables) -> Script:
     made = posted_day(random.Random(seed), tables, 0, 1, [], count).exchanges
     posts = [Post(it.call.path, body_of(dict(it.call.keys)).encode()) for it in made if it.call]
     paths = [it.raw.split(b" ", 2)[1].decode() for it in made if not it.call]
-    return Script(posts, [*paths, "/places", "/report/0/4102444799"])
+    return Script(posts, [*paths, "/places", "/requests/1", "/history/1/0", "/none"])
 
 
 class Dealer:
@@ -128,7 +128,7 @@ class Client(threading.Thread):
             return None
 
     def look(self, place: int) -> None:
-        """Asks some machine a question, in two of three times for the newest: then its answer is as of no earlier place than this one, that of the last post."""
+        """Asks some machine a question, two times of three for the newest: then its answer is as of no earlier place than this one, that of the last post."""
         path, is_newest = self.dice.choice(self.dealer.paths), self.dice.randrange(3) > 0
         told = self.ask(self.dice.randrange(len(self.members)), "GET", path + NEWEST * is_newest, None, 2.0)
         if told and told[0] not in (502, 503, 504):

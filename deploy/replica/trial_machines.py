@@ -211,10 +211,10 @@ class Member:
         words = [*self.net.words(self.at), sys.executable, "-c", ASK, str(self.desk_port), json.dumps(keys)]
         return subprocess.run(words, capture_output=True, text=True, check=True).stdout.strip()
 
-    def spent(self) -> float:
-        """Seconds that its programs took of processors."""
+    def spent(self, *names: str) -> float:
+        """Seconds that its programs took of processors; those of these names, where there are any."""
         ticks = 0
-        for it in self.units.values():
+        for it in [self.units[name] for name in names or self.units]:
             if it.process:
                 with open(f"/proc/{it.process.pid}/stat", encoding="ascii") as file:
                     ticks += sum(map(int, file.read().rsplit(")", 1)[1].split()[11:13]))

@@ -58,6 +58,7 @@ try_made() {
     FAIL_AT=$1 LD_PRELOAD=$work/fail_malloc.so "$program" run --db made.db /dev/null >out 2>err 9>mark </dev/null
     local status=$?
     [[ -s mark ]] || return 1
+    sed -i '/^tcdesk: because /d' err
     makings=$((makings + 1))
     local how=bad told=
     [[ $(head -n 1 err) != "$new" ]] || told=$new$'\n'

@@ -29,7 +29,7 @@ from model.lines import act_of
 from model.rows import Tables
 from tests.asked import ASKED
 from tests.made_files import OLD_DAY, OLDER, Older, make_older
-from tests.new_desks import new_desk
+from tests.new_desks import new_desk, without_beside
 from tests.plain_runs import Plain, case_files, case_lines, kept_tables, text_of, unlike
 from tests.runs import Ended, Tried, made_shim, quick_folder, write_files
 
@@ -122,7 +122,7 @@ class Trial:
             ran = subprocess.run(words, cwd=self.folder, stdin=subprocess.DEVNULL, capture_output=True, pass_fds=[told], timeout=600, check=False,
                                  env={**os.environ, "FAIL_AT": str(at), "FAIL_MARK": str(told), "LD_PRELOAD": self.shim})
             was_refused = os.fstat(told).st_size > 0
-        ended = Ended(ran.returncode, ran.stdout.decode("latin-1"), self.said_besides(ran.stderr.decode("latin-1"), ran.stdout != b""))
+        ended = Ended(ran.returncode, ran.stdout.decode("latin-1"), self.said_besides(without_beside(ran.stderr.decode("latin-1")), ran.stdout != b""))
         return ended if was_refused else None
 
     def said_besides(self, err: str, has_printed: bool) -> str:

@@ -13,7 +13,7 @@ from model.facts import MOST_ROWS, MOST_STEPS, PROCEDURE_HEADER, SCHEMA_VERSION,
 from model.kept import sqlite3
 from model.rows import Tables, empty_tables
 from tests.made_files import EARLIER, as_version, make_file, some_replies
-from tests.new_desks import holds_no_table, new_desk
+from tests.new_desks import holds_no_table, new_desk, without_beside
 from tests.plain_runs import Plain, case_lines, kept_tables, text_of, unlike
 from tests.runs import made_shim, write_files
 
@@ -176,7 +176,7 @@ class Desks:
         words = [self.program, "run", "--db", database, "--at", str(moment), script]
         own = dict(os.environ, LD_PRELOAD=self.shim, STOP_FILE=database, **settings)
         it = subprocess.run(words, env=own, cwd=self.work, stdin=subprocess.DEVNULL, capture_output=True, timeout=600, check=False)
-        err, line = it.stderr.decode("latin-1"), new_desk(database)
+        err, line = without_beside(it.stderr.decode("latin-1")), new_desk(database)
         return Ended(it.returncode, it.stdout.decode("latin-1"), err.removeprefix(line), err.startswith(line))
 
     def calls(self, folder: str, script: str, moment: int) -> int:

@@ -94,7 +94,8 @@ static void remember(int file, int descriptor, off_t at, off_t end) {
     off_t last = end < length ? end : length;
     size_t size = at < last ? (size_t)(last - at) : 0;
     struct change *change = malloc(sizeof *change + size);
-    if (change == NULL || syscall(SYS_pread64, descriptor, change->bytes, size, at) != (long)size) {
+    // (what is written behind the end takes nothing away: its descriptor may be one that only writes)
+    if (change == NULL || (size > 0 && syscall(SYS_pread64, descriptor, change->bytes, size, at) != (long)size)) {
         abort();
     }
     change->before = changes[file];

@@ -7,7 +7,7 @@ from typing import Callable, Iterable
 from generate.scripts import Written
 from generate.texts import procedure_text, stack_text
 from model.facts import (COUNTS, LAST_MOMENT, LAST_NUMBER, LONGEST_ACT, LONGEST_TEXT, MARK, MOST_EXECUTIONS, MOST_INSERTED, MOST_PROCEDURES, MOST_REQUESTS,
-                         MOST_ROWS, MOST_STACKS, MOST_STEPS, STACK_HEADER)
+                         MOST_ROWS, MOST_SHOWN, MOST_STACKS, MOST_STEPS, PLACE_WORDS, STACK_HEADER)
 
 PLAIN = "enter {} ---- no 8 1 - - ok"
 
@@ -66,7 +66,8 @@ def fill_desk(script: Written) -> None:
     say_all(script, [f"stack m{it} many" for it in range(loads)] + ["stack rest rest", "places", "stack p pair", PLAIN.format(100)])
     say_all(script, [PLAIN.format(100), PLAIN.format(7), "enter 7 ---c no 11 5 65536 - ok", "stack p one", "stack p seven", "stack s one",
                      "stack p barred", "withdraw 65536", "withdraw 65535", "request 65535", "history 65535 0", PLAIN.format(100), "stack p many",
-                     "enter 101 ---c no 11 1 - - ok", "enter 101 ---c no 11 5 1 - ok", "places"])
+                     "enter 101 ---c no 11 1 - - ok", "enter 101 ---c no 11 5 1 - ok", "waiting", "standing Entered 0", "standing Entered 65484",
+                     "standing Entered 65535", "moves 65000", "places"])
 
 
 def loads() -> Written:
@@ -78,9 +79,10 @@ def loads() -> Written:
     say_all(script, [f"stack s{it} one" for it in range(MOST_STACKS)])
     say_all(script, ["stack more one", "stack s7 one", "stack more bad", "stack more long", "stack s7 bad", "places", "approvestack more"])
     script.say("1 bob approvestack s999")
+    script.say("1 bob waiting")
     say_all(script, [f"procedure p{it} steps" for it in range(MOST_PROCEDURES)])
     say_all(script, ["procedure more steps", "procedure more none", "procedure p7 none", "procedure p7 bad", "procedure more long",
-                     "begin more", "begin p999", "log 1", "step 1 1 skipped -", PLAIN.format(5), "release 1000", "places"])
+                     "begin more", "begin p999", "steps p999", "steps more", "log 1", "step 1 1 skipped -", PLAIN.format(5), "release 1000", "places"])
     script.say("1 bob approve 1001")
     return script
 
@@ -102,7 +104,8 @@ def executions() -> Written:
     script = Written("10,000 executions")
     script.file(procedure_text("", ""), "steps")
     say_all(script, ["procedure p steps"] + ["begin p"] * (MOST_EXECUTIONS + 1) + ["begin q", "step 10000 1 done -", "log 10000", "log 10001",
-                     "step 10001 1 done -", "step 10000 2 failed bob", "log 10000", "step 10000 3 done -", "begin p", "step 1 1 skipped -", "log 1"])
+                     "step 10001 1 done -", "step 10000 2 failed bob", "log 10000", "step 10000 3 done -", "begin p", "step 1 1 skipped -", "log 1",
+                     "waiting"])
     return script
 
 
@@ -117,6 +120,24 @@ def history() -> Written:
         say_all(script, [f"release {number}", "release 1", f"release {number}", "terminate", "up", "work", "history 1 0"])
     seqs = [it.seq for it in script.book.rows_of[1]]
     say_all(script, [f"history 1 {after}" for seq in seqs for after in (seq - 1, seq)] + [f"history 1 {LAST_NUMBER}", "report 0 99"])
+    return script
+
+
+def pages() -> Written:
+    """Requests stand at each place, and some more than one answer shows at some of them: what waits, and the pages of all, from each of their borders on."""
+    script = Written("pages")
+    stand_everywhere(script)
+    for name, count in (("fifty", MOST_SHOWN), ("more", MOST_SHOWN + 1), ("many", MOST_ROWS)):
+        script.file(stack_text(*[20] * count), name)
+        behind = len(script.book.requests)
+        say_all(script, [f"stack {name} {name}", *(f"standing Entered {behind + it}" for it in (-1, 0, 1)), "waiting"])
+    say_all(script, ["approvestack more", "approvestack many", *(f"withdraw {20 + it}" for it in range(MOST_SHOWN))], "bob")
+    say_all(script, ["waiting", *(f"standing {it} 0" for it in PLACE_WORDS)])
+    for place, first in (("Withdrawn", 20), ("Approved", 20 + MOST_SHOWN), ("Approved", len(script.book.requests) - MOST_SHOWN)):
+        say_all(script, [f"standing {place} {first + it}" for it in range(-3, 3)])
+    for first in (0, MOST_SHOWN, len(script.book.history) - MOST_SHOWN, len(script.book.history)):
+        say_all(script, [f"moves {first + it}" for it in range(-3, 3) if first + it >= 0])
+    say_all(script, [f"moves {LAST_NUMBER}", f"standing Approved {LAST_NUMBER}", "places"])
     return script
 
 
@@ -137,10 +158,10 @@ def long_stacks() -> Written:
     script.file("\r".join([STACK_HEADER] + rows).replace("yes", "no").encode(), "plain")
     script.file(full_lists(), "lists")
     say_all(script, ["stack a long", "stack b plain", "stack c lists", "withdraw 7", "withdraw 200", "withdraw 400"])
-    for line in ("1 bob approvestack a", "2 bob approvestack b", "3 cid approvestack b", "3 cid approvestack a", "4 eve approvestack a",
-                 "5 bob places", "5 bob request 200", "5 bob request 399", "5 bob initiate none", "5 bob release 2", "5 bob release 9",
+    for line in ("0 bob waiting", "1 bob approvestack a", "1 bob waiting", "2 bob approvestack b", "3 cid approvestack b", "3 cid approvestack a",
+                 "4 eve approvestack a", "5 bob waiting", "5 bob places", "5 bob request 200", "5 bob request 399", "5 bob initiate none", "5 bob release 2", "5 bob release 9",
                  "6 bob approvestack c", "6 bob request 409", "6 bob request 600", "6 bob release 409", "6 bob release 600", "6 bob terminate",
-                 "6 bob places"):
+                 "6 bob waiting", "6 bob places"):
         script.say(line)
     return script
 
@@ -157,11 +178,12 @@ NUMBERED = ["enter {} ---- no 8 1 - - ok", "enter 5 ---- no {} 1 - - ok", "enter
             "enter 5 ---c no 11 15 - {} ok", "enter 5 ---- no 8 1 {} - ok", "enter 5 ---- no 8 1 - {} ok", "enter 5 ---- no 8 1 - - ok/{}",
             "enter 5 ---- no 8 1 - - refuse/{}", "enter 5 ---- no 8 1 - - nostart/{}", "enter 5 ---- no 8 1 - - halt/{}/16",
             "enter 5 ---- no 8 1 - - halt/9/{}", "enter 5 ---- no 8 1 - - fail/{}", "withdraw {}", "approve {}", "release {}", "close {}",
-            "request {}", "history {} 0", "history 1 {}", "log {}", "step {} 1 done -", "step 1 {} failed -", "set k {}", "set t1 {}",
-            "set limit {}", "set vs {}", "initiate setvr {}", "loseup {}", "losedown {}", "clock {}", "report {} 9", "report 0 {}", "{}",
-            "places {}", "link {}", "schedule {}", "tick {}", "terminate {}", "initiate none {}", "up {}", "down {}", "work {}", "clcw {}"]
+            "request {}", "history {} 0", "history 1 {}", "log {}", "moves {}", "standing Approved {}", "standing {} 0", "step {} 1 done -",
+            "step 1 {} failed -", "set k {}", "set t1 {}", "set limit {}", "set vs {}", "initiate setvr {}", "loseup {}", "losedown {}", "clock {}",
+            "report {} 9", "report 0 {}", "{}", "places {}", "link {}", "schedule {}", "waiting {}", "tick {}", "terminate {}", "initiate none {}", "up {}",
+            "down {}", "work {}", "clcw {}"]
 NAMES = ["a", "0", "z9", "x" * 16, "x" * 17, "", "A", "a-b", "a_b", "desk", "a\0", "\xff", "-", "a b"]
-NAMED = ["begin {}", "approvestack {}", "stack {} one", "procedure {} steps", "step 2 1 done {}", "step 3 1 {} -"]
+NAMED = ["begin {}", "steps {}", "approvestack {}", "stack {} one", "procedure {} steps", "step 2 1 done {}", "step 3 1 {} -"]
 
 
 def borders() -> Written:
@@ -172,6 +194,8 @@ def borders() -> Written:
     say_all(script, ["enter 5 a--- no 8 1 - - ok"] * 2 + ["procedure p steps", "begin p", "begin p", "begin p", "initiate none"])
     say_all(script, [line.format(it) for line in NUMBERED for it in NUMBERS])
     say_all(script, [line.format(it) for line in NAMED for it in NAMES])
+    words = [word for it in PLACE_WORDS for word in (it, it.lower(), it.upper(), it[:-1], f"{it}x", f"{it} ")]
+    say_all(script, [line.format(it) for line in ("standing {} 0", "standing {}", "standing 0 {}") for it in [*words, "Nowhere", "open", "places"]])
     for it in NUMBERS:
         script.say(f"{it} ann places")
     for it in NAMES:
@@ -213,4 +237,4 @@ def lengths() -> Written:
     return script
 
 
-PLANS: tuple[Callable[[], Written], ...] = (identities, loads, full_stacks, executions, history, long_stacks, borders, lengths)
+PLANS: tuple[Callable[[], Written], ...] = (identities, loads, full_stacks, executions, history, pages, long_stacks, borders, lengths)

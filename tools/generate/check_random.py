@@ -25,6 +25,7 @@ WORDS = {
     "text": ["", " ", "~" * 80, "~" * 81, "a\tb", "a\x7f", "\x1f", "caf\xc3\xa9", "\xff", "a\nb", 'say "go"', "on, slowly"],
 }
 CLOCKS = ["10:00:00", "00:00:00", "23:59:59", "23:59:60", "23:59:61", "24:00:00", "10:60:00", "1000", "100000", "10", "10:00", "10:0000", "1:00:00"]
+LEAPS = ["2031-05-04T23:59:60Z", "2031-05-04T10:00:60Z", "2028-02-29T23:59:60.0+02:00"]
 FRACTIONS = [""] * 6 + [".0", ",000", ".000000000", ".0000000000", ".5", ".", ".000000001"]
 ZONES = ["Z"] * 6 + ["z", "", "+00:00", "-00:00", "+02:00", "-0330", "+02", "+25:59", "-25:59:59", "+26:00", "+02:60", "+2:00", "+02:00:00.5"]
 DAYS = ["2031-05-04", "2028-02-29", "2031-02-29", "2000-02-29", "2100-02-28", "1970-01-01", "1969-12-31", "1970-01-02", "2099-12-31", "2099-12-30",
@@ -122,14 +123,15 @@ def other_target(dice: Random, records: Records) -> Records:
 
 
 def other_instant(dice: Random, records: Records) -> Records:
-    """An insert has another time, or one more or less."""
+    """An insert has another time, or one more or less; a second 60, say, which is one of no moment of its own."""
     inserts = rows_with(records, "4")
     if not inserts:
         return other_field(dice, records)
     row, kind = dice.choice(inserts), dice.randrange(8)
     times = records[row][5].split(";")
     at = dice.randrange(len(times))
-    times[at:at + 1] = [times[at]] * 2 if kind == 0 else [] if kind == 1 else [spelled_instant(dice)]
+    others: list[list[str]] = [[times[at]] * 2, [], [dice.choice(LEAPS)]]
+    times[at:at + 1] = others[kind] if kind < 3 else [spelled_instant(dice)]
     return with_field(records, row, 5, joined(times))
 
 

@@ -24,13 +24,13 @@ class Day(LosingWriter):
     def often(self) -> list[tuple[Callable[[], object], int]]:
         """Of each turn how often it comes: no line is spelled wrongly here, and the clock goes on often."""
         return [(turn, times) for turn, times in super().often() if turn not in (self.spell, self.ask)] + [
-            (self.ask_little, 3), (self.turn_clock, 3), (self.lay_in, 6)]
+            (self.ask_little, 5), (self.turn_clock, 3), (self.lay_in, 6)]
 
     def ask_little(self) -> None:
         """A question, or a line that is no line."""
         number = self.pick(Place.ENTERED)
         self.give(self.dice.choice(["places", f"history {number} 0", f"request {number}", "link", "schedule", "log 1", "release",
-                                    f"approve {number} "]))
+                                    f"approve {number} ", *self.questions()]))
 
     def close_day(self) -> None:
         """The day often ends with requests out, an insert among them, and one that waits."""

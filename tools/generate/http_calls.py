@@ -3,7 +3,7 @@ import json
 from typing import Iterator, Union
 
 from generate.http_posts import LONG, rows, steps
-from generate.http_words import ENTRY, PLACES, Case, act, body_of, get, load, post
+from generate.http_words import ENTRY, Case, act, body_of, get, load, post
 from model.facts import LAST_NUMBER, MOST_ROWS
 
 # Numbers as JSON spells them, and what is wanted of a call under each.
@@ -61,7 +61,7 @@ def asked_so(number: object, by: str = "ann") -> Iterator[tuple[str, bytes]]:
     for text in ("enter 6 a--c no 8 1 - - ok", "withdraw 1", "withdraw 77", "clock 5", "tick", "x", "", LONG, "é" * 101, f"100 ann {ENTRY}",
                  "stack s1 two.csv"):
         yield f"the act {text[:20]!r}", act(text, by, number=number)
-    for text in ("places", "history 1 0", "history 77 0", "log 9"):
+    for text in ("places", "history 1 0", "history 77 0", "log 9", "waiting", "moves 0", "standing Entered 0", "steps none"):
         yield f"the question {text!r}", act(text, by, number=number)
     for moment in (0, 4102444799, 4102444800, -1, 0.5, 10**30):
         yield f"the moment {moment}", act(ENTRY, by, moment, number)
@@ -126,9 +126,11 @@ def questions() -> Iterator[Case]:
         ("ann", "places", 20, 0), ("ann", ENTRY, 21, 0), ("ann", "places", 20, 0), ("ann", "history 77 0", 20, 2), ("ann", "request 1", 20, 0),
         ("ann", "log 77", 20, 16), ("ann", "places", 21, 0), ("ann", "history 1 0", 21, 0), ("ann", "history 77 0", 21, 0), ("ann", ENTRY, 20, 0),
         ("ann", "places", 20, 0), ("ann", ENTRY, 20, 0), ("bob", "places", 20, 0), ("bob", "report 0 4102444799", 20, 0), ("bob", "link", 20, 0),
-        ("bob", "schedule", 20, 0), ("bob", "tick", 20, 0), ("bob", "link", 20, 0)])
-    yield Case("a question that is asked by a GET", PLACES, 0)
-    yield Case("the same of a request", get("/requests/1"), 0)
+        ("bob", "schedule", 20, 0), ("bob", "tick", 20, 0), ("bob", "link", 20, 0),
+        ("bob", "waiting", 20, 0), ("bob", "moves 1", 20, 0), ("bob", "standing Entered 0", 22, 0), ("bob", "steps none", 22, 16),
+        ("bob", "waiting", 22, 0), ("bob", ENTRY, 22, 0), ("bob", "waiting", 22, 0)])
+    for path, want in (("/places", 0), ("/requests/1", 0), ("/waiting", 0), ("/moves/1", 0), ("/procedures/none", 16)):
+        yield Case(f"a question that is asked by a GET of {path}", get(path), want)
 
 
 def without_rows() -> Iterator[Case]:
@@ -154,6 +156,7 @@ def loads_again() -> Iterator[Case]:
         ("ann", load("procedure", "p1", plan, number=1), 1, 0), ("ann", load("procedure", "p1", plan, number=3), 3, 0),
         ("ann", load("procedure", "p1", plan, number=3), 3, 0), ("ann", load("procedure", "p1", plan, number=4), 4, 9),
         ("ann", "begin p1", 4, 0), ("ann", "begin p1", 4, 0), ("ann", "begin p1", 3, 0), ("ann", "log 1", 5, 0), ("ann", "log 2", 5, 16),
+        ("ann", "steps p1", 5, 0), ("ann", "steps p2", 5, 16), ("ann", get("/procedures/p1"), 5, 0),
         ("bob", "approvestack s1", 6, 0), ("bob", "approvestack s1", 6, 0), ("bob", "approvestack s1", 7, 6)])
     for number in (1, 3, 4):
         for name, raw in asked_so(number):

@@ -1,16 +1,16 @@
 """Random posts of a day at a desk that is served, of which a third repeat a call of before: the same again, another body under its number, what is
-spoilt, or the same by another person.
+spoilt, or the same by another person. Between them are questions by a GET.
 """
 from random import Random
-from typing import Any, Callable, Mapping, NamedTuple
+from typing import Any, Callable, Mapping, NamedTuple, Optional
 
 from generate.days import Day
 from generate.http_posts import LONG, rows
-from generate.http_words import body_of, post
+from generate.http_words import body_of, get, post
 from generate.scripts import PERSONS
 from model.calls import Calls
-from model.facts import LAST_MOMENT, LAST_NUMBER, MOST_ROWS
-from model.http import Acts, Loads, Refused, answer_to, refused_response, reply_response
+from model.facts import LAST_MOMENT, LAST_NUMBER, MOST_ROWS, MOST_SHOWN, Place
+from model.http import Acts, Loads, answer_to
 from model.lines import LOAD
 from model.rows import Tables
 
@@ -18,7 +18,7 @@ REPEATS = 1 / 3  # of all posts
 RECENT = 40
 # Values that a post is spoilt with, of each key: the first of each are looked at behind the kept replies, the others before them.
 SPOILT: dict[str, list[Any]] = {
-    "act": [LONG, "", "x", "places", "link", "withdraw 4294967296", 5, None], "csv": ["", "x", "\n" * 65537, 5, None], "name": ["No", "", "a" * 17, 5, None],
+    "act": [LONG, "", "x", "places", "link", "waiting", "moves 0", "withdraw 4294967296", 5, None], "csv": ["", "x", "\n" * 65537, 5, None], "name": ["No", "", "a" * 17, 5, None],
     "moment": [-1, LAST_MOMENT + 1, 0.5, 1e3, "100", None], "number": [0, LAST_NUMBER + 1, 1.0, -1, "7", None], "by": ["desk", "No", "", 5, None]}
 
 
@@ -37,8 +37,8 @@ class Call(NamedTuple):
 
 
 class Exchange(NamedTuple):
-    """What is sent, the response that is due, and whether that is a kept reply."""
-    call: Call
+    """What is sent, of a post the call, the response that is due, and whether that is a kept reply."""
+    call: Optional[Call]
     raw: bytes
     response: bytes
     is_kept: bool
@@ -72,7 +72,14 @@ class PostedDay(Day):
 
     def often(self) -> list[tuple[Callable[[], object], int]]:
         """Of each turn how often it comes: now and then a stack is loaded whose reply is longer than a response."""
-        return [*super().often(), (self.load_many, 1)]
+        return [*super().often(), (self.load_many, 1), (self.look, 6)]
+
+    def look(self) -> None:
+        """A question by a GET, now and then of what is none."""
+        number, rows = self.pick(Place.ENTERED, Place.APPROVED), len(self.book.history)
+        after = self.dice.choice([0, rows, max(0, rows - MOST_SHOWN), max(0, rows - MOST_SHOWN - 1), LAST_NUMBER, LAST_NUMBER + 1, "x"])
+        self.answer(None, get(self.dice.choice(["/places", "/waiting", "/waiting", "/board", f"/moves/{after}", f"/moves/{after}", f"/requests/{number}",
+                                                f"/history/{number}/0", f"/procedures/{self.name(self.book.procedures)}"])))
 
     def load_many(self) -> None:
         """A stack of the most rows, which may be approved."""
@@ -86,16 +93,15 @@ class PostedDay(Day):
 
     def send(self, call: Call) -> None:
         """One post more, which may be repeated later."""
-        raw = call.raw()
-        asked, is_kept = answer_to(raw), False
-        if isinstance(asked, Refused):
-            response = refused_response(asked)
-        else:
-            assert isinstance(asked, (Acts, Loads)), "a whole post asks something"
-            is_kept = self.calls.kept_for(asked) is not None
-            response = reply_response(self.calls.reply(asked))
-        self.exchanges.append(Exchange(call, raw, response, is_kept))
+        self.answer(call, call.raw())
         self.sent.append(call)
+
+    def answer(self, call: Optional[Call], raw: bytes) -> None:
+        """One exchange more."""
+        asked = answer_to(raw)
+        assert asked is not None, "a whole request asks something"
+        is_kept = isinstance(asked, (Acts, Loads)) and self.calls.kept_for(asked) is not None
+        self.exchanges.append(Exchange(call, raw, self.calls.response(asked), is_kept))
 
     def repeat(self) -> None:
         """A call of before is repeated in some way."""

@@ -175,7 +175,8 @@ def texts_of_acts() -> Iterator[Case]:
             ("enter 05 a--c no 8 1 - - ok", 1), ("enter 2047 a--c no 8 1 - - ok", 0), ("enter 2048 a--c no 8 1 - - ok", 1),
             ("withdraw 4294967296", 1), ("withdraw 4294967295", 2),
             ("places", 0), ("link", 0), ("schedule", 0), ("history 1 0", 0), ("request 1", 0), ("log 1", 16), ("report 0 9", 0), ("places ", 1),
-            ("history 1", 1), ("report 9 4102444800", 1)]:
+            ("history 1", 1), ("report 9 4102444800", 1), ("waiting", 0), ("waiting 1", 1), ("moves 0", 0), ("moves", 1), ("standing Entered 0", 0),
+            ("standing entered 0", 1), ("standing Entered", 1), ("steps p1", 16), ("steps P1", 1), ("steps", 1)]:
         yield Case(f"the act {text[:30]!r} of {len(text.encode())} bytes", act(text), want)
     yield Case("a long act of a bad person at a bad moment", post("/acts", entry(act=LONG, by="desk", moment=-1)), 1)
     yield Case("a long act that lacks its person", post("/acts", entry(act=LONG, by=None)), 1)
@@ -243,8 +244,20 @@ def loads() -> Iterator[Case]:
     yield Case("a procedure of a request that nobody entered", load("procedure", "r1", steps(1) + "2,go,no,60000\n"), 2)
     yield Case("approval of 200 rows", act("approvestack most", by="bob"), 0)
     yield Case("a report of more than 200 lines", get("/report/0/4102444799"), 0)
+    yield Case("a procedure of 100 steps", get("/procedures/most"), 0)
+    yield from waits()
     yield Case("the same, by a post", act("report 0 4102444799"), 0)
     yield Case("a report at another route", get("/reports/0/4102444799"), NO_PATH)
+
+
+def waits() -> Iterator[Case]:
+    """More than 200 lines of what waits, which is cut as each reply is; and moves behind some of their numbers."""
+    for at in range(3):
+        yield Case(f"the stack {at} of 99 rows", load("stack", f"w{at}", rows(99, apid=20 + at)), 0)
+        yield Case(f"its approval {at}", act(f"approvestack w{at}", "bob"), 0)
+        yield Case(f"what waits then, {at}", get("/waiting"), 0)
+    for after in (0, 1, 199, 200, 400, 500, 4294967295):
+        yield Case(f"the moves behind {after}", get(f"/moves/{after}"), 0)
 
 
 # ---- acts
@@ -273,7 +286,10 @@ def acts() -> Iterator[Case]:
         yield Case(f"{by} {text}", act(text, by), want)
     yield Case("ann loads a stack", load("stack", "s1", two), 0)
     yield Case("ann loads it again", load("stack", "s1", two), 9)
+    yield Case("a procedure of the name of a stack", get("/procedures/s1"), 16)
     yield Case("ann loads a procedure of that name", load("procedure", "s1", plan), 0)
+    yield Case("its steps", get("/procedures/s1"), 0)
+    yield Case("what waits for approval", get("/waiting"), 0)
     yield Case("ann loads it again", load("procedure", "s1", plan), 9)
     for by, text, want in [
             ("bob", "approve 7", 13), ("ann", "approvestack s1", 5), ("bob", "approvestack s1", 0), ("bob", "approvestack s1", 6),
@@ -282,7 +298,8 @@ def acts() -> Iterator[Case]:
             ("ann", "step 1 2 done bob", 3),
             ("ann", "step 1 2 skipped bob", 0), ("ann", "step 1 2 done bob", 14), ("ann", "log 1", 0), ("ann", "terminate", 0), ("ann", "link", 0),
             ("ann", "history 3 0", 0),
-            ("ann", "report 0 4102444799", 0), ("ann", "places", 0),
+            ("ann", "report 0 4102444799", 0), ("ann", "places", 0), ("ann", "waiting", 0), ("ann", "moves 3", 0), ("ann", "steps s1", 0),
+            ("ann", "standing Approved 0", 0), ("ann", "standing Riding 1", 0),
             # lists: requests 1, 4 and 6 may be named, 3 asks for no acceptance, and 2 is a command of the schedule
             ("ann", "enter 5 ---c no 11 4 1;6 1060;1061 ok", 0), ("bob", "request 9", 0), ("ann", "enter 5 ---c no 11 4 1;6 1060 ok", 1),
             ("ann", "enter 5 ---c no 11 4 1; 1060;1060 ok", 1), ("ann", "enter 5 ---c no 11 4 1;1 1060;1060 ok", 19),

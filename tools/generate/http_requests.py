@@ -127,7 +127,20 @@ PATHS: Sequence[tuple[str, Want]] = [
     ("/", NO_PATH), ("//", NO_PATH), ("/nothing", NO_PATH), ("/link", NO_PATH), ("/log/1", NO_PATH), ("/{n}", NO_PATH), ("/acts/", NO_PATH),
     ("/acts?x", NO_PATH), ("/act", NO_PATH), ("/acts/1", NO_PATH), ("/acts", OTHER_METHOD), ("/stacks", OTHER_METHOD),
     ("/procedures", OTHER_METHOD),
-            ("/stacks/", NO_PATH), ("/procedures/x", NO_PATH), ("/stack", NO_PATH)]
+    ("/stacks/", NO_PATH), ("/stack", NO_PATH), ("/stacks/s1", NO_PATH),
+    ("/waiting", 0), ("/waiting/", NO_PATH), ("/waiting/1", NO_PATH), ("/waiting?", NO_PATH), ("/Waiting", NO_PATH), ("/wait", NO_PATH),
+    ("/waitings", NO_PATH), ("//waiting", NO_PATH), ("waiting", NO_PATH),
+    ("/board", 0), ("/board/", NO_PATH), ("/board/1", NO_PATH), ("/board?", NO_PATH), ("/board?x=1", NO_PATH), ("/Board", NO_PATH), ("/boards", NO_PATH),
+    ("/boar", NO_PATH), ("//board", NO_PATH), ("board", NO_PATH),
+    ("/moves/0", 0), ("/moves/1", 0), ("/moves/2", 0), ("/moves/4294967295", 0), ("/moves/4294967296", 1), ("/moves/" + "1" * 300, 1), ("/moves/00", 1),
+    ("/moves/01", 1), ("/moves/-1", 1), ("/moves/+1", 1), ("/moves/1.0", 1), ("/moves/one", 1), ("/moves/%31", 1), ("/moves/1?", 1), ("/moves/{after}", 1),
+    ("/moves/١", 1), ("/moves", NO_PATH), ("/moves/", NO_PATH), ("/moves/1/", NO_PATH), ("/moves/1/2", NO_PATH), ("/moves//1", NO_PATH),
+    ("/Moves/1", NO_PATH), ("/move/1", NO_PATH), ("/moves1", NO_PATH),
+    ("/procedures/x", 16), ("/procedures/0", 16), ("/procedures/desk", 16), ("/procedures/" + "x" * 16, 16), ("/procedures/" + "x" * 17, 1),
+    ("/procedures/" + "x" * 300, 1), ("/procedures/X", 1), ("/procedures/a-b", 1), ("/procedures/a.", 1), ("/procedures/%78", 1), ("/procedures/x?", 1),
+    ("/procedures/{name}", 1), ("/procedures/-", 1), ("/procedures/é", 1), ("/procedures/", NO_PATH), ("/procedures/x/", NO_PATH),
+    ("/procedures/x/1", NO_PATH), ("/procedures//x", NO_PATH), ("/procedures?", NO_PATH), ("/Procedures/x", NO_PATH), ("/procedure/x", NO_PATH),
+    ("/proceduresx", NO_PATH), ("/steps/x", NO_PATH), ("/standing/Entered/0", NO_PATH)]
 
 
 def routes() -> Iterator[Case]:
@@ -141,7 +154,8 @@ def routes() -> Iterator[Case]:
 def methods() -> Iterator[Case]:
     """Methods that a path does not have, and that none has."""
     for method in "PUT POST DELETE HEAD OPTIONS PATCH TRACE CONNECT get Get GETT GE X !".split():
-        for path in ("/places", "/requests/1", "/requests/x", "/history/1/0", "/report/0/1"):
+        for path in ("/places", "/requests/1", "/requests/x", "/history/1/0", "/report/0/1", "/waiting", "/board", "/moves/0", "/moves/x", "/procedures/p1",
+                     "/procedures/P1"):
             yield Case(f"{method} {path}", get(path).replace(b"GET", method.encode(), 1), OTHER_METHOD)
         yield Case(f"{method} /none", get("/none").replace(b"GET", method.encode(), 1), NO_PATH)
     for method in "PUT GET DELETE HEAD OPTIONS PATCH TRACE post Post POSTS POS X".split():

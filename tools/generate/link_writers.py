@@ -9,7 +9,7 @@ from generate.texts import joined
 from model.book import Book
 from model.carrier import Carrier
 from model.desk import Desk
-from model.facts import CLOSED_FROM, LAST_MOMENT, Place
+from model.facts import CLOSED_FROM, LAST_MOMENT, PLACE_WORDS, Place
 from model.farm import Farm, Frame, Reading, Word, read_word
 from model.fop import INITIAL, SENDING, Fop
 from model.link import Item
@@ -391,7 +391,8 @@ class Writer:
         """A question."""
         n = self.pick(Place.COMPLETED, Place.SENT, Place.ENTERED)
         self.say(self.dice.choice(("places", "schedule", "link", f"history {n} {self.dice.choice((0, 0, 100))}", f"request {n}",
-                                   "log 1", "approvestack s1", "begin p1", "step 1 1 done -")))
+                                   "log 1", "waiting", f"moves {n}", f"standing {self.dice.choice(PLACE_WORDS)} 0", "steps p1",
+                                   "approvestack s1", "begin p1", "step 1 1 done -")))
 
     def spoil(self) -> None:
         """A line that is no line."""

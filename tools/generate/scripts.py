@@ -9,7 +9,8 @@ from generate.texts import Records, damaged, joined, no_list, row_text, some_byt
 from model import lines
 from model.book import Book
 from model.desk import LOADS, Desk
-from model.facts import CLOSED_FROM, LAST_MOMENT, LAST_NUMBER, MARK, MOST_BUFFERED, MOST_ROWS, PROCEDURE_HEADER, STACK_HEADER, Place
+from model.facts import (CLOSED_FROM, LAST_MOMENT, LAST_NUMBER, MARK, MOST_BUFFERED, MOST_ROWS, MOST_SHOWN, PLACE_WORDS, PROCEDURE_HEADER, STACK_HEADER,
+                         Place)
 from model.fop import INITIAL
 from model.lines import Act
 from model.link import Link
@@ -161,6 +162,14 @@ class Writer(Written):
                 self.give(f"approvestack {name}", by)
         for act in [f"log {it}" for it in range(len(self.book.executions) + 2)] + ["schedule", "link", f"report 0 {LAST_MOMENT}"]:
             self.give(act)
+        self.ask_of_desk()
+
+    def ask_of_desk(self) -> None:
+        """What waits, who stands at each place, each procedure, and the moves page by page."""
+        for act in ["waiting", *(f"standing {it} 0" for it in PLACE_WORDS), *(f"steps {it}" for it in self.book.procedures)]:
+            self.give(act)
+        for after in range(0, len(self.book.history) + 1, MOST_SHOWN):
+            self.give(f"moves {after}")
 
     # ---- requests
 
@@ -268,7 +277,7 @@ class Writer(Written):
         """A procedure is loaded."""
         rows = []
         for step in range(1, self.dice.choice([1, 2, 3, 5]) + 1):
-            text = self.dice.choice(["check it", "~" * 80, " ", "it's done", "on, slowly", 'say "go"'])
+            text = self.dice.choice(["check it", "~" * 80, " ", "it's done", "on, slowly", 'say "go"', "<b>1 & 2</b>", "&amp;"])
             request = str(self.pick(Place.ENTERED, Place.APPROVED)) if self.dice.random() < 0.6 else ""
             rows.append([str(step), text, self.dice.choice(["yes", "no", "no"]), request])
         self.load("procedure", self.book.procedures, PROCEDURE_HEADER, rows)
@@ -369,8 +378,16 @@ class Writer(Written):
         after = self.dice.choice([0, 0, 0, rows, max(0, rows - 20), LAST_NUMBER])
         shift = f"report {self.dice.choice([self.moment, max(0, self.moment - 9), 0])} {self.dice.choice(moments)}"
         self.give(self.dice.choice(["places", f"history {number} {after}", f"history {number} {after}", f"request {number}", f"request {number}",
-                                    "link", "schedule", f"log {self.dice.randrange(max(0, last - 6), last + 2)}"]
+                                    "link", "schedule", f"log {self.dice.randrange(max(0, last - 6), last + 2)}", *self.questions()]
                                    + [shift] * (self.dice.random() < 0.05)))
+
+    def questions(self) -> list[str]:
+        """Questions about the whole desk, now and then of a place or a name that is none."""
+        rows, count = len(self.book.history), len(self.book.requests)
+        place = self.dice.choice(PLACE_WORDS) if self.dice.random() < 0.95 else self.dice.choice(["Nowhere", "entered", "ENTERED", "Enter", "-", "0"])
+        after = self.dice.choice([0, 0, rows - 1, rows, rows + 1, rows - MOST_SHOWN, rows - MOST_SHOWN - 1, self.dice.randrange(rows + 1), LAST_NUMBER])
+        behind = self.dice.choice([0, 0, count - 1, count, count - MOST_SHOWN, self.dice.randrange(count + 1), LAST_NUMBER])
+        return ["waiting", "waiting", f"moves {max(0, after)}", f"standing {place} {max(0, behind)}", f"steps {self.name(self.book.procedures)}"]
 
     def spell(self) -> None:
         """A line that was written before, with a fault in its spelling."""
@@ -381,7 +398,8 @@ class Writer(Written):
         words = line.split(" ")
         if kind == 5:
             word = dice.randrange(len(words))
-            words[word] = dice.choice(["", "0", "00", "-1", "-", "desk", "4294967295", "4294967296", "65536", "4102444800", words[word] * 2])
+            words[word] = dice.choice(["", "0", "00", "-1", "-", "desk", "4294967295", "4294967296", "65536", "4102444800", words[word] * 2,
+                                       words[word].swapcase()])
             self.say(" ".join(words))
         elif kind == 4:
             self.say(line[:at])

@@ -5,8 +5,9 @@ answered. It is written from the definitions, and asks no server.
 from typing import Optional, Union
 
 from model.desk import QUESTIONS, Desk
-from model.http import Acts, Asks, Called, fault_of
+from model.http import Acts, Asked, Asks, Called, Refused, Shows, fault_of, page_response, refused_response, reply_response
 from model.rows import Reply
+from model.wall import board_page
 
 
 class Calls:
@@ -21,6 +22,12 @@ class Calls:
         """The lines that are kept for a caller under its number; none where nothing is."""
         body = self.kept.get((called.by, called.number))
         return body.split("\n")[:-1] if body else None
+
+    def response(self, asked: Asked) -> bytes:
+        """The bytes of the response to what is asked."""
+        if isinstance(asked, Refused):
+            return refused_response(asked)
+        return page_response(board_page(self.desk, False)) if isinstance(asked, Shows) else reply_response(self.reply(asked))
 
     def reply(self, asked: Union[Asks, Called]) -> list[str]:
         """What the desk replies to what is asked."""

@@ -1,22 +1,28 @@
 """What `tcdesk check` has to tell of a text: a reading of the rules of stacks and of procedures, in the order in which they are told, which asks
 the program nothing. Records, fields and instants are read as loads read them (texts.py, which judges whole loads and tells no fault).
 """
+import re
 from typing import Any, Callable, NamedTuple, Optional, Sequence
 
 from model.facts import (ACKS, LAST_APID, LAST_KIND, LAST_MOMENT, LONGEST_STEP, LONGEST_TEXT, MOST_INSERTED, MOST_ROWS, MOST_STEPS, SCHEDULE, TAKES_OFFSET,
                          TAKES_TARGET, Refusal, Subtype)
 from model.lines import Reader, ack, between, is_read, is_yes, listed, number, offset, one_of, outcome
 from model.refused import need
-from model.texts import PROCEDURE_COLUMNS, STACK_COLUMNS, earlier, instant, records_of, step_text, unmarked
+from model.texts import PROCEDURE_COLUMNS, STACK_COLUMNS, earlier, instant, placed_records, step_text, unmarked
 
 TextRow = dict[str, Any]
 Rule = Callable[[TextRow], tuple[Reader, str]]
 
 
 class Told(NamedTuple):
-    """The line that is told of a text, and with what its load is refused, 0 where it is not for its text."""
-    line: str
+    """What is told of a text, in lines; whether nothing is wrong; and with what its load is refused for its text, 0 where it is not."""
+    lines: list[str]
+    is_ok: bool
     refusal: int
+
+    def text(self) -> str:
+        """The lines as they are printed."""
+        return "\n".join(self.lines)
 
 
 class Kind(NamedTuple):
@@ -119,6 +125,55 @@ PROCEDURE = Kind(PROCEDURE_COLUMNS, MOST_STEPS, "step", "steps", (
 KINDS = {"stack": STACK, "procedure": PROCEDURE}
 
 
+# ---- what was found
+
+MOST_LINES, MOST_SHOWN = 20, 40
+# The front of a workbook, which is an archive, and those of a text of another encoding.
+WORKBOOK, UTF_16 = b"PK\3\4", (b"\xff\xfe", b"\xfe\xff")
+OTHER_FILES = ("the file is UTF-16, and not UTF-8", "the file is a workbook, and no text")
+
+
+def limited(lines: list[str]) -> list[str]:
+    """The first of some lines, and that there are more."""
+    return lines[:MOST_LINES] + ["and more"] * (len(lines) > MOST_LINES)
+
+
+def quoted(word: str) -> str:
+    """The first bytes of a value, between quotes."""
+    shown = "".join(it if " " <= it <= "~" and it not in '"\\' else f"\\x{ord(it):02x}" for it in word[:MOST_SHOWN])
+    return f'"{shown}"' + ".." * (len(word) > MOST_SHOWN)
+
+
+def is_utf_16(data: bytes) -> bool:
+    """Whether bytes are a text of UTF-16, by their mark or by every second of the first four."""
+    return data[:2] in UTF_16 or data[0:4:2] == b"\0\0" or data[1:4:2] == b"\0\0"
+
+
+def other_file(data: bytes) -> str:
+    """What bytes are that are no text; nothing where they may be one."""
+    return OTHER_FILES[0] if is_utf_16(data) else OTHER_FILES[1] if data.startswith(WORKBOOK) else ""
+
+
+def other_column(header: Sequence[str], fields: Sequence[str]) -> str:
+    """The first column of a record that is not that of a header."""
+    for at, (column, field) in enumerate(zip(header, fields), 1):
+        if column != field:
+            return f"column {at} is not {column}: {quoted(field)}"
+    at = min(len(header), len(fields))
+    return f"column {at + 1} is missing: {header[at]}" if at < len(header) else f"column {at + 1} is one too many: {quoted(fields[at])}"
+
+
+def no_header(kind: Kind, data: bytes, records: Sequence[list[str]]) -> str:
+    """What stands where the header should."""
+    if other_file(data) or not records:
+        return other_file(data) or "the file is empty"
+    first = records[0]
+    for separator, name in ((";", "semicolons"), ("\t", "TABs")):
+        if len(first) == 1 and separator in first[0]:
+            return f"{name} stand where commas should"
+    return other_column(kind.header, first)
+
+
 # ---- what is wrong with a text
 
 # Why a row may not name a line, where it is an insert and where it is not.
@@ -126,50 +181,97 @@ WHY_NO_ACTIVITY = f"a line of service {SCHEDULE}, one whose ack has no a, or one
 WHY_NO_TARGET = f"a line of service {SCHEDULE}"
 
 
-def why_no_table(kind: Kind, data: bytes, records: Sequence[list[str]]) -> Optional[Told]:
+class Sheet(NamedTuple):
+    """A text as its kind reads it: its bytes, its records, and the line of the file at which each begins."""
+    kind: Kind
+    data: bytes
+    records: list[list[str]]
+    lines: list[int]
+
+    def place(self, row: int) -> str:
+        """A row by its number, and the line of the file where that is not the one behind as many lines."""
+        line = self.lines[row]
+        return f"{self.kind.row} {row}" + f" (line {line} of the file)" * (line != row + 1)
+
+
+def sheet_of(kind: Kind, data: bytes) -> Sheet:
+    """A text, read."""
+    text = unmarked(data).decode("latin-1")
+    placed = placed_records(text)
+    return Sheet(kind, data, [record for _, record in placed], [text.count("\n", 0, begin) + 1 for begin, _ in placed])
+
+
+def too_much(sheet: Sheet, what: str) -> Told:
+    """What is told of a text that is too long: where it is no text, that too."""
+    return Told([": ".join(filter(None, (what, other_file(sheet.data))))], False, Refusal.TOO_LONG)
+
+
+def why_no_table(sheet: Sheet) -> Optional[Told]:
     """What is wrong with a text as a whole, and with what it is refused; nothing where it is a table."""
-    if len(data) > LONGEST_TEXT:
-        return Told(f"file: more than {LONGEST_TEXT} bytes", Refusal.TOO_LONG)
+    kind, records = sheet.kind, sheet.records
+    if len(sheet.data) > LONGEST_TEXT:
+        return too_much(sheet, f"file: more than {LONGEST_TEXT} bytes")
     if len(records) - 1 > kind.most:
-        return Told(f"{kind.row} {kind.most + 1}: more than {kind.most} {kind.rows}", Refusal.TOO_LONG)
+        return too_much(sheet, f"{sheet.place(kind.most + 1)}: more than {kind.most} {kind.rows}")
     if records[:1] != [kind.header]:
-        return Told(f"header: not {','.join(kind.header)}", Refusal.BAD_TEXT)
-    return Told(f"{kind.row} 1: missing", Refusal.BAD_TEXT) if len(records) == 1 else None
+        return Told([f"header: not {','.join(kind.header)}: {no_header(kind, sheet.data, records)}"], False, Refusal.BAD_TEXT)
+    return Told([f"{kind.row} 1: missing: nothing but a header"], False, Refusal.BAD_TEXT) if len(records) == 1 else None
 
 
 def why_no_row(kind: Kind, at: int, fields: Sequence[str]) -> str:
-    """What is wrong with a row by itself; nothing where nothing is."""
+    """What is wrong with a row by itself, behind its place, and what was found; nothing where nothing is."""
     if len(fields) != len(kind.header):
-        return f"{kind.row} {at}: not {len(kind.header)} fields"
+        return f": not {len(kind.header)} fields: {len(fields)}"
     row: TextRow = {"number": at, **dict(zip(kind.header, fields))}
     for column, rule in zip(kind.header, kind.rules):
         read, why = rule(row)
         if not is_read(read, str(row[column])):
-            return f"{kind.row} {at}, field {column}: {why}"
+            return f", field {column}: {why}: {quoted(str(row[column]))}"
     return ""
 
 
-def why_barred(rows: Sequence[list[str]]) -> str:
-    """The first row of a stack whose command names one that it may not name, or one twice; nothing where none does."""
-    for at, fields in enumerate(rows, 1):
-        row = dict(zip(STACK_COLUMNS, fields))
-        lines, is_insert = list(filter(None, row["target"].split(";"))), commands(row, Subtype.INSERT)
-        named = [dict(zip(STACK_COLUMNS, rows[int(it) - 1])) for it in lines]
-        if any(is_scheduling(it) or is_insert and it["ack"][0] == "-" for it in named) or len(set(lines)) < len(lines):
-            return f"line {at}, field target: {WHY_NO_ACTIVITY if is_insert else WHY_NO_TARGET}"
+def why_barred(rows: Sequence[list[str]], fields: list[str]) -> str:
+    """Why the command of a row may not name what it names, or one twice; nothing where it may."""
+    row = dict(zip(STACK_COLUMNS, fields))
+    lines, is_insert = list(filter(None, row["target"].split(";"))), commands(row, Subtype.INSERT)
+    named = [dict(zip(STACK_COLUMNS, rows[int(it) - 1])) for it in lines]
+    if any(is_scheduling(it) or is_insert and it["ack"][0] == "-" for it in named) or len(set(lines)) < len(lines):
+        return f", field target: {WHY_NO_ACTIVITY if is_insert else WHY_NO_TARGET}: {quoted(row['target'])}"
     return ""
+
+
+def writes_60(instant: str) -> bool:
+    """Whether second 60 is written in an instant, with colons or without."""
+    time = re.split("[Tt ]", instant, maxsplit=1)[1:]
+    return bool(time and re.match("..:...60|..[^:].60", time[0], re.DOTALL))
+
+
+def note_of(kind: Kind, fields: Sequence[str]) -> str:
+    """What is told of a row that keeps all rules, behind its place; nothing of most."""
+    if kind is PROCEDURE:
+        return f", field request: no request has number 0: {quoted(fields[3])}" if fields[3] == "0" else ""
+    return f", field time: second 60 is read as 59: {quoted(fields[5])}" if any(map(writes_60, fields[5].split(";"))) else ""
+
+
+def placed(sheet: Sheet, told: Callable[[int, list[str]], str]) -> list[str]:
+    """What is told of each row, behind its place."""
+    found = ((at, told(at, fields)) for at, fields in enumerate(sheet.records[1:], 1))
+    return [sheet.place(at) + why for at, why in found if why]
 
 
 def told_of(name: str, data: bytes) -> Told:
     """What is told of the bytes of a text of this kind."""
     kind = KINDS[name]
-    records = records_of(unmarked(data).decode("latin-1"))
-    whole = why_no_table(kind, data, records)
+    sheet = sheet_of(kind, data)
+    whole = why_no_table(sheet)
     if whole:
         return whole
-    for at, fields in enumerate(records[1:], 1):
-        why = why_no_row(kind, at, fields)
-        if why:
-            return Told(why, Refusal.BAD_TEXT)
-    barred = why_barred(records[1:]) if kind is STACK else ""
-    return Told(barred, Refusal.BAD_ACTIVITY) if barred else Told("ok", 0)
+    broken = placed(sheet, lambda at, fields: why_no_row(kind, at, fields))
+    if broken:
+        return Told(limited(broken), False, Refusal.BAD_TEXT)
+    barred = placed(sheet, lambda at, fields: why_barred(sheet.records[1:], fields)) if kind is STACK else []
+    if barred:
+        return Told(limited(barred), False, Refusal.BAD_ACTIVITY)
+    notes = placed(sheet, lambda at, fields: note_of(kind, fields))
+    is_ok = kind is STACK or not notes
+    return Told(["ok"] * is_ok + limited(notes), is_ok, 0)

@@ -17,7 +17,7 @@ MOST_ROWS, MOST_STEPS = 200, 100  # of a stack, of a procedure
 LONGEST_STEP = 80  # bytes of the text of a step
 MOST_REQUESTS, MOST_STACKS, MOST_PROCEDURES, MOST_EXECUTIONS = 65_535, 1000, 1000, 10_000
 MOST_HISTORY = 990_000  # rows of the history; with so many no act comes that may write one
-MOST_SHOWN = 50  # rows in one answer to `history`
+MOST_SHOWN = 50  # rows in one answer to `history` or `moves`, requests in one to `standing`
 MOST_BUFFERED, MOST_ACTIVITIES = 4, 64  # on board
 MOST_INSERTED = 8  # activities of one insert
 MARGIN = 60  # seconds between the spacecraft's time and the time of an activity that it takes
@@ -195,6 +195,7 @@ TESTS: dict[str, tuple[Refusal, ...]] = {
     "initiate setvr": (Refusal.BAD_DIRECTIVE,), "set vs": (Refusal.BAD_DIRECTIVE,), "set k": (Refusal.BAD_DIRECTIVE,),
     "clock": (Refusal.BAD_DIRECTIVE,), "terminate": (Refusal.DESK_FULL,), "tick": (Refusal.DESK_FULL,), "down": (Refusal.DESK_FULL,),
     "history": (Refusal.UNKNOWN_REQUEST,), "request": (Refusal.UNKNOWN_REQUEST,), "log": (Refusal.UNKNOWN_PROCEDURE,),
+    "steps": (Refusal.UNKNOWN_PROCEDURE,),
 }
 # The statuses of answers by HTTP, and the phrase of each; all refusals that are not named have 409.
 STATUSES = {Refusal.BAD_TEXT: 400, Refusal.UNKNOWN_REQUEST: 404, Refusal.UNKNOWN_STACK: 404, Refusal.UNKNOWN_PROCEDURE: 404, Refusal.TOO_LONG: 413,

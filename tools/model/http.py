@@ -7,7 +7,7 @@ import io
 import json
 import math
 import re
-from typing import Any, NamedTuple, NoReturn, Optional, Sequence, Union
+from typing import Any, Callable, NamedTuple, NoReturn, Optional, Sequence, Union
 
 from model.facts import (LAST_MOMENT, LAST_NUMBER, LONGEST_ACT, LONGEST_BODY, LONGEST_HEAD, LONGEST_TEXT, MARK, MOST_ANSWERED, MOST_FIELDS,
                          MOST_LINE_ENDS, MOST_ROWS, MOST_STEPS, NAME, NO_PATH_STATUS, OTHER_METHOD_STATUS, PHRASES, THE_DESK, Refusal, status_of)
@@ -24,6 +24,10 @@ class Refused(NamedTuple):
 class Asks(NamedTuple):
     """A question for the desk, as a script spells it."""
     act: str
+
+
+class Shows(NamedTuple):
+    """The board."""
 
 
 class Acts(NamedTuple):
@@ -51,7 +55,7 @@ class Post(NamedTuple):
 
 
 Called = Union[Acts, Loads]
-Asked = Union[Refused, Asks, Called]
+Asked = Union[Refused, Asks, Shows, Called]
 Headers = Sequence[tuple[bytes, bytes]]
 BAD, LARGE = (Refused(status_of(it), it) for it in (Refusal.BAD_TEXT, Refusal.TOO_LONG))
 NO_PATH, OTHER_METHOD = (Refused(it, Refusal.BAD_TEXT) for it in (NO_PATH_STATUS, OTHER_METHOD_STATUS))
@@ -65,9 +69,26 @@ HEAD = re.compile(rb"(" + TOKEN + rb") ([!-~\x80-\xff]+) HTTP/1\.[01]\r?\n((?:" 
 EMPTY_LINE = re.compile(rb"\n\r?\n")
 NUMBER = re.compile(rb"0|[1-9][0-9]*")
 POSTS = {b"/acts": "act", b"/stacks": "stack", b"/procedures": "procedure"}
-# The questions: the form of the path, the word of the act, and the greatest number that the path may hold.
-QUESTIONS = [(re.compile(rb"/places"), "places", 0), (re.compile(rb"/requests/([^/]+)"), "request", LAST_NUMBER),
-             (re.compile(rb"/history/([^/]+)/([^/]+)"), "history", LAST_NUMBER), (re.compile(rb"/report/([^/]+)/([^/]+)"), "report", LAST_MOMENT)]
+
+
+def number_to(last: int) -> Callable[[bytes], bool]:
+    """Whether a text spells a number up to this one."""
+    return lambda text: NUMBER.fullmatch(text) is not None and len(text) <= len(str(last)) and int(text) <= last
+
+
+def is_name(text: str) -> bool:
+    """Whether a text is in the form of a name."""
+    return NAME.fullmatch(text) is not None
+
+
+IS_NUMBER, IS_MOMENT = number_to(LAST_NUMBER), number_to(LAST_MOMENT)
+# The questions: the form of the path, the word of the act, and what each text in the path has to be.
+QUESTIONS: list[tuple[re.Pattern[bytes], str, Callable[[bytes], bool]]] = [
+    (re.compile(rb"/places"), "places", IS_NUMBER), (re.compile(rb"/requests/([^/]+)"), "request", IS_NUMBER),
+    (re.compile(rb"/history/([^/]+)/([^/]+)"), "history", IS_NUMBER), (re.compile(rb"/report/([^/]+)/([^/]+)"), "report", IS_MOMENT),
+    (re.compile(rb"/waiting"), "waiting", IS_NUMBER), (re.compile(rb"/moves/([^/]+)"), "moves", IS_NUMBER),
+    (re.compile(rb"/procedures/([^/]+)"), "steps", lambda text: is_name(text.decode("utf-8")))]
+BOARD = (re.compile(rb"/board"), "", IS_NUMBER)  # which no act asks for
 
 
 def head_end(text: bytes) -> Optional[int]:
@@ -98,25 +119,21 @@ def posted_to(kind: str, lengths: list[bytes]) -> Union[Refused, Post]:
     return LARGE if is_large else Post(kind, int(lengths[0]))
 
 
-def asked(word: str, numbers: Sequence[bytes], last: int, lengths: list[bytes]) -> Union[Refused, Asks]:
-    """What a head asks that gets a question with these numbers, and has these Content-Lengths."""
-    def is_right(number: bytes) -> bool:
-        """Whether a number is spelled as one, and in range."""
-        return NUMBER.fullmatch(number) is not None and len(number) <= len(str(last)) and int(number) <= last
-    if lengths not in ([], [b"0"]) or not all(is_right(it) for it in numbers):
+def asked(word: str, texts: Sequence[bytes], is_right: Callable[[bytes], bool], lengths: list[bytes]) -> Union[Refused, Asks, Shows]:
+    """What a head asks that gets the board, or a question with these texts, each of which has to be right, and has these Content-Lengths."""
+    if lengths not in ([], [b"0"]) or not all(is_right(it) for it in texts):
         return BAD
-    return Asks(" ".join([word] + [it.decode() for it in numbers]))
+    return Asks(" ".join([word] + [it.decode() for it in texts])) if word else Shows()
 
 
-def judged(head: bytes) -> Union[Refused, Asks, Post]:
+def judged(head: bytes) -> Union[Refused, Asks, Shows, Post]:
     """What a head text asks, in the order of the tests."""
     found = HEAD.fullmatch(head)
     fields = re.findall(FIELD, found[3]) if found else []
     if not found or len(fields) > MOST_FIELDS or not is_utf8(found[2]):
         return LARGE if head.count(b"\n") > MOST_LINE_ENDS else BAD
     method, target = found[1], found[2]
-    question = next(((match.groups(), word, last) for match, word, last in ((form.fullmatch(target), word, last) for form, word, last in QUESTIONS)
-                     if match), None)
+    question = next(((word, match.groups(), is_right) for form, word, is_right in [*QUESTIONS, BOARD] for match in [form.fullmatch(target)] if match), None)
     if target not in POSTS and not question:
         return NO_PATH
     if method != (b"POST" if target in POSTS else b"GET"):
@@ -124,7 +141,7 @@ def judged(head: bytes) -> Union[Refused, Asks, Post]:
     if values(fields, b"transfer-encoding"):
         return BAD
     lengths = values(fields, b"content-length")
-    return asked(question[1], question[0], question[2], lengths) if question else posted_to(POSTS[target], lengths)
+    return asked(*question, lengths) if question else posted_to(POSTS[target], lengths)
 
 
 def decided(front: bytes) -> Optional[Asked]:
@@ -182,11 +199,6 @@ def object_in(body: bytes) -> Optional[dict[str, Any]]:
         return None
 
 
-def is_name(text: str) -> bool:
-    """Whether a text is in the form of a name."""
-    return NAME.fullmatch(text) is not None
-
-
 def whole_in(number: str, least: int, most: int) -> Optional[int]:
     """What a number of JSON tells: whole, spelled without a fraction, an exponent or a sign, and between these two; none where it is no such number."""
     return int(number) if re.fullmatch("[0-9]+", number) and least <= int(number) <= most else None
@@ -233,6 +245,22 @@ def response(status: int, lines: Sequence[str], refusal: int) -> bytes:
     body = f'{{"lines":[{",".join(quoted(it) for it in shown)}],"more":{more},"refusal":{int(refusal)}}}'.encode("utf-8")
     head = [f"HTTP/1.1 {status} {PHRASES[status]}", "Content-Type: application/json", f"Content-Length: {len(body)}", "Connection: close", ""]
     return "".join(f"{it}\r\n" for it in head).encode("ascii") + body
+
+
+PAGE_LINES = ["Content-Type: text/html; charset=utf-8", "Cache-Control: no-store",
+              "Content-Security-Policy: default-src 'none'; style-src 'unsafe-inline'; frame-ancestors 'none'", "X-Content-Type-Options: nosniff"]
+
+
+def page_response(page: bytes) -> bytes:
+    """The bytes of the response with this page."""
+    head = ["HTTP/1.1 200 OK", *PAGE_LINES, f"Content-Length: {len(page)}", "Connection: close", ""]
+    return "".join(f"{it}\r\n" for it in head).encode("ascii") + page
+
+
+def refusal_in(answer: bytes) -> int:
+    """The number of the refusal that a response tells; 0 where that is none, as in a page."""
+    found = re.search(rb'"refusal":([0-9]+)\}\Z', answer)
+    return int(found[1]) if found else 0
 
 
 def refused_response(refused: Refused) -> bytes:

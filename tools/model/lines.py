@@ -5,7 +5,7 @@ import re
 from typing import Any, Callable, Iterable, NamedTuple, Optional
 
 from model.facts import (LAST_APID, LAST_K, LAST_KIND, LAST_LIMIT, LAST_MOMENT, LAST_NUMBER, LAST_T1, LONGEST_ACT, MOST_INSERTED, NAME, OUTCOMES,
-                         SCHEDULE, THE_DESK, VERDICTS, Refusal, Subtype)
+                         PLACE_WORDS, SCHEDULE, THE_DESK, VERDICTS, Refusal, Subtype)
 from model.refused import Refused, need
 from model.request import Form, takes_target, takes_time
 
@@ -150,6 +150,7 @@ SHAPES: dict[str, tuple[Reader, ...]] = {
     "step": (number, number, one_of(*VERDICTS), second), "terminate": (), "tick": (), "up": (), "loseup": (number,),
     "losedown": (number,), "clcw": (), "down": (), "work": (), "clock": (moment,), "places": (), "history": (number, number),
     "request": (number,), "link": (), "schedule": (), "log": (number,), "report": (moment, moment),
+    "waiting": (), "moves": (number,), "standing": (one_of(*PLACE_WORDS), number), "steps": (name,),
     "initiate none": (), "initiate check": (), "initiate unlock": (), "initiate setvr": (BYTE,),
     "set vs": (BYTE,), "set k": (between(1, LAST_K),), "set t1": (between(1, LAST_T1),), "set limit": (between(1, LAST_LIMIT),),
 }

@@ -49,20 +49,26 @@ def field_at(text: str, at: int) -> tuple[str, int]:
     return "".join(made) + rest, at + len(rest)
 
 
-def records_of(text: str) -> list[list[str]]:
-    """The records of a text of comma-separated values: empty lines are none."""
+def placed_records(text: str) -> list[tuple[int, list[str]]]:
+    """The records of a text of comma-separated values, each with the place where it begins: empty lines are none."""
     records, at = [], 0
     while at < len(text):
         if text[at] in "\r\n":
             at += len(matched(ENDS, text, at))
             continue
+        begin = at
         value, at = field_at(text, at)
         record = [value]
         while text[at:at + 1] == ",":
             value, at = field_at(text, at + 1)
             record.append(value)
-        records.append(record)
+        records.append((begin, record))
     return records
+
+
+def records_of(text: str) -> list[list[str]]:
+    """The records of a text."""
+    return [record for _, record in placed_records(text)]
 
 
 def unmarked(data: bytes) -> bytes:

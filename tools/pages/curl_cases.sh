@@ -42,6 +42,7 @@ ended() {
     server=
     cp "$work/served" "$work/out"
     cp "$work/served.err" "$work/err"
+    take_beside
     [[ $status == 0 && $(<"$work/err") == "${new}tcdesk: listening on 127.0.0.1:$port"$'\n'"tcdesk: ended after $count connections" ]]
     tell "$1: status $status"
 }
@@ -94,6 +95,7 @@ for case in "${cases[@]}"; do
 done
 ended "a server of $sent connections"
 "$program" run --db "$work/desk.db" /dev/null >"$work/out" 2>"$work/err"
+take_beside
 [[ $(<"$work/out") == "places 4: 3 1 0 0 0 0 0 0 0 0 0 0 0 0 0" && ! -s $work/err ]]
 tell "the desk that is left"
 
@@ -224,6 +226,7 @@ PY
 tell "a peer that goes, and one that stays: each costs its connection alone"
 ended "a server that met them"
 "$program" run --db "$work/raw.db" /dev/null >"$work/out" 2>"$work/err"
+take_beside
 [[ $(<"$work/out") == "places "[12]": "* && ! -s $work/err ]]
 tell "the desk that they leave"
 
@@ -240,18 +243,26 @@ tell "port 65,536"
 tell "no connection"
 start "$work/first.db" 1
 "$program" serve "$work/none/new.db" "$port" 1 >"$work/out" 2>"$work/err"
-[[ $? == 2 && ! -s $work/out && $(<"$work/err") == "tcdesk: cannot use $work/none/new.db" ]]
+status=$?
+take_beside
+[[ $status == 2 && ! -s $work/out && $(<"$work/err") == "tcdesk: cannot use $work/none/new.db" ]]
 tell "a file that cannot be made, and a port that is taken"
 "$program" serve "$work/second.db" "$port" 1 >"$work/out" 2>"$work/err"
-[[ $? == 2 && ! -s $work/out && $(<"$work/err") == "tcdesk: cannot use port $port" && ! -e $work/second.db && ! -e $work/second.db-wal ]]
+status=$?
+take_beside
+[[ $status == 2 && ! -s $work/out && $(<"$work/err") == "tcdesk: cannot use port $port" && ! -e $work/second.db && ! -e $work/second.db-wal ]]
 tell "a port that is taken, and no file"
 # its next opening would put what is Sent in doubt
 "$program" run --db "$work/second.db" examples/monday.tc >/dev/null 2>"$work/err" && cp "$work/second.db" "$work/stood.db"
 "$program" serve "$work/second.db" "$port" 1 >"$work/out" 2>"$work/err"
-[[ $? == 2 && ! -s $work/out && $(<"$work/err") == "tcdesk: cannot use port $port" ]] && cmp "$work/stood.db" "$work/second.db" >>"$work/err" 2>&1
+status=$?
+take_beside
+[[ $status == 2 && ! -s $work/out && $(<"$work/err") == "tcdesk: cannot use port $port" ]] && cmp "$work/stood.db" "$work/second.db" >>"$work/err" 2>&1
 tell "a port that is taken, and a desk"
 "$program" serve "$work/first.db" "$(free_port)" 1 >"$work/out" 2>"$work/err"
-[[ $? == 2 && ! -s $work/out && $(<"$work/err") == "tcdesk: cannot use $work/first.db" ]]
+status=$?
+take_beside
+[[ $status == 2 && ! -s $work/out && $(<"$work/err") == "tcdesk: cannot use $work/first.db" ]]
 tell "a desk that is served already"
 curl -sS "http://127.0.0.1:$port/places" >"$work/out" 2>"$work/err"
 [[ $(<"$work/out") == '{"lines":["places 0: '* ]]

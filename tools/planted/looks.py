@@ -76,9 +76,9 @@ def text_faults(recorded: Recorded) -> Iterator[str]:
     from model.check import told_of
     for it in recorded.texts:
         told = told_of(it.kind, it.data)
-        if told.line != it.told:
-            yield f"check {it.kind} {it.data!r:.80}: {told.line!r}, and not {it.told!r}"
-        if (told.refusal != 0) != (it.told != "ok"):
+        if told.text() != it.told:
+            yield f"check {it.kind} {it.data!r:.80}: {told.text()!r}, and not {it.told!r}"
+        if told.refusal and it.told.split("\n")[0] == "ok":
             yield f"check {it.kind} {it.data!r:.80}: its load is refused with {told.refusal}"
 
 
@@ -157,19 +157,14 @@ def served_faults(served: Served) -> Iterator[str]:
     """What a peer is answered, and what is left of all."""
     from model.calls import Calls
     from model.desk import Desk
-    from model.http import Refused, answer_to, refused_response, reply_response
+    from model.http import answer_to
     desk = Desk(files=served.files)
     for line in served.before:
         desk.line(line)
     calls = Calls(desk)
     for at, it in enumerate(served.exchanges, 1):
         asked = answer_to(it.raw)
-        if asked is None:
-            response = b""
-        elif isinstance(asked, Refused):
-            response = refused_response(asked)
-        else:
-            response = reply_response(calls.reply(asked))
+        response = b"" if asked is None else calls.response(asked)
         if response != it.response:
             yield f"{served.title}, {at}, {it.raw!r:.80}: {response!r:.120}, and not {it.response!r:.120}"
     yield table_fault(served.title, rows_by(desk.tables()), served.tables)

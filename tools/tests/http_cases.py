@@ -17,7 +17,7 @@ from tests.runs import quick_folder, write_files
 
 MOST_FAULTS = 20
 MOST_ASKED = 300  # requests whose histories are asked for in the end
-LAST_QUESTIONS = ["link", "schedule", "report 0 4102444799"]
+LAST_QUESTIONS = ["link", "schedule", "report 0 4102444799", "waiting", "moves 0", "standing Entered 0", "standing Approved 0", "standing Closed 1"]
 
 
 class Cases:

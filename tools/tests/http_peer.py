@@ -14,8 +14,9 @@ from generate.http_words import NOTHING, Case
 from model.calls import Calls
 from model.desk import Desk
 from model.facts import status_of
-from model.http import Asks, Called, Loads, Refused, answer_to, fault_of, refused_response, reply_response
-from tests.new_desks import said_first, said_then
+from model.http import Asks, Called, Loads, Refused, Shows, answer_to, fault_of, page_response, refusal_in, refused_response, reply_response
+from model.wall import board_page
+from tests.new_desks import said_first, said_then, without_beside
 from tests.runs import Ended
 
 PATIENCE = float(os.environ.get("PATIENCE", "20"))  # seconds for one exchange, or for the program to begin or to end
@@ -113,7 +114,7 @@ class Server:
         for file in self.files:
             file.seek(0)
             texts.append(file.read().decode("latin-1"))
-        return Ended(self.process.returncode, *texts)
+        return Ended(self.process.returncode, texts[0], without_beside(texts[1]))
 
     def end(self) -> Ended:
         """Waits for the program to end by itself."""
@@ -219,7 +220,10 @@ class Expected:
         self.disputed: list[tuple[Case, object]] = []
         for at, case in enumerate(cases):
             asked = answer_to(case.raw)
-            self.add(case, b"" if asked is None else refused_response(asked) if isinstance(asked, Refused) else self.answer(asked, folder, at))
+            if isinstance(asked, Shows):
+                self.add(case, page_response(board_page(self.calls.desk, False)))
+            else:
+                self.add(case, b"" if asked is None else refused_response(asked) if isinstance(asked, Refused) else self.answer(asked, folder, at))
 
     def answer(self, asked: Union[Asks, Called], folder: str, at: int) -> bytes:
         """The response of the desk."""
@@ -235,7 +239,7 @@ class Expected:
         self.responses.append(response)
         found: object = NOTHING
         if response:
-            status, refusal = response.split(b" ")[1].decode(), int(response.rsplit(b":", 1)[1][:-1])
+            status, refusal = response.split(b" ")[1].decode(), refusal_in(response)
             self.refusals.add(refusal)
             found = (status, refusal)
         want = case.want

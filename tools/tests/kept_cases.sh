@@ -245,6 +245,7 @@ acknowledged=$(grep -c '^move ' first.out)
 tell "the program that was killed had told a new desk"
 alone "a copy of the file alone of a new desk whose program was killed" killed.db 3000
 "$program" run --db killed.db input >out 2>err
+take_beside
 entered=$(sed -n 's/^places \([0-9]*\): .*/\1/p' out)
 [[ -n $entered && $entered -ge $acknowledged && $acknowledged -gt 100 && $entered -le 3000 && ! -s err ]]
 tell "what was answered before the program was killed stands: $acknowledged, $entered"
@@ -283,7 +284,9 @@ for ((n = 1; n < 4; n++)); do
 done
 ask "$places" >answer
 ended
-same "a desk of acts that came again and again" '0  {"lines":["places 3: 3 0 0 0 0 0 0 0 0 0 0 0 0 0 0"],"more":0,"refusal":0}' "$? $(<err) $(tail -n 1 answer)"
+status=$?
+take_beside
+same "a desk of acts that came again and again" '0  {"lines":["places 3: 3 0 0 0 0 0 0 0 0 0 0 0 0 0 0"],"more":0,"refusal":0}' "$status $(<err) $(tail -n 1 answer)"
 
 echo "kept cases: $passed passed, $failed failed"
 [[ $failed == 0 ]]

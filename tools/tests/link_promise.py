@@ -47,12 +47,14 @@ class Judge:
         return None
 
     def read(self, line: str) -> None:
-        """One line: those of a history tell nothing new."""
+        """One line: the moves that answer a question tell nothing new."""
         word, _, rest = line.partition(" ")
         if self.skip:
             self.skip -= 1
         elif word == "history":
             self.skip = int(rest.split(": ")[1].split(" ")[0])
+        elif word == "moves":
+            self.skip = int(rest.split(" ")[0])
         elif word == "move":
             self.moves(*rest.split(" "))
         elif word == "places":

@@ -1,11 +1,15 @@
-"""What the program says on standard error of a desk that it makes: one line, before all else, and only where a file held no table yet."""
+"""What the program says on standard error beside what most tests look for. Of a desk that it makes: one line, before all else, and only where a file held no table yet. Why
+something cannot be used, and that an opening lies before the last move, are left out: test_told.py looks for these.
+"""
 import os
+import re
 import shutil
 import tempfile
 from typing import Sequence
 
 from model.kept import connect, sqlite3
 
+BESIDE = re.compile(r"^tcdesk: (because .*|opened at [0-9]+, before the last move at [0-9]+)\n", re.MULTILINE)
 PAGE = 4096  # a file with no table has no more bytes than that
 
 
@@ -45,8 +49,14 @@ def said_first(folder: str, words: Sequence[str]) -> str:
     return new_desk(name) if name and holds_no_table(os.path.join(folder, name)) else ""
 
 
+def without_beside(err: str) -> str:
+    """What was said but for reasons and early openings."""
+    return BESIDE.sub("", err)
+
+
 def said_then(first: str, status: int, err: str) -> str:
     """What was said besides on standard error, where that had to be said first; that it was not, but where a run ended with 2, which may come before."""
+    err = without_beside(err)
     if err.startswith(first):
         return err[len(first):]
     return err if status == 2 else f"{err}[and not, as is due: {first.strip()}]"

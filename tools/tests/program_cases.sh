@@ -280,21 +280,23 @@ check "a ring of 4,097 in a loop" 2 "" "invalid value '4097' for '--ring <N>'" l
 check "a ring for a report" 2 "" "unexpected argument '--ring'" report --ring 2 none.db 0 1
 check "a ring for a check" 2 "" "unexpected argument '--ring'" check --ring 2 stack two.csv
 check "a channel past its limit" 2 "" "invalid value '64' for '--vc <N>': 64 is not in 0..=63" run --vc 64 link
-check "a moment past its limit" 2 "" "invalid value '4102444800' for '--at <MOMENT>'" run --db none.db --at 4102444800 link
+check "a moment past its limit" 2 "" "tcdesk: --at is Unix seconds, 0 to 4102444799 (for now: \$(date +%s)), or an instant such as 2031-05-04T10:00:00Z: 4102444800" run --db none.db --at 4102444800 link
 check "a port past its limit" 2 "" "invalid value '65536' for '<PORT>'" serve none.db 65536 1
 check "no connections" 2 "" "invalid value '0' for '[COUNT]'" serve none.db 8080 0
 check "a connection past the limit" 2 "" "invalid value '1000001' for '[COUNT]': 1000001 is not in 1..=1000000" serve none.db 8080 1000001
 check "a FROM that spells no moment" 2 "" "such as 2031-05-04T10:00:00Z: noon" report none.db noon 86400
 check "a TO that spells no moment" 2 "" "such as 2031-05-04T10:00:00Z: 2031-02-30T10:00:00Z" report none.db 0 2031-02-30T10:00:00Z
-check "a KIND that is none" 2 "" "tcdesk: KIND is stack or procedure: shift" check shift empty
+check "a KIND that is none" 2 "" "tcdesk: KIND is script, stack or procedure: shift" check shift empty
 check "no KIND" 2 "" "KIND" check
 check "no FILE" 2 "" "FILE" check stack
 check "a word too many" 2 "" "unexpected argument 'more'" run link more
 check "an option twice" 2 "" "'--w <N>' cannot be used multiple times" run --w 20 --w 20 link
 check "an option without its value" 2 "" "a value is required for '--w <N>' but none was supplied" run link --w
 [[ ! -e none.db ]] || { failed=$((failed + 1)); echo "program_cases: words that are refused made a file" >&2; }
-check "the version" 0 $'tcdesk 0.1.0\n' "" --version
-check "the version in short" 0 $'tcdesk 0.1.0\n' "" -V
+for word in --version -V; do
+    "$program" "$word" >out 2>err && [[ $(<out) =~ ^tcdesk\ 0\.1\.0\ \(commit\ [0-9a-f]{12}\)$ && ! -s err ]]
+    tell "the version and its commit, $word"
+done
 cp "$top/examples/first-run.tc" input
 check "no words" 0 "$first" ""
 check "standard input by its name" 0 "$first" "" run -

@@ -16,7 +16,7 @@ from tests.asked import ASKED
 from tests.changes import change_file, changed_by
 from tests.new_desks import said_first, said_then
 from tests.report_printer import Moved, moves_in, places_of, report_of
-from tests.runs import write_lines
+from tests.runs import quick_folder, write_lines
 
 LAST = 4102444799
 Shift = tuple[int, int]
@@ -178,7 +178,7 @@ class Reported(unittest.TestCase):
 
     def setUp(self) -> None:
         """A folder to work in, and no case yet."""
-        folder = tempfile.TemporaryDirectory(prefix="reports-")
+        folder = tempfile.TemporaryDirectory(prefix="reports-", dir=quick_folder())
         self.addCleanup(folder.cleanup)
         self.cases = Cases(ASKED.program, folder.name)
 

@@ -22,6 +22,7 @@ commands=(
     "run examples/first-run.tc"
     "run --db kept.db examples/first-run.tc"
     "report kept.db 0 86400"
+    "board kept.db"
     "check stack examples/stack.csv"
     "check procedure examples/stack.csv"
     "loop other.db examples/first-run.tc"
@@ -35,13 +36,16 @@ commands=(
 mkfifo pipe
 exec 7<>pipe 8>pipe 7>&-
 
+# late TEXT: what was told but that a desk was opened before its last move.
+late() { grep -v '^tcdesk: opened at ' <<<"$1"; }
+
 unusable=$'tcdesk: cannot use output\n2'
 for command in "${commands[@]}"; do
     read -ra words <<<"$command"
     expect_new "${words[@]}"
     same "$command, on a full disk" "$new$unusable" "$("$program" "${words[@]}" 2>&1 >/dev/full; echo $?)"
-    same "$command, its output closed" "$unusable" "$("$program" "${words[@]}" 2>&1 >&-; echo $?)"
-    same "$command, the reader of its pipe gone" "$unusable" "$("$program" "${words[@]}" 2>&1 >&8; echo $?)"
+    same "$command, its output closed" "$unusable" "$(late "$("$program" "${words[@]}" 2>&1 >&-; echo $?)")"
+    same "$command, the reader of its pipe gone" "$unusable" "$(late "$("$program" "${words[@]}" 2>&1 >&8; echo $?)")"
     same "$command, nothing to be told to" 2 "$("$program" "${words[@]}" >/dev/full 2>&-; echo $?)"
 done
 exec 8>&-
@@ -54,7 +58,7 @@ mkdir folder
 same "a script from a standard input that is closed" $'tcdesk: cannot use -\n2' "$("$program" run - 2>&1 <&-; echo $?)"
 same "a script from a folder" $'tcdesk: cannot use -\n2' "$("$program" 2>&1 <folder; echo $?)"
 same "a check of a standard input that is closed" $'tcdesk: cannot use -\n2' "$("$program" check stack - 2>&1 <&-; echo $?)"
-same "a check of a folder" $'tcdesk: cannot use folder\n2' "$("$program" check stack folder 2>&1; echo $?)"
+same "a check of a folder" $'tcdesk: cannot use folder\ntcdesk: because it is a folder\n2' "$("$program" check stack folder 2>&1; echo $?)"
 same "a check of the standard input" $'ok\n0' "$("$program" check stack - 2>&1 <examples/stack.csv; echo $?)"
 for command in "run examples/approval.tc" "check stack examples/stack.csv" "--version"; do
     read -ra words <<<"$command"
@@ -69,22 +73,22 @@ for ((n = 0; n < 400; n++)); do
     echo "100 ann enter $((n % 7)) a--c no 8 1 - - ok"
 done >many.tc
 
-# filled NAME STATUS: of a run of many.tc on the new disk/desk.db that ended so, where not all could be kept: some lines were answered, the next 31, and
+# filled NAME STATUS WHY: of a run of many.tc on the new disk/desk.db that ended so, where not all could be kept: some lines were answered, the next 31, and
 # all others 32. What was answered stands once there is room.
 filled() {
-    local name=$1 status=$2 moves wanted="tcdesk: disk/desk.db is a new desk"
+    local name=$1 status=$2 why=$3 moves wanted="tcdesk: disk/desk.db is a new desk"
     moves=$(grep -c '^move ' out)
-    [[ $status == 1 ]] || wanted+=$'\ntcdesk: cannot use disk/desk.db'
+    [[ $status == 1 ]] || wanted+=$'\ntcdesk: cannot use disk/desk.db\ntcdesk: because '$why
     same "$name: its end" "${status/[!12]/1 or 2} $wanted" "$status $(<err)"
     same "$name: what is refused" "refused 31 Store refused 32 Stopped" "$(grep '^refused ' out | uniq | paste -sd ' ')"
     same "$name: the lines that are answered, where some are as ever" 400 "$((moves > 0 ? $(head -n -1 out | grep -c '^ok request\|^refused') : 0))"
     [[ ! -e disk/room ]] || mount -o remount,size=4m disk
-    same "$name: what stands" "places $moves: $moves 0 0 0 0 0 0 0 0 0 0 0 0 0 0" "$("$program" run --db disk/desk.db /dev/null 2>&1)"
+    same "$name: what stands" "places $moves: $moves 0 0 0 0 0 0 0 0 0 0 0 0 0 0" "$("$program" run --db disk/desk.db --at 100 /dev/null 2>&1)"
 }
 
-# unopened NAME STATUS: of a run on a disk that takes not even the tables of a desk: no new desk is told, and the next run may find none.
+# unopened NAME STATUS WHY: of a run on a disk that takes not even the tables of a desk: no new desk is told, and the next run may find none.
 unopened() {
-    same "$1: its end" "2 tcdesk: cannot use disk/desk.db" "$2 $(<err)$(<out)"
+    same "$1: its end" $'2 tcdesk: cannot use disk/desk.db\ntcdesk: because '"$3" "$2 $(<err)$(<out)"
     [[ ! -e disk/room ]] || mount -o remount,size=4m disk
     "$program" run --db disk/desk.db /dev/null >out 2>err
     same "$1: what stands" "places 0: 0 0 0 0 0 0 0 0 0 0 0 0 0 0 0" "$(grep -vxF "tcdesk: disk/desk.db is a new desk" err; cat out)"
@@ -102,16 +106,16 @@ on_disk() {
 }
 
 small 100
-unopened "files of 100 KiB" $?
+unopened "files of 100 KiB" $? "the disk failed"
 small 300
-filled "files of 300 KiB" $?
+filled "files of 300 KiB" $? "the disk failed"
 mounted="file systems of 96 and 384 KiB were filled"
 if mount -t tmpfs -o size=8k none disk 2>/dev/null && umount disk; then
     on_disk 96
-    unopened "a file system of 96 KiB" $?
+    unopened "a file system of 96 KiB" $? "the disk is full"
     umount disk
     on_disk 384
-    filled "a file system of 384 KiB" $?
+    filled "a file system of 384 KiB" $? "the disk is full"
     umount disk
 else
     mounted="no file system may be mounted here, so none was filled"

@@ -20,6 +20,7 @@ from generate.http_words import BODY, ENTRY, PLACES, Case, act, entry, get, load
 from model.http import decided
 from tests.http_cases import Cases, Served
 from tests.http_peer import PATIENCE, SLOW, Ended, Server, free_port, parted, received, reset, run, send
+from tests.new_desks import without_beside
 from tests.runs import bytes_of
 
 SEED = 20311126
@@ -269,7 +270,7 @@ class RudePeers(Served):
 def began(cases: Cases, folder: str, words: Sequence[str]) -> Ended:
     """How the program ended that was started to serve with these words, and has to end by itself."""
     ran = subprocess.run([cases.program, "serve", *words], cwd=folder, stdin=subprocess.DEVNULL, capture_output=True, timeout=PATIENCE, check=False)
-    return Ended(ran.returncode, ran.stdout.decode("latin-1"), ran.stderr.decode("latin-1"))
+    return Ended(ran.returncode, ran.stdout.decode("latin-1"), without_beside(ran.stderr.decode("latin-1")))
 
 
 def full() -> list[str]:

@@ -8,6 +8,7 @@ behind it for each request, whose answers are those of the tables.
 """
 import os
 import random
+import re
 import tempfile
 from concurrent.futures import ThreadPoolExecutor
 from dataclasses import dataclass
@@ -40,13 +41,14 @@ class Told:
 
 
 def moves_in(lines: list[str]) -> list[str]:
-    """The lines of moves that acts printed: not those that a history answers."""
+    """The lines of moves that acts printed: not those that answer a question."""
     moves, skip = [], 0
     for line in lines:
+        asked = re.match("(?:history [0-9]+:|moves) ([0-9]+)", line)
         if skip:
             skip -= 1
-        elif line.startswith("history "):
-            skip = int(line.split(": ")[1])
+        elif asked:
+            skip = int(asked[1])
         elif line.startswith("move "):
             moves.append(line)
     return moves

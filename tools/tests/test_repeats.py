@@ -48,7 +48,8 @@ class Desk:
                 if got != it.response:
                     return f"post {at}, {it.raw!r:.1500}: wanted {it.response!r:.600}, came {got!r:.600}"
             why = way(server, day)
-        self.counts.update({"days": 1, "posts": len(day.exchanges), "kept replies": sum(it.is_kept for it in day.exchanges),
+        self.counts.update({"days": 1, "posts": len(day.exchanges), "questions by a GET": sum(not it.call for it in day.exchanges),
+                            "kept replies": sum(it.is_kept for it in day.exchanges),
                             "refused": sum(not it.response.startswith(b"HTTP/1.1 200") for it in day.exchanges),
                             "longer than a response": sum(b'"more":0' not in it.response for it in day.exchanges),
                             "opened with moves": bool(day.desk.opening)})
@@ -69,7 +70,7 @@ class Desk:
     def killed_at_a_post(self, server: Server, day: PostedDay) -> str:
         """One post more, or a front of it, and the server is killed meanwhile."""
         before, count = day.desk.tables(), len(day.exchanges)
-        accepted = [it.call for it in day.exchanges if it.response.startswith(b"HTTP/1.1 200")]
+        accepted = [it.call for it in day.exchanges if it.call and it.response.startswith(b"HTTP/1.1 200")]
         day.send(self.dice.choice(accepted or self.sent).changed(number=day.number()))
         it, after = day.exchanges[count], day.desk.tables()
         is_whole = self.dice.random() < 0.8
@@ -146,5 +147,5 @@ class Repeats(Tried):
         print(f"repeats: {', '.join(f'{amount} {it}' for it, amount in sorted(counts.items()))}")
         self.no_faults([why for _, why in told if why])
         if ASKED.is_whole:
-            for it in ("kept replies", "longer than a response", "killed behind an answer", "killed at a front of an act", "opened with moves"):
+            for it in ("kept replies", "questions by a GET", "longer than a response", "killed behind an answer", "killed at a front of an act", "opened with moves"):
                 self.assertGreater(counts[it], 0, it)

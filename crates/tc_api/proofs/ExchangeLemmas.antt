@@ -1,5 +1,5 @@
 -- One exchange.
-use Rattle.std.proofs.Common.{◌≡◌, ◌∙◌, ◌⊎◌, inl, inr, ap, subst, refl, ℕ, List, [], ◌∷◌, arith, Option, Some, None, Result, Ok, Err, String, Global}
+use Rattle.std.proofs.Common.{◌≡◌, ◌∙◌, ◌⊎◌, inl, inr, ap, subst, refl, sym, ℕ, List, [], ◌∷◌, arith, Option, Some, None, Result, Ok, Err, String, Global}
 use Rattle.std.specs.Prelude.{◌≢◌, IfErr, IfSome, IsErrAnd}
 use Rattle.std.specs.Io.KnownBytes.{Appends, Consumes}
 use Rattle.std.specs.String.{string_bytes}
@@ -18,10 +18,11 @@ use Rattle.tc_front.specs.Write.{Stream, Writes}
 use Rattle.tc_room.specs.Joined.{Standing}
 use Rattle.tc_room.specs.Replies.{AreLines, ended}
 use Rattle.tc_api.specs.declared.serving.Served.{Served}
-use Rattle.tc_api.specs.Exchange.{EndsUnanswered, EndsUnread, Exchanges, IsCutOff, IsRead, IsUntold, IsUntouched, Responds, TellsEnd}
+use Rattle.tc_api.specs.declared.serving.Told.{Told}
+use Rattle.tc_api.specs.declared.serving.Told.TheVariants as told
+use Rattle.tc_api.specs.Exchange.{EndsUnanswered, EndsUnread, Exchanges, IsCutOff, IsRead, IsUntold, IsUntouched, Responds, TellsEnd, response_by, response_to}
 use Rattle.tc_api.specs.Kept.{ServesRead}
-use Rattle.tc_api.specs.Responses.{response_bytes}
-use Rattle.tc_api.specs.Serving.{IsServedBy, Outcome, Serves, outcome_of}
+use Rattle.tc_api.specs.Serving.{IsServedBy, Outcome, Serves, Tells, outcome_of, page_in, page_of}
 use Rattle.tc_api.proofs.LineLemmas.{lines_come_back}
 
 abbrev Sent : Type 0
@@ -37,32 +38,41 @@ is_err (Err told) why h = ap Err h
 
 -- ---- the response
 
-pub held_text : (held : Option (String Global)) (t : String Global) (reply : Reply) → held ≡ Some t → IfSome held (λ s. (string_bytes s ≡ ended reply) × AreLines reply) → (string_bytes t ≡ ended reply) × AreLines reply
-held_text held t reply is has = subst (λ (o : Option (String Global)). IfSome o (λ s. (string_bytes s ≡ ended reply) × AreLines reply)) is has
+pub held_text : (held : Option Told) (t : Told) (reply : Reply) → held ≡ Some t → IfSome held (Tells reply) → Tells reply t
+held_text held t reply is has = subst (λ (o : Option Told). IfSome o (Tells reply)) is has
+
+-- no line of the reply has an LF in it
+pub lines_told : (t : Told) (reply : Reply) → Tells reply t → AreLines reply
+lines_told (told.Lines text) reply tells = tells.1
+lines_told (told.Page page) reply tells = rw tells refl
+
+-- the response that tells it is that of the outcome
+pub response_told : (served : Served) (t : Told) (reply : Reply) (bytes : List ℕ) → served.text ≡ Some t → bytes ≡ response_by (page_of t) served.ending reply → bytes ≡ response_to (outcome_of reply served)
+response_told served t reply bytes is made = made ∙ sym (ap (λ (o : Option Told). response_by (page_in o) served.ending reply) is)
 
 -- it found no memory
 pub not_made : (outcome : Outcome) (sent : Sent) (why : Refusal) (at : Stream) → sent ≡ Err why → IsUntold outcome why → Responds outcome sent at at
 not_made outcome sent why at gone untold = rw gone (record { written = tt; lines = tt; failed = λ none. inr (untold, untouched at.counts at.bytes none); unfailed = λ none. tt })
 
 -- all of it was written
-pub all_put : {E : Type 0} (u : Unit {0}) (old new : Stream) (bytes text : List ℕ) (served : Served) (reply : Reply) → Writes {X = Unit {0}} {E = E} bytes old new (Ok u)
-    → bytes ≡ response_bytes served.ending text → text ≡ ended reply → AreLines reply → Responds {X = Unit {0}} (outcome_of reply served) (Ok u) old new
-all_put u old new bytes text served reply put is has are = record {
-  written = subst (λ (b : List ℕ). Appends old.bytes new.bytes b) (is ∙ ap (response_bytes served.ending) has) put.written;
+pub all_put : {E : Type 0} (u : Unit {0}) (old new : Stream) (bytes : List ℕ) (served : Served) (reply : Reply) → Writes {X = Unit {0}} {E = E} bytes old new (Ok u)
+    → bytes ≡ response_to (outcome_of reply served) → AreLines reply → Responds {X = Unit {0}} (outcome_of reply served) (Ok u) old new
+all_put u old new bytes served reply put is are = record {
+  written = subst (λ (b : List ℕ). Appends old.bytes new.bytes b) is put.written;
   lines = are;
   failed = λ none. tt;
   unfailed = put.counted;
 }
 
 -- one write failed
-pub part_put : {E : Type 0} (fault : E) (sent : Sent) (old new : Stream) (bytes text : List ℕ) (served : Served) (reply : Reply) → sent ≡ Err WriteFault → Writes {X = Unit {0}} {E = E} bytes old new (Err fault)
-    → bytes ≡ response_bytes served.ending text → text ≡ ended reply → Responds (outcome_of reply served) sent old new
-part_put fault sent old new bytes text served reply gone put is has = rw gone (record {
+pub part_put : {E : Type 0} (fault : E) (sent : Sent) (old new : Stream) (bytes : List ℕ) (served : Served) (reply : Reply) → sent ≡ Err WriteFault → Writes {X = Unit {0}} {E = E} bytes old new (Err fault)
+    → bytes ≡ response_to (outcome_of reply served) → Responds (outcome_of reply served) sent old new
+part_put fault sent old new bytes served reply gone put is = rw gone (record {
   written = tt;
   lines = tt;
   failed = λ none. inl (
     refl,
-    subst (λ (b : List ℕ). IsCutOff b new.counts old.bytes new.bytes) (is ∙ ap (response_bytes served.ending) has)
+    subst (λ (b : List ℕ). IsCutOff b new.counts old.bytes new.bytes) is
         (record { failed = put.counted none; part = put.cut.0; short = put.cut.1; appended = put.cut.2 }),
   );
   unfailed = λ none. tt;

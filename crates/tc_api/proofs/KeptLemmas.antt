@@ -10,7 +10,7 @@ use Rattle.tc_types.specs.declared.refusals.Refusal.{Refusal}
 use Rattle.tc_routes.specs.declared.paths.Post.{Post}
 use Rattle.tc_routes.specs.declared.paths.Post.TheVariants as paths
 use Rattle.tc_store.specs.Ledgers.{KeptAnswer}
-use Rattle.tc_front.specs.Front.{Asked, asks, posts, refuses}
+use Rattle.tc_front.specs.Front.{Asked, asks, posts, refuses, shows}
 use Rattle.tc_book.specs.declared.stamps.Stamp.{Stamp}
 use Rattle.tc_desk.specs.Acts.{is_question}
 use Rattle.tc_desk.specs.Headline.{TellsTrue}
@@ -163,6 +163,7 @@ nobody = record { by = []; moment = 0 }
 serves_keeps : {S : Type 0} (g : Ghosts S) (old new : Standing S) (asked : Asked) (outcome : Outcome) → Serves g old asked outcome new → KeepsTables g old new
 serves_keeps g old new (refuses why) outcome (_, same) = same_keeps g old new same
 serves_keeps g old new (asks query) outcome (steps, _) = step_keeps g old new nobody (act.Ask query) outcome.reply (steps nobody)
+serves_keeps g old new shows outcome serves = same_keeps g old new serves.same
 serves_keeps g old new (posts post body) outcome serves = post_keeps g old new post body outcome serves
 
 -- what was read of a connection is served

@@ -9,7 +9,7 @@ use Rattle.tc_types.specs.declared.refusals.Refusal.{Refusal}
 use Rattle.tc_types.specs.declared.refusals.Refusal.TheVariants.{Stopped}
 use Rattle.tc_routes.specs.declared.paths.Post.TheVariants as paths
 use Rattle.tc_store.specs.Ledgers.{KeptAnswer}
-use Rattle.tc_front.specs.Front.{Asked, asks, posts, refuses}
+use Rattle.tc_front.specs.Front.{Asked, asks, posts, refuses, shows}
 use Rattle.tc_desk.specs.Replies.{Reply, refusal_reply}
 use Rattle.tc_room.specs.declared.callers.Caller.{Caller}
 use Rattle.tc_room.specs.Calls.{ActsAnew, AnswersActCall, AnswersLoadCall, FailsOnce, KeepsAll, LoadsAnew, MakesNothing, StaysSo, kept_after, kept_for}
@@ -20,7 +20,7 @@ use Rattle.tc_api.specs.declared.endings.Ending.{Ending}
 use Rattle.tc_api.specs.declared.endings.Ending.TheVariants as ending
 use Rattle.tc_api.specs.Acts.{ActCall}
 use Rattle.tc_api.specs.Endings.{is_done}
-use Rattle.tc_api.specs.Exchange.{response_to}
+use Rattle.tc_api.specs.Exchange.{response_by, response_to}
 use Rattle.tc_api.specs.Kept.{Called, GoesThrough, IsCallOf, IsDoneOnce, IsTheSame, Stage, exchange, opening}
 use Rattle.tc_api.specs.Loads.{JudgesLoadPost, LoadCall}
 use Rattle.tc_api.specs.Responses.{response_bytes}
@@ -89,6 +89,7 @@ module _ {S : Type 0} (g : Ghosts S) (caller : Caller) (old : Standing S) (outco
   came : (asked : Asked) → Serves g old asked outcome new → IsCallOf caller asked → Came g caller old outcome new
   came (refuses why) serves calls = absurd calls
   came (asks query) serves calls = absurd calls
+  came shows serves calls = absurd calls
   came (posts paths.Acts body) serves (call, judged, by) = elim serves.served [
     | inl none ↦ inl none
     | inr given ↦ inr (act_seen call given.0 (act_post_one body given.0 (Ok call) given.1 judged) by given.2)
@@ -120,9 +121,12 @@ ends_done reply ending.NoPath ends granted = absurd ends
 ends_done reply ending.OtherMethod ends granted = absurd ends
 
 -- outcomes that end so, with one text, have one response
-one_response : (first again : Outcome) → first.ending ≡ ending.Done → again.ending ≡ ending.Done → ended again.reply ≡ ended first.reply → response_to again ≡ response_to first
-one_response first again was is same =
-    ap (λ (e : Ending). response_bytes e (ended again.reply)) (is ∙ sym was) ∙ ap (λ (text : List ℕ). response_bytes first.ending text) same
+one_response : (first again : Outcome) → first.page ≡ None → again.page ≡ None → first.ending ≡ ending.Done → again.ending ≡ ending.Done → ended again.reply ≡ ended first.reply → response_to again ≡ response_to first
+one_response first again plain still was is same =
+    ap (λ (p : Option (List ℕ)). response_by p again.ending again.reply) still
+    ∙ ap (λ (e : Ending). response_bytes e (ended again.reply)) (is ∙ sym was)
+    ∙ ap (λ (text : List ℕ). response_bytes first.ending text) same
+    ∙ sym (ap (λ (p : Option (List ℕ)). response_by p first.ending first.reply) plain)
 
 -- ---- what comes between
 
@@ -140,20 +144,20 @@ through g (opening ∷ others) start end replies after (next, opens, later) held
 -- ---- a call that comes again
 
 module _ {S : Type 0} (g : Ghosts S) (caller : Caller) (first again : Outcome) (last end : Standing S) (replies : List KeptAnswer) where
-  same_again : first.ending ≡ ending.Done → kept_for replies caller ≡ Some (ended first.reply) → HoldsBook g last replies → HasCleanDisk (state g end.tables) → Seen g caller last again end → IsTheSame first last again end
-  same_again done kept held clean seen = by_flag last.stopped _ _ _ (seen.answers replies held clean)
+  same_again : first.page ≡ None → first.ending ≡ ending.Done → kept_for replies caller ≡ Some (ended first.reply) → HoldsBook g last replies → HasCleanDisk (state g end.tables) → Seen g caller last again end → IsTheSame first last again end
+  same_again plain done kept held clean seen = by_flag last.stopped _ _ _ (seen.answers replies held clean)
       (λ _ told. inr (inl told))
       (λ _ answered. elim answered [
         | inl fails ↦ inr (inr (inl (fails.reply, fails.stopped)))
         | inr (inl repeats) ↦
             let same : ended again.reply ≡ ended first.reply = (let e : (let some : Option (List ℕ) = Some (ended again.reply) in some) ≡ Some (ended first.reply) = sym repeats.0 ∙ kept in cc) in
-            inl (one_response first again done (ends_done again.reply again.ending seen.ends.ends repeats.1) same, repeats.3.desk)
+            inl (one_response first again plain seen.ends.page done (ends_done again.reply again.ending seen.ends.ends repeats.1) same, repeats.3.desk)
         | inr (inr none) ↦ absurd (let e : (let some : Option (List ℕ) = Some (ended first.reply) in some) ≡ None = sym kept ∙ none in cc)
       ])
 
-  came_again : first.ending ≡ ending.Done → kept_for replies caller ≡ Some (ended first.reply) → HoldsBook g last replies → HasCleanDisk (state g end.tables) → Came g caller last again end → IsTheSame first last again end
-  came_again done kept held clean (inl none) = inr (inr (inr none))
-  came_again done kept held clean (inr seen) = same_again done kept held clean seen
+  came_again : first.page ≡ None → first.ending ≡ ending.Done → kept_for replies caller ≡ Some (ended first.reply) → HoldsBook g last replies → HasCleanDisk (state g end.tables) → Came g caller last again end → IsTheSame first last again end
+  came_again plain done kept held clean (inl none) = inr (inr (inr none))
+  came_again plain done kept held clean (inr seen) = same_again plain done kept held clean seen
 
 module _ {S : Type 0} (g : Ghosts S) (caller : Caller) (start : Standing S) (replies : List KeptAnswer) (first : Outcome) (next : Standing S) where
   seen_once : HoldsBook g start replies → HasCleanDisk (state g next.tables) → first.stands ≡ true → Seen g caller start first next → IsDoneOnce g caller first next
@@ -167,7 +171,7 @@ module _ {S : Type 0} (g : Ghosts S) (caller : Caller) (start : Standing S) (rep
         holds = seen.held replies held;
         again = λ stages last later goes again end called.
             let comes = through g stages next last after later goes (seen.held replies held) in
-            came_again g caller first again last end later done (comes.0 caller (ended first.reply) kept) comes.1 called.clean (came g caller last again end called.asked called.serves called.calls);
+            came_again g caller first again last end later seen.ends.page done (comes.0 caller (ended first.reply) kept) comes.1 called.clean (came g caller last again end called.asked called.serves called.calls);
       }
 
   -- an act or a load that was called, and that stands, is done once

@@ -1,6 +1,6 @@
 -- The bytes of a response.
-use Rattle.std.proofs.Common.{◌≡◌, ◌∙◌, ◌-◌, ℕ, false, List, [], ◌∷◌, length, map, min, refl, sym, ap, take}
-use Rattle.std.proofs.lemmas.List.{take-map, take_min, length-map}
+use Rattle.std.proofs.Common.{◌≡◌, ◌∙◌, ◌-◌, ℕ, false, List, [], ◌∷◌, ◌++◌, length, map, min, refl, sym, ap, take}
+use Rattle.std.proofs.lemmas.List.{append_assoc, take-map, take_min, length-map}
 use Rattle.serde_json.specs.Data.{Data, Items}
 use Rattle.serde_json.specs.Written.{has_float, items_have_float}
 use Rattle.tc_api.specs.Responses.{body_data, reply_data, strings}
@@ -30,3 +30,10 @@ pub body_said : {X : Type 0} (text_of : X → List ℕ) (lines : List X) (n more
 body_said text_of lines n more refusal shown value counted left are said =
     let first : map text_of (take n lines) ≡ take 200 (map text_of lines) = rw (counted, take_min) (sym (take-map text_of 200 lines)) in
     said (take 200 (map text_of lines)) (are ∙ ap strings first) ∙ ap (λ m. reply_data (take 200 (map text_of lines)) m refusal) (left ∙ ap (λ k. k - 200) (sym (length-map lines text_of)))
+
+-- the head of a page, put together piece by piece
+pub page_head_made : (status first lines size last sized made₀ made₁ made₂ made₃ made₄ : List ℕ) → made₀ ≡ status → made₁ ≡ made₀ ++ first → made₂ ≡ made₁ ++ lines → sized ≡ size
+    → made₃ ≡ made₂ ++ sized → made₄ ≡ made₃ ++ last → made₄ ≡ status ++ (first ++ lines) ++ size ++ last
+page_head_made status first lines size last sized made₀ made₁ made₂ made₃ made₄ begun ended titled counted told closed =
+    let two : made₂ ≡ status ++ (first ++ lines) = titled ∙ (ap (λ t. t ++ lines) (ended ∙ ap (λ t. t ++ first) begun) ∙ append_assoc status first lines) in
+    closed ∙ ap (λ t. t ++ last) (told ∙ (ap (λ t. t ++ sized) two ∙ ap (λ t. status ++ (first ++ lines) ++ t) counted))

@@ -1,18 +1,20 @@
 -- One exchange: what is read, what it makes of the room, and what is written.
-use Rattle.std.specs.Prelude.{◌≡◌, ◌≢◌, ◌⊎◌, ℕ, true, false, Option, Result, Err, IfErr, IfSome, OnOk, List}
+use Rattle.std.specs.Prelude.{◌≡◌, ◌≢◌, ◌⊎◌, ℕ, true, false, Option, Some, None, Result, Err, IfErr, IfSome, OnOk, List}
 use Rattle.std.specs.Io.KnownBytes.{Appends, Consumes, Keeps}
 use Rattle.sqlite_trees.specs.declared.store.Store.{Ghosts}
 use Rattle.tc_types.specs.declared.counted.Counts.{Counts}
 use Rattle.tc_types.specs.Counts.{no_counts}
 use Rattle.tc_types.specs.declared.refusals.Refusal.{Refusal}
 use Rattle.tc_types.specs.declared.refusals.Refusal.TheVariants.{Memory, ReadFault, WriteFault}
+use Rattle.tc_desk.specs.Replies.{Reply}
 use Rattle.tc_front.specs.Front.{Asked, IsDecided}
 pub use Rattle.tc_front.specs.Read.{refusal_of}
 use Rattle.tc_front.specs.Read.{CanGoOn, HasStopped, NoFront}
 use Rattle.tc_front.specs.Write.{IsCutShort, Stream, one_fault}
 use Rattle.tc_room.specs.Joined.{Standing}
 use Rattle.tc_room.specs.Replies.{AreLines, ended}
-use Rattle.tc_api.specs.Responses.{response_bytes, text_lines}
+use Rattle.tc_api.specs.declared.endings.Ending.{Ending}
+use Rattle.tc_api.specs.Responses.{page_bytes, response_bytes, text_lines}
 use Rattle.tc_api.specs.Serving.{Outcome, Serves}
 
 -- A request was read: what was taken of the reader decides what is asked, and so does all that the reader had.
@@ -28,9 +30,13 @@ pub record IsUnread (had left : Option (List ℕ)) : Type 0 where
   pub taken : Consumes had left text
   pub fronts : NoFront text
 
--- the response to an outcome
+-- the response to an outcome: of a reply, or the page in its place
+abbrev pub response_by : Option (List ℕ) → Ending → Reply → List ℕ
+response_by None ending reply = response_bytes ending (ended reply)
+response_by (Some page) ending reply = page_bytes page
+
 abbrev pub response_to : Outcome → List ℕ
-response_to outcome = response_bytes outcome.ending (ended outcome.reply)
+response_to outcome = response_by outcome.page outcome.ending outcome.reply
 
 -- nothing was written, and no write failed
 pub record IsUntouched (counts : Counts) (before after : Option (List ℕ)) : Type 0 where

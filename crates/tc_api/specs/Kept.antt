@@ -12,7 +12,7 @@ use Rattle.tc_desk.specs.Replies.{Reply, refusal_reply}
 use Rattle.tc_desk.specs.declared.configs.Config.{Config}
 use Rattle.tc_store.specs.Ledgers.{KeptAnswer, Ledger}
 use Rattle.tc_routes.specs.declared.paths.Post.TheVariants as paths
-use Rattle.tc_front.specs.Front.{Asked, asks, posts, refuses}
+use Rattle.tc_front.specs.Front.{Asked, asks, posts, refuses, shows}
 use Rattle.tc_room.specs.Calls.{FailsOnce, KeepsAll, Makes, Making}
 use Rattle.tc_room.specs.Joined.{HoldsBook, Standing}
 use Rattle.tc_room.specs.Opening.{OpensLeft}
@@ -80,6 +80,7 @@ pub record KeepsPromise {S : Type 0} (g : Ghosts S) (start end : Standing S) : T
 abbrev pub IsCallOf : Caller → Asked → Type 0
 IsCallOf caller (refuses why) = ⊥
 IsCallOf caller (asks query) = ⊥
+IsCallOf caller shows = ⊥
 IsCallOf caller (posts paths.Acts body) = (call : ActCall) × JudgesActPost body (Ok call) × (call.caller ≡ caller)
 IsCallOf caller (posts paths.Stacks body) = (call : LoadCall) × JudgesLoadPost body (Ok call) × (call.caller ≡ caller)
 IsCallOf caller (posts paths.Procedures body) = (call : LoadCall) × JudgesLoadPost body (Ok call) × (call.caller ≡ caller)

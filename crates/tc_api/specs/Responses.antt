@@ -53,6 +53,19 @@ head_text code phrase size =
     status_line code phrase ++ (line_end ++ codes "Content-Type: application/json" ++ line_end)
     ++ length_line size ++ (line_end ++ codes "Connection: close" ++ line_end ++ line_end)
 
+-- the header lines of a page: it is no copy of an earlier one, its styles are its own and nothing else is loaded or run, no other page frames it, and it is HTML
+-- (RFC 9111, section 5.2; CSP, level 3)
+abbrev pub page_lines : List ℕ
+page_lines =
+    codes "Content-Type: text/html; charset=utf-8" ++ line_end
+    ++ (codes "Cache-Control: no-store" ++ line_end)
+    ++ (codes "Content-Security-Policy: default-src 'none'; style-src 'unsafe-inline'; frame-ancestors 'none'" ++ line_end)
+    ++ (codes "X-Content-Type-Options: nosniff" ++ line_end)
+
+-- the head of a response with a page of so many bytes
+abbrev pub page_head : ℕ → List ℕ
+page_head size = status_line 200 (phrase_of 200) ++ (line_end ++ page_lines) ++ length_line size ++ (line_end ++ codes "Connection: close" ++ line_end ++ line_end)
+
 -- the head of a response that says this ending, with a body of so many bytes
 abbrev pub response_head : Ending → ℕ → List ℕ
 response_head ending size = head_text (status_number (status_of ending)) (phrase_of (status_number (status_of ending))) size
@@ -60,3 +73,7 @@ response_head ending size = head_text (status_number (status_of ending)) (phrase
 -- the response to what ended so, with a reply of this text
 unfoldable pub response_bytes : Ending → List ℕ → List ℕ
 response_bytes ending text = response_head ending (length (body_bytes ending text)) ++ body_bytes ending text
+
+-- the response with a page
+unfoldable pub page_bytes : List ℕ → List ℕ
+page_bytes page = page_head (length page) ++ page

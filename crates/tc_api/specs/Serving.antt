@@ -1,5 +1,5 @@
 -- What a request makes of the room, and how it ends.
-use Rattle.std.specs.Prelude.{◌≡◌, ◌⊎◌, ◌&&◌, ℕ, Bool, false, Option, Result, Ok, Err, List, IfSome}
+use Rattle.std.specs.Prelude.{◌≡◌, ◌⊎◌, ◌&&◌, ℕ, Bool, false, Option, Some, None, Result, Ok, Err, List, [], IfSome, option_and_then}
 use Rattle.std.specs.String.{string_bytes}
 use Rattle.serde_json.specs.Data.{Data}
 use Rattle.sqlite_trees.specs.declared.store.Store.{Ghosts}
@@ -13,9 +13,10 @@ use Rattle.tc_front.specs.declared.judge.Refused.{Refused}
 use Rattle.tc_front.specs.declared.judge.Refused.TheVariants as front
 use Rattle.tc_routes.specs.declared.paths.Post.{Post}
 use Rattle.tc_routes.specs.declared.paths.Post.TheVariants as paths
-use Rattle.tc_front.specs.Front.{Asked, asks, posts, refuses}
+use Rattle.tc_front.specs.Front.{Asked, asks, posts, refuses, shows}
 use Rattle.tc_book.specs.declared.stamps.Stamp.{Stamp}
 use Rattle.tc_desk.specs.Replies.{Reply, refusal_reply}
+use Rattle.tc_room.specs.Boards.{RefusesBoard, TellsBoard}
 use Rattle.tc_room.specs.Calls.{AnswersActCall, AnswersLoadCall}
 use Rattle.tc_room.specs.Joined.{Standing}
 use Rattle.tc_room.specs.Replies.{AreLines, ended, is_refused}
@@ -23,15 +24,19 @@ use Rattle.tc_room.specs.Room.{RoomStep}
 use Rattle.tc_api.specs.declared.endings.Ending.{Ending}
 use Rattle.tc_api.specs.declared.endings.Ending.TheVariants as ending
 use Rattle.tc_api.specs.declared.serving.Served.{Served}
+use Rattle.tc_api.specs.declared.serving.Told.{Told}
+use Rattle.tc_api.specs.declared.serving.Told.TheVariants as told
 use Rattle.tc_api.specs.Acts.{ActCall, JudgesActKeys, JudgesActPost, act_keys}
 use Rattle.tc_api.specs.Endings.{is_done}
 use Rattle.tc_api.specs.Loads.{JudgesLoadKeys, JudgesLoadPost, LoadCall, LoadKeys, load_keys}
 
--- what a request ends with: the reply, how the exchange ends, and whether an act was done, which stands
+-- what a request ends with: the reply, how the exchange ends, and whether an act was done, which stands; and where the board is shown, its page, which is sent in
+-- place of the reply
 pub record Outcome : Type 0 where
   pub reply : Reply
   pub ending : Ending
   pub stands : Bool
+  pub page : Option (List ℕ)
 
 -- A reply of the room ends an exchange so: it is done where the reply refuses nothing, and else refused with what the reply refuses with.
 abbrev pub EndsWith : Reply → Ending → Type 0
@@ -40,14 +45,15 @@ EndsWith reply (ending.Refused refusal) = reply ≡ refusal_reply refusal
 EndsWith reply ending.NoPath = ⊥
 EndsWith reply ending.OtherMethod = ⊥
 
--- The outcome is its reply's. An act stands where one was asked and is done.
+-- The outcome is its reply's, and no page. An act stands where one was asked and is done.
 pub record IsOutcome (acts : Bool) (outcome : Outcome) : Type 0 where
   pub ends : EndsWith outcome.reply outcome.ending
   pub stands : outcome.stands ≡ (acts && is_done outcome.ending)
+  pub page : outcome.page ≡ None
 
 -- a refusal that never came to the room
 abbrev pub refused_so : Ending → Refusal → Outcome
-refused_so ending refusal = record { reply = refusal_reply refusal; ending = ending; stands = false }
+refused_so ending refusal = record { reply = refusal_reply refusal; ending = ending; stands = false; page = None }
 
 abbrev pub refused_with : Refusal → Outcome
 refused_with refusal = refused_so (ending.Refused refusal) refusal
@@ -55,6 +61,14 @@ refused_with refusal = refused_so (ending.Refused refusal) refusal
 -- A question makes its step, whoever asks.
 abbrev pub ServesQuery : {S : Type 0} → Ghosts S → Standing S → Query → Outcome → Standing S → Type 0
 ServesQuery g old query outcome new = ((stamp : Stamp) → RoomStep g old stamp (act.Ask query) outcome.reply new) × IsOutcome false outcome
+
+-- The board is shown, and the room stays as it was; or it refuses to.
+abbrev pub shown_page : List ℕ → Outcome
+shown_page page = record { reply = []; ending = ending.Done; stands = false; page = Some page }
+
+pub record ServesBoard {S : Type 0} (old : Standing S) (outcome : Outcome) (new : Standing S) : Type 0 where
+  pub same : new ≡ old
+  pub shown : ((page : List ℕ) × TellsBoard old page × (outcome ≡ shown_page page)) ⊎ ((refusal : Refusal) × RefusesBoard old refusal × (outcome ≡ refused_with refusal))
 
 -- An act or a question is called; a post that is refused makes nothing.
 abbrev pub ServesActCall : {S : Type 0} → Ghosts S → Standing S → Result ActCall Refusal → Outcome → Standing S → Type 0
@@ -101,21 +115,35 @@ front_refusal front.Large = TooLong
 abbrev pub refused_front : Refused → Outcome
 refused_front why = refused_so (front_ending why) (front_refusal why)
 
--- What is asked is served: a refused head asks nothing of the room, a question and a post make their step.
+-- What is asked is served: a refused head asks nothing of the room, the board is shown, a question and a post make their step.
 abbrev pub Serves : {S : Type 0} → Ghosts S → Standing S → Asked → Outcome → Standing S → Type 0
 Serves g old (refuses why) outcome new = (outcome ≡ refused_front why) × (new ≡ old)
 Serves g old (asks query) outcome new = ServesQuery g old query outcome new
+Serves g old shows outcome new = ServesBoard old outcome new
 Serves g old (posts post body) outcome new = ServesPost g old post body outcome new
 
 -- ---- as the code holds it
 
+-- the page that is told, if one is
+abbrev pub page_of : Told → Option (List ℕ)
+page_of (told.Lines text) = None
+page_of (told.Page page) = Some (string_bytes page)
+
+abbrev pub page_in : Option Told → Option (List ℕ)
+page_in text = option_and_then page_of text
+
 -- the outcome of what was served, with this reply
 abbrev pub outcome_of : Reply → Served → Outcome
-outcome_of reply served = record { reply = reply; ending = served.ending; stands = served.stands }
+outcome_of reply served = record { reply = reply; ending = served.ending; stands = served.stands; page = page_in served.text }
 
--- the text is the reply's, of which no line has an LF in it, unless memory was refused to it
+-- what is told is the reply, of which no line has an LF in it; or a page, and the reply has no line
+abbrev pub Tells : Reply → Told → Type 0
+Tells reply (told.Lines text) = (string_bytes text ≡ ended reply) × AreLines reply
+Tells reply (told.Page page) = reply ≡ []
+
+-- that is told, unless memory was refused to it
 abbrev pub HasText : Reply → Served → Type 0
-HasText reply served = IfSome served.text (λ text. (string_bytes text ≡ ended reply) × AreLines reply)
+HasText reply served = IfSome served.text (Tells reply)
 
 -- what stands at the keys of a load is called
 abbrev pub ServesKeys : {S : Type 0} → Ghosts S → Standing S → LoadKind → Option LoadKeys → Outcome → Standing S → Type 0

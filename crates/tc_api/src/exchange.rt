@@ -1,18 +1,20 @@
 //! One exchange: a request is read, served, and answered.
-ghost use Rattle.std.specs.Prelude.{◌≡◌, IfErr, Option};
+ghost use Rattle.std.specs.Prelude.{◌≡◌, IfErr, IfOk, Option};
+ghost use Rattle.std.specs.String.{string_bytes};
 ghost use Rattle.tc_types.specs.Counts.{counts_of, no_counts};
 ghost use Rattle.tc_desk.specs.Headline.{TellsTrue};
 ghost use Rattle.tc_desk.specs.Replies.{Reply};
 ghost use Rattle.tc_front.specs.Front.{Asked};
 ghost use Rattle.tc_front.specs.Write.{seen};
-ghost use Rattle.tc_api.specs.Exchange.{Exchanges, IsUntold, Responds, TellsEnd};
+ghost use Rattle.tc_api.specs.Exchange.{Exchanges, IsUntold, Responds, TellsEnd, response_by};
 ghost use Rattle.tc_api.specs.Kept.{KeepsTables, ServesOne};
-ghost use Rattle.tc_api.specs.Serving.{HasText, outcome_of};
+ghost use Rattle.tc_api.specs.Serving.{HasText, Tells, outcome_of, page_of};
 
-use crate::responses::response;
-use crate::serving::{Served, serve_decision};
+use crate::endings::Ending;
+use crate::responses::{page_response, response};
+use crate::serving::{Served, Told, serve_decision};
 use sqlite::Alter;
-use std::alloc::Global;
+use std::alloc::{AllocError, Global};
 use std::io::{Read, Write};
 use tc_front::{decide, read_front, write_whole};
 use tc_room::Room;
@@ -30,14 +32,24 @@ fn untold(served: &Served) -> Refusal
     }
 }
 
+/// The response that tells this, where the exchange ends so. Fails where memory is refused.
+fn response_of(alloc: Global, ending: Ending, told: &Told) -> Result<String, AllocError>
+    ensures { (reply : Reply) → Tells reply told.now → IfOk result (λ r. string_bytes r ≡ response_by (page_of told.now) ending reply) }
+{
+    match told {
+        Told::Lines(text) => response(alloc, ending, text.as_str()),
+        Told::Page(page) => page_response(alloc, page.as_str()),
+    }
+}
+
 /// Writes the response to what was served.
 fn respond<W: Write>(alloc: Global, served: &Served, writer: &mut Counted<W>) -> Result<(), Refusal>
     ensures { (reply : Reply) → HasText reply served.now → Responds (outcome_of reply served.now) result (seen W.contents writer.old) (seen W.contents writer.new) }
 {
-    let Some(text) = &served.text else {
+    let Some(told) = &served.text else {
         return Err(untold(served));
     };
-    let Ok(response) = response(alloc, served.ending, text.as_str()) else {
+    let Ok(response) = response_of(alloc, served.ending, told) else {
         return Err(untold(served));
     };
     Ok(write_whole(writer, response.as_bytes())?)

@@ -6,7 +6,7 @@ ghost use Rattle.std.specs.String.{string_bytes};
 ghost use Rattle.http.specs.StatusCode.{IsStatusCode};
 ghost use Rattle.serde_json.specs.View.{items_view, view};
 ghost use Rattle.serde_json.specs.Written.{compact_text};
-ghost use Rattle.tc_api.specs.Responses.{body_bytes, body_data, head_text, phrase_of, reply_data, response_bytes, response_head, status_line, strings, text_lines};
+ghost use Rattle.tc_api.specs.Responses.{body_bytes, body_data, head_text, page_bytes, page_head, phrase_of, reply_data, response_bytes, response_head, status_line, strings, text_lines};
 
 use crate::endings::Ending;
 use http::StatusCode;
@@ -16,6 +16,10 @@ use tc_front::length_line;
 
 /// How many lines of a reply a response shows at most.
 pub const MOST_LINES: usize = 200;
+
+/// The header lines of a page: it is HTML, no copy of an earlier one, its styles are its own, nothing else is loaded or run, and no other page frames it.
+const PAGE_LINES: &str =
+    "Content-Type: text/html; charset=utf-8\r\nCache-Control: no-store\r\nContent-Security-Policy: default-src 'none'; style-src 'unsafe-inline'; frame-ancestors 'none'\r\nX-Content-Type-Options: nosniff\r\n";
 
 /// What stands before, between and behind the LFs of a text.
 fn pieces_of<'a>(alloc: Global, text: &'a str) -> Result<Vec<&'a str>, AllocError>
@@ -129,5 +133,27 @@ pub fn response(alloc: Global, ending: Ending, text: &str) -> Result<String, All
     let body = body(alloc, ending, text)?;
     let mut response = response_head(alloc, ending, body.len())?;
     response.push_str(body.as_str())?;
+    Ok(response)
+}
+
+/// The head of a response with a page of so many bytes.
+fn page_head(alloc: Global, length: usize) -> Result<String, AllocError>
+    ensures { IfOk result (λ text. string_bytes text ≡ page_head length) }
+{
+    let mut text = status_line(alloc, 200, phrase_of(200))?;
+    text.push_str("\r\n")?;
+    text.push_str(PAGE_LINES)?;
+    text.push_str(length_line(alloc, length)?.as_str())?;
+    text.push_str("\r\nConnection: close\r\n\r\n")?;
+    Ok(text)
+}
+
+/// The response with a page of HTML: a status line, six header lines, an empty line and the page. Fails where memory is refused.
+#[tactic(auto, unfolding(crate::specs::Responses::page_bytes))]
+pub fn page_response(alloc: Global, page: &str) -> Result<String, AllocError>
+    ensures { IfOk result (λ response. string_bytes response ≡ page_bytes page.now) }
+{
+    let mut response = page_head(alloc, page.len())?;
+    response.push_str(page)?;
     Ok(response)
 }

@@ -7,7 +7,7 @@ ghost use Rattle.tc_front.specs.Front.{asked_of};
 ghost use Rattle.tc_room.specs.Answers.{RefusesWith, Says};
 ghost use Rattle.tc_api.specs.Endings.{is_done};
 ghost use Rattle.tc_api.specs.Loads.{load_keys};
-ghost use Rattle.tc_api.specs.Serving.{EndsWith, HasText, IsOutcome, IsServedBy, Serves, ServesKeys, ServesPost, ServesQuery, ServesValue, front_ending, front_refusal, outcome_of, refused_front, refused_so};
+ghost use Rattle.tc_api.specs.Serving.{EndsWith, HasText, IsOutcome, IsServedBy, Serves, ServesBoard, ServesKeys, ServesPost, ServesQuery, ServesValue, front_ending, front_refusal, outcome_of, refused_front, refused_so};
 
 use crate::acts::judge_act;
 use crate::bodies::value_of;
@@ -21,6 +21,15 @@ use tc_room::{Answer, Room, Untold, answer_query, refusal_answer};
 use tc_routes::Post;
 use tc_types::{LoadKind, Query, Refusal};
 
+/// What is told.
+#[derive(Drop)]
+pub enum Told {
+    /// A reply, each of its lines ended by LF.
+    Lines(String),
+    /// A page.
+    Page(String),
+}
+
 /// What was served.
 #[derive(Drop)]
 pub struct Served {
@@ -28,8 +37,8 @@ pub struct Served {
     pub ending: Ending,
     /// Whether an act was done, which stands.
     pub stands: bool,
-    /// The reply, each of its lines ended by LF; `None` where memory was refused to it.
-    pub text: Option<String>,
+    /// What is told of it; `None` where memory was refused to that.
+    pub text: Option<Told>,
 }
 
 /// How an exchange ends whose reply refuses with this, if it is a refusal.
@@ -43,7 +52,7 @@ fn ending_of(refusal: Option<Refusal>) -> Ending
 }
 
 /// What was served: an act stands where one was asked and is done.
-fn make_served(ending: Ending, acts: bool, text: Option<String>) -> Served
+fn make_served(ending: Ending, acts: bool, text: Option<Told>) -> Served
     ensures { result ≡ record { ending = ending; stands = acts && is_done ending; text = text } }
 {
     Served {
@@ -58,7 +67,10 @@ fn answer_served(answered: Result<Answer, Untold>, acts: bool) -> Served
     ensures { (reply : Reply) → Says reply answered → IsOutcome acts (outcome_of reply result) × HasText reply result }
 {
     match answered {
-        Ok(answer) => make_served(ending_of(answer.refusal), acts, Some(answer.text)),
+        Ok(answer) => {
+            let told = Told::Lines(answer.text);
+            make_served(ending_of(answer.refusal), acts, Some(told))
+        }
         Err(untold) => make_served(ending_of(untold.refusal), acts, None),
     }
 }
@@ -68,7 +80,7 @@ fn refused(alloc: Global, ending: Ending, refusal: Refusal) -> Served
     ensures { (outcome_of (refusal_reply refusal) result ≡ refused_so ending refusal) × HasText (refusal_reply refusal) result }
 {
     let text = match refusal_answer(alloc, refusal) {
-        Ok(answer) => Some(answer.text),
+        Ok(answer) => Some(Told::Lines(answer.text)),
         Err(_) => None,
     };
     Served {
@@ -83,6 +95,20 @@ fn serve_query<S: Alter + Drop>(alloc: Global, room: &mut Room<S>, query: Query)
     ensures { IsServedBy (ServesQuery S.Store room.old query) room.old result room.new }
 {
     answer_served(answer_query(alloc, room, query), false)
+}
+
+/// Shows the board of the room.
+fn serve_board<S: Alter + Drop>(alloc: Global, room: &Room<S>) -> Served
+    ensures { IsServedBy (ServesBoard room.now) room.now result room.now }
+{
+    match room.board(alloc) {
+        Ok(page) => Served {
+            ending: Ending::Done,
+            stands: false,
+            text: Some(Told::Page(page)),
+        },
+        Err(refusal) => refused(alloc, Ending::Refused(refusal), refusal),
+    }
 }
 
 /// Serves an act or a question that is called.
@@ -173,8 +199,8 @@ fn serve_refused(alloc: Global, why: Refused) -> Served
     refused(alloc, front_ending(why), front_refusal(why))
 }
 
-/// Serves what a front of the input decides: a head that is refused asks nothing of the room; a question makes its step, whoever asks; a post
-/// makes the step of its act, question or load, or is refused as it is read.
+/// Serves what a front of the input decides: a head that is refused asks nothing of the room; the board is shown, and a question makes its step, whoever asks; a
+/// post makes the step of its act, question or load, or is refused as it is read.
 pub fn serve_decision<S: Alter + Drop>(
     alloc: Global,
     room: &mut Room<S>,
@@ -185,6 +211,7 @@ pub fn serve_decision<S: Alter + Drop>(
     match *decision {
         Decision::Refused(why) => serve_refused(alloc, why),
         Decision::Asks(query) => serve_query(alloc, room, query),
+        Decision::ShowsBoard => serve_board(alloc, room),
         Decision::Posts { post, body } => serve_post(alloc, room, post, body),
     }
 }

@@ -6,9 +6,9 @@ ghost use Rattle.tc_board.specs.Schedule.{empty_schedule, fault_code, failure_of
 
 use std::alloc::{AllocError, Allocator};
 use std::marker::Model;
+use tc_types::limits::LARGEST_MOMENT;
 use tc_types::{
-    Activities, Activity, Identity, LARGEST_MOMENT, ListedActivity, MOST_ACTIVITIES, Moment,
-    Offset, Summary,
+    Activities, Activity, Identity, ListedActivity, MOST_ACTIVITIES, Moment, Offset, Summary,
 };
 
 /// How far off a time to come is at least, in seconds (this desk's own).

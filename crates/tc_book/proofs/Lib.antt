@@ -29,3 +29,5 @@ pub mod SoundLemmas
 pub mod GivenLemmas
 pub mod StackGivenLemmas
 pub mod CompleteLemmas
+pub mod StackRowLemmas
+pub mod WaitingLemmas

@@ -22,7 +22,7 @@ use Rattle.tc_stack.specs.Approvals.{ApprovalState, approved, is_complete, wante
 use Rattle.tc_stack.specs.Approvals as approval
 use Rattle.tc_book.specs.Targets.{is_bad_activity}
 use Rattle.tc_book.specs.Stacks.{is_loaded, came_with_stack, numbers_in_stack, stack_approval_at, with_stack_approval}
-use Rattle.tc_proc.specs.Logs.{begin_tests, with_execution, execution_at}
+use Rattle.tc_proc.specs.Logs.{begin_tests, with_execution, execution_at, procedure_at}
 
 -- one of the requests that a command names was never entered
 abbrev pub names_unknown : Book → Command → Bool
@@ -89,6 +89,10 @@ query_tests book query.Link = []
 query_tests book query.Schedule = []
 query_tests book (query.Log execution) = (is_none (execution_at book.log execution), UnknownProcedure) ∷ []
 query_tests book (query.Report from to) = []
+query_tests book query.Waiting = []
+query_tests book (query.Moves after) = []
+query_tests book (query.Standing place after) = []
+query_tests book (query.Steps procedure) = (is_none (procedure_at book.log procedure), UnknownProcedure) ∷ []
 
 -- a row of a stack goes to Approved, if it is still Entered
 abbrev pub row_approved : Stamp → Book → ℕ → Book

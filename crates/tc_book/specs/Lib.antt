@@ -1,6 +1,7 @@
 pub mod Appends
 pub mod Book
 pub mod Targets
+pub mod Waiting
 pub mod Stacks
 pub mod Moves
 pub mod Persons

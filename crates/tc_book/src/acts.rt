@@ -49,7 +49,20 @@ pub fn refusal_of<A: Allocator + Copy + Drop>(records: &Records<A>, query: Query
     ensures { result ≡ first_refusal (query_tests records.now.book query) }
 {
     match query {
-        Query::Places | Query::Link | Query::Schedule | Query::Report { .. } => None,
+        Query::Places
+        | Query::Link
+        | Query::Schedule
+        | Query::Report { .. }
+        | Query::Waiting
+        | Query::Moves { .. }
+        | Query::Standing { .. } => None,
+        Query::Steps { procedure } => {
+            if records.procedure(&procedure).is_none() {
+                Some(Refusal::UnknownProcedure)
+            } else {
+                None
+            }
+        }
         Query::History { request, .. } | Query::Request { request } => {
             if records.is_unknown(request) {
                 Some(Refusal::UnknownRequest)

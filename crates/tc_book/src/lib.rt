@@ -25,5 +25,5 @@ mod tallies;
 pub use drafts::{Draft, Needs, make_room};
 pub use firsts::First;
 pub use openings::{Opened, open};
-pub use records::Records;
+pub use records::{FINAL_PLACES, Records};
 pub use stamps::Stamp;

@@ -1,32 +1,32 @@
 -- What is said of a text is one thing.
-use Rattle.std.proofs.Common.{◌≡◌, ◌∙◌, ℕ, Bool, Option, Some, None, List, [], get_or, sym, refl, ap, subst}
+use Rattle.std.proofs.Common.{◌≡◌, ◌∙◌, ℕ, Bool, Result, Ok, Err, List, sym, ap}
+use Rattle.std.specs.Prelude.{IfOk}
+use Rattle.std.specs.String.{string_bytes}
 use Rattle.tc_types.specs.declared.loads.LoadKind.{LoadKind}
 use Rattle.tc_types.specs.declared.loads.LoadKind.TheVariants as kind
 use Rattle.tc_csv.specs.declared.faults.Fault.{Fault}
-use Rattle.tc_csv.specs.Tables.{records_of}
-use Rattle.tc_stack.proofs.TextLemmas as stack
-use Rattle.tc_proc.proofs.RowLemmas as procedure
-use Rattle.tc_check.specs.Checks.{IsLineOf, Says, Tells}
-use Rattle.tc_check.specs.Words.{fault_line}
-use Rattle.tc_check.proofs.RowLemmas.{commands_once}
+use Rattle.tc_csv.specs.FaultLists.{first_fault}
+use Rattle.tc_stack.proofs.FaultLemmas as stack
+use Rattle.tc_proc.proofs.FaultLemmas as procedure
+use Rattle.tc_check.specs.declared.checks.Checked.{Checked}
+use Rattle.tc_check.specs.Findings.{first_line}
+use Rattle.tc_check.specs.Checks.{AreFaults, Says, Tells, is_ok_told, lines_told, told_text}
 
-tells_once : (of : LoadKind) (text : List ℕ) (a b : Option Fault) → Tells of text a → Tells of text b → a ≡ b
-tells_once kind.Stack text None None x y = refl
-tells_once kind.Stack text None (Some b) x y = absurd (stack.spelled_unbroken text x.0 b x.1 y)
-tells_once kind.Stack text (Some a) None x y = absurd (stack.spelled_unbroken text y.0 a y.1 x)
-tells_once kind.Stack text (Some a) (Some b) x y = ap Some (stack.fault_once text a b x y)
-tells_once kind.Procedure text None None x y = refl
-tells_once kind.Procedure text None (Some b) x y = absurd (procedure.spelled_unbroken text x.0 b x.1 y)
-tells_once kind.Procedure text (Some a) None x y = absurd (procedure.spelled_unbroken text y.0 a y.1 x)
-tells_once kind.Procedure text (Some a) (Some b) x y = ap Some (procedure.fault_once text a b x y)
+faults_once : (of : LoadKind) (text : List ℕ) (a b : List Fault) → AreFaults of text a → AreFaults of text b → a ≡ b
+faults_once kind.Stack text a b x y = stack.faults_once text a b x y
+faults_once kind.Procedure text a b x y = procedure.faults_once text a b x y
 
-line_once : (of : LoadKind) (text : List ℕ) (told : Option Fault) (a b : List ℕ) → IsLineOf of text told a → IsLineOf of text told b → a ≡ b
-line_once of text None a b x y = x ∙ sym y
-line_once of text (Some fault) a b (sort, is, line) (other, also, same) =
-    let one = commands_once (get_or (records_of text) fault.row []) sort other is also in
-    line ∙ (ap (λ s. fault_line of s fault) one ∙ sym same)
+pub says_once : (of : LoadKind) (text a front b other : List ℕ) (p q : Bool) → Says of text a front p → Says of text b other q → (a ≡ b) × (front ≡ other) × (p ≡ q)
+says_once of text a front b other p q x y =
+    let one = faults_once of text x.faults y.faults x.are y.are in (
+      x.said ∙ (ap (told_text of text) one ∙ sym y.said),
+      x.front ∙ (ap (λ (faults : List Fault). first_line (lines_told of text faults)) one ∙ sym y.front),
+      x.ok ∙ (ap (is_ok_told of text) one ∙ sym y.ok),
+    )
 
-pub says_once : (of : LoadKind) (text : List ℕ) (a b : List ℕ) (p q : Bool) → Says of text a p → Says of text b q → (a ≡ b) × (p ≡ q)
-says_once of text a b p q (told, tells, line, ok) (other, also, same, is) =
-    let one = tells_once of text told other tells also in
-    (line_once of text other a b (subst (λ (t : Option Fault). IsLineOf of text t a) one line) same, rw one at ok ∙ sym is)
+-- what is said of a text with these faults
+pub says_made : {E : Type 0} (of : LoadKind) (text : List ℕ) (faults : List Fault) (made : Result Checked E) → AreFaults of text faults → Tells of text (first_fault faults)
+    → IfOk made (λ c. string_bytes c.text ≡ told_text of text faults) → IfOk made (λ c. string_bytes c.first ≡ first_line (lines_told of text faults)) → IfOk made (λ c. c.is_ok ≡ is_ok_told of text faults)
+    → IfOk made (λ c. Says of text (string_bytes c.text) (string_bytes c.first) c.is_ok)
+says_made of text faults (Ok c) are tells said front ok = record { faults = faults; are = are; tells = tells; said = said; front = front; ok = ok }
+says_made of text faults (Err e) are tells said front ok = said

@@ -1,3 +1,15 @@
 pub mod Rows
 pub mod Words
+pub mod FileLines
+pub mod Shown
+pub mod Findings
+pub mod Looks
+pub mod Headers
+pub mod Found
+pub mod Places
+pub mod Told
+pub mod Notes
 pub mod Checks
+pub mod LineTexts
+pub mod Scripts
+pub mod Sources

@@ -1,23 +1,31 @@
--- What a row commands, as far as what is said of its fields hangs on it.
-use Rattle.std.specs.Prelude.{◌≡◌, ℕ, List, [], get_or}
-use Rattle.std.specs.Fmt.{decimal}
-use Rattle.tc_stack.specs.StackTexts.{IsScheduling}
-use Rattle.tc_check.specs.declared.commands.Sort.{Sort}
-use Rattle.tc_check.specs.declared.commands.Sort.TheVariants.{Insert, Delete, Shift, ShiftAll, Schedule, Other}
+-- What stands in the fields of a row.
+use Rattle.std.specs.Prelude.{ℕ, List, [], get_or}
+use Rattle.tc_csv.specs.declared.columns.Column.{Column}
+use Rattle.tc_csv.specs.declared.columns.Column.TheVariants as column
+use Rattle.tc_script.specs.declared.sorts.Sort.{Sort}
+use Rattle.tc_script.specs.Sorts.{is_scheduling, sort_of}
 
--- a command of the on-board schedule, by the third field of its row
-abbrev pub IsOfSchedule : List (List ℕ) → Type 0
-IsOfSchedule fields = IsScheduling (get_or fields 2 [])
+-- the place of a column among those of its table
+abbrev pub column_place : Column → ℕ
+column_place column.Line = 0
+column_place column.Apid = 1
+column_place column.Service = 2
+column_place column.Subtype = 3
+column_place column.Target = 4
+column_place column.Time = 5
+column_place column.Ack = 6
+column_place column.Critical = 7
+column_place column.After = 8
+column_place column.Outcome = 9
+column_place column.Step = 0
+column_place column.Text = 1
+column_place column.Second = 2
+column_place column.Request = 3
 
--- the subtype, which is the fourth field, is this number
-abbrev pub HasSubtype : ℕ → List (List ℕ) → Type 0
-HasSubtype subtype fields = get_or fields 3 [] ≡ decimal subtype
+-- what stands in a column of a row
+abbrev pub value_in : Column → List (List ℕ) → List ℕ
+value_in of fields = get_or fields (column_place of) []
 
--- A row with these fields commands this (ECSS-E-ST-70-41C, service 11, for the subtypes).
-abbrev pub Commands : List (List ℕ) → Sort → Type 0
-Commands fields Insert = IsOfSchedule fields × HasSubtype 4 fields
-Commands fields Delete = IsOfSchedule fields × HasSubtype 5 fields
-Commands fields Shift = IsOfSchedule fields × HasSubtype 7 fields
-Commands fields ShiftAll = IsOfSchedule fields × HasSubtype 15 fields
-Commands fields Schedule = IsOfSchedule fields × (¬ HasSubtype 4 fields × (¬ HasSubtype 5 fields × (¬ HasSubtype 7 fields × ¬ HasSubtype 15 fields)))
-Commands fields Other = ¬ IsOfSchedule fields
+-- what a row of a stack commands, by its service and its subtype
+abbrev pub sort_of_row : List (List ℕ) → Sort
+sort_of_row fields = sort_of (is_scheduling (get_or fields 2 [])) (get_or fields 3 [])

@@ -1,18 +1,11 @@
--- What is said of a text that breaks a rule: where, and what does not stand there.
-use Rattle.std.specs.Prelude.{ℕ, ◌==◌, if◌then◌else◌, Option, Some, None, List, [], ◌++◌, codes}
-use Rattle.std.specs.Fmt.{decimal}
+-- Why a text breaks a rule: what does not stand there, or stands there and may not.
+use Rattle.std.specs.Prelude.{ℕ, List, codes}
 use Rattle.tc_types.specs.declared.loads.LoadKind.{LoadKind}
 use Rattle.tc_types.specs.declared.loads.LoadKind.TheVariants as kind
-use Rattle.tc_csv.specs.declared.columns.Column.{Column}
 use Rattle.tc_csv.specs.declared.faults.Rule.{Rule}
 use Rattle.tc_csv.specs.declared.faults.Rule.TheVariants as rule
-use Rattle.tc_csv.specs.declared.faults.Fault.{Fault}
-use Rattle.tc_csv.specs.Faults.{rule_column}
-use Rattle.tc_csv.specs.Tables.{column_name}
-use Rattle.tc_check.specs.declared.commands.Sort.{Sort}
-use Rattle.tc_check.specs.declared.commands.Sort.TheVariants.{Insert, Delete, Shift, ShiftAll, Other}
-
--- ---- what does not stand there, or stands there and may not
+use Rattle.tc_script.specs.declared.sorts.Sort.{Sort}
+use Rattle.tc_script.specs.declared.sorts.Sort.TheVariants.{Insert, Delete, Shift, ShiftAll, Other}
 
 abbrev pub why_header : LoadKind → List ℕ
 why_header kind.Stack = codes "not line,apid,service,subtype,target,time,ack,critical,after,outcome"
@@ -76,29 +69,3 @@ why of sort rule.StepNumber = codes "not the number of the step"
 why of sort rule.StepText = codes "not 1 to 80 printable characters of ASCII"
 why of sort rule.Second = codes "neither yes nor no"
 why of sort rule.StepRequest = codes "neither empty nor a number"
-
--- ---- where
-
--- what a row is called: it has its number in its first field
-abbrev pub row_name : LoadKind → List ℕ
-row_name kind.Stack = codes "line "
-row_name kind.Procedure = codes "step "
-
--- above the rows there are the text as a whole and the header
-abbrev pub above_rows : Rule → List ℕ
-above_rows rule.TextLength = codes "file"
-above_rows _ = codes "header"
-
-abbrev pub place : LoadKind → Fault → List ℕ
-place of fault = if fault.row == 0 then above_rows fault.rule else row_name of ++ decimal fault.row
-
--- the field, where the rule is one of a field
-abbrev pub in_field : Option Column → List ℕ
-in_field None = []
-in_field (Some column) = codes ", field " ++ column_name column
-
--- ---- the line
-
--- where the text is wrong, and why
-abbrev pub fault_line : LoadKind → Sort → Fault → List ℕ
-fault_line of sort fault = place of fault ++ in_field (rule_column fault.rule) ++ codes ": " ++ why of sort fault.rule

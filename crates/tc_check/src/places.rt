@@ -1,11 +1,8 @@
-//! Where a text is wrong, in words.
-ghost use Rattle.std.specs.Prelude.{◌≡◌, ◌++◌, IfOk, codes};
+//! Where a text is wrong.
+ghost use Rattle.std.specs.Prelude.{◌≡◌, ◌+◌, ◌^◌, ◌<◌, IfOk};
 ghost use Rattle.std.specs.String.{string_bytes};
-ghost use Rattle.tc_csv.specs.Tables.{column_name};
-ghost use Rattle.tc_check.specs.Words.{above_rows, fault_line, in_field, place, row_name};
+ghost use Rattle.tc_check.specs.Places.{above_rows, in_field, on_line, place, row_name, row_place};
 
-use crate::commands::Sort;
-use crate::words::why;
 use std::alloc::{AllocError, Global};
 use tc_csv::{Column, Fault, Rule};
 use tc_types::LoadKind;
@@ -30,20 +27,51 @@ fn above_rows(rule: Rule) -> &'static str
     }
 }
 
+/// The line of the file, where it is not the one behind as many lines as rows.
+fn on_line(alloc: Global, row: usize, line: usize) -> Result<String, AllocError>
+    requires { row + 1 < 2 ^ 64 }
+    ensures { IfOk result (λ text. string_bytes text ≡ on_line row line) }
+{
+    if line == row + 1 {
+        return Ok(String::new(alloc));
+    }
+    format!(in alloc; " (line {line} of the file)")
+}
+
+/// A row, by its number, and the line of the file.
+pub(crate) fn row_place(
+    alloc: Global,
+    kind: LoadKind,
+    lines: &[usize],
+    row: usize,
+) -> Result<String, AllocError>
+    requires { row + 1 < 2 ^ 64 }
+    ensures { IfOk result (λ text. string_bytes text ≡ row_place kind lines.now row) }
+{
+    let name = row_name(kind);
+    let line = lines.get(row).copied().unwrap_or(row + 1);
+    let on_line = on_line(alloc, row, line)?;
+    let on_line = on_line.as_str();
+    format!(in alloc; "{name}{row}{on_line}")
+}
+
 /// The record of a fault.
-fn place(alloc: Global, kind: LoadKind, fault: Fault) -> Result<String, AllocError>
-    ensures { IfOk result (λ text. string_bytes text ≡ place kind fault) }
+pub(crate) fn place(
+    alloc: Global,
+    kind: LoadKind,
+    lines: &[usize],
+    fault: Fault,
+) -> Result<String, AllocError>
+    ensures { IfOk result (λ text. string_bytes text ≡ place kind lines.now fault) }
 {
     if fault.row == 0 {
         return String::from_str(alloc, above_rows(fault.rule));
     }
-    let name = row_name(kind);
-    let row = fault.row;
-    format!(in alloc; "{name}{row}")
+    row_place(alloc, kind, lines, fault.row as usize)
 }
 
 /// The field of a fault.
-fn in_field(alloc: Global, column: Option<Column>) -> Result<String, AllocError>
+pub(crate) fn in_field(alloc: Global, column: Option<Column>) -> Result<String, AllocError>
     ensures { IfOk result (λ text. string_bytes text ≡ in_field column) }
 {
     match column {
@@ -53,20 +81,4 @@ fn in_field(alloc: Global, column: Option<Column>) -> Result<String, AllocError>
             format!(in alloc; ", field {name}")
         }
     }
-}
-
-/// Where a text is wrong, and why.
-pub(crate) fn fault_line(
-    alloc: Global,
-    kind: LoadKind,
-    sort: Sort,
-    fault: Fault,
-) -> Result<String, AllocError>
-    ensures { IfOk result (λ line. string_bytes line ≡ fault_line kind sort fault) }
-{
-    let mut line = place(alloc, kind, fault)?;
-    line.push_str(in_field(alloc, fault.rule.column())?.as_str())?;
-    line.push_str(": ")?;
-    line.push_str(why(kind, sort, fault.rule))?;
-    Ok(line)
 }

@@ -2,8 +2,8 @@
 ghost use Rattle.std.specs.Prelude.{◌≡◌};
 ghost use Rattle.tc_check.specs.Words.{why, why_ack, why_fields, why_header, why_outcome, why_rows, why_subtype, why_target, why_target_row, why_time};
 
-use crate::commands::Sort;
 use tc_csv::Rule;
+use tc_script::Sort;
 use tc_types::LoadKind;
 
 /// Why a first record is no header.

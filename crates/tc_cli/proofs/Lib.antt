@@ -1,5 +1,6 @@
 pub mod CheckingLemmas
 mod CrashLemmas
+mod EchoLemmas
 mod EndsLemmas
 mod HoldLemmas
 mod KeptLemmas

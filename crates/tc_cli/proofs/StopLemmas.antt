@@ -1,7 +1,6 @@
 -- A run that stops: which fault comes of what, and what is left.
 use Rattle.std.proofs.Common.{◌≡◌, ◌∙◌, ℕ, Bool, false, Option, Some, None, List, [], ◌∷◌, ◌++◌, refl, sym, ap, subst, ◌⊎◌, inl, inr, append-nil}
 use Rattle.std.specs.Prelude.{◌≢◌, ◌↔◌, IfErr, IfSome, IsErrAnd, Result, Ok, Err}
-use Rattle.std.specs.List.{flat_map}
 use Rattle.std.specs.Io.KnownBytes.{Appends}
 use Rattle.std.proofs.KnownBytes.{Appends-trans, Appends-nil}
 use Rattle.sqlite_trees.specs.declared.memory.MemStore.{MemStore}
@@ -28,7 +27,7 @@ use Rattle.tc_cli.specs.declared.script.ScriptFault.{ScriptFault}
 use Rattle.tc_cli.specs.declared.script.ScriptFault.TheVariants.{Script, Output, Memory, Tables, Config, Path}
 use Rattle.tc_cli.specs.Files.{FileAnswer, Gives, file_at, none_at}
 use Rattle.tc_cli.specs.Script.{Ends, fault_of, written_counts}
-use Rattle.tc_cli.specs.Run.{AnswersScriptLine, Came, IsLoadLine, RepliesTo, TakesFront, TakesLine, TakesLines, is_skipped, script_lines}
+use Rattle.tc_cli.specs.Run.{AnswersScriptLine, Came, IsLoadLine, RepliesTo, TakesFront, TakesLine, TakesLines, answered, exchange, exchanges, is_skipped, script_lines}
 use Rattle.tc_cli.specs.Stops.{AnswersNext, IsCutShort, IsUnopened, IsUnread, IsUntouched, LeavesPart, Stops, StopsAfter, StopsNext, Unanswered, UnansweredNext}
 use Rattle.tc_cli.proofs.EndsLemmas.{ends_by}
 use Rattle.tc_cli.proofs.HoldLemmas.{Failed, front_failed, line_failed, line_held, lines_held, nobody, question_failed, step_held}
@@ -45,7 +44,7 @@ by_fault (Err fault) Why (inl is) memory path = subst Why (sym is) (memory (ap E
 by_fault (Err fault) Why (inr is) memory path = subst Why (sym is) (path (ap Err is))
 
 -- in a room over any store
-module _ {S : Type 0} (g : Ghosts S) where
+module _ {S : Type 0} (g : Ghosts S) (echo : Bool) where
   -- the line that loads a file came to none
   pub file_unanswered : {X : Type 0} (old new : Standing S) (line : List ℕ) (load : LoadLine) (gave gives : Option (List FileAnswer)) (result : Result X ScriptFault) → IsLoadLine line load
       → IfErr result (λ fault. (fault ≡ Memory) ⊎ (fault ≡ Path))
@@ -84,7 +83,7 @@ module _ {S : Type 0} (g : Ghosts S) where
 
   -- a line has no reply that could be written
   pub stopped_unanswered : (fault : ScriptFault) (old after : Standing S) (line : List ℕ) (gave gives : Option (List FileAnswer)) (w : Option (List ℕ))
-      → is_skipped line ≡ false → Unanswered g old line gave gives after fault → StopsNext g fault old (line ∷ []) gave gives w w after
+      → is_skipped line ≡ false → Unanswered g old line gave gives after fault → StopsNext g echo fault old (line ∷ []) gave gives w w after
   stopped_unanswered Script old after line gave gives w goes_on why = absurd why.1
   stopped_unanswered Output old after line gave gives w goes_on why = absurd why.1
   stopped_unanswered Memory old after line gave gives w goes_on (files, why, given) = (files, [], (refl, (goes_on, why)), given, Appends-nil w)
@@ -92,26 +91,31 @@ module _ {S : Type 0} (g : Ghosts S) where
   stopped_unanswered Config old after line gave gives w goes_on why = absurd why.1
   stopped_unanswered Path old after line gave gives w goes_on (files, why, given) = (files, [], (refl, (goes_on, why)), given, Appends-nil w)
 
+  -- there was no memory for what is written where a line is answered so
+  pub stopped_unshown : (old after : Standing S) (line : List ℕ) (gave gives : Option (List FileAnswer)) (text : List ℕ) (why : Option Refusal) (w : Option (List ℕ))
+      → is_skipped line ≡ false → RepliesTo g old line gave gives text why after → StopsNext g echo Memory old (line ∷ []) gave gives w w after
+  stopped_unshown old after line gave gives text why w goes_on h = (h.files, [], (refl, (goes_on, inl (h.reply, h.answers))), h.given, Appends-nil w)
+
   -- the reply to a line was cut short
   pub stopped_at_line : (old after : Standing S) (line : List ℕ) (gave gives : Option (List FileAnswer)) (bytes text : List ℕ) (why : Option Refusal) (mid new : Option (List ℕ)) (fault : ScriptFault)
       → is_skipped line ≡ false → RepliesTo g old line gave gives text why after
-      → bytes ≡ text → fault ≡ Output → (part : List ℕ) × IsCutShort bytes part × Appends mid new part
-      → StopsNext g fault old (line ∷ []) gave gives mid new after
+      → bytes ≡ exchange echo line text → fault ≡ Output → (part : List ℕ) × IsCutShort bytes part × Appends mid new part
+      → StopsNext g echo fault old (line ∷ []) gave gives mid new after
   stopped_at_line old after line gave gives bytes text why mid new fault goes_on h are is_output (part, cut, written) =
-      (h.files, part, rw is_output (h.reply, (goes_on, h.answers), subst (λ (shown : List ℕ). IsCutShort shown part) (are ∙ h.text_is) cut), h.given, written)
+      (h.files, part, rw is_output (h.reply, (goes_on, h.answers), subst (λ (shown : List ℕ). IsCutShort shown part) (are ∙ ap (exchange echo line) h.text_is) cut), h.given, written)
 
   -- ---- the question at the end
 
   -- its reply found no memory
   pub question_unanswered : (old after : Standing S) (reply : Reply) (w : Option (List ℕ)) → AsksPlaces g old reply after
-      → (part : List ℕ) × LeavesPart g Memory old [] [] part after × Appends w w part
+      → (part : List ℕ) × LeavesPart g false Memory old [] [] part after × Appends w w part
   question_unanswered old after reply w asks = ([], (refl, (refl, reply, (refl, asks))), Appends-nil w)
 
   -- its reply was cut short
   pub stopped_in_question : (end after : Standing S) (bytes text : List ℕ) (why : Option Refusal) (mid new : Option (List ℕ)) (fault : ScriptFault)
       → (reply : Reply) × AsksPlaces g end reply after × ((text ≡ ended reply) × AreLines reply × RefusesWith reply why)
       → bytes ≡ text → fault ≡ Output → (part : List ℕ) × IsCutShort bytes part × Appends mid new part
-      → (part : List ℕ) × LeavesPart g fault end [] [] part after × Appends mid new part
+      → (part : List ℕ) × LeavesPart g false fault end [] [] part after × Appends mid new part
   stopped_in_question end after bytes text why mid new fault (reply, asks, (is_text, lines, refuses)) are is_output (part, cut, written) =
       (part, rw is_output (reply, (refl, asks), subst (λ (given : List ℕ). IsCutShort given part) (are ∙ is_text) cut), written)
 
@@ -131,7 +135,7 @@ module _ {S : Type 0} (g : Ghosts S) where
   unanswered_moves Config old after (line ∷ lines) files (goes_on, why) = absurd why
   unanswered_moves Path old after (line ∷ lines) files (goes_on, (misses, same)) = inl same
 
-  part_moves : (fault : ScriptFault) (old after : Standing S) (left : List (List ℕ)) (files : List FileAnswer) (part : List ℕ) → LeavesPart g fault old left files part after → Moves old left files after
+  part_moves : (fault : ScriptFault) (old after : Standing S) (left : List (List ℕ)) (files : List FileAnswer) (part : List ℕ) → LeavesPart g echo fault old left files part after → Moves old left files after
   part_moves Script old after left files part (none, why) = unanswered_moves Script old after left files why
   part_moves Output old after left files part (next, answers, cut) = inr (next, answers)
   part_moves Memory old after left files part (none, why) = unanswered_moves Memory old after left files why
@@ -161,9 +165,9 @@ module _ {S : Type 0} (g : Ghosts S) where
 
   -- lines that were taken, and what the fault leaves of the next
   stops_after : (fault : ScriptFault) (start reached after : Standing S) (lines left : List (List ℕ)) (files more : List FileAnswer) (replies : List Reply) (part : List ℕ) (gave so_far gives : Option (List FileAnswer)) (old mid new : Option (List ℕ))
-      → TakesFront g start lines files replies reached left → Gives gave so_far files → Appends old mid (flat_map ended replies)
-      → LeavesPart g fault reached left more part after → Gives so_far gives more → Appends mid new part
-      → StopsAfter g fault start lines gave gives old new after
+      → (taken : TakesFront g start lines files replies reached left) → Gives gave so_far files → Appends old mid (exchanges echo (answered taken.0) replies)
+      → LeavesPart g echo fault reached left more part after → Gives so_far gives more → Appends mid new part
+      → StopsAfter g echo fault start lines gave gives old new after
   stops_after fault start reached after lines left files more replies part gave so_far gives old mid new taken given written leaves gives_next appends = record {
     files = files;
     replies = replies;
@@ -186,7 +190,7 @@ module _ {S : Type 0} (g : Ghosts S) where
 
   -- what a fault leaves of the reply to a line, whatever stands behind that line
   leaves_more : (fault : ScriptFault) (old after : Standing S) (line : List ℕ) (left others : List (List ℕ)) (files : List FileAnswer) (part : List ℕ) → left ≡ line ∷ others
-      → LeavesPart g fault old (line ∷ []) files part after → LeavesPart g fault old left files part after
+      → LeavesPart g echo fault old (line ∷ []) files part after → LeavesPart g echo fault old left files part after
   leaves_more Script old after line left others files part is leaves = rw is leaves
   leaves_more Output old after line left others files part is leaves = rw is leaves
   leaves_more Memory old after line left others files part is leaves = rw is leaves
@@ -196,19 +200,28 @@ module _ {S : Type 0} (g : Ghosts S) where
 
   -- a run that stopped at one of its lines
   pub stopped_in_line : (start at after : Standing S) (lines left : List (List ℕ)) (line : List ℕ) (others : List (List ℕ)) (gave so_far gives : Option (List FileAnswer)) (old mid new : Option (List ℕ)) (before : Bool) (fault : ScriptFault)
-      → HasRun g start lines gave old at left so_far mid before → left ≡ line ∷ others
-      → StopsNext g fault at (line ∷ []) so_far gives mid new after → StopsAfter g fault start lines gave gives old new after
+      → HasRun g echo start lines gave old at left so_far mid before → left ≡ line ∷ others
+      → StopsNext g echo fault at (line ∷ []) so_far gives mid new after → StopsAfter g echo fault start lines gave gives old new after
   stopped_in_line start at after lines left line others gave so_far gives old mid new before fault h is (more, part, leaves, given, appends) =
       stops_after fault start at after lines left h.files more h.replies part gave so_far gives old mid new h.taken h.given h.written
       (leaves_more fault at after line left others more part is leaves) given appends
 
+  -- what a fault leaves of the reply to the question has no line before it
+  leaves_question : (fault : ScriptFault) (end after : Standing S) (part : List ℕ) → LeavesPart g false fault end [] [] part after → LeavesPart g echo fault end [] [] part after
+  leaves_question Script end after part leaves = leaves
+  leaves_question Output end after part leaves = leaves
+  leaves_question Memory end after part leaves = leaves
+  leaves_question Tables end after part leaves = leaves
+  leaves_question Config end after part leaves = leaves
+  leaves_question Path end after part leaves = leaves
+
   -- a run that stopped at the question at the end
   pub lines_stopped : (lines : List (List ℕ)) (start end after : Standing S) (refused : Bool) (gave gives : Option (List FileAnswer)) (old mid new : Option (List ℕ)) (fault : ScriptFault)
-      → Came g (TakesLines g start lines) start gave gives old mid end refused
-      → (part : List ℕ) × LeavesPart g fault end [] [] part after × Appends mid new part
-      → StopsAfter g fault start lines gave gives old new after
+      → Came g echo lines (TakesLines g start lines) start gave gives old mid end refused
+      → (part : List ℕ) × LeavesPart g false fault end [] [] part after × Appends mid new part
+      → StopsAfter g echo fault start lines gave gives old new after
   lines_stopped lines start end after refused gave gives old mid new fault ran (part, leaves, appends) =
-      stops_after fault start end after lines [] ran.files [] ran.replies part gave gives gives old mid new (lines, sym (append-nil lines), ran.taken) ran.given ran.written leaves (gives_none gives) appends
+      stops_after fault start end after lines [] ran.files [] ran.replies part gave gives gives old mid new (lines, sym (append-nil lines), ran.taken) ran.given ran.written (leaves_question fault end after part leaves) (gives_none gives) appends
 
 -- ---- before the first line
 
@@ -252,24 +265,24 @@ unopened_unwritten X config fault h = elim h.kind [
 ]
 
 -- a run whose room could not be opened
-pub run_unopened : {X : Type 0} (Done : X → Type 0) (config : configs.Config) (lines : List (List ℕ)) (p : Option (List FileAnswer)) (w : Option (List ℕ)) (counts : Counts) (why : Refusal) (result : Result X ScriptFault)
+pub run_unopened : {X : Type 0} (Done : X → Type 0) (echo : Bool) (config : configs.Config) (lines : List (List ℕ)) (p : Option (List FileAnswer)) (w : Option (List ℕ)) (counts : Counts) (why : Refusal) (result : Result X ScriptFault)
     → ((why ≡ refusal.BadDirective) ↔ (¬ IsConfig config)) → (why ≡ refusal.BadDirective) ⊎ (why ≡ refusal.Memory) ⊎ (why ≡ refusal.Store)
-    → IsErrAnd result (λ fault. fault ≡ fault_of why) → Ends {X = X} Done (λ fault. Stops config fault lines p p w w) counts counts result
-run_unopened Done config lines p w counts why (Ok x) unfit kind is = absurd is
-run_unopened {X = X} Done config lines p w counts why (Err fault) unfit kind is =
+    → IsErrAnd result (λ fault. fault ≡ fault_of why) → Ends {X = X} Done (λ fault. Stops echo config fault lines p p w w) counts counts result
+run_unopened Done echo config lines p w counts why (Ok x) unfit kind is = absurd is
+run_unopened {X = X} Done echo config lines p w counts why (Err fault) unfit kind is =
     let un : IsUnopened config fault = rw is (unopened config why unfit kind) in
-    ends_by Done (λ fault. Stops config fault lines p p w w) counts counts fault (inl (inr un, untouched p w)) (unopened_other config fault un) (λ none. none ∙ unopened_unwritten X config fault un)
+    ends_by Done (λ fault. Stops echo config fault lines p p w w) counts counts fault (inl (inr un, untouched p w)) (unopened_other config fault un) (λ none. none ∙ unopened_unwritten X config fault un)
 
 -- a run whose script could not be read
-pub stops_unread : (config : configs.Config) (read : Option (List ℕ)) (p : Option (List FileAnswer)) (w : Option (List ℕ)) (fault : ScriptFault) → IsUnread fault
-    → IfSome read (λ input. Stops config fault (script_lines input) p p w w)
-stops_unread config None p w fault is = tt
-stops_unread config (Some input) p w fault is = inl (inl is, untouched p w)
+pub stops_unread : (echo : Bool) (config : configs.Config) (read : Option (List ℕ)) (p : Option (List FileAnswer)) (w : Option (List ℕ)) (fault : ScriptFault) → IsUnread fault
+    → IfSome read (λ input. Stops echo config fault (script_lines input) p p w w)
+stops_unread echo config None p w fault is = tt
+stops_unread echo config (Some input) p w fault is = inl (inl is, untouched p w)
 
 -- a run that stopped after some of its lines
-pub run_stopped : (config : configs.Config) (lines : List (List ℕ)) (start after : Standing MemStore) (gave gives : Option (List FileAnswer)) (old new : Option (List ℕ)) (fault : ScriptFault)
-    → IsJustOpened over_memory config start → StopsAfter over_memory fault start lines gave gives old new after → Stops config fault lines gave gives old new
-run_stopped config lines start after gave gives old new fault opened stops = inr (start, after, opened, stops)
+pub run_stopped : (echo : Bool) (config : configs.Config) (lines : List (List ℕ)) (start after : Standing MemStore) (gave gives : Option (List FileAnswer)) (old new : Option (List ℕ)) (fault : ScriptFault)
+    → IsJustOpened over_memory config start → StopsAfter over_memory echo fault start lines gave gives old new after → Stops echo config fault lines gave gives old new
+run_stopped echo config lines start after gave gives old new fault opened stops = inr (start, after, opened, stops)
 
 -- ---- faults
 

@@ -41,6 +41,23 @@ module _ {S : Type 0} (g : Ghosts S) where
     takes_lines-snoc start front files replies at line given now next takes goes,
   )
 
+  -- the lines that are taken are those before and this one
+  pub front_grown : (start : Standing S) (lines : List (List ℕ)) (files : List FileAnswer) (replies : List Reply) (at : Standing S) (left : List (List ℕ)) (line : List ℕ) (others : List (List ℕ)) (given : List FileAnswer) (now : List Reply) (next : Standing S)
+      (front : TakesFront g start lines files replies at left) (is : left ≡ line ∷ others) (goes : TakesLine g at line given now next)
+      → (takes_front-step start lines files replies at left line others given now next front is goes).0 ≡ front.0 ++ line ∷ []
+  unfolding takes_front-step
+  front_grown start lines files replies at left line others given now next (front, whole, takes) is goes = refl
+
+  -- or none
+  pub front_none : (start : Standing S) (lines left : List (List ℕ)) (all : left ≡ lines) → (takes_front-start start lines left all).0 ≡ []
+  unfolding takes_front-start
+  front_none start lines left all = refl
+
+  -- or all
+  pub front_all : (start : Standing S) (lines : List (List ℕ)) (files : List FileAnswer) (replies : List Reply) (at : Standing S) (left : List (List ℕ))
+      (front : TakesFront g start lines files replies at left) → left ≡ [] → front.0 ≡ lines
+  front_all start lines files replies at left (front, whole, takes) none = sym (whole ∙ ap (λ (ls : List (List ℕ)). front ++ ls) none ∙ append-nil front)
+
   -- all lines are taken
   pub takes_front-end : (start : Standing S) (lines : List (List ℕ)) (files : List FileAnswer) (replies : List Reply) (at : Standing S) (left : List (List ℕ))
       → TakesFront g start lines files replies at left → left ≡ [] → TakesLines g start lines files replies at

@@ -1,5 +1,5 @@
 -- The run of a script on a desk that is kept in a database.
-use Rattle.std.specs.Prelude.{◌≡◌, ◌≢◌, ◌⊎◌, ℕ, IsTrue, Option, List, [], map}
+use Rattle.std.specs.Prelude.{◌≡◌, ◌≢◌, ◌⊎◌, ℕ, Bool, IsTrue, Option, List, [], map}
 use Rattle.std.specs.Io.KnownBytes.{Appends}
 use Rattle.sqlite_trees.specs.declared.store.Store.{Ghosts}
 use Rattle.sqlite.specs.Held.{Held, state}
@@ -38,28 +38,28 @@ pub record StaysUnopened {S : Type 0} (g : Ghosts S) (config : configs.Config) (
 
 module _ {S : Type 0} (g : Ghosts S) where
   -- In a room that was opened, the moves of the opening are written, and then what the lines are answered.
-  abbrev pub RunsOpened : Standing S → List Move → List ℕ → ℕ → Option (List FileAnswer) → Option (List FileAnswer) → Option (List ℕ) → Option (List ℕ) → Standing S → Type 0
-  RunsOpened room moves input status gave gives old new after = (mid : Option (List ℕ)) × Appends old mid (opening_text moves) × RunsLines g room input status gave gives mid new after
+  abbrev pub RunsOpened : Bool → Standing S → List Move → List ℕ → ℕ → Option (List FileAnswer) → Option (List FileAnswer) → Option (List ℕ) → Option (List ℕ) → Standing S → Type 0
+  RunsOpened echo room moves input status gave gives old new after = (mid : Option (List ℕ)) × Appends old mid (opening_text moves) × RunsLines g echo room input status gave gives mid new after
 
   -- it stopped at the moves of the opening, and the room is as it was opened; or after some of the lines
-  abbrev pub StopsOpened : Standing S → List Move → ScriptFault → List (List ℕ) → Option (List FileAnswer) → Option (List FileAnswer) → Option (List ℕ) → Option (List ℕ) → Standing S → Type 0
-  StopsOpened room moves fault lines gave gives old new after =
+  abbrev pub StopsOpened : Bool → Standing S → List Move → ScriptFault → List (List ℕ) → Option (List FileAnswer) → Option (List FileAnswer) → Option (List ℕ) → Option (List ℕ) → Standing S → Type 0
+  StopsOpened echo room moves fault lines gave gives old new after =
       ((part : List ℕ) × CutsOpening fault moves part × Gives gave gives [] × Appends old new part × (after ≡ room))
-      ⊎ ((mid : Option (List ℕ)) × Appends old mid (opening_text moves) × StopsAfter g fault room lines gave gives mid new after)
+      ⊎ ((mid : Option (List ℕ)) × Appends old mid (opening_text moves) × StopsAfter g echo fault room lines gave gives mid new after)
 
   -- The lines were run in a room that was opened at a moment over a database, and the connection is the one that this room has in the end.
-  abbrev pub RunsKept : configs.Config → ℕ → Held S → List ℕ → ℕ → Option (List FileAnswer) → Option (List FileAnswer) → Option (List ℕ) → Option (List ℕ) → Held S → Type 0
-  RunsKept config moment store input status gave gives old new left =
+  abbrev pub RunsKept : Bool → configs.Config → ℕ → Held S → List ℕ → ℕ → Option (List FileAnswer) → Option (List FileAnswer) → Option (List ℕ) → Option (List ℕ) → Held S → Type 0
+  RunsKept echo config moment store input status gave gives old new left =
       (room : Standing S) × (moves : List Move) × (after : Standing S) × OpensAs g config moment store moves room
-      × RunsOpened room moves input status gave gives old new after × (left ≡ after.tables)
+      × RunsOpened echo room moves input status gave gives old new after × (left ≡ after.tables)
 
   -- The desk was not opened, nothing was written, and the database is as that leaves it; or the run stopped in a room that was opened so, and the
   -- connection is the one that this room has in the end.
-  abbrev pub StopsKept : configs.Config → ℕ → Held S → ScriptFault → List (List ℕ) → Option (List FileAnswer) → Option (List FileAnswer) → Option (List ℕ) → Option (List ℕ) → Held S → Type 0
-  StopsKept config moment store fault lines gave gives old new left =
+  abbrev pub StopsKept : Bool → configs.Config → ℕ → Held S → ScriptFault → List (List ℕ) → Option (List FileAnswer) → Option (List FileAnswer) → Option (List ℕ) → Option (List ℕ) → Held S → Type 0
+  StopsKept echo config moment store fault lines gave gives old new left =
       (IsUnopened config fault × IsUntouched gave gives old new × StaysUnopened g config moment store left)
       ⊎ ((room : Standing S) × (moves : List Move) × (after : Standing S) × OpensAs g config moment store moves room
-      × StopsOpened room moves fault lines gave gives old new after × (left ≡ after.tables))
+      × StopsOpened echo room moves fault lines gave gives old new after × (left ≡ after.tables))
 
   -- The desk was not opened, nothing was written, and the database is as that leaves it; or the moves of its opening could not be written, and the
   -- connection is the one of the room that was opened.

@@ -1,3 +1,4 @@
+pub mod Boards
 pub mod Checking
 pub mod Closed
 pub mod Crash

@@ -1,6 +1,6 @@
 -- The run of a script: what is written for the lines that were read.
-use Rattle.std.specs.Prelude.{◌≡◌, ◌⊎◌, ℕ, ◌==◌, Bool, true, false, if◌then◌else◌, MatchBool, Option, List, [], ◌∷◌, ◌++◌, length, map}
-use Rattle.std.specs.List.{list_any, flat_map}
+use Rattle.std.specs.Prelude.{◌≡◌, ◌⊎◌, ℕ, ◌==◌, Bool, true, false, if◌then◌else◌, MatchBool, Option, List, [], ◌∷◌, ◌++◌, codes, length, map}
+use Rattle.std.specs.List.{list_any}
 use Rattle.std.specs.Io.KnownBytes.{Appends}
 use Rattle.sqlite_trees.specs.declared.memory.MemStore.{MemStore}
 use Rattle.sqlite_trees.specs.declared.store.Store.{Ghosts}
@@ -44,6 +44,24 @@ is_skipped (first ∷ others) = first == 35
 abbrev pub IsLoadLine : List ℕ → LoadLine → Type 0
 IsLoadLine line load = SpellsLoad line load × (¬ HasLongAct line)
 
+-- ---- what is written
+
+-- what is written where a line is answered so: with an echo the line stands before it, behind `> `
+abbrev pub exchange : Bool → List ℕ → List ℕ → List ℕ
+exchange false line text = text
+exchange true line text = codes "> " ++ line ++ 10 ∷ text
+
+-- those of these lines that are answered
+abbrev pub answered : List (List ℕ) → List (List ℕ)
+answered [] = []
+answered (line ∷ lines) = if is_skipped line then answered lines else line ∷ answered lines
+
+-- what is written where each of these lines is answered so
+abbrev pub exchanges : Bool → List (List ℕ) → List Reply → List ℕ
+exchanges echo [] replies = []
+exchanges echo (line ∷ lines) [] = []
+exchanges echo (line ∷ lines) (reply ∷ replies) = exchange echo line (ended reply) ++ exchanges echo lines replies
+
 -- in a room over any store
 module _ {S : Type 0} (g : Ghosts S) where
   -- the text that was found at its path is loaded
@@ -81,13 +99,13 @@ module _ {S : Type 0} (g : Ghosts S) where
     pub refuses : RefusesWith reply why
     pub opened : new.opened ≡ old.opened
 
-  -- what lines that were taken came to, by what it is to be taken: their replies were written, and it is known whether one is a refusal
-  pub record Came (Takes : List FileAnswer → List Reply → Standing S → Type 0) (start : Standing S) (gave gives : Option (List FileAnswer)) (old new : Option (List ℕ)) (end : Standing S) (refused : Bool) : Type 0 where
+  -- what these lines, that were taken, came to, by what it is to be taken: their replies were written, and it is known whether one is a refusal
+  pub record Came (echo : Bool) (lines : List (List ℕ)) (Takes : List FileAnswer → List Reply → Standing S → Type 0) (start : Standing S) (gave gives : Option (List FileAnswer)) (old new : Option (List ℕ)) (end : Standing S) (refused : Bool) : Type 0 where
     pub replies : List Reply
     pub files : List FileAnswer
     pub taken : Takes files replies end
     pub given : Gives gave gives files
-    pub written : Appends old new (flat_map ended replies)
+    pub written : Appends old new (exchanges echo (answered lines) replies)
     pub refusals : refused ≡ list_any is_refused replies
     pub opened : end.opened ≡ start.opened
 
@@ -144,9 +162,9 @@ pub record HasFailed {S : Type 0} (g : Ghosts S) (stored : List KeptAnswer) (sta
 abbrev pub TellsBook : Book → Reply → Type 0
 TellsBook book last = is_refused last ≡ false → last ≡ places_line (length (entered book.history)) (counts_of book.history) ∷ []
 
--- The run of the lines of a script in a room, from where it stands to where that leaves it: what it wrote is the replies to the lines, and then the reply to `places`. The
--- texts that the lines load are those that the source of files gave meanwhile.
-pub record RunsLines {S : Type 0} (g : Ghosts S) (start : Standing S) (input : List ℕ) (status : ℕ) (gave gives : Option (List FileAnswer)) (old new : Option (List ℕ)) (after : Standing S) : Type 0 where
+-- The run of the lines of a script in a room, from where it stands to where that leaves it: what it wrote is the replies to the lines, each behind its line where there is an echo, and then the
+-- reply to `places`. The texts that the lines load are those that the source of files gave meanwhile.
+pub record RunsLines {S : Type 0} (g : Ghosts S) (echo : Bool) (start : Standing S) (input : List ℕ) (status : ℕ) (gave gives : Option (List FileAnswer)) (old new : Option (List ℕ)) (after : Standing S) : Type 0 where
   pub files : List FileAnswer
   pub replies : List Reply
   pub end : Standing S
@@ -154,7 +172,7 @@ pub record RunsLines {S : Type 0} (g : Ghosts S) (start : Standing S) (input : L
   pub taken : TakesLines g start (script_lines input) files replies end
   pub asked : AsksPlaces g end last after
   pub given : Gives gave gives files
-  pub written : Appends old new (flat_map ended (replies ++ last ∷ []))
+  pub written : Appends old new (exchanges echo (answered (script_lines input)) replies ++ ended last)
   pub status_is : status ≡ status_of (replies ++ last ∷ [])
   pub kept : IsKept end.desk.book
   -- what the rows since the room was opened tell of its link is true
@@ -167,7 +185,7 @@ pub record RunsLines {S : Type 0} (g : Ghosts S) (start : Standing S) (input : L
   pub told : (stored : List KeptAnswer) → HoldsBook g start stored → HasCleanDisk (state g after.tables) → TellsBook end.desk.book last
 
 -- These bytes were read, and their lines run in a room that was just opened over a new database in memory.
-abbrev pub IsAnswered : configs.Config → List ℕ → ℕ → Option (List FileAnswer) → Option (List FileAnswer) → Option (List ℕ) → Option (List ℕ) → Type 0
-IsAnswered config input status gave gives old new =
-    (start : Standing MemStore) × (after : Standing MemStore) × (run : RunsLines over_memory start input status gave gives old new after)
+abbrev pub IsAnswered : Bool → configs.Config → List ℕ → ℕ → Option (List FileAnswer) → Option (List FileAnswer) → Option (List ℕ) → Option (List ℕ) → Type 0
+IsAnswered echo config input status gave gives old new =
+    (start : Standing MemStore) × (after : Standing MemStore) × (run : RunsLines over_memory echo start input status gave gives old new after)
     × IsJustOpened over_memory config start × TellsBook run.end.desk.book run.last

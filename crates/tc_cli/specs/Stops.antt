@@ -1,6 +1,5 @@
 -- The run of a script that stops: with which fault, what is written then, and how it leaves the room.
-use Rattle.std.specs.Prelude.{◌≡◌, ◌⊎◌, ◌↔◌, ℕ, true, false, Option, List, [], ◌∷◌, ◌++◌}
-use Rattle.std.specs.List.{flat_map}
+use Rattle.std.specs.Prelude.{◌≡◌, ◌⊎◌, ◌↔◌, ℕ, Bool, true, false, Option, List, [], ◌∷◌, ◌++◌}
 use Rattle.std.specs.Io.KnownBytes.{Appends}
 use Rattle.sqlite_trees.specs.declared.memory.MemStore.{MemStore}
 use Rattle.sqlite_trees.specs.declared.store.Store.{Ghosts}
@@ -18,7 +17,7 @@ use Rattle.tc_room.specs.Joined.{HoldsBook, Standing}
 use Rattle.tc_room.specs.Replies.{ended}
 use Rattle.tc_room.specs.Room.{IsJustOpened}
 use Rattle.tc_cli.specs.Files.{FileAnswer, Gives, none_at}
-use Rattle.tc_cli.specs.Run.{AnswersScriptLine, HasFailed, IsLoadLine, TakesFront, is_skipped}
+use Rattle.tc_cli.specs.Run.{AnswersScriptLine, HasFailed, IsLoadLine, TakesFront, answered, exchange, exchanges, is_skipped}
 use Rattle.tc_cli.specs.declared.paths.PathFault.{PathFault}
 use Rattle.tc_cli.specs.declared.paths.PathFault.TheVariants as path_fault
 use Rattle.tc_cli.specs.declared.script.ScriptFault.{ScriptFault}
@@ -49,23 +48,28 @@ module _ {S : Type 0} (g : Ghosts S) where
   UnansweredNext fault old [] files after = (fault ≡ Memory) × (reply : Reply) × AnswersNext old [] files reply after
   UnansweredNext fault old (line ∷ lines) files after = (is_skipped line ≡ false) × IsUnanswered fault old line files after
 
-  -- What a fault leaves of the next reply: a front of it, where a write failed; and nothing, where there is no text of it. No other fault ends a
+  -- what is written where what comes next is answered so
+  abbrev pub next_exchange : Bool → List (List ℕ) → Reply → List ℕ
+  next_exchange echo [] reply = ended reply
+  next_exchange echo (line ∷ lines) reply = exchange echo line (ended reply)
+
+  -- What a fault leaves of the next reply, and of the line before it: a front, where a write failed; and nothing, where there is no text of it. No other fault ends a
   -- run behind its opening.
-  abbrev pub LeavesPart : ScriptFault → Standing S → List (List ℕ) → List FileAnswer → List ℕ → Standing S → Type 0
-  LeavesPart Output old left files part after = (next : Reply) × AnswersNext old left files next after × IsCutShort (ended next) part
-  LeavesPart fault old left files part after = (part ≡ []) × UnansweredNext fault old left files after
+  abbrev pub LeavesPart : Bool → ScriptFault → Standing S → List (List ℕ) → List FileAnswer → List ℕ → Standing S → Type 0
+  LeavesPart echo Output old left files part after = (next : Reply) × AnswersNext old left files next after × IsCutShort (next_exchange echo left next) part
+  LeavesPart echo fault old left files part after = (part ≡ []) × UnansweredNext fault old left files after
 
   -- what is given and written where it stops at what comes next
-  abbrev pub StopsNext : ScriptFault → Standing S → List (List ℕ) → Option (List FileAnswer) → Option (List FileAnswer) → Option (List ℕ) → Option (List ℕ) → Standing S → Type 0
-  StopsNext fault reached left gave gives old new after =
-      (files : List FileAnswer) × (part : List ℕ) × LeavesPart fault reached left files part after × Gives gave gives files × Appends old new part
+  abbrev pub StopsNext : Bool → ScriptFault → Standing S → List (List ℕ) → Option (List FileAnswer) → Option (List FileAnswer) → Option (List ℕ) → Option (List ℕ) → Standing S → Type 0
+  StopsNext echo fault reached left gave gives old new after =
+      (files : List FileAnswer) × (part : List ℕ) × LeavesPart echo fault reached left files part after × Gives gave gives files × Appends old new part
 
   -- why there is no text of the reply to a line, with what was given meanwhile
   abbrev pub Unanswered : Standing S → List ℕ → Option (List FileAnswer) → Option (List FileAnswer) → Standing S → ScriptFault → Type 0
   Unanswered old line gave gives new fault = (files : List FileAnswer) × IsUnanswered fault old line files new × Gives gave gives files
 
--- The run of these lines stopped after some of them, which left the room so: their replies are written, and of the next what the fault leaves.
-pub record StopsAfter {S : Type 0} (g : Ghosts S) (fault : ScriptFault) (start : Standing S) (lines : List (List ℕ)) (gave gives : Option (List FileAnswer)) (old new : Option (List ℕ)) (after : Standing S) : Type 0 where
+-- The run of these lines stopped after some of them, which left the room so: their replies are written, each behind its line where there is an echo, and of the next what the fault leaves.
+pub record StopsAfter {S : Type 0} (g : Ghosts S) (echo : Bool) (fault : ScriptFault) (start : Standing S) (lines : List (List ℕ)) (gave gives : Option (List FileAnswer)) (old new : Option (List ℕ)) (after : Standing S) : Type 0 where
   pub files : List FileAnswer
   pub replies : List Reply
   pub reached : Standing S
@@ -73,9 +77,9 @@ pub record StopsAfter {S : Type 0} (g : Ghosts S) (fault : ScriptFault) (start :
   pub more : List FileAnswer
   pub part : List ℕ
   pub taken : TakesFront g start lines files replies reached left
-  pub leaves : LeavesPart g fault reached left more part after
+  pub leaves : LeavesPart g echo fault reached left more part after
   pub given : Gives gave gives (files ++ more)
-  pub written : Appends old new (flat_map ended replies ++ part)
+  pub written : Appends old new (exchanges echo (answered taken.0) replies ++ part)
   -- the tables hold the book of the room, and the replies that were stored, while it goes on; else what the failure of the database left
   pub held : (stored : List KeptAnswer) → HoldsBook g start stored → HoldsBook g after stored
   pub failed : (stored : List KeptAnswer) → HoldsBook g start stored → start.stopped ≡ false → after.stopped ≡ true → HasCleanDisk (state g after.tables)
@@ -99,8 +103,8 @@ pub record IsUnopened (config : configs.Config) (fault : ScriptFault) : Type 0 w
 -- ---- in memory
 
 -- The run of these lines stopped before the first, or after some of them, in a room that was just opened over a new database in memory.
-abbrev pub Stops : configs.Config → ScriptFault → List (List ℕ) → Option (List FileAnswer) → Option (List FileAnswer) → Option (List ℕ) → Option (List ℕ) → Type 0
-Stops config fault lines gave gives old new =
+abbrev pub Stops : Bool → configs.Config → ScriptFault → List (List ℕ) → Option (List FileAnswer) → Option (List FileAnswer) → Option (List ℕ) → Option (List ℕ) → Type 0
+Stops echo config fault lines gave gives old new =
     ((IsUnread fault ⊎ IsUnopened config fault) × IsUntouched gave gives old new)
     ⊎ ((start : Standing MemStore) × (after : Standing MemStore) × IsJustOpened over_memory config start
-    × StopsAfter over_memory fault start lines gave gives old new after)
+    × StopsAfter over_memory echo fault start lines gave gives old new after)

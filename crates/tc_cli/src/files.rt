@@ -5,6 +5,7 @@ ghost use Rattle.sqlite.specs.State.{HasCleanDisk};
 ghost use Rattle.sqlite.specs.Start.{FindsIn};
 ghost use Rattle.sqlite.specs.Files.{file_state, IsOpened};
 
+use crate::because::{Because, Unusable};
 use crate::script::{ScriptFault, read_script};
 use sqlite::Connection;
 use sqlite_disk::{Start, Wary};
@@ -37,13 +38,29 @@ pub fn open_database<S: Start>(
     rt: &HostRuntime,
     file: &str,
     start: S,
-) -> Result<Connection<FileStore<FileFrom<S>>>, ScriptFault>
+) -> Result<Connection<FileStore<FileFrom<S>>>, Unusable>
     ensures opened { IfOk result (λ c. HasCleanDisk (file_state c) → IsOpened c) }
     ensures found { IfOk result (λ c. HasCleanDisk (file_state c) → FindsIn (image_at S.Start) (file_state c)) }
 {
     match Connection::open_from(rt, file, false, start) {
         Ok(store) => Ok(store),
-        Err((error, _)) => Err(ScriptFault::from(error)),
+        Err((error, _)) => Err(Unusable::from(error)),
+    }
+}
+
+/// What became of the tables of a desk, where the database failed so.
+pub(crate) fn of_tables(error: sqlite::Error) -> Unusable {
+    Unusable {
+        fault: ScriptFault::Tables,
+        because: Because::of_database(&error),
+    }
+}
+
+/// Why the tables of a desk could not be made.
+fn unmade(fault: StoreFault) -> Unusable {
+    match fault {
+        StoreFault::Before(error) | StoreFault::Commit(error) => of_tables(error),
+        _ => Unusable::from(ScriptFault::Tables),
     }
 }
 
@@ -52,15 +69,15 @@ pub fn open_database<S: Start>(
 pub fn open_desk(
     rt: &HostRuntime,
     file: &str,
-) -> Result<Connection<FileStore<FileFrom<Wary>>>, ScriptFault> {
+) -> Result<Connection<FileStore<FileFrom<Wary>>>, Unusable> {
     let store = open_database(rt, file, Wary)?;
     let tables = match Tables::create(rt.alloc(), store) {
         Ok(tables) => tables,
         Err((StoreFault::NotEmpty, store)) => return Ok(store),
-        Err(_) => return Err(ScriptFault::Tables),
+        Err((fault, _)) => return Err(unmade(fault)),
     };
     let made = tables.into_connection();
-    made.close().map_err(|_| ScriptFault::Tables)?;
+    made.close().map_err(of_tables)?;
     let _ = eprintln!(rt; "tcdesk: {file} is a new desk");
     open_database(rt, file, Wary)
 }

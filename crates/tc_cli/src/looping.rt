@@ -5,9 +5,11 @@
 use crate::files::{open_desk, text_at};
 use crate::numbered::{NumberedLine, numbered_lines};
 use crate::opened::{Opening, open_told};
-use crate::run::{put, status_of};
+use crate::run::{exchange, put, status_of};
 use crate::script::ScriptFault;
 use crate::serving::{ServiceFault, closed};
+use crate::telling::{HostWatch, refusal_of};
+use crate::watching::{Answered, Watch, last_moment, latest_moment};
 use sqlite::Alter;
 use std::alloc::{AllocError, Global};
 use std::io::{self, Read, Write};
@@ -16,13 +18,14 @@ use tc_api::serve_one;
 use tc_posts::{Told, Untellable, places_request, post_request, read_told};
 use tc_room::Room;
 use tc_types::{Counted, Refusal};
+use tc_words::Telling;
 
 /// How many connections of other programs are let go at most before a program's own comes.
 const MOST_STRANGERS: u32 = 1_000;
 
 impl From<AllocError> for ServiceFault {
     fn from(_error: AllocError) -> ServiceFault {
-        ServiceFault::Desk(ScriptFault::Memory)
+        ServiceFault::from(ScriptFault::Memory)
     }
 }
 
@@ -36,7 +39,7 @@ struct Server {
 /// What a call on a port tells by failing so.
 fn fault_of(port: u16, error: &io::Error) -> ServiceFault {
     if error.kind() == io::ErrorKind::OutOfMemory {
-        ServiceFault::Desk(ScriptFault::Memory)
+        ServiceFault::from(ScriptFault::Memory)
     } else {
         ServiceFault::Port(port)
     }
@@ -88,7 +91,7 @@ fn serve_client<S: Alter + Drop>(
     );
     served.map_err(|refusal| match refusal {
         Refusal::ReadFault | Refusal::WriteFault => ServiceFault::Port(server.port),
-        _ => ServiceFault::Desk(ScriptFault::Memory),
+        _ => ServiceFault::from(ScriptFault::Memory),
     })
 }
 
@@ -112,21 +115,31 @@ fn answered<S: Alter + Drop>(
     let received = received(rt.alloc(), &client);
     let response = received.map_err(|error| fault_of(server.port, &error))?;
     read_told(rt.alloc(), &response).map_err(|why| match why {
-        Untellable::Memory => ServiceFault::Desk(ScriptFault::Memory),
+        Untellable::Memory => ServiceFault::from(ScriptFault::Memory),
         Untellable::NoResponse => ServiceFault::Port(server.port),
     })
 }
 
-/// Sends a request and writes the lines that it is answered. Says whether it was refused.
-fn send<S: Alter + Drop, W: Write>(
+/// Sends a line under its number and writes the lines that it is answered. Says whether it was refused.
+fn send_line<S: Alter + Drop, W: Write>(
     rt: &HostRuntime,
     server: &Server,
     room: &mut Room<S>,
-    request: &[u8],
+    sent: &NumberedLine<'_>,
+    watch: &HostWatch<'_>,
     writer: &mut Counted<W>,
 ) -> Result<bool, ServiceFault> {
-    let told = answered(rt, server, room, request)?;
-    put(writer, told.text.as_bytes())?;
+    let request = post_request(rt.alloc(), server.port, sent.line, sent.number)?;
+    let last = last_moment(room);
+    let told = answered(rt, server, room, request.as_bytes())?;
+    let shown = exchange(rt.alloc(), watch.echoes(), sent.line, told.text)?;
+    put(writer, &shown)?;
+    watch.answered(&Answered {
+        number: sent.place,
+        line: sent.line,
+        refusal: refusal_of(told.refusal),
+        last,
+    });
     Ok(told.refusal != 0)
 }
 
@@ -136,14 +149,27 @@ fn send_lines<S: Alter + Drop, W: Write>(
     server: &Server,
     room: &mut Room<S>,
     lines: &[NumberedLine<'_>],
+    watch: &HostWatch<'_>,
     writer: &mut Counted<W>,
 ) -> Result<bool, ServiceFault> {
     let mut refused = false;
     for sent in lines {
-        let request = post_request(rt.alloc(), server.port, sent.line, sent.number)?;
-        refused |= send(rt, server, room, request.as_bytes(), writer)?;
+        refused |= send_line(rt, server, room, sent, watch, writer)?;
     }
     Ok(refused)
+}
+
+/// Asks how many requests stand where, and says whether that was refused.
+fn send_question<S: Alter + Drop, W: Write>(
+    rt: &HostRuntime,
+    server: &Server,
+    room: &mut Room<S>,
+    writer: &mut Counted<W>,
+) -> Result<bool, ServiceFault> {
+    let request = places_request(rt.alloc(), server.port)?;
+    let told = answered(rt, server, room, request.as_bytes())?;
+    put(writer, told.text.as_bytes())?;
+    Ok(told.refusal != 0)
 }
 
 /// Sends the lines, and at the end the question how many requests stand where, which has no number.
@@ -151,18 +177,18 @@ fn send_script<S: Alter + Drop, W: Write>(
     rt: &HostRuntime,
     room: &mut Room<S>,
     lines: &[NumberedLine<'_>],
+    watch: &HostWatch<'_>,
     writer: &mut Counted<W>,
 ) -> Result<u8, ServiceFault> {
     let server = listen(rt)?;
-    let refused = send_lines(rt, &server, room, lines, writer)?;
-    let request = places_request(rt.alloc(), server.port)?;
-    let last = send(rt, &server, room, request.as_bytes(), writer)?;
+    let refused = send_lines(rt, &server, room, lines, watch, writer)?;
+    let last = send_question(rt, &server, room, writer)?;
     Ok(status_of(refused | last))
 }
 
 /// Sends the lines of a script to the desk that a file keeps, opened at a moment, over HTTP: writes the moves that the opening made, the lines
 /// of each response, and at the end those of the places. The first line that is sent has this number, and each behind it the next, whatever the desk
-/// answers. Gives the exit status: 1 where anything was refused, else 0. The script is read whole before the file is opened; the file is closed at
+/// answers. With an echo each line stands before its answer, behind `> `. Gives the exit status: 1 where anything was refused, else 0. The script is read whole before the file is opened; the file is closed at
 /// the end, so that it alone holds everything.
 pub fn send_to_file(
     rt: &HostRuntime,
@@ -170,6 +196,7 @@ pub fn send_to_file(
     file: &str,
     opening: &Opening,
     first: u32,
+    telling: Telling,
 ) -> Result<u8, ServiceFault> {
     let text = text_at(rt, script)?;
     let lines = numbered_lines(rt.alloc(), &text, first)?;
@@ -177,9 +204,11 @@ pub fn send_to_file(
     let mut writer = Counted::new(io::writer(rt));
     match open_told(rt.alloc(), store, opening, &mut writer) {
         Ok(mut room) => {
-            let ended = send_script(rt, &mut room, &lines, &mut writer);
+            let watch = HostWatch::new(rt, script, telling);
+            watch.opened(opening.moment, latest_moment(&room));
+            let ended = send_script(rt, &mut room, &lines, &watch, &mut writer);
             closed(room.into_connection(), ended)
         }
-        Err(left) => closed(left.store, Err(ServiceFault::Desk(left.fault))),
+        Err(left) => closed(left.store, Err(ServiceFault::from(left.fault))),
     }
 }

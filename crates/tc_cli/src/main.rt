@@ -2,22 +2,34 @@
 //!
 //! `tcdesk run SCRIPT` takes the lines of the file SCRIPT, or of the standard input where SCRIPT is `-`, and prints
 //! what the desk answers. Given no words at all it is `tcdesk run -`. The options `--w N` and `--vc N` choose the FARM's
-//! window and the virtual channel. With `--db FILE` the desk is kept in a database file, and is opened there at the moment `--at MOMENT`.
+//! window and the virtual channel. With `--db FILE` the desk is kept in a database file, and is opened there at the moment `--at MOMENT`. With `--echo` each line stands
+//! before its answer; with `--verbose` the standard error tells of each line that was refused, as it does on a terminal, and of each that goes back in time.
 //!
 //! `tcdesk report DB FROM TO` prints the shift report of the desk that the file DB keeps, which it only reads.
 //!
-//! `tcdesk check KIND FILE` says whether the file of a stack or of a procedure can be loaded, or what is wrong with it.
+//! `tcdesk backup DB COPY` copies that desk to another file, also while it runs.
+//!
+//! `tcdesk board DB` prints the board of that desk, as a page of HTML; it only reads the file.
+//!
+//! `tcdesk check KIND FILE` says what is wrong with a script, or with the file of a stack or of a procedure.
 //!
 //! `tcdesk serve DB PORT [COUNT]` serves that desk over HTTP at a port of 127.0.0.1, and ends after so many connections.
 //! `tcdesk loop DB SCRIPT` sends the lines of a script over HTTP to a desk that it serves itself, and prints what is answered.
 #![tactic(auto)]
 
+mod backup;
+mod because;
+mod boards;
 mod checking;
 mod closed;
+mod copying;
+mod faults;
 mod files;
 mod kept;
 mod laws;
+mod looking;
 mod looping;
+mod marking;
 mod numbered;
 mod opened;
 mod paths;
@@ -26,28 +38,35 @@ mod reporting;
 mod run;
 mod script;
 mod serving;
+mod telling;
 mod unserved;
+mod watching;
 
-use checking::{text_of, write_check};
-use files::{open_desk, open_script, text_at};
+use backup::backup;
+use because::Unusable;
+use boards::print_board;
+use checking::{text_of, write_check, write_script_check};
+use faults::{
+    UNUSABLE, cannot_read, cannot_read_script, cannot_use, copy_status, kept_status, report_status,
+    run_status, service_status,
+};
+use files::{of_tables, open_desk, open_script, text_at};
 use kept::run_kept;
 use looping::send_to_file;
 use opened::Opening;
-use paths::{HostPaths, PathFault};
+use paths::{HostPaths, HostTexts, PathFault};
 use reporting::print_report;
 use run::run_script;
 use script::ScriptFault;
-use serving::{ServiceFault, ServiceTerms, serve};
+use serving::{ServiceTerms, serve};
 use std::alloc::{AllocError, Global};
+use std::io::IsTerminal;
 use std::process::ExitCode;
-use std::rt::Files;
 use std::{env, io};
 use tc_desk::Config;
-use tc_types::{Counted, LoadKind, Moment};
-use tc_words::{CommandLine, UsageFault, read_words};
-
-/// The exit status of a fault: of usage, of a file or of memory.
-const UNUSABLE: u8 = 2;
+use tc_types::{Counted, LoadKind};
+use tc_words::{CommandLine, Telling, UsageFault, read_words};
+use telling::HostWatch;
 
 /// The words where none are given.
 const NO_WORDS: [&str; 3] = ["tcdesk", "run", "-"];
@@ -98,15 +117,29 @@ fn run_words(rt: &HostRuntime, words: &[&str]) -> u8 {
 
 fn run_line(rt: &HostRuntime, line: CommandLine<'_>) -> u8 {
     match line {
-        CommandLine::Run { script, config } => run_new(rt, script, config),
+        CommandLine::Run {
+            script,
+            config,
+            telling,
+        } => run_new(rt, script, config, telling),
         CommandLine::RunKept {
             script,
             config,
             database,
             moment,
-        } => run_kept_in(rt, script, database, &Opening { config, moment }),
-        CommandLine::Report { database, from, to } => report_in(rt, database, from, to),
+            telling,
+        } => run_kept_in(rt, script, database, &Opening { config, moment }, telling),
+        CommandLine::Report { database, from, to } => {
+            report_status(rt, print_report(rt, database, from, to), database)
+        }
+        CommandLine::Backup { database, copy } => {
+            copy_status(rt, backup(rt, database, copy), database, copy)
+        }
+        CommandLine::Board { database } => {
+            report_status(rt, print_board(rt, database), database)
+        }
         CommandLine::Check { kind, file } => check_in(rt, kind, file),
+        CommandLine::CheckScript { file } => check_script_in(rt, file),
         CommandLine::Serve {
             database,
             port,
@@ -129,94 +162,90 @@ fn run_line(rt: &HostRuntime, line: CommandLine<'_>) -> u8 {
             config,
             moment,
             first,
+            telling,
         } => {
-            let ended = send_to_file(rt, script, database, &Opening { config, moment }, first);
+            tell_waiting(rt, script);
+            let opening = Opening { config, moment };
+            let ended = send_to_file(rt, script, database, &opening, first, telling);
             service_status(rt, ended, script, database)
         }
     }
 }
 
-fn run_new(rt: &HostRuntime, script: &str, config: Config) -> u8 {
+/// Says that a script is waited for, and how it is ended, where it comes from a terminal.
+fn tell_waiting(rt: &HostRuntime, script: &str) {
+    if script == "-" && rt.stdin().is_terminal() {
+        let _ = eprintln!(rt;
+            "tcdesk: waits for the lines of a script; Ctrl-D at the begin of a line ends it, and tcdesk --help tells the commands"
+        );
+    }
+}
+
+fn run_new(rt: &HostRuntime, script: &str, config: Config, telling: Telling) -> u8 {
+    tell_waiting(rt, script);
     let mut paths = HostPaths::new(rt.alloc(), rt);
-    let ended = run_at(rt, script, config, &mut paths);
-    status_of(rt, ended, script, "tables", paths.unread())
+    let ended = run_at(rt, script, config, telling, &mut paths);
+    run_status(rt, ended, script, paths.unread())
 }
 
-fn run_kept_in(rt: &HostRuntime, script: &str, file: &str, opening: &Opening) -> u8 {
+fn run_kept_in(
+    rt: &HostRuntime,
+    script: &str,
+    file: &str,
+    opening: &Opening,
+    telling: Telling,
+) -> u8 {
+    tell_waiting(rt, script);
     let mut paths = HostPaths::new(rt.alloc(), rt);
-    let ended = run_on_file(rt, script, file, opening, &mut paths);
-    status_of(rt, ended, script, file, paths.unread())
+    let ended = run_on_file(rt, script, file, opening, telling, &mut paths);
+    kept_status(rt, ended, script, file, paths.unread())
 }
 
-fn report_in(rt: &HostRuntime, file: &str, from: Moment, to: Moment) -> u8 {
-    let printed = print_report(rt, file, from, to);
-    status_of(rt, printed.map(|()| 0), file, file, file)
-}
-
-fn check_in(rt: &HostRuntime, kind: LoadKind, file: &str) -> u8 {
-    let text = match text_of(rt, file) {
-        Ok(text) => text,
-        Err(PathFault::Memory) => return cannot_use(rt, "memory"),
-        Err(PathFault::Unreadable) => return cannot_use(rt, file),
-    };
-    let mut writer = Counted::new(io::writer(rt));
-    match write_check(rt.alloc(), kind, &text, &mut writer) {
+/// The exit status of a check.
+fn checked_status(rt: &HostRuntime, checked: Result<u8, ScriptFault>) -> u8 {
+    match checked {
         Ok(status) => status,
         Err(ScriptFault::Output) => cannot_use(rt, "output"),
         Err(_) => cannot_use(rt, "memory"),
     }
 }
 
-/// The exit status of a run of a script on tables of this name, where this path gave no text, if one did not. Says on the standard error what
-/// could not be used.
-fn status_of(
-    rt: &impl Eprint,
-    ended: Result<u8, ScriptFault>,
-    script: &str,
-    tables: &str,
-    path: &str,
-) -> u8 {
-    match ended {
-        Ok(status) => status,
-        Err(ScriptFault::Script) => cannot_use(rt, script),
-        Err(ScriptFault::Output) => cannot_use(rt, "output"),
-        Err(ScriptFault::Memory) => cannot_use(rt, "memory"),
-        Err(ScriptFault::Tables) => cannot_use(rt, tables),
-        Err(ScriptFault::Config) => cannot_use(rt, "config"),
-        Err(ScriptFault::Path) => cannot_use(rt, path),
-    }
+fn check_in(rt: &HostRuntime, kind: LoadKind, file: &str) -> u8 {
+    let text = match text_of(rt, file) {
+        Ok(text) => text,
+        Err(PathFault::Memory) => return cannot_use(rt, "memory"),
+        Err(PathFault::Unreadable) => return cannot_read(rt, file),
+    };
+    let mut writer = Counted::new(io::writer(rt));
+    checked_status(rt, write_check(rt.alloc(), kind, &text, &mut writer))
 }
 
-/// The exit status of a desk that was served, with a script and a database file of these names.
-fn service_status(
+fn check_script_in(rt: &HostRuntime, file: &str) -> u8 {
+    let text = match text_at(rt, file) {
+        Ok(text) => text,
+        Err(ScriptFault::Memory) => return cannot_use(rt, "memory"),
+        Err(_) => return cannot_read_script(rt, file),
+    };
+    let mut writer = Counted::new(io::writer(rt));
+    let checked = write_script_check(rt.alloc(), &text, &mut HostTexts::new(rt), &mut writer);
+    checked_status(rt, checked)
+}
+
+fn run_at(
     rt: &HostRuntime,
-    ended: Result<u8, ServiceFault>,
-    script: &str,
-    file: &str,
-) -> u8 {
-    match ended {
-        Ok(status) => status,
-        Err(ServiceFault::Port(port)) => {
-            let _ = eprintln!(rt; "tcdesk: cannot use port {port}");
-            UNUSABLE
-        }
-        Err(ServiceFault::Desk(fault)) => status_of(rt, Err(fault), script, file, script),
-    }
-}
-
-fn run_at<R: Files + Input + Print + AllocGlobal>(
-    rt: &R,
     path: &str,
     config: Config,
-    paths: &mut HostPaths<'_, R>,
+    telling: Telling,
+    paths: &mut HostPaths<'_, HostRuntime>,
 ) -> Result<u8, ScriptFault> {
+    let watch = HostWatch::new(rt, path, telling);
     let mut writer = Counted::new(io::writer(rt));
     if path == "-" {
         let mut reader = Counted::new(rt.reader());
-        return run_script(rt.alloc(), config, &mut reader, paths, &mut writer);
+        return run_script(rt.alloc(), config, &mut reader, paths, &watch, &mut writer);
     }
     let mut reader = Counted::new(open_script(rt, path)?);
-    run_script(rt.alloc(), config, &mut reader, paths, &mut writer)
+    run_script(rt.alloc(), config, &mut reader, paths, &watch, &mut writer)
 }
 
 /// Runs a script on the desk that a file keeps, opened at a moment. The script is read whole before the file is opened; the file is closed at
@@ -226,18 +255,22 @@ fn run_on_file(
     script: &str,
     file: &str,
     opening: &Opening,
+    telling: Telling,
     paths: &mut HostPaths<'_, HostRuntime>,
-) -> Result<u8, ScriptFault> {
+) -> Result<u8, Unusable> {
     let text = text_at(rt, script)?;
     let store = open_desk(rt, file)?;
+    let watch = HostWatch::new(rt, script, telling);
     let mut writer = Counted::new(io::writer(rt));
-    let (ended, store) = run_kept(rt.alloc(), store, opening, &text, paths, &mut writer);
-    store.close().map_err(|_| ScriptFault::Tables)?;
-    ended
-}
-
-/// Says on the standard error what cannot be used. Where that cannot be written either, the status alone says it.
-fn cannot_use(rt: &impl Eprint, name: &str) -> u8 {
-    let _ = eprintln!(rt; "tcdesk: cannot use {name}");
-    UNUSABLE
+    let (ended, store) = run_kept(
+        rt.alloc(),
+        store,
+        opening,
+        &text,
+        paths,
+        &watch,
+        &mut writer,
+    );
+    store.close().map_err(of_tables)?;
+    Ok(ended?)
 }

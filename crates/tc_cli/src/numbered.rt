@@ -7,11 +7,12 @@ use crate::run::is_skipped;
 use bstr::ByteSlice;
 use std::alloc::{AllocError, Global};
 
-/// A line that is sent, and the number of its call.
+/// A line that is sent, the number of its call, and that of the line in its script, from 1.
 #[derive(Clone, Copy)]
 pub(crate) struct NumberedLine<'a> {
     pub(crate) line: &'a [u8],
     pub(crate) number: u64,
+    pub(crate) place: usize,
 }
 
 /// The lines of a script that are sent: the first has this number, and each behind it the next. A line that is skipped is not sent, and takes
@@ -21,14 +22,20 @@ pub(crate) fn numbered_lines<'a>(
     text: &'a [u8],
     first: u32,
 ) -> Result<Vec<NumberedLine<'a>>, AllocError>
-    ensures { IfOk result (λ lines. map shown lines.items ≡ numbered first (script_lines text.entry.now)) }
+    ensures { IfOk result (λ lines. map shown lines.items ≡ numbered first 1 (script_lines text.entry.now)) }
 {
     let mut lines = Vec::new(alloc);
+    let mut place = 1;
     for line in text.lines() {
         if !is_skipped(line) {
             let number = u64::from(first) + lines.len() as u64;
-            lines.push(NumberedLine { line, number })?;
+            lines.push(NumberedLine {
+                line,
+                number,
+                place,
+            })?;
         }
+        place += 1;
     }
     Ok(lines)
 }

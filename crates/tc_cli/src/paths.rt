@@ -2,10 +2,12 @@
 ghost use Rattle.std.specs.Prelude.{◌∷◌, [], IfErr, IfOk, List, None, Option};
 ghost use Rattle.tc_cli.specs.Files.{FileAnswer, Gives, file_at, none_at};
 
+use crate::run::MOST_FILE_BYTES;
 use std::alloc::{AllocError, Global};
 use std::fs;
 use std::io::{self, Read};
 use std::rt::Files;
+use tc_check::Texts;
 
 /// Why there is no text at a path.
 #[derive(Clone, Copy, Debug, PartialEq, Eq)]
@@ -84,6 +86,31 @@ fn read_file<R: Files>(
     limit: usize,
 ) -> Result<Vec<u8>, PathFault> {
     read_most(alloc, fs::open(rt, path)?, limit)
+}
+
+/// The same files, for a script that is checked. Of each no more is read than shows that it is too long. Its content is not told.
+#[derive(Drop)]
+pub struct HostTexts<'a, R: Files> {
+    rt: &'a R,
+}
+
+impl<'a, R: Files> HostTexts<'a, R> {
+    /// These files.
+    pub fn new(rt: &'a R) -> Self {
+        HostTexts { rt }
+    }
+}
+
+impl<R: Files> Texts for HostTexts<'_, R> {
+    ghost seen = { λ _. None };
+
+    fn text(&mut self, alloc: Global, path: &str) -> Result<Option<Vec<u8>>, AllocError> {
+        match read_file(alloc, self.rt, path, MOST_FILE_BYTES) {
+            Ok(text) => Ok(Some(text)),
+            Err(PathFault::Unreadable) => Ok(None),
+            Err(PathFault::Memory) => Err(AllocError),
+        }
+    }
 }
 
 impl<R: Files> Paths for HostPaths<'_, R> {

@@ -15,8 +15,8 @@ use tc_types::{Counted, Moment};
 /// The desk's file, and its log beside it, which is a file that a reader has to make where there is none.
 #[derive(Drop)]
 pub(crate) struct Kept {
-    database: String,
-    log: String,
+    pub(crate) database: String,
+    pub(crate) log: String,
     had_log: bool,
 }
 
@@ -67,7 +67,7 @@ pub(crate) fn open_kept(
 }
 
 /// The tables of a desk in this database, and which version they are of.
-fn tables_in(
+pub(crate) fn tables_in(
     rt: &HostRuntime,
     kept: &Kept,
     store: Connection<FileStore<FileFrom<Wary>>>,

@@ -1,5 +1,5 @@
 //! The run of a script.
-ghost use Rattle.std.specs.Prelude.{◌≡◌, ◌≢◌, ◌⊎◌, ℕ, if◌then◌else◌, List, [], ◌∷◌, Err, IfErr, IfOk, IfSome};
+ghost use Rattle.std.specs.Prelude.{◌≡◌, ◌≢◌, ◌⊎◌, ℕ, if◌then◌else◌, List, [], ◌∷◌, Err, IfErr, IfOk, IfSome, false};
 ghost use Rattle.std.specs.Io.KnownBytes.{Appends};
 ghost use Rattle.std.specs.String.{string_bytes};
 ghost use Rattle.tc_types.specs.Counts.{counts_of, inner_of, no_counts};
@@ -10,16 +10,17 @@ ghost use Rattle.tc_room.specs.Answers.{RefusesWith};
 ghost use Rattle.tc_room.specs.Loads.{RoomLoad, loader_of};
 ghost use Rattle.tc_room.specs.Replies.{ended};
 ghost use Rattle.tc_cli.specs.Files.{Gives, file_at, none_at};
-ghost use Rattle.tc_cli.specs.Run.{Came, CameLast, IsAnswered, RepliesTo, RunsLines, TakesLine, TakesLines, is_skipped, script_lines};
+ghost use Rattle.tc_cli.specs.Run.{Came, CameLast, IsAnswered, RepliesTo, RunsLines, TakesLine, TakesLines, exchange, is_skipped, script_lines};
 ghost use Rattle.tc_cli.specs.Script.{Ends, IsUnreadable, written_counts};
 ghost use Rattle.tc_cli.specs.Stops.{LeavesPart, Stops, StopsAfter, StopsNext, Unanswered};
 ghost use Rattle.tc_cli.specs.declared.paths.PathFault.TheVariants as path_fault;
 
 use crate::paths::{PathFault, Paths};
 use crate::script::{ScriptFault, read_script};
+use crate::watching::{Answered, Watch, last_moment};
 use bstr::ByteSlice;
 use sqlite::Alter;
-use std::alloc::Global;
+use std::alloc::{AllocError, Global};
 use std::io::{Read, Write};
 use tc_desk::Config;
 use tc_front::write_whole;
@@ -32,7 +33,8 @@ pub(crate) const MOST_FILE_BYTES: usize = 65_537;
 
 /// Runs the lines of a script on a desk where nothing happened yet, and writes what they are answered, and at the end
 /// what `places` is answered. Gives the exit status: 1 where any line or that question was refused, else 0. A line that loads
-/// a stack or a procedure takes its text from this source of files; a path that gives none ends the run.
+/// a stack or a procedure takes its text from this source of files; a path that gives none ends the run. Where it is watched with an echo, each line that is
+/// answered is written before its answer, behind `> `.
 ///
 /// The script is read whole before a line is run: where that fails, the writer is as it was. The reader and the writer
 /// begin to count here, so that a caller sees which of them failed. What the writer holds back is the caller's to flush.
@@ -40,18 +42,19 @@ pub(crate) const MOST_FILE_BYTES: usize = 65_537;
 /// Before its first line a run ends with `Script` or `Memory`, where the script is not read, or with `Config`, `Memory` or `Tables`, where
 /// the desk is not opened; behind it with `Output` where a write fails, `Path` where the path of the next line gives no text, and `Memory` where
 /// that text or that of a reply finds none.
-pub fn run_script<R: Read, P: Paths, W: Write>(
+pub fn run_script<R: Read, P: Paths, T: Watch, W: Write>(
     alloc: Global,
     config: Config,
     reader: &mut Counted<R>,
     paths: &mut P,
+    watch: &T,
     writer: &mut Counted<W>,
 ) -> Result<u8, ScriptFault>
     requires unread { counts_of reader.old ≡ no_counts }
     ensures answered { IfOk result (λ status. IfSome (R.remaining (inner_of reader.old)) (λ input.
-        IsAnswered config input status (P.given paths.old) (P.given paths.new) (W.contents (inner_of writer.old)) (W.contents (inner_of writer.new)))) }
+        IsAnswered (T.echoes watch.now) config input status (P.given paths.old) (P.given paths.new) (W.contents (inner_of writer.old)) (W.contents (inner_of writer.new)))) }
     ensures stopped { IfErr result (λ fault. IfSome (R.remaining (inner_of reader.old)) (λ input.
-        Stops config fault (script_lines input) (P.given paths.old) (P.given paths.new) (W.contents (inner_of writer.old)) (W.contents (inner_of writer.new)))) }
+        Stops (T.echoes watch.now) config fault (script_lines input) (P.given paths.old) (P.given paths.new) (W.contents (inner_of writer.old)) (W.contents (inner_of writer.new)))) }
     ensures script { result ≡ Err ScriptFault.Script →
         IsUnreadable (counts_of reader.new) (R.remaining (inner_of reader.old)) (R.remaining (inner_of reader.new))
         × (writer.new ≡ writer.old) }
@@ -59,36 +62,38 @@ pub fn run_script<R: Read, P: Paths, W: Write>(
     ensures written { counts_of writer.old ≡ no_counts → counts_of writer.new ≡ written_counts result }
 {
     let text = read_script(alloc, reader)?;
-    run_text(alloc, config, &text, paths, writer)
+    run_text(alloc, config, &text, paths, watch, writer)
 }
 
 /// Runs the lines of a script that was read.
-fn run_text<P: Paths, W: Write>(
+fn run_text<P: Paths, T: Watch, W: Write>(
     alloc: Global,
     config: Config,
     text: &[u8],
     paths: &mut P,
+    watch: &T,
     writer: &mut Counted<W>,
 ) -> Result<u8, ScriptFault>
-    ensures { Ends (λ status. IsAnswered config text.now status (P.given paths.old) (P.given paths.new) (W.contents (inner_of writer.old)) (W.contents (inner_of writer.new)))
-        (λ fault. Stops config fault (script_lines text.now) (P.given paths.old) (P.given paths.new) (W.contents (inner_of writer.old)) (W.contents (inner_of writer.new))) (counts_of writer.old) (counts_of writer.new) result }
+    ensures { Ends (λ status. IsAnswered (T.echoes watch.now) config text.now status (P.given paths.old) (P.given paths.new) (W.contents (inner_of writer.old)) (W.contents (inner_of writer.new)))
+        (λ fault. Stops (T.echoes watch.now) config fault (script_lines text.now) (P.given paths.old) (P.given paths.new) (W.contents (inner_of writer.old)) (W.contents (inner_of writer.new))) (counts_of writer.old) (counts_of writer.new) result }
 {
     let mut room = Room::open_in_memory(alloc, config)?;
-    run_room(alloc, &mut room, text, paths, writer)
+    run_room(alloc, &mut room, text, paths, watch, writer)
 }
 
 /// Runs the lines of a script in a room, and asks the question `places`.
-pub(crate) fn run_room<S: Alter + Drop, P: Paths, W: Write>(
+pub(crate) fn run_room<S: Alter + Drop, P: Paths, T: Watch, W: Write>(
     alloc: Global,
     room: &mut Room<S>,
     text: &[u8],
     paths: &mut P,
+    watch: &T,
     writer: &mut Counted<W>,
 ) -> Result<u8, ScriptFault>
-    ensures { Ends (λ status. RunsLines S.Store room.old text.now status (P.given paths.old) (P.given paths.new) (W.contents (inner_of writer.old)) (W.contents (inner_of writer.new)) room.new)
-        (λ fault. StopsAfter S.Store fault room.old (script_lines text.now) (P.given paths.old) (P.given paths.new) (W.contents (inner_of writer.old)) (W.contents (inner_of writer.new)) room.new) (counts_of writer.old) (counts_of writer.new) result }
+    ensures { Ends (λ status. RunsLines S.Store (T.echoes watch.now) room.old text.now status (P.given paths.old) (P.given paths.new) (W.contents (inner_of writer.old)) (W.contents (inner_of writer.new)) room.new)
+        (λ fault. StopsAfter S.Store (T.echoes watch.now) fault room.old (script_lines text.now) (P.given paths.old) (P.given paths.new) (W.contents (inner_of writer.old)) (W.contents (inner_of writer.new)) room.new) (counts_of writer.old) (counts_of writer.new) result }
 {
-    let refused = run_lines(alloc, room, text, paths, writer)?;
+    let refused = run_lines(alloc, room, text, paths, watch, writer)?;
     // read for the proof alone: what the rows tell is true
     let _opened = room.opened();
     let last = run_places(alloc, room, writer)?;
@@ -163,39 +168,73 @@ fn answer<S: Alter + Drop, P: Paths>(
     }
 }
 
-/// Takes one line, and says whether it was refused.
-fn run_line<S: Alter + Drop, P: Paths, W: Write>(
+/// What is written where a line is answered by this text.
+pub(crate) fn exchange(
+    alloc: Global,
+    echoes: bool,
+    line: &[u8],
+    answer: String,
+) -> Result<Vec<u8>, AllocError>
+    ensures { IfOk result (λ bytes. bytes.items ≡ exchange echoes line.now (string_bytes answer)) }
+{
+    if !echoes {
+        return Ok(answer.into_bytes());
+    }
+    let mut bytes = Vec::from_slice(alloc, b"> ")?;
+    bytes.extend_from_slice(line)?;
+    bytes.push(b'\n')?;
+    bytes.extend_from_slice(answer.as_bytes())?;
+    Ok(bytes)
+}
+
+/// Takes the line with this number in the script, and says whether it was refused.
+fn run_line<S: Alter + Drop, P: Paths, T: Watch, W: Write>(
     alloc: Global,
     room: &mut Room<S>,
+    number: usize,
     line: &[u8],
     paths: &mut P,
+    watch: &T,
     writer: &mut Counted<W>,
 ) -> Result<bool, ScriptFault>
-    ensures { Ends (λ refused. Came S.Store (TakesLine S.Store room.old line.now) room.old (P.given paths.old) (P.given paths.new) (W.contents (inner_of writer.old)) (W.contents (inner_of writer.new)) room.new refused)
-        (λ fault. StopsNext S.Store fault room.old (line.now ∷ []) (P.given paths.old) (P.given paths.new) (W.contents (inner_of writer.old)) (W.contents (inner_of writer.new)) room.new) (counts_of writer.old) (counts_of writer.new) result }
+    ensures { Ends (λ refused. Came S.Store (T.echoes watch.now) (line.now ∷ []) (TakesLine S.Store room.old line.now) room.old (P.given paths.old) (P.given paths.new) (W.contents (inner_of writer.old)) (W.contents (inner_of writer.new)) room.new refused)
+        (λ fault. StopsNext S.Store (T.echoes watch.now) fault room.old (line.now ∷ []) (P.given paths.old) (P.given paths.new) (W.contents (inner_of writer.old)) (W.contents (inner_of writer.new)) room.new) (counts_of writer.old) (counts_of writer.new) result }
 {
     if is_skipped(line) {
         return Ok(false);
     }
+    let last = last_moment(room);
     let answer = answer(alloc, room, line, paths)?;
-    put(writer, answer.text.as_bytes())?;
-    Ok(answer.refused())
+    let refused = answer.refused();
+    let refusal = answer.refusal;
+    let shown = exchange(alloc, watch.echoes(), line, answer.text)?;
+    put(writer, &shown)?;
+    watch.answered(&Answered {
+        number,
+        line,
+        refusal,
+        last,
+    });
+    Ok(refused)
 }
 
 /// Takes each line in turn, and says whether any was refused.
-fn run_lines<S: Alter + Drop, P: Paths, W: Write>(
+fn run_lines<S: Alter + Drop, P: Paths, T: Watch, W: Write>(
     alloc: Global,
     room: &mut Room<S>,
     text: &[u8],
     paths: &mut P,
+    watch: &T,
     writer: &mut Counted<W>,
 ) -> Result<bool, ScriptFault>
-    ensures { Ends (λ refused. Came S.Store (TakesLines S.Store room.old (script_lines text.now)) room.old (P.given paths.old) (P.given paths.new) (W.contents (inner_of writer.old)) (W.contents (inner_of writer.new)) room.new refused)
-        (λ fault. StopsAfter S.Store fault room.old (script_lines text.now) (P.given paths.old) (P.given paths.new) (W.contents (inner_of writer.old)) (W.contents (inner_of writer.new)) room.new) (counts_of writer.old) (counts_of writer.new) result }
+    ensures { Ends (λ refused. Came S.Store (T.echoes watch.now) (script_lines text.now) (TakesLines S.Store room.old (script_lines text.now)) room.old (P.given paths.old) (P.given paths.new) (W.contents (inner_of writer.old)) (W.contents (inner_of writer.new)) room.new refused)
+        (λ fault. StopsAfter S.Store (T.echoes watch.now) fault room.old (script_lines text.now) (P.given paths.old) (P.given paths.new) (W.contents (inner_of writer.old)) (W.contents (inner_of writer.new)) room.new) (counts_of writer.old) (counts_of writer.new) result }
 {
     let mut refused = false;
+    let mut number: usize = 0;
     for line in text.lines() {
-        refused |= run_line(alloc, room, line, paths, writer)?;
+        number = number.saturating_add(1);
+        refused |= run_line(alloc, room, number, line, paths, watch, writer)?;
     }
     Ok(refused)
 }
@@ -207,7 +246,7 @@ fn run_places<S: Alter + Drop, W: Write>(
     writer: &mut Counted<W>,
 ) -> Result<bool, ScriptFault>
     ensures { Ends (λ refused. CameLast S.Store room.old (W.contents (inner_of writer.old)) (W.contents (inner_of writer.new)) room.new refused)
-        (λ fault. (part : List ℕ) × LeavesPart S.Store fault room.old [] [] part room.new × Appends (W.contents (inner_of writer.old)) (W.contents (inner_of writer.new)) part) (counts_of writer.old) (counts_of writer.new) result }
+        (λ fault. (part : List ℕ) × LeavesPart S.Store false fault room.old [] [] part room.new × Appends (W.contents (inner_of writer.old)) (W.contents (inner_of writer.new)) part) (counts_of writer.old) (counts_of writer.new) result }
 {
     let last = answer_places(alloc, room)?;
     put(writer, last.text.as_bytes())?;

@@ -1,9 +1,12 @@
 //! A desk that is kept in a file, served over HTTP (RFC 9112) on this machine alone.
-use crate::files::open_desk;
+use crate::because::Unusable;
+use crate::files::{of_tables, open_desk};
 use crate::opened::{Opening, open_told};
 use crate::patience::{Limits, Patient};
 use crate::script::ScriptFault;
+use crate::telling::tell_opening;
 use crate::unserved::opening_fault;
+use crate::watching::latest_moment;
 use sqlite::{Alter, Connection};
 use sqlite_disk::Wary;
 use sqlite_std_file::FileFrom;
@@ -20,14 +23,20 @@ use tc_types::{Counted, Refusal};
 #[derive(Clone, Copy, Debug, PartialEq, Eq)]
 pub enum ServiceFault {
     /// As the run of a script ends before its end.
-    Desk(ScriptFault),
+    Desk(Unusable),
     /// This port of the machine cannot be used.
     Port(u16),
 }
 
 impl From<ScriptFault> for ServiceFault {
     fn from(fault: ScriptFault) -> ServiceFault {
-        ServiceFault::Desk(fault)
+        ServiceFault::Desk(Unusable::from(fault))
+    }
+}
+
+impl From<Unusable> for ServiceFault {
+    fn from(why: Unusable) -> ServiceFault {
+        ServiceFault::Desk(why)
     }
 }
 
@@ -36,7 +45,7 @@ pub(crate) fn closed<T: Drop>(
     store: Connection<FileStore<FileFrom<Wary>>>,
     ended: Result<T, ServiceFault>,
 ) -> Result<T, ServiceFault> {
-    store.close().map_err(|_| ScriptFault::Tables)?;
+    store.close().map_err(of_tables)?;
     ended
 }
 
@@ -172,11 +181,12 @@ fn serve_at(
     match open_told(rt.alloc(), store, opening, &mut writer) {
         Ok(mut room) => {
             let port = service.port;
+            tell_opening(rt, opening.moment, latest_moment(&room));
             let _ = eprintln!(rt; "tcdesk: listening on 127.0.0.1:{port}");
             let served = serve_connections(rt, listener, service, &mut room);
             closed(room.into_connection(), served)
         }
-        Err(left) => closed(left.store, Err(ServiceFault::Desk(left.fault))),
+        Err(left) => closed(left.store, Err(ServiceFault::from(left.fault))),
     }
 }
 

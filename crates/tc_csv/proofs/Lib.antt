@@ -2,3 +2,4 @@ pub mod HeaderLemmas
 pub mod RecordLemmas
 pub mod RowLemmas
 pub mod WorkedCases
+pub mod FaultListLemmas

@@ -18,17 +18,18 @@ use Rattle.tc_types.specs.declared.acts.Query.TheVariants as query
 use Rattle.tc_types.specs.History.{entered, counts_of, rows_past}
 use Rattle.tc_types.specs.Lines.{places_line}
 use Rattle.tc_types.specs.ActGrammar.{line_text}
-use Rattle.tc_proc.specs.Logs.{execution_at}
+use Rattle.tc_proc.specs.Logs.{execution_at, procedure_at, steps_of}
 use Rattle.tc_book.specs.declared.stamps.Stamp.{Stamp}
 use Rattle.tc_types.specs.declared.link.frames.Frame.{Frame}
 use Rattle.tc_types.specs.declared.link.reports.Report.{Report}
 use Rattle.tc_book.specs.Book.{Book, empty_book, moved, place_in, request_at, want, with_entry}
+use Rattle.tc_book.specs.Waiting.{standing_past, waiting_of}
 use Rattle.tc_world.specs.InFlight.{InFlight, listed}
 use Rattle.tc_desk.specs.State.{State, new_desk}
 use Rattle.tc_desk.specs.Acts.{refusal_of, acted, first_of}
 use Rattle.tc_desk.specs.Machine.{stamp_of}
 use Rattle.tc_desk.specs.StatusLines.{status_lines, status_of}
-use Rattle.tc_desk.specs.Replies.{Reply, Replies, act_reply, history_lines, request_lines, log_lines, refusal_reply}
+use Rattle.tc_desk.specs.Replies.{Reply, Replies, act_reply, history_lines, request_lines, log_lines, waiting_lines, moves_lines, standing_lines, procedure_lines, refusal_reply}
 
 abbrev first_entry : Form
 first_entry = record {
@@ -68,6 +69,10 @@ told book query.Link = status_lines (status_of listed listed (desk_of book))
 told book query.Schedule = []
 told book (query.Log execution) = log_lines book.log (execution_at book.log execution)
 told book (query.Report from to) = []
+told book query.Waiting = waiting_lines (waiting_of book)
+told book (query.Moves after) = moves_lines (drop after book.history)
+told book (query.Standing place after) = standing_lines place (standing_past book place after)
+told book (query.Steps procedure) = procedure_lines (procedure_at book.log procedure) (steps_of book.log procedure)
 
 told-replies : (book : Book) (asked : Query) → (asked ≡ query.Schedule → ⊥) → ((from to : ℕ) → asked ≡ query.Report from to → ⊥) → Replies listed listed (desk_of book) asked (told book asked)
 told-replies book query.Places other no_report = refl
@@ -77,6 +82,10 @@ told-replies book query.Link other no_report = refl
 told-replies book query.Schedule other no_report = absurd (other refl)
 told-replies book (query.Log execution) other no_report = refl
 told-replies book (query.Report from to) other no_report = absurd (no_report from to refl)
+told-replies book query.Waiting other no_report = refl
+told-replies book (query.Moves after) other no_report = refl
+told-replies book (query.Standing place after) other no_report = refl
+told-replies book (query.Steps procedure) other no_report = refl
 
 -- the reply where no test holds
 abbrev served : Book → Stamp → Act → Reply

@@ -1,5 +1,5 @@
 -- The lines of a reply.
-use Rattle.std.specs.Prelude.{◌≡◌, ℕ, nat_lt, Bool, IsPermutation, IsSortedBy, Option, Some, None, List, [], ◌∷◌, ◌++◌, length, map, take, codes}
+use Rattle.std.specs.Prelude.{◌≡◌, ℕ, nat_lt, Bool, IsPermutation, IsSortedBy, Option, Some, None, List, [], ◌∷◌, ◌++◌, drop, length, map, take, codes}
 use Rattle.std.specs.List.{filter_map}
 use Rattle.tc_types.specs.declared.link.frames.Frame.{Frame}
 use Rattle.tc_types.specs.declared.history.moves.Move.{Move}
@@ -16,7 +16,13 @@ use Rattle.tc_types.specs.LinkLines.{accepted_line, word_line, verified_line, su
 use Rattle.tc_types.specs.RequestLine.{request_line}
 use Rattle.tc_types.specs.ProcedureLines.{procedure_line, begun_line, execution_line, record_line}
 use Rattle.tc_types.specs.declared.tables.rows.BegunExecution.{BegunExecution}
-use Rattle.tc_proc.specs.Logs.{LogState, execution_at, next_of, records_of}
+use Rattle.tc_types.specs.declared.tables.rows.LoadedProcedure.{LoadedProcedure}
+use Rattle.tc_types.specs.declared.tables.rows.ProcedureStep.{ProcedureStep}
+use Rattle.tc_waits.specs.declared.waits.Waiting.{Waiting}
+use Rattle.tc_waits.specs.WaitingLines.{waiting_line, waiting_count_line}
+use Rattle.tc_waits.specs.ListLines.{moves_line, standing_line, named_line}
+use Rattle.tc_waits.specs.StepLines.{procedure_head_line, step_line}
+use Rattle.tc_proc.specs.Logs.{LogState, execution_at, next_of, procedure_at, records_of, steps_of}
 use Rattle.tc_report.specs.ShiftReport.{IsReport}
 use Rattle.tc_world.specs.declared.events.LinkIndication.{LinkIndication}
 use Rattle.tc_world.specs.Links.{Kind}
@@ -25,6 +31,7 @@ use Rattle.tc_board.specs.Mirror.{MirrorState}
 use Rattle.tc_book.specs.declared.firsts.First.{First as BookFirst}
 use Rattle.tc_book.specs.declared.firsts.First.TheVariants as book_first
 use Rattle.tc_book.specs.Book.{place_in, request_at}
+use Rattle.tc_book.specs.Waiting.{standing_past, waiting_of}
 use Rattle.tc_desk.specs.declared.firsts.FirstLine.{FirstLine}
 use Rattle.tc_desk.specs.declared.firsts.FirstLine.TheVariants as first
 use Rattle.tc_desk.specs.State.{State}
@@ -95,6 +102,27 @@ abbrev pub log_lines : LogState → Option BegunExecution → Reply
 log_lines log None = []
 log_lines log (Some x) = execution_line x.execution x.procedure (next_of log x) ∷ map record_line (records_of log x.execution)
 
+-- the lines of what waits: how many there are, and these
+abbrev pub waiting_lines : List Waiting → Reply
+waiting_lines waiting = waiting_count_line (length waiting) ∷ map waiting_line waiting
+
+-- the lines of moves of which the first fifty are shown
+abbrev pub moves_lines : List Move → Reply
+moves_lines rows = moves_line (length (take most_shown rows)) (nat_lt most_shown (length rows)) ∷ map move_line (take most_shown rows)
+
+-- the line that names a request
+abbrev pub named_request : Request → List ℕ
+named_request r = named_line r.number r.body.identity
+
+-- the lines of the requests at a place of which the first fifty are shown
+abbrev pub standing_lines : Place → List Request → Reply
+standing_lines place found = standing_line place (length (take most_shown found)) (nat_lt most_shown (length found)) ∷ map named_request (take most_shown found)
+
+-- the lines of a procedure: who loaded it, and its steps in order
+abbrev pub procedure_lines : Option LoadedProcedure → List ProcedureStep → Reply
+procedure_lines None steps = []
+procedure_lines (Some loaded) steps = procedure_head_line loaded (length steps) ∷ map step_line steps
+
 -- the reply to a question
 abbrev pub Replies : {U D : Type 0} → Kind U Frame → Kind D Report → State U D → Query → Reply → Type 0
 Replies up down at query.Places reply = reply ≡ places_line (length (entered at.book.history)) (counts_of at.book.history) ∷ []
@@ -103,4 +131,8 @@ Replies up down at (query.Request n) reply = reply ≡ request_lines (request_at
 Replies up down at query.Link reply = reply ≡ status_lines (status_of up down at)
 Replies up down at query.Schedule reply = ShowsSchedule at.mirror reply
 Replies up down at (query.Log execution) reply = reply ≡ log_lines at.book.log (execution_at at.book.log execution)
+Replies up down at query.Waiting reply = reply ≡ waiting_lines (waiting_of at.book)
+Replies up down at (query.Moves after) reply = reply ≡ moves_lines (drop after at.book.history)
+Replies up down at (query.Standing place after) reply = reply ≡ standing_lines place (standing_past at.book place after)
+Replies up down at (query.Steps procedure) reply = reply ≡ procedure_lines (procedure_at at.book.log procedure) (steps_of at.book.log procedure)
 Replies up down at (query.Report from to) reply = IsReport (premise_word at.world.clean) (counts_of at.book.history) at.book.history from to reply

@@ -4,7 +4,6 @@ use Rattle.std.proofs.lemmas.List.{length-append, take-append-le, drop-append-le
 use Rattle.std.proofs.Math.Seq.{take-append-add, take-length}
 use Rattle.std.proofs.lemmas.Bool.{cases_lt}
 use Rattle.std.specs.Option.{option_map}
-use Rattle.std.specs.Fmt.{decimal}
 use Rattle.httparse.specs.Grammar.{RequestHead}
 use Rattle.httparse.specs.Spans.{name_and_value}
 use Rattle.httparse.proofs.GrammarLemmas.{request_unique}
@@ -15,9 +14,9 @@ use Rattle.tc_front.specs.declared.judge.Judgement.{Judgement}
 use Rattle.tc_front.specs.declared.judge.Judgement.TheVariants as judgement
 use Rattle.tc_front.specs.declared.front.Decision.{Decision}
 use Rattle.tc_front.specs.declared.judge.Refused.TheVariants.{Large}
-use Rattle.tc_routes.specs.Paths.{Texts, places_text, request_text, history_text, report_text, Named, posts_to, asks_for, path_of}
+use Rattle.tc_routes.specs.Paths.{Texts, places_text, request_text, history_text, report_text, waiting_text, moves_text, procedure_text, Named, posts_to, asks_for, shows_board, path_of}
 use Rattle.tc_front.specs.Fields.{Held, absent, single, several}
-use Rattle.tc_front.specs.Judge.{both, AsksFor, AsksRequest, AsksHistory, AsksReport, JudgesQuestion, JudgesGet, JudgesLength, JudgesPost, JudgesBody, JudgesCoding, JudgesPath, JudgesHead, Judges, asked_or_bad}
+use Rattle.tc_front.specs.Judge.{both, AsksFor, AsksRequest, AsksHistory, AsksReport, AsksMoves, AsksProcedure, JudgesQuestion, JudgesGet, JudgesLength, JudgesPost, JudgesBody, JudgesCoding, JudgesPath, JudgesHead, Judges, asked_or_bad, without_body}
 use Rattle.tc_front.specs.Ends.{head_end, skip_ends}
 use Rattle.tc_front.specs.Front.{Asked, refuses, asked_of, Completes, IsDecidedAt, IsDecided, Waits}
 use Rattle.tc_front.specs.Read.{NoFront}
@@ -25,7 +24,7 @@ use Rattle.tc_front.proofs.EndLemmas.{Stays, Within, head_end-append, head_end-w
 
 -- ---- one judgement
 
-reads_unique : {In : ℕ → Type 0} (word : List ℕ) (r s : Option ℕ) → Reads decimal In word r → Reads decimal In word s → r ≡ s
+reads_unique : {X : Type 0} {text : X → List ℕ} {In : X → Type 0} (word : List ℕ) (r s : Option X) → Reads text In word r → Reads text In word s → r ≡ s
 reads_unique word None None a b = refl
 reads_unique word None (Some y) a b = a.only y b.found.1 b.found.0
 reads_unique word (Some x) s a b = sym (b.only x a.found.1 a.found.0)
@@ -52,19 +51,26 @@ one_report : (first second : List ℕ) → IsOne (AsksReport first second)
 one_report first second q r (n, n', a, a', e) (m, m', b, b', f) =
     e ∙ ap₂ (λ x y. both (λ n m. query.Report n m) x y) (reads_unique first n m a b) (reads_unique second n' m' a' b') ∙ sym f
 
+one_moves : (first : List ℕ) → IsOne (AsksMoves first)
+one_moves first q r (n, a, e) (m, b, f) = e ∙ ap (λ x. option_map (λ n. query.Moves n) x) (reads_unique first n m a b) ∙ sym f
+
+one_procedure : (first : List ℕ) → IsOne (AsksProcedure first)
+one_procedure first q r (n, a, e) (m, b, f) = e ∙ ap (λ x. option_map (λ name. query.Steps name) x) (reads_unique first n m a b) ∙ sym f
+
 one_asked : (texts : Texts) → IsOne (AsksFor texts)
 one_asked places_text = one_is (Some query.Places)
 one_asked (request_text number) = one_request number
 one_asked (history_text first after) = one_history first after
 one_asked (report_text from to) = one_report from to
+one_asked waiting_text = one_is (Some query.Waiting)
+one_asked (moves_text after) = one_moves after
+one_asked (procedure_text name) = one_procedure name
 
 one_question : (texts : Texts) → IsOne (JudgesQuestion texts)
 one_question texts j k (q, a, e) (r, b, f) = e ∙ ap asked_or_bad (one_asked texts q r a b) ∙ sym f
 
 one_get : (lengths : Held) (texts : Texts) → IsOne (JudgesGet lengths texts)
-one_get absent texts = one_question texts
-one_get (single value) texts = one_if _ _ _ (one_question texts) (one_is _)
-one_get several texts = one_is _
+one_get lengths texts j k (asked, a, e) (other, b, f) = e ∙ ap (without_body lengths) (one_question texts asked other a b) ∙ sym f
 
 one_length : (value : List ℕ) (post : Post) → IsOne (JudgesLength value post)
 one_length value post j l (inl x) (inl y) = x.1 ∙ sym y.1
@@ -80,6 +86,7 @@ one_post several post = one_is _
 one_body : (lengths : Held) (named : Named) → IsOne (JudgesBody lengths named)
 one_body lengths (posts_to post) = one_post lengths post
 one_body lengths (asks_for texts) = one_get lengths texts
+one_body lengths shows_board = one_is _
 
 one_coding : (coding lengths : Held) (named : Named) → IsOne (JudgesCoding coding lengths named)
 one_coding absent lengths named = one_body lengths named
@@ -104,6 +111,7 @@ one_judgement text j k (inr x) (inr y) = x.1 ∙ sym y.1
 one_complete : (j : Judgement) (rest : List ℕ) → IsOne (Completes j rest)
 one_complete (judgement.Refused refused) rest = one_is _
 one_complete (judgement.Asks query) rest = one_is _
+one_complete judgement.ShowsBoard rest = one_is _
 one_complete (judgement.Posts post size) rest = λ a b x y. x.1 ∙ sym y.1
 
 one_decided : (found : Option ℕ) (text : List ℕ) → IsOne (IsDecidedAt found text)
@@ -121,6 +129,7 @@ decided_unique text = one_decided (head_end (take 8192 text)) text
 completes_more : (j : Judgement) (rest more : List ℕ) (asked : Asked) → Completes j rest asked → Completes j (rest ++ more) asked
 completes_more (judgement.Refused refused) rest more asked c = c
 completes_more (judgement.Asks query) rest more asked c = c
+completes_more judgement.ShowsBoard rest more asked c = c
 completes_more (judgement.Posts post size) rest more asked c =
     let long : length (rest ++ more) ≡ length rest + length more = length-append rest more in
     (omega (arith, c.0), rw (take-append-le size rest more c.0) c.1)

@@ -1,5 +1,5 @@
 -- How many bytes are wanted: with fewer nothing is decided, and with so many something is.
-use Rattle.std.proofs.Common.{◌≡◌, ◌∙◌, ◌+◌, ◌-◌, ◌<◌, ◌≤◌, ℕ, min, Bool, true, false, MatchBool, nat_lt, Option, Some, None, List, [], ◌∷◌, ◌++◌, length, take, drop, map, refl, ap, sym, arith, inl, inr, append_assoc}
+use Rattle.std.proofs.Common.{◌≡◌, ◌∙◌, ◌+◌, ◌-◌, ◌<◌, ◌≤◌, ℕ, min, Bool, true, false, MatchBool, if◌then◌else◌, nat_lt, Option, Some, None, List, [], ◌∷◌, ◌++◌, length, take, drop, map, refl, ap, sym, arith, inl, inr, append_assoc}
 use Rattle.std.proofs.lemmas.List.{length-append, take-append-le, append-nil, length-take, length-drop}
 use Rattle.std.proofs.lemmas.Bool.Decides.{nat_tests}
 use Rattle.std.specs.Str.Parse.{digits_value}
@@ -10,11 +10,11 @@ use Rattle.tc_front.specs.declared.judge.Judgement.{Judgement}
 use Rattle.tc_front.specs.declared.judge.Judgement.TheVariants as judgement
 use Rattle.tc_front.specs.declared.judge.Refused.TheVariants.{Large}
 use Rattle.tc_front.specs.declared.watch.Watch.{Watch}
-use Rattle.tc_routes.specs.Paths.{Texts, Named, posts_to, asks_for, path_of, same}
+use Rattle.tc_routes.specs.Paths.{Texts, Named, posts_to, asks_for, shows_board, path_of, same}
 use Rattle.tc_front.specs.Fields.{Held, absent, single, several}
-use Rattle.tc_front.specs.Judge.{JudgesQuestion, JudgesGet, JudgesLength, JudgesPost, JudgesBody, JudgesCoding, JudgesPath, Judges, asked_or_bad, bad}
+use Rattle.tc_front.specs.Judge.{JudgesQuestion, JudgesGet, JudgesLength, JudgesPost, JudgesBody, JudgesCoding, JudgesPath, Judges, asked_or_bad, bad, without_body}
 use Rattle.tc_front.specs.Ends.{head_end, skip_ends, HasSearched}
-use Rattle.tc_front.specs.Front.{Asked, refuses, asks, posts, Completes, IsDecidedAt, IsDecided, Waits, size_of, IsWantedAt, IsWanted}
+use Rattle.tc_front.specs.Front.{Asked, refuses, asks, shows, posts, Completes, IsDecidedAt, IsDecided, Waits, size_of, IsWantedAt, IsWanted}
 use Rattle.tc_front.specs.Watch.{Watches}
 use Rattle.tc_front.proofs.EndLemmas.{Stays, Within, head_end-append, head_end-within, searched_more}
 use Rattle.tc_front.proofs.FrontLemmas.{end_within, front_more, one_judgement, opened, undecided}
@@ -39,10 +39,17 @@ small_either : (b : Bool) (P : Type 0) (j : Judgement) → (P → size_of j ≤ 
 small_either true P j small k none m = small m
 small_either false P j small k none m = rw m (omega (arith, none))
 
+small_if_same : (b : Bool) (asked : Judgement) → size_of asked ≤ 65536 → size_of (if b then asked else bad) ≤ 65536
+small_if_same true asked small = small
+small_if_same false asked small = omega arith
+
+small_without : (lengths : Held) (asked : Judgement) → size_of asked ≤ 65536 → size_of (without_body lengths asked) ≤ 65536
+small_without absent asked small = small
+small_without (single value) asked small = small_if_same _ asked small
+small_without several asked small = omega arith
+
 small_get : (lengths : Held) (texts : Texts) (j : Judgement) → JudgesGet lengths texts j → size_of j ≤ 65536
-small_get absent texts j judged = small_question texts j judged
-small_get (single value) texts j judged = small_either _ _ j (small_question texts j) bad refl judged
-small_get several texts j judged = small_bad j judged
+small_get lengths texts j (asked, judged, is) = rw is (small_without lengths asked (small_question texts asked judged))
 
 small_length : (value : List ℕ) (post : Post) (j : Judgement) → JudgesLength value post j → size_of j ≤ 65536
 small_length value post j (inl x) = small_bad j x.1
@@ -56,6 +63,7 @@ small_post several post j judged = small_bad j judged
 small_body : (lengths : Held) (named : Named) (j : Judgement) → JudgesBody lengths named j → size_of j ≤ 65536
 small_body lengths (posts_to post) j judged = small_post lengths post j judged
 small_body lengths (asks_for texts) j judged = small_get lengths texts j judged
+small_body lengths shows_board j judged = rw judged (small_without lengths judgement.ShowsBoard (omega arith))
 
 small_coding : (coding lengths : Held) (named : Named) (j : Judgement) → JudgesCoding coding lengths named j → size_of j ≤ 65536
 small_coding absent lengths named j judged = small_body lengths named j judged
@@ -79,11 +87,13 @@ unwrapped text wanted is = is
 completed : (j : Judgement) (rest : List ℕ) → size_of j ≤ length rest → (asked : Asked) × Completes j rest asked
 completed (judgement.Refused refused) rest enough = (refuses refused, refl)
 completed (judgement.Asks query) rest enough = (asks query, refl)
+completed judgement.ShowsBoard rest enough = (shows, refl)
 completed (judgement.Posts post size) rest enough = (posts post (take size rest), (enough, refl))
 
 holds_body : (j : Judgement) (rest : List ℕ) (asked : Asked) → Completes j rest asked → size_of j ≤ length rest
 holds_body (judgement.Refused refused) rest asked done = omega arith
 holds_body (judgement.Asks query) rest asked done = omega arith
+holds_body judgement.ShowsBoard rest asked done = omega arith
 holds_body (judgement.Posts post size) rest asked done = done.0
 
 enough_at : (found : Option ℕ) (text : List ℕ) (wanted : ℕ) → Within found (length text) → IsWantedAt found text wanted → wanted ≤ length text → (asked : Asked) × IsDecidedAt found text asked

@@ -9,13 +9,14 @@ use Rattle.httparse.specs.Spans.{name_and_value}
 use Rattle.tc_types.specs.declared.acts.Query.{Query}
 use Rattle.tc_types.specs.declared.acts.Query.TheVariants as query
 use Rattle.tc_types.specs.Grammar.{Reads, IsNumber}
+use Rattle.tc_types.specs.Names.{IsName}
 use Rattle.tc_types.specs.Numbers.{IsMoment}
 use Rattle.tc_routes.specs.declared.paths.Post.{Post}
 use Rattle.tc_front.specs.declared.judge.Refused.{Refused}
 use Rattle.tc_front.specs.declared.judge.Refused.TheVariants as refused
 use Rattle.tc_front.specs.declared.judge.Judgement.{Judgement}
 use Rattle.tc_front.specs.declared.judge.Judgement.TheVariants as judgement
-use Rattle.tc_routes.specs.Paths.{Texts, places_text, request_text, history_text, report_text, Named, posts_to, asks_for, path_of, same}
+use Rattle.tc_routes.specs.Paths.{Texts, places_text, request_text, history_text, report_text, waiting_text, moves_text, procedure_text, Named, posts_to, asks_for, shows_board, path_of, same}
 use Rattle.tc_front.specs.Fields.{values, Held, absent, single, several, found_of, IsDecimal}
 
 -- ---- a question
@@ -40,12 +41,23 @@ abbrev pub AsksReport : List ℕ → List ℕ → Option Query → Type 0
 AsksReport first second asked =
     (n : Option ℕ) × (m : Option ℕ) × Reads decimal IsMoment first n × Reads decimal IsMoment second m × (asked ≡ both (λ n m. query.Report n m) n m)
 
+-- the moves behind a row
+abbrev pub AsksMoves : List ℕ → Option Query → Type 0
+AsksMoves first asked = (n : Option ℕ) × Reads decimal IsNumber first n × (asked ≡ option_map (λ n. query.Moves n) n)
+
+-- the procedure of a name
+abbrev pub AsksProcedure : List ℕ → Option Query → Type 0
+AsksProcedure first asked = (name : Option (List ℕ)) × Reads (λ name. name) IsName first name × (asked ≡ option_map (λ name. query.Steps name) name)
+
 -- the question of a path; none where a number in it is not in form
 abbrev pub AsksFor : Texts → Option Query → Type 0
 AsksFor places_text asked = asked ≡ Some query.Places
 AsksFor (request_text number) asked = AsksRequest number asked
 AsksFor (history_text first after) asked = AsksHistory first after asked
 AsksFor (report_text from to) asked = AsksReport from to asked
+AsksFor waiting_text asked = asked ≡ Some query.Waiting
+AsksFor (moves_text after) asked = AsksMoves after asked
+AsksFor (procedure_text name) asked = AsksProcedure name asked
 
 -- what is refused as bad
 abbrev pub bad : Judgement
@@ -62,11 +74,14 @@ JudgesQuestion texts j = (asked : Option Query) × AsksFor texts asked × (j ≡
 
 -- ---- the body's length
 
--- a question has no length of a body, or exactly one that is 0
+-- what is asked by GET has no length of a body, or exactly one that is 0; else it is bad
+abbrev pub without_body : Held → Judgement → Judgement
+without_body absent asked = asked
+without_body (single value) asked = if same value (codes "0") then asked else bad
+without_body several asked = bad
+
 abbrev pub JudgesGet : Held → Texts → Judgement → Type 0
-JudgesGet absent texts j = JudgesQuestion texts j
-JudgesGet (single value) texts j = MatchBool (same value (codes "0")) (JudgesQuestion texts j) (j ≡ bad)
-JudgesGet several texts j = j ≡ bad
+JudgesGet lengths texts j = (asked : Judgement) × JudgesQuestion texts asked × (j ≡ without_body lengths asked)
 
 -- a decimal, and at most 65,536
 abbrev pub JudgesLength : List ℕ → Post → Judgement → Type 0
@@ -84,6 +99,7 @@ JudgesPost several post j = j ≡ bad
 abbrev pub JudgesBody : Held → Named → Judgement → Type 0
 JudgesBody lengths (posts_to post) j = JudgesPost lengths post j
 JudgesBody lengths (asks_for texts) j = JudgesGet lengths texts j
+JudgesBody lengths shows_board j = j ≡ without_body lengths judgement.ShowsBoard
 
 -- ---- the tests in their order: path, method, transfer coding, length
 
@@ -97,6 +113,7 @@ JudgesCoding several lengths named j = j ≡ bad
 abbrev pub method_of : Named → List ℕ
 method_of (posts_to post) = codes "POST"
 method_of (asks_for texts) = codes "GET"
+method_of shows_board = codes "GET"
 
 -- a path is served, and by this method
 abbrev pub JudgesPath : List ℕ → List (List ℕ × List ℕ) → Option Named → Judgement → Type 0

@@ -4,7 +4,7 @@ ghost use Rattle.std.specs.Prelude.{◌≡◌, length, map, All, IsUtf8};
 ghost use Rattle.httparse.specs.Spans.{IsHeaderWithin, header_bytes};
 ghost use Rattle.tc_front.specs.Fields.{found_view};
 ghost use Rattle.tc_routes.specs.Paths.{named_by, texts_of};
-ghost use Rattle.tc_front.specs.Judge.{JudgesBody, JudgesGet, JudgesParts, JudgesPost, JudgesQuestion, method_of};
+ghost use Rattle.tc_front.specs.Judge.{JudgesBody, JudgesParts, JudgesPost, JudgesQuestion, method_of, without_body};
 
 use crate::fields::{FieldValues, body_length, find};
 use crate::questions::query_of;
@@ -38,6 +38,8 @@ pub(crate) enum Judgement {
     Refused(Refused),
     /// It asks this question.
     Asks(Query),
+    /// It asks for the board.
+    ShowsBoard,
     /// It posts a body of so many bytes.
     Posts { post: Post, size: usize },
 }
@@ -52,16 +54,16 @@ fn judge_question(question: Question<'_>) -> Judgement
     }
 }
 
-/// What a question asks, whose head has these lengths of a body: none, or one that is 0. That another is refused is this
+/// What is asked by GET, where the head has these lengths of a body: none, or one that is 0. That another is refused is this
 /// desk's own (RFC 9110, section 9.3.1: content of a GET has no meaning).
-fn judge_get(lengths: FieldValues<'_>, question: Question<'_>) -> Judgement
-    ensures { JudgesGet (found_view lengths.entry) (texts_of question.entry) result }
+fn judge_get(lengths: FieldValues<'_>, asked: Judgement) -> Judgement
+    ensures { result ≡ without_body (found_view lengths.entry) asked }
 {
     match lengths {
-        FieldValues::Absent => judge_question(question),
+        FieldValues::Absent => asked,
         FieldValues::One(value) => {
             if is(value, b"0") {
-                judge_question(question)
+                asked
             } else {
                 Judgement::Refused(Refused::Bad)
             }
@@ -90,7 +92,8 @@ fn judge_body(lengths: FieldValues<'_>, path: Path<'_>) -> Judgement
 {
     match path {
         Path::Posts(post) => judge_post(lengths, post),
-        Path::Asks(question) => judge_get(lengths, question),
+        Path::Asks(question) => judge_get(lengths, judge_question(question)),
+        Path::Board => judge_get(lengths, Judgement::ShowsBoard),
     }
 }
 
@@ -100,7 +103,7 @@ fn method_of(path: Path<'_>) -> &'static [u8]
 {
     match path {
         Path::Posts(_) => b"POST",
-        Path::Asks(_) => b"GET",
+        Path::Asks(_) | Path::Board => b"GET",
     }
 }
 

@@ -1,10 +1,10 @@
 //! The question that a path asks, by the numbers in it.
-ghost use Rattle.tc_front.specs.Judge.{AsksFor, AsksHistory, AsksReport, AsksRequest};
+ghost use Rattle.tc_front.specs.Judge.{AsksFor, AsksHistory, AsksMoves, AsksProcedure, AsksReport, AsksRequest};
 ghost use Rattle.tc_routes.specs.Paths.{texts_of};
 
 use tc_routes::Question;
-use tc_types::Query;
 use tc_types::read::readers::{moment, number};
+use tc_types::{Name, Query};
 
 /// What a path asks: nothing where a number in it is not in form, or past its range.
 pub(crate) fn query_of(question: Question<'_>) -> Option<Query>
@@ -15,6 +15,9 @@ pub(crate) fn query_of(question: Question<'_>) -> Option<Query>
         Question::Request { number } => request_query(number),
         Question::History { request, after } => history_query(request, after),
         Question::Report { from, to } => report_query(from, to),
+        Question::Waiting => Some(Query::Waiting),
+        Question::Moves { after } => moves_query(after),
+        Question::Procedure { name } => procedure_query(name),
     }
 }
 
@@ -48,4 +51,20 @@ fn report_query(first: &[u8], second: &[u8]) -> Option<Query>
         from: from?,
         to: to?,
     })
+}
+
+/// The moves behind row `word`.
+fn moves_query(word: &[u8]) -> Option<Query>
+    ensures { AsksMoves word.now result }
+{
+    let after = number(word)?;
+    Some(Query::Moves { after })
+}
+
+/// The procedure of the name `word`.
+fn procedure_query(word: &[u8]) -> Option<Query>
+    ensures { AsksProcedure word.now result }
+{
+    let procedure = Name::read(word)?;
+    Some(Query::Steps { procedure })
 }

@@ -8,3 +8,4 @@ pub mod WorkedCases
 pub mod WorkedLogs
 pub mod AfterLemmas
 pub mod ReopenLemmas
+pub mod FaultLemmas

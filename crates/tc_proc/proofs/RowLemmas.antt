@@ -58,7 +58,7 @@ pub spelled_once : (text : List ℕ) (a b : List Step) → SpellsProcedure text 
 spelled_once text a b first second = steps_same 1 a b first.procedure.each second.procedure.each (ap (drop 1) (sym first.are ∙ second.are))
 
 -- each step has one record
-records_length : (number : ℕ) (steps : List Step) → length (step_records number steps) ≡ length steps
+pub records_length : (number : ℕ) (steps : List Step) → length (step_records number steps) ≡ length steps
 records_length number [] = refl
 records_length number (step ∷ steps) = let rest = records_length (number + 1) steps in omega (arith, rest)
 

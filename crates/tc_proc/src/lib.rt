@@ -3,6 +3,7 @@
 
 mod executions;
 mod faults;
+mod judging;
 mod logs;
 mod procedures;
 mod readers;
@@ -13,6 +14,7 @@ mod steps;
 
 pub use executions::Execution;
 pub use faults::ReopenFault;
+pub use judging::{procedure_columns, procedure_faults};
 pub use logs::ProcedureLog;
 pub use procedures::{Procedure, Step};
 pub use readers::{read_procedure, why_no_procedure};

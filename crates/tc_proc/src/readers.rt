@@ -21,7 +21,12 @@ use tc_types::read::readers::{number, yes_or_no};
 use tc_types::{Refusal, StepText};
 
 /// The columns of the text of a procedure.
-const COLUMNS: [Column; 4] = [Column::Step, Column::Text, Column::Second, Column::Request];
+pub(crate) const COLUMNS: [Column; 4] = [
+    Column::Step,
+    Column::Text,
+    Column::Second,
+    Column::Request,
+];
 
 /// The text of a step, from its field.
 fn text_of(row: u32, field: &[u8]) -> Result<StepText, NotRead>
@@ -31,7 +36,7 @@ fn text_of(row: u32, field: &[u8]) -> Result<StepText, NotRead>
 }
 
 /// The step of a row with this number.
-fn step_of(row: u32, fields: &ByteRecord) -> Result<Step, NotRead>
+pub(crate) fn step_of(row: u32, fields: &ByteRecord) -> Result<Step, NotRead>
     ensures { Judged (λ step. (fields_of fields.now ≡ step_record row step) × IsStep step) (λ fault. FirstBroken (KeepsStep row (fields_of fields.now)) step_rules fault.rule × (fault.row ≡ row)) result }
 {
     if fields.len() != COLUMNS.len() {

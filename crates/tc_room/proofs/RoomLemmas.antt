@@ -21,6 +21,7 @@ use Rattle.tc_types.specs.declared.acts.Query.TheVariants as query
 use Rattle.tc_types.specs.declared.requests.Request.{Request}
 use Rattle.tc_types.specs.RequestLine.{request_line}
 use Rattle.tc_types.specs.declared.history.moves.Move.{Move}
+use Rattle.tc_types.specs.declared.history.places.Place.{Place}
 use Rattle.tc_world.specs.declared.events.LinkIndication.{LinkIndication}
 use Rattle.tc_world.specs.EitherLink.{either}
 use Rattle.tc_book.specs.declared.stamps.Stamp.{Stamp}
@@ -33,7 +34,7 @@ use Rattle.tc_desk.specs.declared.configs.Config.{Config}
 use Rattle.tc_desk.specs.declared.firsts.FirstLine.{FirstLine}
 use Rattle.tc_desk.specs.Acts.{is_question, refusal_of}
 use Rattle.tc_desk.specs.Machine.{Carries, DeskStep, Does, Refuses, Serves, StaysSame, rows_new}
-use Rattle.tc_desk.specs.Replies.{Reply, act_reply, history_lines, Replies, refusal_reply, request_lines}
+use Rattle.tc_desk.specs.Replies.{Reply, act_reply, history_lines, Replies, refusal_reply, request_lines, standing_lines}
 use Rattle.tc_store.specs.Ledgers.{KeptAnswer, empty_ledger}
 use Rattle.tc_store.specs.Schema.{Holds}
 use Rattle.tc_store.specs.Steps.{LeavesOnly}
@@ -176,12 +177,17 @@ take_within (suc n) zero xs low = absurd (omega (arith, low))
 take_within (suc n) (suc m) [] low = refl
 take_within (suc n) (suc m) (x ∷ xs) low = ap (λ l. x ∷ l) (take_within n m xs (omega (arith, low)))
 
+-- of the first 51 the first 50 are shown that are of all, and there are more of both or of none
+shown_within : {X : Type 0} (xs : List X) → take 50 (take 51 xs) ≡ take 50 xs
+shown_within xs = take_within 50 51 xs (omega arith)
+
+more_within : {X : Type 0} (xs : List X) → nat_lt 50 (length (take 51 xs)) ≡ nat_lt 50 (length xs)
+more_within xs = let len = length-take 51 xs in grind (arith, nat_tests, len)
+
 -- a reply shows of the first 51 rows what it shows of all
 pub enough_shown : (n : ℕ) (rows : List Move) → history_lines n (take 51 rows) ≡ history_lines n rows
-enough_shown n rows = rw (shown, more) refl
-  where
-    shown : take 50 (take 51 rows) ≡ take 50 rows
-    shown = take_within 50 51 rows (omega arith)
+enough_shown n rows = rw (shown_within rows, more_within rows) refl
 
-    more : nat_lt 50 (length (take 51 rows)) ≡ nat_lt 50 (length rows)
-    more = let len = length-take 51 rows in grind (arith, nat_tests, len)
+-- so it is of requests at a place
+pub enough_stand : (place : Place) (found : List Request) → standing_lines place (take 51 found) ≡ standing_lines place found
+enough_stand place found = rw (shown_within found, more_within found) refl

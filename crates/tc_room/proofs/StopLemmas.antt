@@ -114,6 +114,10 @@ of_question book query.Link = refl
 of_question book query.Schedule = refl
 of_question book (query.Log execution) = refl
 of_question book (query.Report from to) = refl
+of_question book query.Waiting = refl
+of_question book (query.Moves after) = refl
+of_question book (query.Standing place after) = refl
+of_question book (query.Steps procedure) = refl
 
 of_act : (stamp : Stamp) (at : LinkState) (given : Act) → are_before_31 (tests_of stamp at given) ≡ true
 of_act stamp at (act.Book given) = of_book stamp at.book given

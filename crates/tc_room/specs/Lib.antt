@@ -7,3 +7,4 @@ pub mod Room
 pub mod Loads
 pub mod Calls
 pub mod Closed
+pub mod Boards

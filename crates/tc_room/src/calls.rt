@@ -30,7 +30,8 @@ use sqlite::Alter;
 use std::alloc::Global;
 use tc_book::Stamp;
 use tc_book::laws::{a_good_book_is_sound, nobody_is_lost};
-use tc_types::{Act, LONGEST_ACT, Line, LoadKind, Moment, Name, Person, Refusal, read_act};
+use tc_types::limits::LONGEST_ACT;
+use tc_types::{Act, Line, LoadKind, Moment, Name, Person, Refusal, read_act};
 
 /// What a call was answered.
 #[derive(Drop)]

@@ -6,12 +6,14 @@ mod answers;
 mod callers;
 mod calls;
 mod closed;
+mod closed_boards;
 mod counts;
 mod desks;
 mod loadings;
 mod opening;
 mod replies;
 mod rooms;
+mod waited;
 mod writes;
 
 pub use answers::{
@@ -20,6 +22,7 @@ pub use answers::{
 pub use callers::Caller;
 pub use calls::Called;
 pub use closed::{closed_head, closed_page};
+pub use closed_boards::closed_board;
 pub use desks::reopen_desk;
 pub use opening::OpenedRoom;
 pub use replies::opening_reply;

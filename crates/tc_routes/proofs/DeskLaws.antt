@@ -9,13 +9,13 @@ use Rattle.matchit.specs.Router.{RouteOf}
 use Rattle.tc_types.specs.Words.{words}
 use Rattle.tc_routes.specs.declared.routes.RouteKind.{RouteKind}
 use Rattle.tc_routes.specs.declared.routes.RouteKind.TheVariants as kind
-use Rattle.tc_routes.specs.Paths.{Named, same, is_filled, two_texts, path_of, request as request_named, history as history_named, report as report_named}
+use Rattle.tc_routes.specs.Paths.{Named, same, is_filled, two_texts, path_of, one_text, procedures, request as request_named, history as history_named, report as report_named, moves as moves_named, procedure as procedure_named}
 use Rattle.tc_routes.specs.Routes.{KindRoutes, desk_routes, named_at, first_text, second_text}
 use Rattle.tc_routes.proofs.SeekLaws.{steps, is_plain, no_rows, text_steps, fits, any_fits, unfit, one_param, two_params, last_param, no_second, first_param, no_first}
 use Rattle.tc_routes.proofs.PathLaws.{Whole, Parted, parted, has_slash-parted, IsNoLast, some_word, same_refl, is_word, goes_on, one_no_last, one_last, same_either, filled_is}
 use Rattle.tc_routes.proofs.WalkLaws.{is_ascii, one_walk, two_walk}
 use Rattle.tc_routes.proofs.TextLaws.{bytes_text, ascii_text, text_parts, bytes_behind}
-use Rattle.tc_routes.proofs.RouteLaws.{history, report, request, rows, desk_rows}
+use Rattle.tc_routes.proofs.RouteLaws.{history, moves, procedure, report, request, rows, desk_rows}
 
 abbrev pub pairs_of : RouteOf RouteKind → List ℕ → List (List ℕ × List ℕ)
 pairs_of route path = walk route.pattern route.text path route.names 0 0
@@ -58,15 +58,30 @@ procedures_alone : Finds (codes "/procedures")
 unfolding seek
 procedures_alone = subst (IsRouted (codes "/procedures")) (sym (text_steps (codes "/procedures") [] rows refl)) (tt, refl)
 
-procedures_more : (path : List ℕ) → Finds (codes "/procedures/" ++ path)
-procedures_more path = no_more (codes "/procedures/") path refl refl (goes_on _ path)
-
 places_alone : Finds (codes "/places")
 unfolding seek
 places_alone = subst (IsRouted (codes "/places")) (sym (text_steps (codes "/places") [] rows refl)) (tt, refl)
 
 places_more : (path : List ℕ) → Finds (codes "/places/" ++ path)
 places_more path = no_more (codes "/places/") path refl refl (goes_on _ path)
+
+waiting_alone : Finds (codes "/waiting")
+unfolding seek
+waiting_alone = subst (IsRouted (codes "/waiting")) (sym (text_steps (codes "/waiting") [] rows refl)) (tt, refl)
+
+waiting_more : (path : List ℕ) → Finds (codes "/waiting/" ++ path)
+waiting_more path = no_more (codes "/waiting/") path refl refl (goes_on _ path)
+
+board_alone : Finds (codes "/board")
+unfolding seek
+board_alone = subst (IsRouted (codes "/board")) (sym (text_steps (codes "/board") [] rows refl)) (tt, refl)
+
+board_more : (path : List ℕ) → Finds (codes "/board/" ++ path)
+board_more path = no_more (codes "/board/") path refl refl (goes_on _ path)
+
+moves_alone : Finds (codes "/moves")
+unfolding seek
+moves_alone = subst (IsRouted (codes "/moves")) (sym (text_steps (codes "/moves") [] rows refl)) refl
 
 request_alone : Finds (codes "/requests")
 unfolding seek
@@ -99,14 +114,51 @@ last_text route (b ∷ path) small = by (parted (b ∷ path))
         let cut : has_slash (b ∷ path) ≡ true = ap has_slash p.is ∙ has_slash-parted p.word p.rest in
         inr (last_param route b path small.0 ∙ rw cut refl, record { first = p.word; rest = words 47 p.rest; is = p.cut; why = inr (some_word p.rest) })
 
+-- ---- paths with one text
+
+-- a route of one parameter behind a text of bytes
+module _ (text written : List ℕ) (name : ℕ × ℕ) (kind : RouteKind) (named : List ℕ → Named) where
+  abbrev one_route : RouteOf RouteKind
+  one_route = record { pattern = text ++ param_token ∷ []; text = written; names = name ∷ []; value = kind }
+
+  record IsOne : Type 0 where
+    pub ascii : is_ascii text ≡ true
+    pub plain : is_plain text rows ≡ true
+    pub left : steps text rows ≡ one_param one_route
+    pub said : (path : List ℕ) → path_of (text ++ path) ≡ one_text named (words 47 path)
+    pub at : (first second : List ℕ) → named_at kind first second ≡ named first
+    pub names : IsUtf8 (part_of written name.0 name.1)
+
+  one_more : IsOne → (path : List ℕ) → IsText path → IsUtf8 path → Finds (text ++ path)
+  one_more one path small whole = subst (IsRouted (text ++ path)) (sym (text_steps text path rows one.plain ∙ ap (λ r. seek 0 r path) one.left)) (by (last_text one_route path small))
+    where
+      by : Last one_route path → IsRouted (text ++ path) (seek 0 (one_param one_route) path)
+      by (inl h) =
+          subst (IsRouted (text ++ path)) (sym h.0)
+          (routed (text ++ path) one_route _ (one_walk text written path name one.ascii) (one.names, whole, tt) (one.said path ∙ one_last named path h.1 h.2 ∙ ap Some (sym (one.at path []))))
+      by (inr h) = subst (IsRouted (text ++ path)) (sym h.0) (one.said path ∙ one_no_last named path h.1)
+
 request_more : (path : List ℕ) → IsText path → IsUtf8 path → Finds (codes "/requests/" ++ path)
-request_more path small text = subst (IsRouted (codes "/requests/" ++ path)) (sym (text_steps (codes "/requests/") path rows refl)) (by (last_text request path small))
-  where
-    by : Last request path → IsRouted (codes "/requests/" ++ path) (seek 0 (one_param request) path)
-    by (inl h) =
-        subst (IsRouted (codes "/requests/" ++ path)) (sym h.0)
-        (routed (codes "/requests/" ++ path) request _ (one_walk (codes "/requests/") request.text path (11, 17) refl) (ascii_text (codes "number") refl, text, tt) (one_last request_named path h.1 h.2))
-    by (inr h) = subst (IsRouted (codes "/requests/" ++ path)) (sym h.0) (one_no_last request_named path h.1)
+request_more path small whole =
+    one_more (codes "/requests/") request.text (11, 17) kind.Request request_named
+    (record { ascii = refl; plain = refl; left = refl; said = λ path. refl; at = λ first second. refl; names = ascii_text (codes "number") refl })
+    path small whole
+
+moves_more : (path : List ℕ) → IsText path → IsUtf8 path → Finds (codes "/moves/" ++ path)
+moves_more path small whole =
+    one_more (codes "/moves/") moves.text (8, 13) kind.Moves moves_named
+    (record { ascii = refl; plain = refl; left = refl; said = λ path. refl; at = λ first second. refl; names = ascii_text (codes "after") refl })
+    path small whole
+
+-- behind /procedures/ a text is asked for
+one_procedure : (path : List ℕ) → procedures (words 47 path) ≡ one_text procedure_named (words 47 path)
+one_procedure path = rw (some_word path).2 refl
+
+procedure_more : (path : List ℕ) → IsText path → IsUtf8 path → Finds (codes "/procedures/" ++ path)
+procedure_more path small whole =
+    one_more (codes "/procedures/") procedure.text (13, 17) kind.Procedure procedure_named
+    (record { ascii = refl; plain = refl; left = refl; said = one_procedure; at = λ first second. refl; names = ascii_text (codes "name") refl })
+    path small whole
 
 -- ---- paths with two texts
 
@@ -222,28 +274,38 @@ data Name (word : List ℕ) : Type 0 where
   is_requests : word ≡ codes "requests" → Name word
   is_history : word ≡ codes "history" → Name word
   is_report : word ≡ codes "report" → Name word
+  is_waiting : word ≡ codes "waiting" → Name word
+  is_moves : word ≡ codes "moves" → Name word
+  is_board : word ≡ codes "board" → Name word
   is_none : same word (codes "acts") ≡ false → same word (codes "stacks") ≡ false → same word (codes "procedures") ≡ false → same word (codes "places") ≡ false
-      → same word (codes "requests") ≡ false → same word (codes "history") ≡ false → same word (codes "report") ≡ false → Name word
+      → same word (codes "requests") ≡ false → same word (codes "history") ≡ false → same word (codes "report") ≡ false → same word (codes "waiting") ≡ false → same word (codes "moves") ≡ false
+      → same word (codes "board") ≡ false → Name word
 
 name_of : (word : List ℕ) → Name word
 name_of word =
-    ⊎_elim is_acts (λ a. ⊎_elim is_stacks (λ b. ⊎_elim is_procedures (λ c. ⊎_elim is_places (λ d. ⊎_elim is_requests (λ e. ⊎_elim is_history (λ f. ⊎_elim is_report (λ g. is_none a b c d e f g)
-    (is_word word (codes "report"))) (is_word word (codes "history"))) (is_word word (codes "requests"))) (is_word word (codes "places"))) (is_word word (codes "procedures"))) (is_word word (codes "stacks"))) (is_word word (codes "acts"))
+    ⊎_elim is_acts (λ a. ⊎_elim is_stacks (λ b. ⊎_elim is_procedures (λ c. ⊎_elim is_places (λ d. ⊎_elim is_requests (λ e. ⊎_elim is_history (λ f. ⊎_elim is_report (λ g. ⊎_elim is_waiting (λ h. ⊎_elim is_moves (λ i. ⊎_elim is_board (λ j. is_none a b c d e f g h i j)
+    (is_word word (codes "board"))) (is_word word (codes "moves"))) (is_word word (codes "waiting"))) (is_word word (codes "report"))) (is_word word (codes "history"))) (is_word word (codes "requests"))) (is_word word (codes "places"))) (is_word word (codes "procedures")))
+    (is_word word (codes "stacks"))) (is_word word (codes "acts"))
 
 no_name : (path word : List ℕ) (more : List (List ℕ)) → words 47 path ≡ word ∷ more
     → same word (codes "acts") ≡ false → same word (codes "stacks") ≡ false → same word (codes "procedures") ≡ false → same word (codes "places") ≡ false
-    → same word (codes "requests") ≡ false → same word (codes "history") ≡ false → same word (codes "report") ≡ false → Finds (47 ∷ path)
-no_name path word more cut a b c d e f g = subst (IsRouted (47 ∷ path)) (sym (unfit (47 ∷ path) rows none)) (rw cut (rw a (rw b (rw c (rw d (rw e (rw f (rw g refl))))))))
+    → same word (codes "requests") ≡ false → same word (codes "history") ≡ false → same word (codes "report") ≡ false → same word (codes "waiting") ≡ false → same word (codes "moves") ≡ false → same word (codes "board") ≡ false → Finds (47 ∷ path)
+no_name path word more cut a b c d e f g h i j =
+    subst (IsRouted (47 ∷ path)) (sym (unfit (47 ∷ path) rows none)) (rw cut (rw a (rw b (rw c (rw d (rw e (rw f (rw g (rw h (rw i (rw j refl)))))))))))
   where
     none : any_fits rows (47 ∷ path) ≡ false
     none =
         or_from _ _ (not_alone (codes "acts") path word more cut a refl refl)
+        (or_from _ _ (not_alone (codes "board") path word more cut j refl refl)
         (or_from _ _ (not_front (codes "history") (param_token ∷ slash ∷ param_token ∷ []) path word more cut f refl (λ rest. refl))
+        (or_from _ _ (not_front (codes "moves") (param_token ∷ []) path word more cut i refl (λ rest. refl))
         (or_from _ _ (not_alone (codes "places") path word more cut d refl refl)
+        (or_from _ _ (not_front (codes "procedures") (param_token ∷ []) path word more cut c refl (λ rest. refl))
         (or_from _ _ (not_alone (codes "procedures") path word more cut c refl refl)
         (or_from _ _ (not_front (codes "report") (param_token ∷ slash ∷ param_token ∷ []) path word more cut g refl (λ rest. refl))
         (or_from _ _ (not_front (codes "requests") (param_token ∷ []) path word more cut e refl (λ rest. refl))
-        (or_from _ _ (not_alone (codes "stacks") path word more cut b refl refl) refl))))))
+        (or_from _ _ (not_alone (codes "stacks") path word more cut b refl refl)
+        (or_from _ _ (not_alone (codes "waiting") path word more cut h refl refl) refl))))))))))
 
 -- ---- the law
 
@@ -255,7 +317,10 @@ alone path w (is_places e) = subst (λ l. Finds (47 ∷ l)) (sym e) places_alone
 alone path w (is_requests e) = subst (λ l. Finds (47 ∷ l)) (sym e) request_alone
 alone path w (is_history e) = subst (λ l. Finds (47 ∷ l)) (sym e) history_alone
 alone path w (is_report e) = subst (λ l. Finds (47 ∷ l)) (sym e) report_alone
-alone path w (is_none a b c d e f g) = no_name path path [] w.cut a b c d e f g
+alone path w (is_waiting e) = subst (λ l. Finds (47 ∷ l)) (sym e) waiting_alone
+alone path w (is_moves e) = subst (λ l. Finds (47 ∷ l)) (sym e) moves_alone
+alone path w (is_board e) = subst (λ l. Finds (47 ∷ l)) (sym e) board_alone
+alone path w (is_none a b c d e f g h i j) = no_name path path [] w.cut a b c d e f g h i j
 
 more : (path : List ℕ) (p : Parted path) → IsText p.rest → IsUtf8 p.rest → Name p.word → Finds (47 ∷ path)
 more path p small whole name = by name
@@ -266,12 +331,15 @@ more path p small whole name = by name
     by : Name p.word → Finds (47 ∷ path)
     by (is_acts e) = at (codes "acts") e (acts_more p.rest)
     by (is_stacks e) = at (codes "stacks") e (stacks_more p.rest)
-    by (is_procedures e) = at (codes "procedures") e (procedures_more p.rest)
+    by (is_procedures e) = at (codes "procedures") e (procedure_more p.rest small whole)
     by (is_places e) = at (codes "places") e (places_more p.rest)
     by (is_requests e) = at (codes "requests") e (request_more p.rest small whole)
     by (is_history e) = at (codes "history") e (history_more p.rest small whole)
     by (is_report e) = at (codes "report") e (report_more p.rest small whole)
-    by (is_none a b c d e f g) = no_name path p.word (words 47 p.rest) p.cut a b c d e f g
+    by (is_waiting e) = at (codes "waiting") e (waiting_more p.rest)
+    by (is_moves e) = at (codes "moves") e (moves_more p.rest small whole)
+    by (is_board e) = at (codes "board") e (board_more p.rest)
+    by (is_none a b c d e f g h i j) = no_name path p.word (words 47 p.rest) p.cut a b c d e f g h i j
 
 behind : (path : List ℕ) → IsText path → IsUtf8 path → Finds (47 ∷ path)
 behind path small whole = by (parted path)

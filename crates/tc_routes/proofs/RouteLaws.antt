@@ -15,14 +15,23 @@ route pattern text names kind = record { pattern = pattern; text = text; names =
 abbrev pub acts : RouteOf RouteKind
 acts = route (codes "/acts") (codes "/acts") [] kind.Acts
 
+abbrev pub board : RouteOf RouteKind
+board = route (codes "/board") (codes "/board") [] kind.Board
+
 abbrev pub history : RouteOf RouteKind
 history = route (codes "/history/" ++ param_token ∷ 47 ∷ param_token ∷ []) (codes "/history/{request}/{after}") ((10, 17) ∷ (20, 25) ∷ []) kind.History
+
+abbrev pub moves : RouteOf RouteKind
+moves = route (codes "/moves/" ++ param_token ∷ []) (codes "/moves/{after}") ((8, 13) ∷ []) kind.Moves
 
 abbrev pub places : RouteOf RouteKind
 places = route (codes "/places") (codes "/places") [] kind.Places
 
 abbrev pub procedures : RouteOf RouteKind
 procedures = route (codes "/procedures") (codes "/procedures") [] kind.Procedures
+
+abbrev pub procedure : RouteOf RouteKind
+procedure = route (codes "/procedures/" ++ param_token ∷ []) (codes "/procedures/{name}") ((13, 17) ∷ []) kind.Procedure
 
 abbrev pub report : RouteOf RouteKind
 report = route (codes "/report/" ++ param_token ∷ 47 ∷ param_token ∷ []) (codes "/report/{from}/{to}") ((9, 13) ∷ (16, 18) ∷ []) kind.Report
@@ -33,12 +42,15 @@ request = route (codes "/requests/" ++ param_token ∷ []) (codes "/requests/{nu
 abbrev pub stacks : RouteOf RouteKind
 stacks = route (codes "/stacks") (codes "/stacks") [] kind.Stacks
 
+abbrev pub waiting : RouteOf RouteKind
+waiting = route (codes "/waiting") (codes "/waiting") [] kind.Waiting
+
 abbrev pub row : RouteOf RouteKind → List ℕ × RouteOf RouteKind
 row route = (route.pattern, route)
 
--- the rows in their order
+-- the rows in their order: one that goes on comes before what it starts with
 abbrev pub rows : KindRoutes
-rows = row acts ∷ row history ∷ row places ∷ row procedures ∷ row report ∷ row request ∷ row stacks ∷ []
+rows = row acts ∷ row board ∷ row history ∷ row moves ∷ row places ∷ row procedure ∷ row procedures ∷ row report ∷ row request ∷ row stacks ∷ row waiting ∷ []
 
 pub desk_rows : desk_routes ≡ rows
 unfolding matchit_on_literals with_route desk_routes

@@ -14,11 +14,15 @@ pub data Texts : Type 0 where
   request_text : List ℕ → Texts
   history_text : List ℕ → List ℕ → Texts
   report_text : List ℕ → List ℕ → Texts
+  waiting_text : Texts
+  moves_text : List ℕ → Texts
+  procedure_text : List ℕ → Texts
 
--- what a path names: where to something is posted, or a question
+-- what a path names: where to something is posted, a question, or the board
 pub data Named : Type 0 where
   posts_to : Post → Named
   asks_for : Texts → Named
+  shows_board : Named
 
 -- the code's question, with the bytes of its texts
 abbrev pub texts_of : Question → Texts
@@ -26,11 +30,15 @@ texts_of question.Places = places_text
 texts_of (question.Request number) = request_text number.now
 texts_of (question.History request after) = history_text request.now after.now
 texts_of (question.Report from to) = report_text from.now to.now
+texts_of question.Waiting = waiting_text
+texts_of (question.Moves after) = moves_text after.now
+texts_of (question.Procedure name) = procedure_text name.now
 
 -- what the code's path names
 abbrev pub named_by : Path → Named
 named_by (path.Posts to) = posts_to to
 named_by (path.Asks asked) = asks_for (texts_of asked)
+named_by path.Board = shows_board
 
 -- the same bytes
 abbrev pub same : List ℕ → List ℕ → Bool
@@ -70,17 +78,33 @@ history first after = asks_for (history_text first after)
 abbrev pub report : List ℕ → List ℕ → Named
 report from to = asks_for (report_text from to)
 
+-- /moves/AFTER
+abbrev pub moves : List ℕ → Named
+moves after = asks_for (moves_text after)
+
+-- /procedures/NAME
+abbrev pub procedure : List ℕ → Named
+procedure name = asks_for (procedure_text name)
+
+-- /procedures, to which one is posted, or one of them
+abbrev pub procedures : List (List ℕ) → Option Named
+procedures [] = Some (posts_to post.Procedures)
+procedures (text ∷ texts) = one_text procedure (text ∷ texts)
+
 -- by the name behind the first slash, as it is spelled here
 abbrev pub named_path : List (List ℕ) → Option Named
 named_path [] = None
 named_path (name ∷ texts) =
     if same name (codes "acts") then ends_here (posts_to post.Acts) texts
     else (if same name (codes "stacks") then ends_here (posts_to post.Stacks) texts
-    else (if same name (codes "procedures") then ends_here (posts_to post.Procedures) texts
+    else (if same name (codes "procedures") then procedures texts
     else (if same name (codes "places") then ends_here (asks_for places_text) texts
     else (if same name (codes "requests") then one_text request texts
     else (if same name (codes "history") then two_texts history texts
-    else (if same name (codes "report") then two_texts report texts else None))))))
+    else (if same name (codes "report") then two_texts report texts
+    else (if same name (codes "waiting") then ends_here (asks_for waiting_text) texts
+    else (if same name (codes "moves") then one_text moves texts
+    else (if same name (codes "board") then ends_here shows_board texts else None)))))))))
 
 -- nothing stands before the first slash
 abbrev pub behind_slash : List (List ℕ) → Option Named

@@ -8,7 +8,7 @@ use Rattle.matchit.specs.declared.InsertError.{InsertError}
 use Rattle.tc_routes.specs.declared.routes.RouteKind.{RouteKind}
 use Rattle.tc_routes.specs.declared.routes.RouteKind.TheVariants as kind
 use Rattle.tc_routes.specs.declared.paths.Post.TheVariants as post
-use Rattle.tc_routes.specs.Paths.{Named, posts_to, asks_for, places_text, request, history, report}
+use Rattle.tc_routes.specs.Paths.{Named, posts_to, asks_for, shows_board, places_text, waiting_text, request, history, report, moves, procedure}
 
 abbrev pub KindRoutes : Type 0
 KindRoutes = RowsOf (RouteOf RouteKind)
@@ -25,13 +25,17 @@ with_route route kind rows = with_read (parse_route route) kind rows
 -- one route for each path
 unfoldable pub desk_routes : KindRoutes
 desk_routes =
-    with_route (codes "/report/{from}/{to}") kind.Report
+    with_route (codes "/board") kind.Board
+    (with_route (codes "/procedures/{name}") kind.Procedure
+    (with_route (codes "/moves/{after}") kind.Moves
+    (with_route (codes "/waiting") kind.Waiting
+    (with_route (codes "/report/{from}/{to}") kind.Report
     (with_route (codes "/history/{request}/{after}") kind.History
     (with_route (codes "/requests/{number}") kind.Request
     (with_route (codes "/places") kind.Places
     (with_route (codes "/procedures") kind.Procedures
     (with_route (codes "/stacks") kind.Stacks
-    (with_route (codes "/acts") kind.Acts []))))))
+    (with_route (codes "/acts") kind.Acts []))))))))))
 
 -- the route reads well, and no route of the rows stands against it
 abbrev pub IsFree : Result Scan InsertError → KindRoutes → Type 0
@@ -47,6 +51,10 @@ named_at kind.Places first second = asks_for places_text
 named_at kind.Request first second = request first
 named_at kind.History first second = history first second
 named_at kind.Report first second = report first second
+named_at kind.Waiting first second = asks_for waiting_text
+named_at kind.Moves first second = moves first
+named_at kind.Procedure first second = procedure first
+named_at kind.Board first second = shows_board
 
 -- the texts that a match took, each behind its name; one that is not there is empty
 abbrev pub first_text : List (List ℕ × List ℕ) → List ℕ

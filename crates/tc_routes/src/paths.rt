@@ -22,6 +22,12 @@ pub enum Question<'a> {
     History { request: &'a [u8], after: &'a [u8] },
     /// `/report/FROM/TO`
     Report { from: &'a [u8], to: &'a [u8] },
+    /// `/waiting`
+    Waiting,
+    /// `/moves/AFTER`
+    Moves { after: &'a [u8] },
+    /// `/procedures/NAME`
+    Procedure { name: &'a [u8] },
 }
 
 /// A path that the desk serves.
@@ -31,4 +37,6 @@ pub enum Path<'a> {
     Posts(Post),
     /// It asks a question.
     Asks(Question<'a>),
+    /// `/board`: it shows the board.
+    Board,
 }

@@ -22,6 +22,10 @@ pub(crate) enum RouteKind {
     Request,
     History,
     Report,
+    Waiting,
+    Moves,
+    Procedure,
+    Board,
 }
 
 /// The path of this kind with these texts, which are empty where it has none.
@@ -42,6 +46,10 @@ fn path_at<'a>(kind: RouteKind, first: &'a [u8], second: &'a [u8]) -> Path<'a>
             from: first,
             to: second,
         }),
+        RouteKind::Waiting => Path::Asks(Question::Waiting),
+        RouteKind::Moves => Path::Asks(Question::Moves { after: first }),
+        RouteKind::Procedure => Path::Asks(Question::Procedure { name: first }),
+        RouteKind::Board => Path::Board,
     }
 }
 
@@ -105,6 +113,10 @@ impl Routes {
             RouteKind::History,
         )?;
         add(&mut router, "/report/{from}/{to}", RouteKind::Report)?;
+        add(&mut router, "/waiting", RouteKind::Waiting)?;
+        add(&mut router, "/moves/{after}", RouteKind::Moves)?;
+        add(&mut router, "/procedures/{name}", RouteKind::Procedure)?;
+        add(&mut router, "/board", RouteKind::Board)?;
         Ok(Routes { router })
     }
 

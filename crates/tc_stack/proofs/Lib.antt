@@ -5,3 +5,4 @@ mod StackCases
 pub mod StackRowLemmas
 pub mod TextLemmas
 mod WorkedCases
+pub mod FaultLemmas

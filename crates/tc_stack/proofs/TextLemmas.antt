@@ -16,7 +16,7 @@ use Rattle.tc_stack.specs.RowTexts.{SpellsOnlyRow, IsOnlyStack}
 use Rattle.tc_stack.proofs.CommandLemmas.{scheduled, command_keeps}
 
 -- fields that spell a row keep each rule
-row_keeps : (line : ℕ) (fields : List (List ℕ)) (row : StackRow) → SpellsRow line fields row → KeepsAll (KeepsRow line fields) row_rules
+pub row_keeps : (line : ℕ) (fields : List (List ℕ)) (row : StackRow) → SpellsRow line fields row → KeepsAll (KeepsRow line fields) row_rules
 row_keeps line fields row is =
     let entry = is.stands.entry in
     let command = command_keeps line fields row.entry.command is.command entry.command is.stands.targets in (
@@ -54,7 +54,7 @@ row_keeps line fields row is =
       ),
     )
 
-only_keeps : (line : ℕ) (fields : List (List ℕ)) (row : StackRow) → SpellsOnlyRow line fields row → KeepsAll (KeepsRow line fields) row_rules
+pub only_keeps : (line : ℕ) (fields : List (List ℕ)) (row : StackRow) → SpellsOnlyRow line fields row → KeepsAll (KeepsRow line fields) row_rules
 only_keeps line fields row is = row_keeps line fields row is.0
 
 -- one row more
@@ -93,10 +93,10 @@ only_rows number (f ∷ fs) (r ∷ rs) (o ∷ os) so also =
     let rest = only_rows (number + 1) fs rs os so.1 also.1 in
     λ i. first i ∷ rest i
 
-rows_only : (given : List (List (List ℕ))) (rows : List StackRow) → SpellRows SpellsOnlyRow 1 given rows → IsOnly (SpellRows SpellsRow 1 given) rows
+pub rows_only : (given : List (List (List ℕ))) (rows : List StackRow) → SpellRows SpellsOnlyRow 1 given rows → IsOnly (SpellRows SpellsRow 1 given) rows
 rows_only given rows so = (only_spelled 1 given rows so, λ others also. only_rows 1 given rows others so also)
 
-rows_stand : (number : ℕ) (given : List (List (List ℕ))) (rows : List StackRow) → SpellRows SpellsRow number given rows → AreRows number rows
+pub rows_stand : (number : ℕ) (given : List (List (List ℕ))) (rows : List StackRow) → SpellRows SpellsRow number given rows → AreRows number rows
 rows_stand number [] [] so = tt
 rows_stand number [] (r ∷ rs) so = absurd so
 rows_stand number (f ∷ fs) [] so = absurd so

@@ -4,3 +4,4 @@ pub mod Given
 pub mod RowTexts
 pub mod StackTexts
 pub mod Stacks
+pub mod StackFaults

@@ -1,5 +1,5 @@
 //! The approval of a request by other persons than its author (this desk's own rule).
-ghost use Rattle.std.specs.Prelude.{◌≡◌, ◌<◌, ◌≤◌, ◌++◌, ◌∷◌, [], length, IfOk};
+ghost use Rattle.std.specs.Prelude.{◌≡◌, ◌<◌, ◌≤◌, ◌++◌, ◌∷◌, [], length, slice_get, IfOk};
 ghost use Rattle.std.specs.List.{list_any};
 ghost use Rattle.tc_stack.specs.Approvals.{unapproved, wanted, is_complete, is_same_person, refusal_of, after_approval, refused_with, IsApproval};
 ghost use Rattle.tc_stack.specs.Given.{persons_of};
@@ -67,6 +67,30 @@ impl Approvals {
             author,
             critical,
             given: Given::Nobody,
+        }
+    }
+
+    /// Whose the request is; this person may not approve it.
+    pub fn author(&self) -> Name
+        ensures { result ≡ self.now.author }
+    {
+        self.author
+    }
+
+    /// Whether two persons are wanted.
+    pub fn is_critical(&self) -> bool
+        ensures { result ≡ self.now.critical }
+    {
+        self.critical
+    }
+
+    /// Who approved first, if anybody did.
+    pub fn first(&self) -> Option<Name>
+        ensures { result ≡ slice_get self.now.persons 0 }
+    {
+        match &self.given {
+            Given::Nobody => None,
+            Given::One(first) | Given::Two(first, _) => Some(*first),
         }
     }
 

@@ -6,11 +6,13 @@ mod commands;
 mod inserts;
 mod instants;
 mod interlocks;
+mod judging;
 mod readers;
 mod stack_rows;
 mod stacks;
 
 pub use approvals::Approvals;
 pub use instants::instant;
+pub use judging::{stack_columns, stack_faults};
 pub use readers::{read_stack, why_no_stack};
 pub use stacks::{Stack, StackRow};

@@ -21,7 +21,7 @@ use tc_types::limits::MOST_STACK_ROWS;
 use tc_types::{Command, Entry, Refusal};
 
 /// The columns of the text of a stack.
-const COLUMNS: [Column; 10] = [
+pub(crate) const COLUMNS: [Column; 10] = [
     Column::Line,
     Column::Apid,
     Column::Service,
@@ -35,7 +35,7 @@ const COLUMNS: [Column; 10] = [
 ];
 
 /// The rows of these records.
-fn rows_of(alloc: Global, records: &[ByteRecord]) -> Result<Vec<StackRow>, NotRead>
+pub(crate) fn rows_of(alloc: Global, records: &[ByteRecord]) -> Result<Vec<StackRow>, NotRead>
     requires { length records.now ≤ most_stack_rows }
     ensures { Judged (λ v. SpellRows SpellsOnlyRow 1 (map fields_of records.now) v.items) (FirstBrokenRow KeepsRow row_rules 1 (map fields_of records.now)) result }
 {
@@ -76,7 +76,7 @@ fn bars_one(rows: &[StackRow], command: &Command, lines: &[u32]) -> bool
 }
 
 /// Whether the command of a row names one that it may not name, or one twice.
-fn names_barred(rows: &[StackRow], row: &StackRow) -> bool
+pub(crate) fn names_barred(rows: &[StackRow], row: &StackRow) -> bool
     ensures { result ≡ names_barred rows.now row.now }
 {
     let command = row.entry.command();

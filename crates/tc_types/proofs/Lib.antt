@@ -7,5 +7,7 @@ pub mod NumberLaws
 pub mod OneLine
 pub mod LinkLaws
 pub mod Spellings
+pub mod ActSpellings
+pub mod QueryLaws
 mod WorkedCases
 pub mod PlaceLemmas

@@ -76,6 +76,12 @@ pub log-spelled : act_text (act.Ask (query.Log 1)) ≡ codes "log 1"
 unfolding digits
 log-spelled = refl
 
+-- the questions of who looks before he reads
+pub looks-spelled : map act_text (act.Ask query.Waiting ∷ act.Ask (query.Moves 0) ∷ act.Ask (query.Standing Confirmed 4294967295) ∷ act.Ask (query.Steps (codes "p1")) ∷ [])
+    ≡ codes "waiting" ∷ codes "moves 0" ∷ codes "standing Confirmed 4294967295" ∷ codes "steps p1" ∷ []
+unfolding digits
+looks-spelled = refl
+
 pub log-shown : execution_line 1 (codes "p1") 0 ∷ record_line (record { execution = 1; step = 2; verdict = verdict.Failed; by = codes "ann"; second = Some (codes "bob"); moment = 9 }) ∷ begun_line 1 ∷ procedure_line (codes "p1") 2 ∷ []
     ≡ codes "execution 1 p1 next 0" ∷ codes "step 2 9 ann failed bob" ∷ codes "ok execution 1" ∷ codes "ok procedure p1 2" ∷ []
 unfolding digits

@@ -1,20 +1,22 @@
 -- The spelling of acts, queries and script lines. Each has one spelling: the words of it, parted by one space each.
-use Rattle.std.specs.Prelude.{◌≡◌, ℕ, ◌==◌, IsSomeAnd, ◌<◌, Option, Some, None, List, [], ◌∷◌, codes, length}
-use Rattle.std.specs.List.{slice_split}
+use Rattle.std.specs.Prelude.{◌≡◌, ℕ, ◌==◌, Bool, nat_eq, IsSomeAnd, ◌<◌, Option, Some, None, List, [], ◌∷◌, codes, length}
+use Rattle.std.specs.List.{slice_split, list_any}
+use Rattle.std.specs.Cmp.Lexicographic.{pointwise}
 use Rattle.std.specs.Fmt.{decimal}
 use Rattle.tc_types.specs.declared.acts.BookAct.{BookAct}
 use Rattle.tc_types.specs.declared.acts.BookAct.TheVariants as book_act
 use Rattle.tc_types.specs.declared.acts.Act.{Act}
 use Rattle.tc_types.specs.declared.acts.Act.TheVariants as act
+use Rattle.tc_types.specs.declared.acts.StepAct.{StepAct}
 use Rattle.tc_types.specs.declared.acts.Query.{Query}
 use Rattle.tc_types.specs.declared.acts.Query.TheVariants as query
 use Rattle.tc_types.specs.declared.acts.Line.{Line}
 use Rattle.tc_types.specs.Numbers.{IsNumber}
 use Rattle.tc_types.specs.Numbers.{IsMoment}
 use Rattle.tc_types.specs.Names.{IsName, IsPerson}
-use Rattle.tc_types.specs.Lines.{spaced}
+use Rattle.tc_types.specs.Lines.{spaced, place_name}
 use Rattle.tc_types.specs.LinkGrammar.{link_act_words, IsLinkAct}
-use Rattle.tc_types.specs.StepGrammar.{step_words, IsStepAct}
+use Rattle.tc_types.specs.StepGrammar.{verdict_word, second_word, IsSecond}
 use Rattle.tc_types.specs.Grammar.{entry_words, IsEntry}
 
 abbrev pub query_words : Query → List (List ℕ)
@@ -25,6 +27,19 @@ query_words query.Link = codes "link" ∷ []
 query_words query.Schedule = codes "schedule" ∷ []
 query_words (query.Log execution) = codes "log" ∷ decimal execution ∷ []
 query_words (query.Report from to) = codes "report" ∷ decimal from ∷ decimal to ∷ []
+query_words query.Waiting = codes "waiting" ∷ []
+query_words (query.Moves after) = codes "moves" ∷ decimal after ∷ []
+query_words (query.Standing place after) = codes "standing" ∷ place_name place ∷ decimal after ∷ []
+query_words (query.Steps procedure) = codes "steps" ∷ procedure ∷ []
+
+-- the verbs of questions
+abbrev pub question_verbs : List (List ℕ)
+question_verbs = codes "places" ∷ codes "history" ∷ codes "request" ∷ codes "link" ∷ codes "schedule" ∷ codes "log" ∷ codes "report" ∷ codes "waiting" ∷ codes "moves"
+    ∷ codes "standing" ∷ codes "steps" ∷ []
+
+-- a verb asks a question
+unfoldable pub asks : List ℕ → Bool
+asks verb = list_any (λ word. pointwise nat_eq verb word) question_verbs
 
 abbrev pub IsQuery : Query → Type 0
 IsQuery query.Places = Unit {0}
@@ -34,6 +49,10 @@ IsQuery query.Link = Unit {0}
 IsQuery query.Schedule = Unit {0}
 IsQuery (query.Log execution) = IsNumber execution
 IsQuery (query.Report from to) = IsMoment from × IsMoment to
+IsQuery query.Waiting = Unit {0}
+IsQuery (query.Moves after) = IsNumber after
+IsQuery (query.Standing place after) = IsNumber after
+IsQuery (query.Steps procedure) = IsName procedure
 
 -- the words of an act on the book: its verb, and what it takes
 abbrev pub book_act_words : BookAct → List (List ℕ)
@@ -52,6 +71,14 @@ IsBookAct (book_act.Approve request) = IsNumber request
 IsBookAct (book_act.Close request) = IsNumber request
 IsBookAct (book_act.ApproveStack stack) = IsName stack
 IsBookAct (book_act.Begin procedure) = IsName procedure
+
+-- step E S VERDICT SECOND
+abbrev pub step_words : StepAct → List (List ℕ)
+step_words given = codes "step" ∷ decimal given.execution ∷ decimal given.step ∷ verdict_word given.verdict ∷ second_word given.second ∷ []
+
+-- the limits that its numbers and its second person keep
+abbrev pub IsStepAct : StepAct → Type 0
+IsStepAct given = IsNumber given.execution × IsNumber given.step × IsSecond given.second
 
 abbrev pub act_words : Act → List (List ℕ)
 act_words (act.Book given) = book_act_words given

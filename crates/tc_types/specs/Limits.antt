@@ -1,8 +1,7 @@
 -- The desk's limits, each by one name: the constants of the source.
 use Rattle.std.specs.Prelude.{ℕ}
-use Rattle.tc_types.specs.declared.read.act_reader.TheConstants.{LONGEST_ACT}
 use Rattle.tc_types.specs.declared.link.activities.TheConstants.{MOST_ACTIVITIES}
-use Rattle.tc_types.specs.declared.limits.TheConstants.{MOST_STACKS, MOST_STACK_ROWS, MOST_PROCEDURES, MOST_STEPS, MOST_EXECUTIONS, MOST_MOVES, PAGE}
+use Rattle.tc_types.specs.declared.limits.TheConstants.{LONGEST_ACT, MOST_STACKS, MOST_STACK_ROWS, MOST_PROCEDURES, MOST_STEPS, MOST_EXECUTIONS, MOST_MOVES, PAGE}
 use Rattle.tc_types.specs.declared.names.TheConstants.{LONGEST_NAME}
 use Rattle.tc_types.specs.declared.numbers.TheConstants.{LARGEST_MOMENT, MOST_REQUESTS}
 use Rattle.tc_types.specs.declared.step_texts.TheConstants.{LONGEST_STEP_TEXT}

@@ -1,5 +1,6 @@
 //! What a person can ask of the desk.
 use crate::entries::Entry;
+use crate::history::places::Place;
 use crate::link::directives::Directive;
 use crate::names::Name;
 use crate::numbers::Moment;
@@ -23,6 +24,14 @@ pub enum Query {
     Log { execution: u32 },
     /// The history rows of a shift: those of `from` and later, and before `to`.
     Report { from: Moment, to: Moment },
+    /// What waits for a person.
+    Waiting,
+    /// The rows of the whole history with a greater `seq` than `after`.
+    Moves { after: u32 },
+    /// The requests with a greater number than `after` that stand at `place`.
+    Standing { place: Place, after: u32 },
+    /// Who loaded the procedure `procedure`, and its steps.
+    Steps { procedure: Name },
 }
 
 /// An act on the book alone: it asks nothing of the link.

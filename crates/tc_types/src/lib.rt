@@ -41,18 +41,20 @@ pub use link::telecommands::{Payload, ScheduleCommand, Task, Telecommand};
 pub use loads::{Load, LoadKind};
 pub use names::{DESK, Name, is_same_name};
 pub use numbers::{
-    Apid, FailureCode, LARGEST_MOMENT, MOST_REQUESTS, Moment, Offset, RequestNumber, SequenceCount,
-    Service, Steps, Subtype,
+    Apid, FailureCode, MOST_REQUESTS, Moment, Offset, RequestNumber, SequenceCount, Service, Steps,
+    Subtype,
 };
 pub use persons::{Person, is_person};
 pub use print::link_texts::{
     accepted_text, activity_text, mirror_text, summarized_text, time_text, verified_text,
     word_text, worked_text,
 };
-pub use print::procedure_texts::{begun_text, execution_text, procedure_text, record_text};
-pub use print::request_texts::{mark, request_text};
+pub use print::procedure_texts::{
+    begun_text, execution_text, procedure_text, record_text, second_word,
+};
+pub use print::request_texts::{mark, request_text, yes_no};
 pub use print::texts::{approvals_text, entered_text, history_text, places_text, stack_text};
-pub use read::act_reader::{LONGEST_ACT, read_act};
+pub use read::act_reader::read_act;
 pub use read::line_reader::read_line;
 pub use read::words::cut;
 pub use refusals::Refusal;

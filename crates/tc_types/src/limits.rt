@@ -1,5 +1,10 @@
 //! The limits of the desk that several crates keep, all this desk's own. (Limits of a single type stand beside it.)
 
+pub use crate::numbers::LARGEST_MOMENT;
+
+/// The most bytes that the text of an act has.
+pub const LONGEST_ACT: usize = 200;
+
 /// The most stacks that are loaded.
 pub const MOST_STACKS: usize = 1_000;
 

@@ -4,6 +4,7 @@ pub mod entry_reader;
 pub(crate) mod line_reader;
 pub(crate) mod link_reader;
 pub mod load_reader;
+pub(crate) mod query_reader;
 pub mod readers;
 pub mod ride_reader;
 mod step_reader;

@@ -67,6 +67,13 @@ impl StepText {
         })
     }
 
+    /// A text has its form: its type keeps it. This does nothing; its clause is the law.
+    pub fn keeps_form(&self)
+        ensures { is_step_text self.now ≡ true }
+    {
+        let _length = self.len; // read for the proof alone
+    }
+
     /// The text as it is printed.
     pub fn as_str(&self) -> &str
         ensures { result.now ≡ self.now }

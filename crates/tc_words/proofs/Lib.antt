@@ -1,2 +1,3 @@
 mod MatchLemmas
+mod MomentLemmas
 mod NumberLemmas

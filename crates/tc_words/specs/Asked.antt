@@ -10,16 +10,18 @@ use Rattle.tc_types.specs.Numbers.{IsMoment}
 use Rattle.tc_stack.specs.StackTexts.{IsInstant}
 
 -- A command with what it was given. Where a desk is made or opened, its window, its channel and how many items the rings of its links hold,
--- where they are rings; where it is kept in a file, that file, and where it is opened there the moment of the opening. A run has a script; a report
--- what stands for FROM and TO; a server its port, how many connections it serves and whether it says how each ended; a loop a script, and the number of
--- the first line that it sends; a check what stands for KIND, and a file.
+-- where they are rings, and what stands for the moment of its opening; where it is kept in a file, that file. A run has a script, and whether each line is shown before its answer and all is
+-- told; a report what stands for FROM and TO; a backup the file that is copied to; a board its file alone; a server its port, how many connections it serves and whether all is told; a loop a script, the number of
+-- the first line that it sends, and what a run has besides; a check what stands for KIND, and a file.
 pub data Asked : Type 0 where
-  run : (script : Text) (window channel : ℕ) (ring : Option ℕ) → Asked
-  run_kept : (script : Text) (window channel : ℕ) (ring : Option ℕ) (database : Text) (moment : ℕ) → Asked
+  run : (script : Text) (window channel : ℕ) (ring : Option ℕ) (moment : Text) (echo verbose : Bool) → Asked
+  run_kept : (script : Text) (window channel : ℕ) (ring : Option ℕ) (database moment : Text) (echo verbose : Bool) → Asked
   report : (database begins ends : Text) → Asked
+  backup : (database copy : Text) → Asked
+  board : (database : Text) → Asked
   check : (kind file : Text) → Asked
-  serve : (database : Text) (port count window channel : ℕ) (ring : Option ℕ) (moment : ℕ) (verbose : Bool) → Asked
-  loop : (database script : Text) (window channel : ℕ) (ring : Option ℕ) (moment first : ℕ) → Asked
+  serve : (database : Text) (port count window channel : ℕ) (ring : Option ℕ) (moment : Text) (verbose : Bool) → Asked
+  loop : (database script : Text) (window channel : ℕ) (ring : Option ℕ) (moment : Text) (first : ℕ) (echo verbose : Bool) → Asked
 
 -- ---- what the arguments were given
 
@@ -50,9 +52,9 @@ given_channel rows = number_in 0 63 3 (one_of (codes "vc") rows)
 abbrev pub given_ring : List Row → Option ℕ
 given_ring rows = number_within 1 4096 (one_of (codes "ring") rows)
 
--- the moment that was given, or stands in the rows by default
-abbrev pub given_moment : List Row → ℕ
-given_moment rows = number_in 0 4102444799 0 (one_of (codes "at") rows)
+-- what was given for the moment of the opening, or stands in the rows by default
+abbrev pub given_moment : List Row → Text
+given_moment rows = given (codes "at") rows
 
 -- the port that was given
 abbrev pub given_port : List Row → ℕ
@@ -66,7 +68,11 @@ given_count rows = number_in 1 1000000 1000000 (one_of (codes "COUNT") rows)
 abbrev pub given_first : List Row → ℕ
 given_first rows = number_in 1 4294967295 1 (one_of (codes "first") rows)
 
--- whether it is to be said how each connection ended
+-- whether each line is to be shown before its answer
+abbrev pub given_echo : List Row → Bool
+given_echo rows = nat_lt 0 (count_of (codes "echo") rows)
+
+-- whether all is to be told
 abbrev pub given_verbose : List Row → Bool
 given_verbose rows = nat_lt 0 (count_of (codes "verbose") rows)
 
@@ -74,9 +80,11 @@ given_verbose rows = nat_lt 0 (count_of (codes "verbose") rows)
 
 -- what a run was given, where a database file was, or none
 abbrev pub asked_with : Option Text → List Row → Asked
-asked_with None rows = run (given (codes "SCRIPT") rows) (given_window rows) (given_channel rows) (given_ring rows)
+asked_with None rows =
+    run (given (codes "SCRIPT") rows) (given_window rows) (given_channel rows) (given_ring rows) (given_moment rows) (given_echo rows) (given_verbose rows)
 asked_with (Some database) rows =
-    run_kept (given (codes "SCRIPT") rows) (given_window rows) (given_channel rows) (given_ring rows) database (given_moment rows)
+    run_kept (given (codes "SCRIPT") rows) (given_window rows) (given_channel rows) (given_ring rows) database (given_moment rows) (given_echo rows)
+    (given_verbose rows)
 
 -- what a run was given
 abbrev pub asked_run : List Row → Asked
@@ -85,6 +93,18 @@ asked_run rows = asked_with (first_of (codes "db") rows) rows
 -- what a report was given
 abbrev pub asked_report : List Row → Asked
 asked_report rows = report (given (codes "DB") rows) (given (codes "FROM") rows) (given (codes "TO") rows)
+
+-- what a backup was given
+abbrev pub asked_backup : List Row → Asked
+asked_backup rows = backup (given (codes "DB") rows) (given (codes "COPY") rows)
+
+-- what a board was given
+abbrev pub asked_board : List Row → Asked
+asked_board rows = board (given (codes "DB") rows)
+
+-- the word of a script, as the kind of a file
+abbrev pub script_word : Text
+script_word = codes "script"
 
 -- what a check was given
 abbrev pub asked_check : List Row → Asked
@@ -99,22 +119,24 @@ asked_serve rows = serve (given (codes "DB") rows) (given_port rows) (given_coun
 abbrev pub asked_loop : List Row → Asked
 asked_loop rows =
     loop (given (codes "DB") rows) (given (codes "SCRIPT") rows) (given_window rows) (given_channel rows) (given_ring rows) (given_moment rows)
-    (given_first rows)
+    (given_first rows) (given_echo rows) (given_verbose rows)
 
 -- what the command of this name was given
 abbrev pub asked_of : Text → List Row → Asked
 asked_of name rows =
     if bytes_eq name (codes "report") then asked_report rows else
+    if bytes_eq name (codes "backup") then asked_backup rows else
+    if bytes_eq name (codes "board") then asked_board rows else
     if bytes_eq name (codes "check") then asked_check rows else
     if bytes_eq name (codes "serve") then asked_serve rows else
     if bytes_eq name (codes "loop") then asked_loop rows else asked_run rows
 
 -- what the matches of a command ask for, where none is `run -`
 abbrev pub asked : Option (Text × List Row) → Asked
-asked None = run (codes "-") 20 3 None
+asked None = run (codes "-") 20 3 None (codes "0") false false
 asked (Some command) = asked_of command.0 command.1
 
--- ---- the moments of a report
+-- ---- moments
 
 -- a text spells a moment: as Unix seconds, or as an instant
 abbrev pub SpellsMoment : ℕ → Text → Type 0

@@ -26,6 +26,10 @@ checked_rule = required_rule (codes "FILE")
 abbrev pub file_rule : Rule
 file_rule = required_rule (codes "DB")
 
+-- COPY: the file that a desk is copied to
+abbrev pub copy_rule : Rule
+copy_rule = required_rule (codes "COPY")
+
 -- FROM: the first moment of a shift
 abbrev pub from_rule : Rule
 from_rule = required_rule (codes "FROM")
@@ -45,12 +49,20 @@ count_rule = record (new_rule (codes "COUNT")) {
   parser = Some (parser.Unsigned 1 1000000);
 }
 
--- --verbose: whether it is said how each connection ended
-abbrev pub verbose_rule : Rule
-verbose_rule = record (new_rule (codes "verbose")) {
-  long = Some (codes "verbose");
+-- an option that has no value
+abbrev pub flag_rule : Text → Rule
+flag_rule name = record (new_rule name) {
+  long = Some name;
   action = Some Count;
 }
+
+-- --echo: whether each line is shown before its answer
+abbrev pub echo_rule : Rule
+echo_rule = flag_rule (codes "echo")
+
+-- --verbose: whether all is told
+abbrev pub verbose_rule : Rule
+verbose_rule = flag_rule (codes "verbose")
 
 -- --w N: the window W of the FARM, 2 to 254, and 20 where it is not given
 abbrev pub window_rule : Rule
@@ -85,13 +97,12 @@ database_rule = record (new_rule (codes "db")) {
   value_names = 1;
 }
 
--- --at MOMENT: when the desk in the file is opened, 0 to 4,102,444,799, and 0 where it is not given
+-- --at MOMENT: when the desk in the file is opened, and 0 where it is not given
 abbrev pub moment_rule : Rule
 moment_rule = record (new_rule (codes "at")) {
   long = Some (codes "at");
   value_names = 1;
   defaults = codes "0" ∷ [];
-  parser = Some (parser.Unsigned 0 4102444799);
 }
 
 -- --first N: the number of the first line that is sent, 1 to 4,294,967,295, and 1 where it is not given
@@ -117,12 +128,24 @@ script_app = with_link (with_rule (new_app (codes "run")) script_rule)
 abbrev pub with_database : App → App
 with_database app = with_rule (with_rule app database_rule) moment_rule
 
+-- .. [--echo] [--verbose]
+abbrev pub with_told : App → App
+with_told app = with_rule (with_rule app echo_rule) verbose_rule
+
 abbrev pub run_app : App
-run_app = with_database script_app
+run_app = with_told (with_database script_app)
 
 -- report DB FROM TO
 abbrev pub report_app : App
 report_app = with_rule (with_rule (with_rule (new_app (codes "report")) file_rule) from_rule) to_rule
+
+-- backup DB COPY
+abbrev pub backup_app : App
+backup_app = with_rule (with_rule (new_app (codes "backup")) file_rule) copy_rule
+
+-- board DB
+abbrev pub board_app : App
+board_app = with_rule (new_app (codes "board")) file_rule
 
 -- check KIND FILE
 abbrev pub check_app : App
@@ -141,8 +164,11 @@ abbrev pub serve_app : App
 serve_app = with_rule (with_desk bare_serve_app) verbose_rule
 
 -- loop DB SCRIPT [--w N] [--vc N] [--ring N] [--at MOMENT] [--first N]
+abbrev pub send_app : App
+send_app = with_rule (with_desk (with_rule (with_rule (new_app (codes "loop")) file_rule) script_rule)) first_rule
+
 abbrev pub loop_app : App
-loop_app = with_rule (with_desk (with_rule (with_rule (new_app (codes "loop")) file_rule) script_rule)) first_rule
+loop_app = with_told send_app
 
 -- the program's name, without its commands; one of them has to be named, and it has a version
 abbrev pub bare_app : App
@@ -152,6 +178,14 @@ bare_app = let new = new_app (codes "tcdesk") in
 -- the program, with the commands that run a script, or print what one came to
 abbrev pub script_apps : App
 script_apps = with_subcommand (with_subcommand bare_app run_app.top) report_app.top
+
+-- .. with the one that copies a desk
+abbrev pub with_backup : App → App
+with_backup app = with_subcommand app backup_app.top
+
+-- .. with the one that prints the board of one
+abbrev pub with_board : App → App
+with_board app = with_subcommand app board_app.top
 
 -- .. with the one that checks a file
 abbrev pub with_check : App → App
@@ -163,4 +197,4 @@ with_http app = with_subcommand (with_subcommand app serve_app.top) loop_app.top
 
 -- the program, with its commands
 abbrev pub desk_app : App
-desk_app = with_http (with_check script_apps)
+desk_app = with_http (with_check (with_board (with_backup script_apps)))

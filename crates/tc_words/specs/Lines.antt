@@ -1,5 +1,5 @@
 -- What a line of the program is of what its words ask for, and why they ask for nothing.
-use Rattle.std.specs.Prelude.{◌%◌, ◌≡◌, ◌⊎◌, ◌↔◌, ⊤, [], IfSome, Option, None, Some}
+use Rattle.std.specs.Prelude.{◌%◌, ◌≡◌, ◌⊎◌, ◌↔◌, ⊤, ℕ, [], IfSome, Option, None, Some}
 use Rattle.clap.specs.Words.{IsAmong, Kinds, Text, kind_of}
 use Rattle.clap.specs.declared.error.Error.{Error}
 use Rattle.clap.specs.declared.error.kind.ErrorKind.TheVariants.{OutOfMemory}
@@ -7,33 +7,44 @@ use Rattle.tc_types.specs.Loads.{kind_word}
 use Rattle.tc_types.specs.declared.loads.LoadKind.{LoadKind}
 use Rattle.tc_desk.specs.State.{IsConfig}
 use Rattle.tc_desk.specs.declared.configs.Config.{Config}
-use Rattle.tc_words.specs.Asked.{Asked, SpellsMoment, SpellsNoMoment, check, loop, report, run, run_kept, serve}
+use Rattle.tc_words.specs.Asked.{Asked, SpellsMoment, SpellsNoMoment, backup, board, check, loop, report, run, run_kept, script_word, serve}
 use Rattle.tc_words.specs.declared.lines.CommandLine.{CommandLine}
-use Rattle.tc_words.specs.declared.lines.CommandLine.TheVariants.{Check, Loop, Report, Run, RunKept, Serve}
+use Rattle.tc_words.specs.declared.lines.CommandLine.TheVariants.{Backup, Board, Check, CheckScript, Loop, Report, Run, RunKept, Serve}
 use Rattle.tc_words.specs.declared.lines.UsageFault.{UsageFault}
-use Rattle.tc_words.specs.declared.lines.UsageFault.TheVariants.{Memory, NoKind, NoMoment, OddWindow, Words}
+use Rattle.tc_words.specs.declared.lines.UsageFault.TheVariants.{Memory, NoKind, NoMoment, NoOpening, OddWindow, Words}
 
--- A line asks for this. A report's FROM and TO are texts that spell its moments, and the KIND of a check is the word of its kind.
+-- A line asks for this. What stands for the moment of an opening, and for a report's FROM and TO, spells it, also where a new desk is not opened at any; the KIND of a check is the word of its
+-- kind, or that of a script.
 abbrev pub AsksFor : CommandLine → Asked → Type 0
-AsksFor (Run script config) asked = asked ≡ run script.now config.window config.channel config.ring
-AsksFor (RunKept script config database moment) asked =
-    asked ≡ run_kept script.now config.window config.channel config.ring database.now moment
+AsksFor (Run script config telling) asked =
+    (begins : Text) × (moment : ℕ) × SpellsMoment moment begins
+    × (asked ≡ run script.now config.window config.channel config.ring begins telling.echo telling.verbose)
+AsksFor (RunKept script config database moment telling) asked =
+    (begins : Text) × SpellsMoment moment begins
+    × (asked ≡ run_kept script.now config.window config.channel config.ring database.now begins telling.echo telling.verbose)
 AsksFor (Report database from to) asked =
     (begins ends : Text) × SpellsMoment from begins × SpellsMoment to ends × (asked ≡ report database.now begins ends)
+AsksFor (Backup database copy) asked = asked ≡ backup database.now copy.now
+AsksFor (Board database) asked = asked ≡ board database.now
 AsksFor (Check kind file) asked = asked ≡ check (kind_word kind) file.now
+AsksFor (CheckScript file) asked = asked ≡ check script_word file.now
 AsksFor (Serve database port count config moment verbose) asked =
-    asked ≡ serve database.now port count config.window config.channel config.ring moment verbose
-AsksFor (Loop database script config moment first) asked =
-    asked ≡ loop database.now script.now config.window config.channel config.ring moment first
+    (begins : Text) × SpellsMoment moment begins × (asked ≡ serve database.now port count config.window config.channel config.ring begins verbose)
+AsksFor (Loop database script config moment first telling) asked =
+    (begins : Text) × SpellsMoment moment begins
+    × (asked ≡ loop database.now script.now config.window config.channel config.ring begins first telling.echo telling.verbose)
 
 -- what the desk of a line is made or opened with
 abbrev pub config_of : CommandLine → Option Config
-config_of (Run script config) = Some config
-config_of (RunKept script config database moment) = Some config
+config_of (Run script config telling) = Some config
+config_of (RunKept script config database moment telling) = Some config
 config_of (Report database from to) = None
+config_of (Backup database copy) = None
+config_of (Board database) = None
 config_of (Check kind file) = None
+config_of (CheckScript file) = None
 config_of (Serve database port count config moment verbose) = Some config
-config_of (Loop database script config moment first) = Some config
+config_of (Loop database script config moment first telling) = Some config
 
 -- a line asks for this, and what its desk is made or opened with may be chosen
 pub record IsLineFor (line : CommandLine) (asked : Asked) : Type 0 where
@@ -42,27 +53,38 @@ pub record IsLineFor (line : CommandLine) (asked : Asked) : Type 0 where
 
 -- the window that is asked for is odd
 abbrev pub AsksOddWindow : Asked → Type 0
-AsksOddWindow (run script window channel ring) = window % 2 ≡ 1
-AsksOddWindow (run_kept script window channel ring database moment) = window % 2 ≡ 1
+AsksOddWindow (run script window channel ring moment echo verbose) = window % 2 ≡ 1
+AsksOddWindow (run_kept script window channel ring database moment echo verbose) = window % 2 ≡ 1
 AsksOddWindow (report database begins ends) = ⊥
+AsksOddWindow (backup database copy) = ⊥
+AsksOddWindow (board database) = ⊥
 AsksOddWindow (check kind file) = ⊥
 AsksOddWindow (serve database port count window channel ring moment verbose) = window % 2 ≡ 1
-AsksOddWindow (loop database script window channel ring moment first) = window % 2 ≡ 1
+AsksOddWindow (loop database script window channel ring moment first echo verbose) = window % 2 ≡ 1
 
 -- a report is asked for, whose FROM or TO is this word, which spells no moment
 abbrev pub AsksNoMoment : Asked → Text → Type 0
 AsksNoMoment (report database begins ends) word = ((word ≡ begins) ⊎ (word ≡ ends)) × SpellsNoMoment word
 AsksNoMoment other word = ⊥
 
--- a check is asked for, whose KIND is this word, which is that of no kind
+-- a desk is to be opened at what is this word, which spells no moment
+abbrev pub AsksNoOpening : Asked → Text → Type 0
+AsksNoOpening (run script window channel ring moment echo verbose) word = (word ≡ moment) × SpellsNoMoment word
+AsksNoOpening (run_kept script window channel ring database moment echo verbose) word = (word ≡ moment) × SpellsNoMoment word
+AsksNoOpening (serve database port count window channel ring moment verbose) word = (word ≡ moment) × SpellsNoMoment word
+AsksNoOpening (loop database script window channel ring moment first echo verbose) word = (word ≡ moment) × SpellsNoMoment word
+AsksNoOpening other word = ⊥
+
+-- a check is asked for, whose KIND is this word, which is that of no kind, and not that of a script
 abbrev pub AsksNoKind : Asked → Text → Type 0
-AsksNoKind (check kind file) word = (word ≡ kind) × ((some : LoadKind) → ¬ (word ≡ kind_word some))
+AsksNoKind (check kind file) word = (word ≡ kind) × ((some : LoadKind) → ¬ (word ≡ kind_word some)) × (¬ (word ≡ script_word))
 AsksNoKind other word = ⊥
 
 -- why what is asked for is not done, and the word that is wrong
 abbrev pub IsFaultOf : Asked → UsageFault → Type 0
 IsFaultOf asked OddWindow = AsksOddWindow asked
 IsFaultOf asked (NoMoment word) = AsksNoMoment asked word.now
+IsFaultOf asked (NoOpening word) = AsksNoOpening asked word.now
 IsFaultOf asked (NoKind word) = AsksNoKind asked word.now
 IsFaultOf asked other = ⊥
 

@@ -1,6 +1,6 @@
 //! The arguments of the commands: which have to be given, which values pass, and what stands where none is given.
 ghost use Rattle.std.specs.Prelude.{◌≡◌};
-ghost use Rattle.tc_words.specs.Commands.{channel_rule, checked_rule, count_rule, database_rule, file_rule, first_rule, from_rule, kind_rule, moment_rule, port_rule};
+ghost use Rattle.tc_words.specs.Commands.{channel_rule, checked_rule, copy_rule, count_rule, database_rule, echo_rule, file_rule, first_rule, flag_rule, from_rule, kind_rule, moment_rule, port_rule};
 ghost use Rattle.tc_words.specs.Commands.{required_rule, ring_rule, script_rule, to_rule, verbose_rule, window_rule};
 
 use clap::builder::ValueParser;
@@ -47,7 +47,11 @@ pub(crate) fn script_arg<'a>(alloc: Global) -> Argument<'a>
 pub(crate) fn kind_arg<'a>(alloc: Global) -> Argument<'a>
     ensures { result ≡ kind_rule }
 {
-    required_arg(alloc, "KIND", "What the file holds: stack or procedure")
+    required_arg(
+        alloc,
+        "KIND",
+        "What the file holds: script, stack or procedure",
+    )
 }
 
 pub(crate) fn checked_arg<'a>(alloc: Global) -> Argument<'a>
@@ -76,6 +80,16 @@ pub(crate) fn read_file_arg<'a>(alloc: Global) -> Argument<'a>
     ensures { result ≡ file_rule }
 {
     required_arg(alloc, "DB", "The database file that keeps the desk")
+}
+
+pub(crate) fn copy_arg<'a>(alloc: Global) -> Argument<'a>
+    ensures { result ≡ copy_rule }
+{
+    required_arg(
+        alloc,
+        "COPY",
+        "The file that the desk is copied to, which is not there yet",
+    )
 }
 
 pub(crate) fn from_arg<'a>(alloc: Global) -> Argument<'a>
@@ -122,15 +136,48 @@ pub(crate) fn count_arg<'a>(alloc: Global) -> Argument<'a>
     }
 }
 
+/// An option that has no value.
+fn flag_arg<'a>(alloc: Global, name: &'a str, help: &'a str) -> Argument<'a>
+    ensures { result ≡ flag_rule name.entry.now }
+{
+    Argument {
+        arg: Arg::new(alloc, name)
+            .long(name)
+            .action(ArgAction::Count)
+            .help(help),
+    }
+}
+
+/// --verbose of a server.
 pub(crate) fn verbose_arg<'a>(alloc: Global) -> Argument<'a>
     ensures { result ≡ verbose_rule }
 {
-    Argument {
-        arg: Arg::new(alloc, "verbose")
-            .long("verbose")
-            .action(ArgAction::Count)
-            .help("Say on the standard error how each connection ended"),
-    }
+    flag_arg(
+        alloc,
+        "verbose",
+        "Say on the standard error how each connection ended",
+    )
+}
+
+/// --verbose of a script.
+pub(crate) fn lines_arg<'a>(alloc: Global) -> Argument<'a>
+    ensures { result ≡ verbose_rule }
+{
+    flag_arg(
+        alloc,
+        "verbose",
+        "Say on the standard error which lines were refused, and why, also where that is no terminal, and which went back in time",
+    )
+}
+
+pub(crate) fn echo_arg<'a>(alloc: Global) -> Argument<'a>
+    ensures { result ≡ echo_rule }
+{
+    flag_arg(
+        alloc,
+        "echo",
+        "Print each line that is answered, behind > and a space, before its answer",
+    )
 }
 
 pub(crate) fn window_arg<'a>(alloc: Global) -> Argument<'a>
@@ -190,10 +237,9 @@ pub(crate) fn moment_arg<'a>(alloc: Global) -> Argument<'a>
         arg: Arg::new(alloc, "at")
             .long("at")
             .value_name("MOMENT")
-            .value_parser(ValueParser::Unsigned(0, 4_102_444_799))
             .default_value("0")
             .help(
-                "The moment at which the desk in the file is opened: Unix seconds, 0 to 4102444799",
+                "The moment at which the desk in the file is opened: Unix seconds, 0 to 4102444799, or an instant such as 2031-05-04T10:00:00Z",
             ),
     }
 }

@@ -1,28 +1,35 @@
 //! The program's commands, and the matches of words that name one.
 ghost use Rattle.std.specs.Prelude.{◌≡◌, [], IfErr, IfOk, OnOk, map, true};
 ghost use Rattle.clap.specs.Words.{HasKind, fault_of, kind_of, new_app, subcommand_of, subcommand_rows_of, takes, with_rule, with_subcommand};
-ghost use Rattle.tc_words.specs.Commands.{bare_app, bare_serve_app, check_app, desk_app, loop_app, report_app, run_app, script_apps, serve_app};
-ghost use Rattle.tc_words.specs.Commands.{with_check, with_desk, with_http, with_link};
+ghost use Rattle.tc_words.specs.Commands.{backup_app, bare_app, bare_serve_app, board_app, check_app, desk_app, loop_app, report_app, run_app, script_apps, send_app, serve_app};
+ghost use Rattle.tc_words.specs.Commands.{with_backup, with_board, with_check, with_database, with_desk, with_http, with_link, with_told};
 
 use crate::arguments::{
-    Argument, channel_arg, checked_arg, count_arg, database_arg, file_arg, first_arg, from_arg,
-    kind_arg, moment_arg, port_arg, read_file_arg, ring_arg, script_arg, to_arg, verbose_arg,
-    window_arg,
+    Argument, channel_arg, checked_arg, copy_arg, count_arg, database_arg, echo_arg, file_arg,
+    first_arg, from_arg, kind_arg, lines_arg, moment_arg, port_arg, read_file_arg, ring_arg,
+    script_arg, to_arg, verbose_arg, window_arg,
 };
 use clap::error::ErrorKind;
 use clap::{ArgMatches, Command};
 use std::alloc::{AllocError, Global};
 use std::marker::Model;
 
-/// The version of the program, which `--version` prints behind its name.
-const VERSION: &str = "0.1.0";
+/// The version of the program, which `--version` prints behind its name, and the commit that it was made from: one with these sources, but for this line.
+const VERSION: &str = "0.1.0 (commit 8a3c79791e8c)";
+
+/// How the program is called: without a word it runs the script that the standard input has.
+const USAGE: &str = "tcdesk [COMMAND]";
 
 /// What stands below the help of the program.
 const EXAMPLES: &str = "\
+Without a command: tcdesk run -
+
 Examples:
   tcdesk run examples/first-pass.tc            a pass, on a desk in memory
   tcdesk run --db desk.db examples/monday.tc   a shift, on a desk that a file keeps
   tcdesk report desk.db 0 86400                what happened in it
+  tcdesk backup desk.db copy.db                a copy of it, also while it runs
+  tcdesk check script examples/monday.tc       what is wrong with its lines
   tcdesk check stack examples/stack.csv        whether a stack can be loaded";
 
 /// A command with those below it, each of whose arguments is its own alone. A contract sees it as what it takes.
@@ -92,7 +99,9 @@ pub(crate) fn matches<'a>(
 fn desk_command<'a>(alloc: Global) -> Result<Tree<'a>, AllocError>
     ensures { IfOk result (λ desk. desk ≡ desk_app) }
 {
-    with_http(alloc, with_check(alloc, script_commands(alloc)?)?)
+    let commands = with_backup(alloc, script_commands(alloc)?)?;
+    let commands = with_board(alloc, commands)?;
+    with_http(alloc, with_check(alloc, commands)?)
 }
 
 /// The program with the commands that run a script, or print what one came to.
@@ -102,6 +111,20 @@ fn script_commands<'a>(alloc: Global) -> Result<Tree<'a>, AllocError>
     bare_command(alloc)?
         .subcommand(run_command(alloc)?)?
         .subcommand(report_command(alloc)?)
+}
+
+/// With the command that copies a desk.
+fn with_backup<'a>(alloc: Global, command: Tree<'a>) -> Result<Tree<'a>, AllocError>
+    ensures { IfOk result (λ more. more ≡ with_backup command.entry) }
+{
+    command.subcommand(backup_command(alloc)?)
+}
+
+/// With the command that prints the board of one.
+fn with_board<'a>(alloc: Global, command: Tree<'a>) -> Result<Tree<'a>, AllocError>
+    ensures { IfOk result (λ more. more ≡ with_board command.entry) }
+{
+    command.subcommand(board_command(alloc)?)
 }
 
 /// With the command that checks a file.
@@ -125,6 +148,7 @@ fn bare_command<'a>(alloc: Global) -> Result<Tree<'a>, AllocError>
 {
     let command = Command::new(alloc, "tcdesk")
         .about("A spacecraft telecommand desk")
+        .override_usage(USAGE)
         .version(VERSION)
         .after_help(EXAMPLES)
         .subcommand_required(true)
@@ -141,9 +165,21 @@ fn run_command<'a>(alloc: Global) -> Result<Tree<'a>, AllocError>
         "Run the lines of a script on a desk: a new one, or one that is kept in a file",
     )
     .arg(script_arg(alloc))?;
-    with_link(alloc, run)?
-        .arg(database_arg(alloc))?
-        .arg(moment_arg(alloc))
+    with_told(alloc, with_database(alloc, with_link(alloc, run)?)?)
+}
+
+/// With the options of a desk that may be kept in a file.
+fn with_database<'a>(alloc: Global, command: Tree<'a>) -> Result<Tree<'a>, AllocError>
+    ensures { IfOk result (λ more. more ≡ with_database command.entry) }
+{
+    command.arg(database_arg(alloc))?.arg(moment_arg(alloc))
+}
+
+/// With the options of what is told of the lines of a script.
+fn with_told<'a>(alloc: Global, command: Tree<'a>) -> Result<Tree<'a>, AllocError>
+    ensures { IfOk result (λ more. more ≡ with_told command.entry) }
+{
+    command.arg(echo_arg(alloc))?.arg(lines_arg(alloc))
 }
 
 /// With the options of a desk, wherever it is kept.
@@ -176,13 +212,36 @@ fn report_command<'a>(alloc: Global) -> Result<Tree<'a>, AllocError>
     .arg(to_arg(alloc))
 }
 
+fn backup_command<'a>(alloc: Global) -> Result<Tree<'a>, AllocError>
+    ensures { IfOk result (λ backup. backup ≡ backup_app) }
+{
+    Tree::new(
+        alloc,
+        "backup",
+        "Copy a desk that is kept in a file to another file, also while the desk runs",
+    )
+    .arg(read_file_arg(alloc))?
+    .arg(copy_arg(alloc))
+}
+
+fn board_command<'a>(alloc: Global) -> Result<Tree<'a>, AllocError>
+    ensures { IfOk result (λ board. board ≡ board_app) }
+{
+    Tree::new(
+        alloc,
+        "board",
+        "Print the board of a desk that is kept in a file, as a page of HTML",
+    )
+    .arg(read_file_arg(alloc))
+}
+
 fn check_command<'a>(alloc: Global) -> Result<Tree<'a>, AllocError>
     ensures { IfOk result (λ check. check ≡ check_app) }
 {
     Tree::new(
         alloc,
         "check",
-        "Say whether the file of a stack or of a procedure can be loaded, or what is wrong with it",
+        "Say what is wrong with a script, or with the file of a stack or of a procedure",
     )
     .arg(kind_arg(alloc))?
     .arg(checked_arg(alloc))
@@ -209,6 +268,12 @@ fn bare_serve_command<'a>(alloc: Global) -> Result<Tree<'a>, AllocError>
 
 fn loop_command<'a>(alloc: Global) -> Result<Tree<'a>, AllocError>
     ensures { IfOk result (λ sending. sending ≡ loop_app) }
+{
+    with_told(alloc, send_command(alloc)?)
+}
+
+fn send_command<'a>(alloc: Global) -> Result<Tree<'a>, AllocError>
+    ensures { IfOk result (λ sending. sending ≡ send_app) }
 {
     let sending = Tree::new(
         alloc,

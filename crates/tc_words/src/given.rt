@@ -1,13 +1,12 @@
 //! What the arguments of a command were given.
-ghost use Rattle.std.specs.Prelude.{◌%◌, ◌≡◌, ◌↔◌, ◌≤◌, IfErr, IfOk, IfSome, IsTrue, option_map};
+ghost use Rattle.std.specs.Prelude.{◌%◌, ◌≡◌, ◌↔◌, ◌≤◌, IfErr, IfNone, IfOk, IfSome, IsTrue, option_map};
 ghost use Rattle.clap.specs.Words.{first_of, found_of, one_of, rows_of};
 ghost use Rattle.tc_types.specs.Loads.{kind_word};
-ghost use Rattle.tc_types.specs.Numbers.{IsMoment};
 ghost use Rattle.tc_types.specs.declared.loads.LoadKind.{LoadKind as SomeKind};
 ghost use Rattle.tc_desk.specs.State.{IsConfig, IsRing};
-ghost use Rattle.tc_words.specs.Asked.{SpellsMoment, SpellsNoMoment, given, given_channel, given_count, given_first, given_moment, given_port, given_ring, given_verbose, given_window, number_in, number_within};
+ghost use Rattle.tc_words.specs.Asked.{SpellsMoment, SpellsNoMoment, given, given_channel, given_count, given_echo, given_first, given_port, given_ring, given_verbose, given_window, number_in, number_within};
 
-use crate::lines::UsageFault;
+use crate::lines::{Telling, UsageFault};
 use clap::ArgMatches;
 use tc_desk::Config;
 use tc_stack::instant;
@@ -86,22 +85,23 @@ fn is_even(window: u16) -> bool
     window % 2 == 0
 }
 
-/// The moment of the opening.
-pub(crate) fn moment_of(matches: &ArgMatches<'_>) -> Moment
-    ensures { result ≡ given_moment (rows_of (found_of matches.now)) }
+/// The moment that a text spells, if it spells one: Unix seconds, or an instant.
+fn moment_in(text: &[u8]) -> Option<Moment>
+    ensures found { IfSome result (λ moment. SpellsMoment moment text.now) }
+    ensures none { IfNone result (SpellsNoMoment text.now) }
 {
-    moment_from(number_of(matches, "at", 0, 4_102_444_799, 0))
+    match readers::moment(text) {
+        Some(moment) => Some(moment),
+        None => instant(text),
+    }
 }
 
-/// The moment of these seconds, which are in range.
-fn moment_from(seconds: u32) -> Moment
-    requires { IsMoment seconds }
-    ensures { result ≡ seconds }
+/// The moment of an opening, which a text spells: Unix seconds, or an instant.
+pub(crate) fn spelled_opening<'a>(text: &'a str) -> Result<Moment, UsageFault<'a>>
+    ensures moment { IfOk result (λ moment. SpellsMoment moment text.entry.now) }
+    ensures fault { IfErr result (λ fault. (fault ≡ UsageFault.NoOpening text.entry) × SpellsNoMoment text.entry.now) }
 {
-    match Moment::new(seconds) {
-        Some(moment) => moment,
-        None => unreachable!(),
-    }
+    moment_in(text.as_bytes()).ok_or(UsageFault::NoOpening(text))
 }
 
 /// The port at which the desk is served.
@@ -125,7 +125,18 @@ pub(crate) fn first_number(matches: &ArgMatches<'_>) -> u32
     number_of(matches, "first", 1, 4_294_967_295, 1)
 }
 
-/// Whether it is to be said how each connection ended.
+/// What is to be told of the lines of a script.
+pub(crate) fn telling_of(matches: &ArgMatches<'_>) -> Telling
+    ensures echo { result.echo ≡ given_echo (rows_of (found_of matches.now)) }
+    ensures verbose { result.verbose ≡ given_verbose (rows_of (found_of matches.now)) }
+{
+    Telling {
+        echo: 0 < matches.get_count("echo"),
+        verbose: is_verbose(matches),
+    }
+}
+
+/// Whether all is to be told.
 pub(crate) fn is_verbose(matches: &ArgMatches<'_>) -> bool
     ensures { result ≡ given_verbose (rows_of (found_of matches.now)) }
 {
@@ -137,10 +148,7 @@ pub(crate) fn spelled_moment<'a>(text: &'a str) -> Result<Moment, UsageFault<'a>
     ensures moment { IfOk result (λ moment. SpellsMoment moment text.entry.now) }
     ensures fault { IfErr result (λ fault. (fault ≡ UsageFault.NoMoment text.entry) × SpellsNoMoment text.entry.now) }
 {
-    match readers::moment(text.as_bytes()) {
-        Some(moment) => Ok(moment),
-        None => instant(text.as_bytes()).ok_or(UsageFault::NoMoment(text)),
-    }
+    moment_in(text.as_bytes()).ok_or(UsageFault::NoMoment(text))
 }
 
 /// The kind of a file that a word names.

@@ -7,5 +7,5 @@ mod given;
 mod lines;
 mod reading;
 
-pub use lines::{CommandLine, UsageFault};
+pub use lines::{CommandLine, Telling, UsageFault};
 pub use reading::read_words;

@@ -5,6 +5,15 @@ use tc_desk::Config;
 use tc_types::{LoadKind, Moment};
 use thiserror::Error;
 
+/// What is told of the lines of a script besides what they are answered.
+#[derive(Clone, Copy, Debug, PartialEq, Eq)]
+pub struct Telling {
+    /// Whether each line is shown before its answer.
+    pub echo: bool,
+    /// Whether all is told.
+    pub verbose: bool,
+}
+
 /// What the words of a command line ask the program to do.
 #[derive(Clone, Copy, Debug, PartialEq, Eq)]
 pub enum CommandLine<'a> {
@@ -12,6 +21,7 @@ pub enum CommandLine<'a> {
     Run {
         script: &'a str,
         config: Config,
+        telling: Telling,
     },
     /// The same on the desk that a database file keeps, opened at a moment.
     RunKept {
@@ -19,6 +29,7 @@ pub enum CommandLine<'a> {
         config: Config,
         database: &'a str,
         moment: Moment,
+        telling: Telling,
     },
     /// The shift report of the desk that a database file keeps, of the moves of `from` and later, and before `to`.
     Report {
@@ -26,9 +37,22 @@ pub enum CommandLine<'a> {
         from: Moment,
         to: Moment,
     },
+    /// Copy the desk that a database file keeps to another file, which is not there yet. The desk may be open meanwhile.
+    Backup {
+        database: &'a str,
+        copy: &'a str,
+    },
+    /// The page of the board of the desk that a database file keeps.
+    Board {
+        database: &'a str,
+    },
     /// Whether the file at this path, or the standard input where it is `-`, can be loaded as a stack or as a procedure.
     Check {
         kind: LoadKind,
+        file: &'a str,
+    },
+    /// What is wrong with the lines of the script at this path, or of the standard input where it is `-`, of which none is run.
+    CheckScript {
         file: &'a str,
     },
     /// Serve the desk that a database file keeps, opened at a moment, over HTTP on a port of this machine alone, 1 to 65,535, and end after
@@ -49,6 +73,7 @@ pub enum CommandLine<'a> {
         config: Config,
         moment: Moment,
         first: u32,
+        telling: Telling,
     },
 }
 
@@ -64,8 +89,11 @@ pub enum UsageFault<'a> {
     /// What stands for FROM or TO spells no moment.
     #[error("FROM and TO are Unix seconds, 0 to 4102444799, or instants such as 2031-05-04T10:00:00Z: {0}")]
     NoMoment(&'a str),
-    /// What stands for KIND is neither `stack` nor `procedure`.
-    #[error("KIND is stack or procedure: {0}")]
+    /// What stands for the moment of an opening spells none.
+    #[error("--at is Unix seconds, 0 to 4102444799 (for now: $(date +%s)), or an instant such as 2031-05-04T10:00:00Z: {0}")]
+    NoOpening(&'a str),
+    /// What stands for KIND is none of `script`, `stack` and `procedure`.
+    #[error("KIND is script, stack or procedure: {0}")]
     NoKind(&'a str),
     /// There was no memory to read the words.
     #[error("cannot use memory")]

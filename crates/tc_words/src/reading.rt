@@ -1,16 +1,16 @@
 //! The reading of a command line's words.
 ghost use Rattle.std.specs.Prelude.{◌≡◌, ◌⊎◌, [], IfErr, IfOk, OnOk, map, true};
 ghost use Rattle.clap.specs.Words.{fault_of, found_of, rows_of, subcommand_of, subcommand_rows_of, takes};
-ghost use Rattle.tc_words.specs.Asked.{asked, asked_check, asked_loop, asked_of, asked_report, asked_run, asked_serve};
+ghost use Rattle.tc_words.specs.Asked.{asked, asked_backup, asked_board, asked_check, asked_loop, asked_of, asked_report, asked_run, asked_serve};
 ghost use Rattle.tc_words.specs.Commands.{desk_app};
 ghost use Rattle.tc_words.specs.Lines.{IsFaultOf, IsLineFor, IsTold};
 
 use crate::commands::matches;
 use crate::given::{
-    config_of, count_of, first_number, is_verbose, moment_of, path_of, port_of, spelled_kind,
-    spelled_moment, text_of,
+    config_of, count_of, first_number, is_verbose, path_of, port_of, spelled_kind, spelled_moment,
+    spelled_opening, telling_of, text_of,
 };
-use crate::lines::{CommandLine, UsageFault};
+use crate::lines::{CommandLine, Telling, UsageFault};
 use clap::ArgMatches;
 use std::alloc::Global;
 use tc_desk::Config;
@@ -20,6 +20,12 @@ const CONFIG: Config = Config {
     window: 20,
     channel: 3,
     ring: None,
+};
+
+/// What is told of the lines of a script where nothing is asked for.
+const ANSWERS_ALONE: Telling = Telling {
+    echo: false,
+    verbose: false,
 };
 
 /// Reads the words of a command line, of which the first is the program's name.
@@ -49,6 +55,7 @@ fn line_of<'a>(matches: &ArgMatches<'a>) -> Result<CommandLine<'a>, UsageFault<'
         None => Ok(CommandLine::Run {
             script: "-",
             config: CONFIG,
+            telling: ANSWERS_ALONE,
         }),
     }
 }
@@ -63,6 +70,10 @@ fn command_line_of<'a>(
 {
     if name == "report" {
         report_line_of(matches)
+    } else if name == "backup" {
+        backup_line_of(matches)
+    } else if name == "board" {
+        board_line_of(matches)
     } else if name == "check" {
         check_line_of(matches)
     } else if name == "serve" {
@@ -80,14 +91,21 @@ fn run_line_of<'a>(matches: &ArgMatches<'a>) -> Result<CommandLine<'a>, UsageFau
 {
     let script = text_of(matches, "SCRIPT");
     let config = config_of(matches)?;
+    let moment = spelled_opening(text_of(matches, "at"))?;
+    let telling = telling_of(matches);
     match path_of(matches, "db") {
         Some(database) => Ok(CommandLine::RunKept {
             script,
             config,
             database,
-            moment: moment_of(matches),
+            moment,
+            telling,
         }),
-        None => Ok(CommandLine::Run { script, config }),
+        None => Ok(CommandLine::Run {
+            script,
+            config,
+            telling,
+        }),
     }
 }
 
@@ -104,15 +122,36 @@ fn report_line_of<'a>(matches: &ArgMatches<'a>) -> Result<CommandLine<'a>, Usage
     })
 }
 
+fn backup_line_of<'a>(matches: &ArgMatches<'a>) -> Result<CommandLine<'a>, UsageFault<'a>>
+    ensures line { IfOk result (λ line. IsLineFor line (asked_backup (rows_of (found_of matches.now)))) }
+    ensures fault { IfErr result (IsFaultOf (asked_backup (rows_of (found_of matches.now)))) }
+{
+    Ok(CommandLine::Backup {
+        database: text_of(matches, "DB"),
+        copy: text_of(matches, "COPY"),
+    })
+}
+
+fn board_line_of<'a>(matches: &ArgMatches<'a>) -> Result<CommandLine<'a>, UsageFault<'a>>
+    ensures line { IfOk result (λ line. IsLineFor line (asked_board (rows_of (found_of matches.now)))) }
+    ensures fault { IfErr result (IsFaultOf (asked_board (rows_of (found_of matches.now)))) }
+{
+    Ok(CommandLine::Board {
+        database: text_of(matches, "DB"),
+    })
+}
+
 fn check_line_of<'a>(matches: &ArgMatches<'a>) -> Result<CommandLine<'a>, UsageFault<'a>>
     ensures line { IfOk result (λ line. IsLineFor line (asked_check (rows_of (found_of matches.now)))) }
     ensures fault { IfErr result (IsFaultOf (asked_check (rows_of (found_of matches.now)))) }
 {
-    let kind = spelled_kind(text_of(matches, "KIND"))?;
-    Ok(CommandLine::Check {
-        kind,
-        file: text_of(matches, "FILE"),
-    })
+    let word = text_of(matches, "KIND");
+    let file = text_of(matches, "FILE");
+    if word == "script" {
+        return Ok(CommandLine::CheckScript { file });
+    }
+    let kind = spelled_kind(word)?;
+    Ok(CommandLine::Check { kind, file })
 }
 
 fn serve_line_of<'a>(matches: &ArgMatches<'a>) -> Result<CommandLine<'a>, UsageFault<'a>>
@@ -120,12 +159,13 @@ fn serve_line_of<'a>(matches: &ArgMatches<'a>) -> Result<CommandLine<'a>, UsageF
     ensures fault { IfErr result (IsFaultOf (asked_serve (rows_of (found_of matches.now)))) }
 {
     let config = config_of(matches)?;
+    let moment = spelled_opening(text_of(matches, "at"))?;
     Ok(CommandLine::Serve {
         database: text_of(matches, "DB"),
         port: port_of(matches),
         count: count_of(matches),
         config,
-        moment: moment_of(matches),
+        moment,
         verbose: is_verbose(matches),
     })
 }
@@ -135,11 +175,13 @@ fn loop_line_of<'a>(matches: &ArgMatches<'a>) -> Result<CommandLine<'a>, UsageFa
     ensures fault { IfErr result (IsFaultOf (asked_loop (rows_of (found_of matches.now)))) }
 {
     let config = config_of(matches)?;
+    let moment = spelled_opening(text_of(matches, "at"))?;
     Ok(CommandLine::Loop {
         database: text_of(matches, "DB"),
         script: text_of(matches, "SCRIPT"),
         config,
-        moment: moment_of(matches),
+        moment,
         first: first_number(matches),
+        telling: telling_of(matches),
     })
 }

@@ -12,7 +12,7 @@ use tc_types::Image;
 
 impl<A: Allocator + Copy + Drop> Records<A> {
     /// The records that these tables tell of. Answers `Unsound` where no desk could have written them, and `Memory` where that is refused.
-    pub(crate) fn reopen(alloc: A, image: &Image) -> Result<Self, ReopenFault>
+    pub fn reopen(alloc: A, image: &Image) -> Result<Self, ReopenFault>
         ensures book { IfOk result (λ records. records.book ≡ book_of (rows_in image.now)) }
         ensures judged { Judges (rows_in image.now) (IsSound (rows_in image.now)) result }
     {

@@ -88,7 +88,7 @@ impl<A: Allocator + Copy + Drop> Records<A> {
     }
 
     /// The approval of the stack with this name.
-    fn stack_approvals(&self, name: &Name) -> Option<Approvals>
+    pub(crate) fn stack_approvals(&self, name: &Name) -> Option<Approvals>
         ensures { MatchOption result (stack_approval_at self.now.book name.now ≡ None) (λ kept. stack_approval_at self.now.book name.now ≡ Some kept) }
     {
         let first = first_row(&self.requests, name)?;

@@ -63,7 +63,7 @@ fn verdict_word(verdict: Verdict) -> &'static str
 
 /// The second person, `-` where none is named.
 #[tactic(auto, using(crate::proofs::OneLine::second_one))]
-fn second_word(second: &Option<Name>) -> &str
+pub fn second_word(second: &Option<Name>) -> &str
     ensures word { result.now ≡ second_word second.now }
     ensures one_line { IsTrue (is_one_line (second_word second.now)) }
 {

@@ -146,10 +146,10 @@ fn ack_text<A: Allocator + Copy>(alloc: A, ack: Ack) -> Result<String<A>, AllocE
 }
 
 /// Yes or no, as an entry spells it.
-fn yes_no(critical: bool) -> &'static str
-    ensures { result.now ≡ yes_no critical }
+pub fn yes_no(is: bool) -> &'static str
+    ensures { result.now ≡ yes_no is }
 {
-    if critical { "yes" } else { "no" }
+    if is { "yes" } else { "no" }
 }
 
 /// The front of the line: which request, and what it commands.

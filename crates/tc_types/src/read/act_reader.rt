@@ -3,81 +3,18 @@ ghost use Rattle.std.specs.Prelude.{◌≡◌, ◌≢◌, ◌↔◌, ◌<◌, �
 ghost use Rattle.tc_types.specs.declared.acts.Act.{Act};
 ghost use Rattle.tc_types.specs.declared.refusals.Refusal.TheVariants as refusal;
 ghost use Rattle.tc_types.specs.Grammar.{Reads};
-ghost use Rattle.tc_types.specs.ActGrammar.{query_words, IsQuery, book_act_words, IsBookAct, act_words, IsAct, act_text, SpellsAct};
+ghost use Rattle.tc_types.specs.ActGrammar.{book_act_words, IsBookAct, act_words, IsAct, act_text, SpellsAct};
 
-use crate::acts::{Act, BookAct, Query};
+use crate::acts::{Act, BookAct};
+use crate::limits::LONGEST_ACT;
 use crate::names::Name;
 use crate::read::entry_reader::entry;
 use crate::read::link_reader::link_act_of;
-use crate::read::readers::{is, moment, number};
+use crate::read::query_reader::{is_question, query_of};
+use crate::read::readers::{is, number};
 use crate::read::step_reader::step;
 use crate::read::words::Words;
 use crate::refusals::Refusal;
-
-/// The most bytes that the text of an act has.
-pub const LONGEST_ACT: usize = 200;
-
-/// What stands behind `history`.
-fn history(words: &mut Words<'_>) -> Option<Query>
-    ensures { Reads query_words IsQuery (codes "history" ∷ words.old) result }
-{
-    let request = number(words.next()?)?;
-    let after = number(words.next()?)?;
-    words.end()?;
-    Some(Query::History { request, after })
-}
-
-/// What stands behind `places`.
-fn places(words: &mut Words<'_>) -> Option<Query>
-    ensures { Reads query_words IsQuery (codes "places" ∷ words.old) result }
-{
-    words.end()?;
-    Some(Query::Places)
-}
-
-/// What stands behind `request`.
-fn request_asked(words: &mut Words<'_>) -> Option<Query>
-    ensures { Reads query_words IsQuery (codes "request" ∷ words.old) result }
-{
-    let request = number(words.next()?)?;
-    words.end()?;
-    Some(Query::Request { request })
-}
-
-/// What stands behind `link`.
-fn link(words: &mut Words<'_>) -> Option<Query>
-    ensures { Reads query_words IsQuery (codes "link" ∷ words.old) result }
-{
-    words.end()?;
-    Some(Query::Link)
-}
-
-/// What stands behind `schedule`.
-fn schedule(words: &mut Words<'_>) -> Option<Query>
-    ensures { Reads query_words IsQuery (codes "schedule" ∷ words.old) result }
-{
-    words.end()?;
-    Some(Query::Schedule)
-}
-
-/// What stands behind `log`.
-fn log(words: &mut Words<'_>) -> Option<Query>
-    ensures { Reads query_words IsQuery (codes "log" ∷ words.old) result }
-{
-    let execution = number(words.next()?)?;
-    words.end()?;
-    Some(Query::Log { execution })
-}
-
-/// What stands behind `report`.
-fn report(words: &mut Words<'_>) -> Option<Query>
-    ensures { Reads query_words IsQuery (codes "report" ∷ words.old) result }
-{
-    let from = moment(words.next()?)?;
-    let to = moment(words.next()?)?;
-    words.end()?;
-    Some(Query::Report { from, to })
-}
 
 /// What stands behind `withdraw`.
 fn withdraw(words: &mut Words<'_>) -> Option<BookAct>
@@ -125,6 +62,7 @@ fn begin(words: &mut Words<'_>) -> Option<BookAct>
 }
 
 /// The words of an act, of which the first says which.
+#[tactic(auto, using(crate::proofs::QueryLaws::asked, crate::proofs::QueryLaws::unasked))]
 pub fn act_of(words: &mut Words<'_>) -> Option<Act>
     ensures { Reads act_words IsAct words.old result }
 {
@@ -141,22 +79,10 @@ pub fn act_of(words: &mut Words<'_>) -> Option<Act>
         Some(Act::Book(approve_stack(words)?))
     } else if is(verb, b"begin") {
         Some(Act::Book(begin(words)?))
-    } else if is(verb, b"places") {
-        Some(Act::Ask(places(words)?))
-    } else if is(verb, b"history") {
-        Some(Act::Ask(history(words)?))
-    } else if is(verb, b"request") {
-        Some(Act::Ask(request_asked(words)?))
-    } else if is(verb, b"link") {
-        Some(Act::Ask(link(words)?))
-    } else if is(verb, b"schedule") {
-        Some(Act::Ask(schedule(words)?))
-    } else if is(verb, b"log") {
-        Some(Act::Ask(log(words)?))
-    } else if is(verb, b"report") {
-        Some(Act::Ask(report(words)?))
     } else if is(verb, b"step") {
         Some(Act::Step(step(words)?))
+    } else if is_question(verb) {
+        Some(Act::Ask(query_of(verb, words)?))
     } else {
         Some(Act::Link(link_act_of(verb, words)?))
     }

@@ -6,8 +6,9 @@ ghost use Rattle.tc_types.specs.Grammar.{Reads};
 ghost use Rattle.tc_types.specs.ActGrammar.{act_text, line_text, SpellsLine, act_part, HasLongAct, line_words, IsLine};
 
 use crate::acts::Line;
+use crate::limits::LONGEST_ACT;
 use crate::persons::Person;
-use crate::read::act_reader::{LONGEST_ACT, act_of};
+use crate::read::act_reader::act_of;
 use crate::read::readers::moment;
 use crate::read::words::{Words, cut};
 use crate::refusals::Refusal;

@@ -1,7 +1,8 @@
 //! Words that are read as an act which records a step.
 ghost use Rattle.std.specs.Prelude.{◌≡◌, ⊤, ◌∷◌, codes};
 ghost use Rattle.tc_types.specs.Grammar.{Reads};
-ghost use Rattle.tc_types.specs.StepGrammar.{verdict_word, second_word, IsSecond, step_words, IsStepAct};
+ghost use Rattle.tc_types.specs.StepGrammar.{verdict_word, second_word, IsSecond};
+ghost use Rattle.tc_types.specs.ActGrammar.{step_words, IsStepAct};
 
 use crate::acts::StepAct;
 use crate::persons::Person;

@@ -1,4 +1,4 @@
-use Rattle.std.proofs.Common.{Result, subst}
+use Rattle.std.proofs.Common.{Result, refl, subst}
 use Rattle.tc_room.specs.declared.answers.Answer.{Answer}
 use Rattle.tc_room.specs.declared.answers.Untold.{Untold}
 use Rattle.tc_room.specs.Answers.{Says}
@@ -8,9 +8,9 @@ use Rattle.tc_api.proofs.serving.answer_served.Goals as goal
 pub returns-in-Ok : goal.returns-in-Ok
 returns-in-Ok c = λ reply says.
     let said = subst (λ (r : Result Answer Untold). Says reply r) c.in-Ok.is says in
-    outcome_made _ reply _ _ _ c.make_served.ensures (c.ending_of.ensures reply said.2) (said.0, said.1)
+    outcome_made _ reply _ _ _ c.make_served.ensures (c.ending_of.ensures reply said.2) refl (said.0, said.1)
 
 pub returns-in-Err : goal.returns-in-Err
 returns-in-Err c = λ reply says.
     let said = subst (λ (r : Result Answer Untold). Says reply r) c.in-Err.is says in
-    outcome_made _ reply _ _ _ c.make_served-in-Err.ensures (c.ending_of-in-Err.ensures reply said) tt
+    outcome_made _ reply _ _ _ c.make_served-in-Err.ensures (c.ending_of-in-Err.ensures reply said) refl tt

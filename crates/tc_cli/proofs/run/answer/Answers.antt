@@ -1,4 +1,4 @@
-use Rattle.std.proofs.Common.{◌≡◌, Err, inl, inr, ◌∷◌, [], refl}
+use Rattle.std.proofs.Common.{◌≡◌, Err, false, inl, inr, ◌∷◌, [], refl}
 use Rattle.std.proofs.lemmas.Result.{IfOk-weaker}
 use Rattle.tc_types.specs.ActGrammar.{HasLongAct}
 use Rattle.tc_types.specs.Loads.{line_of}
@@ -18,7 +18,7 @@ returns-in-Ok-clause-answered g c =
 pub returns-in-Ok-clause-unanswered : goal.returns-in-Ok-clause-unanswered
 returns-in-Ok-clause-unanswered g c =
     let short : HasLongAct c.args.line.now → ⊥ = loads_short c.args.line.now c.read_load.result c.in-Ok.load c.in-Ok.is c.read_load.ensures.too_long in
-    file_unanswered g.S.Store _ _ c.args.line.now (line_of c.in-Ok.load) _ _ c.answer_file.result (c.in-Ok.ensures.found, short)
+    file_unanswered g.S.Store false _ _ c.args.line.now (line_of c.in-Ok.load) _ _ c.answer_file.result (c.in-Ok.ensures.found, short)
     c.answer_file.ensures.fault c.answer_file.ensures.unread c.answer_file.ensures.memory
 
 pub returns-in_err-answer_line-in-Err-clause-unanswered : goal.returns-in_err-answer_line-in-Err-clause-unanswered

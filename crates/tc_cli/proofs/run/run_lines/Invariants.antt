@@ -6,6 +6,6 @@ use Rattle.tc_cli.proofs.run.run_lines.Given as goal
 
 abbrev pub invariant-loop-line : goal.invariant-loop-line
 invariant-loop-line g l = record {
-  run : HasRun g.S.Store l.fn.room (script_lines l.fn.text) (g.P.Paths.given l.fn.paths) (g.W.Write.contents (inner_of l.fn.writer)) l.room l.line-iterator (g.P.Paths.given l.paths) (g.W.Write.contents (inner_of l.writer)) l.refused;
+  run : HasRun g.S.Store (g.T.Watch.echoes l.fn.watch) l.fn.room (script_lines l.fn.text) (g.P.Paths.given l.fn.paths) (g.W.Write.contents (inner_of l.fn.writer)) l.room l.line-iterator (g.P.Paths.given l.paths) (g.W.Write.contents (inner_of l.writer)) l.refused;
   counts : counts_of l.fn.writer ≡ no_counts → counts_of l.writer ≡ no_counts;
 }

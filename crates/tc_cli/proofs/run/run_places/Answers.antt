@@ -1,4 +1,4 @@
-use Rattle.std.proofs.Common.{◌≡◌, ◌∙◌, Err, List, ℕ, subst}
+use Rattle.std.proofs.Common.{◌≡◌, ◌∙◌, Err, List, ℕ, false, subst}
 use Rattle.std.specs.Io.KnownBytes.{Appends}
 use Rattle.tc_types.specs.Counts.{inner_of}
 use Rattle.tc_cli.specs.declared.script.ScriptFault.TheVariants.{Memory}
@@ -10,13 +10,13 @@ pub returns-in_err-last : goal.returns-in_err-last
 returns-in_err-last g c =
     let gone : c.from_residual.result ≡ Err Memory = is_fault _ _ c.from_residual.ensures.1 in
     let h = c.in_err-last.ensures.answered.replied in
-    rw gone (ends_by _ _ _ _ _ (question_unanswered g.S.Store _ _ h.reply _ h.made) memory_is_other (λ none. none))
+    rw gone (ends_by _ _ _ _ _ (question_unanswered g.S.Store false _ _ h.reply _ h.made) memory_is_other (λ none. none))
 
 pub returns-in_err-put : goal.returns-in_err-put
 returns-in_err-put g c =
     let gone : c.from_residual-in_err-put.result ≡ Err c.in_err-put.field-0.0 = is_fault _ _ c.from_residual-in_err-put.ensures.1 in
     let h = c.in_ok-last.ensures.answered.replied in
-    rw gone (ends_by _ _ _ _ _ (stopped_in_question g.S.Store _ _ _ _ c.in_ok-last.last.refusal _ _ _ (h.reply, h.made, h.says) c.as_bytes.ensures.value c.in_err-put.ensures.fault c.in_err-put.ensures.writes.cut)
+    rw gone (ends_by _ _ _ _ _ (stopped_in_question g.S.Store false _ _ _ _ c.in_ok-last.last.refusal _ _ _ (h.reply, h.made, h.says) c.as_bytes.ensures.value c.in_err-put.ensures.fault c.in_err-put.ensures.writes.cut)
     (output_is_other _ c.in_err-put.ensures.fault) c.in_err-put.ensures.counted)
 
 pub returns : goal.returns

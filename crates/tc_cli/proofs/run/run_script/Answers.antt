@@ -9,7 +9,7 @@ use Rattle.tc_cli.proofs.run.run_script.Goals as goal
 pub returns-in_err-text-clause-stopped : goal.returns-in_err-text-clause-stopped
 returns-in_err-text-clause-stopped g c =
     let gone : c.from_residual.result ≡ Err c.in_err-text.field-0.0 = grind arith in
-    rw gone (stops_unread _ _ _ _ _ c.in_err-text.ensures.fault)
+    rw gone (stops_unread _ _ _ _ _ _ c.in_err-text.ensures.fault)
 
 pub returns-clause-answered : goal.returns-clause-answered
 returns-clause-answered g c =

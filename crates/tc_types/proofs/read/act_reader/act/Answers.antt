@@ -1,6 +1,6 @@
 use Rattle.tc_types.specs.ActGrammar.{act_words, IsAct}
 use Rattle.tc_types.proofs.WordLaws.{reads_joined}
-use Rattle.tc_types.proofs.Spellings.{act_parted}
+use Rattle.tc_types.proofs.ActSpellings.{act_parted}
 use Rattle.tc_types.proofs.read.act_reader.act.Goals as goal
 
 pub returns : goal.returns

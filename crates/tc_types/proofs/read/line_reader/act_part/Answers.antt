@@ -1,5 +1,5 @@
 use Rattle.std.proofs.Common.{◌∷◌, ap, ◌∙◌}
-use Rattle.tc_types.proofs.Spellings.{act_part_after}
+use Rattle.tc_types.proofs.ActSpellings.{act_part_after}
 use Rattle.tc_types.proofs.read.line_reader.act_part.Goals as goal
 
 pub returns : goal.returns

@@ -1,6 +1,6 @@
 use Rattle.tc_types.specs.ActGrammar.{line_words, IsLine}
 use Rattle.tc_types.proofs.WordLaws.{reads_joined}
-use Rattle.tc_types.proofs.Spellings.{line_parted}
+use Rattle.tc_types.proofs.ActSpellings.{line_parted}
 use Rattle.tc_types.proofs.read.line_reader.line.Goals as goal
 
 pub returns : goal.returns

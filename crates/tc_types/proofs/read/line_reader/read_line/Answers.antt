@@ -1,4 +1,4 @@
-use Rattle.tc_types.proofs.Spellings.{short_act}
+use Rattle.tc_types.proofs.ActSpellings.{short_act}
 use Rattle.tc_types.proofs.read.line_reader.read_line.Goals as goal
 
 pub returns-then-has_long_act-clause-only : goal.returns-then-has_long_act-clause-only

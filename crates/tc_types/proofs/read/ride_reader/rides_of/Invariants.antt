@@ -1,6 +1,4 @@
-use Rattle.std.proofs.Common.{◌-◌, ◌≡◌, ◌∷◌, [], ℕ, List, IfSome, Some, map, ◌+◌, ◌*◌, ◌<◌, ◌≤◌, ◌++◌, length, take, drop}
-use Rattle.tc_types.specs.declared.rides.Ride.{Ride}
-use Rattle.tc_types.specs.Grammar.{target_word, time_word, IsRide, AreRides}
+use Rattle.std.proofs.Common.{◌-◌}
 use Rattle.tc_types.proofs.RideLemmas.{HasRead}
 use Rattle.tc_types.proofs.read.ride_reader.rides_of.Given as goal
 

@@ -1,0 +1,52 @@
+//! The board of a desk that is kept in a file, and that nobody has open.
+ghost use Rattle.std.specs.Prelude.{◌≡◌, ◌⊎◌, IfErr, OnErr, OnOk};
+ghost use Rattle.std.specs.Io.KnownBytes.{Appends};
+ghost use Rattle.sqlite.specs.Held.{state};
+ghost use Rattle.sqlite.specs.State.{HasCleanDisk};
+ghost use Rattle.tc_types.specs.Counts.{counts_of, inner_of, no_counts};
+ghost use Rattle.tc_room.specs.Closed.{LeavesTables, OnlyReads};
+ghost use Rattle.tc_cli.specs.Boards.{CutsBoard, TellsBoard};
+ghost use Rattle.tc_cli.specs.Script.{written_counts};
+
+use crate::reporting::{find, forget_log, open_kept, tables_in};
+use crate::run::put;
+use crate::script::ScriptFault;
+use sqlite::Alter;
+use std::alloc::Global;
+use std::io;
+use std::io::Write;
+use std::rt::Files;
+use tc_room::closed_board;
+use tc_store::{Tables, Version};
+use tc_types::Counted;
+
+/// Writes the page of the board of these tables, which are of this version and are only read. Fails with `Tables` where they cannot be read or no desk could have
+/// written them, `Memory` where that is refused, and `Output` where a write fails; then nothing was written, or a front of the page.
+pub fn write_board<S: Alter + Drop, W: Write>(
+    alloc: Global,
+    tables: &mut Tables<S>,
+    version: Version,
+    writer: &mut Counted<W>,
+) -> Result<(), ScriptFault>
+    ensures told { HasCleanDisk (state S.Store tables.new) → OnOk result (TellsBoard S.Store tables.old (W.contents (inner_of writer.old)) (W.contents (inner_of writer.new))) }
+    ensures cut { HasCleanDisk (state S.Store tables.new) → OnErr result (CutsBoard S.Store tables.old (W.contents (inner_of writer.old)) (W.contents (inner_of writer.new))) }
+    ensures reads { OnOk result (OnlyReads S.Store tables.old tables.new) }
+    ensures left { LeavesTables S.Store tables.old tables.new }
+    ensures fault { IfErr result (λ fault. (fault ≡ ScriptFault.Output) ⊎ (fault ≡ ScriptFault.Memory) ⊎ (fault ≡ ScriptFault.Tables)) }
+    ensures counted { counts_of writer.old ≡ no_counts → counts_of writer.new ≡ written_counts result }
+{
+    let page = closed_board(alloc, tables, version)?;
+    put(writer, page.as_bytes())
+}
+
+/// Prints the board of the desk that a file keeps. The file stays as it is, byte for byte, and so does its log where that holds a batch; one that holds none may
+/// have other bytes afterwards.
+pub fn print_board(rt: &HostRuntime, file: &str) -> Result<(), ScriptFault> {
+    let kept = find(rt, file)?;
+    let store = open_kept(rt, &kept)?;
+    let (mut tables, version) = tables_in(rt, &kept, store)?;
+    let mut writer = Counted::new(io::writer(rt));
+    let printed = write_board(rt.alloc(), &mut tables, version, &mut writer);
+    forget_log(rt, &kept);
+    printed
+}

@@ -1,0 +1,140 @@
+//! What is said where the program could not begin or go on, and its exit status then.
+
+use crate::because::{Because, Unusable};
+use crate::copying::{CopyFault, MOST_COPIES};
+use crate::looking::{why_no_desk, why_no_opening, why_no_script, why_unread, why_unwritable};
+use crate::script::ScriptFault;
+use crate::serving::ServiceFault;
+
+/// The exit status of a fault: of usage, of a file or of memory.
+pub(crate) const UNUSABLE: u8 = 2;
+
+/// Says on the standard error what cannot be used. Where that cannot be written either, the status alone says it.
+pub(crate) fn cannot_use(rt: &impl Eprint, name: &str) -> u8 {
+    let _ = eprintln!(rt; "tcdesk: cannot use {name}");
+    UNUSABLE
+}
+
+/// Says so of what has a name of its own, and why, where that is known.
+fn cannot_use_so(rt: &HostRuntime, name: &str, because: Option<Because>) -> u8 {
+    let status = cannot_use(rt, name);
+    if let Some(because) = because {
+        let words = because.words();
+        let _ = eprintln!(rt; "tcdesk: because {words}");
+    }
+    status
+}
+
+/// Says that a file cannot be read, and why.
+pub(crate) fn cannot_read(rt: &HostRuntime, path: &str) -> u8 {
+    cannot_use_so(rt, path, why_unread(rt, path))
+}
+
+/// Says that a script cannot be read, and why.
+pub(crate) fn cannot_read_script(rt: &HostRuntime, path: &str) -> u8 {
+    cannot_use_so(rt, path, why_no_script(rt, path))
+}
+
+/// Says that the desk in a file cannot be read, and why.
+fn cannot_read_desk(rt: &HostRuntime, file: &str) -> u8 {
+    cannot_use_so(rt, file, why_no_desk(rt, file))
+}
+
+/// The exit status of what ended with a fault that needs no name of a file. None where it needs one.
+fn plain_status(rt: &HostRuntime, fault: ScriptFault) -> Option<u8> {
+    match fault {
+        ScriptFault::Output => Some(cannot_use(rt, "output")),
+        ScriptFault::Memory => Some(cannot_use(rt, "memory")),
+        ScriptFault::Config => Some(cannot_use(rt, "config")),
+        ScriptFault::Script | ScriptFault::Tables | ScriptFault::Path => None,
+    }
+}
+
+/// The exit status of a run of a script on a new desk, where this path gave no text, if one did not.
+pub(crate) fn run_status(
+    rt: &HostRuntime,
+    ended: Result<u8, ScriptFault>,
+    script: &str,
+    path: &str,
+) -> u8 {
+    let fault = match ended {
+        Ok(status) => return status,
+        Err(fault) => fault,
+    };
+    match (plain_status(rt, fault), fault) {
+        (Some(status), _) => status,
+        (None, ScriptFault::Tables) => cannot_use(rt, "tables"),
+        (None, ScriptFault::Path) => cannot_read(rt, path),
+        (None, _) => cannot_read_script(rt, script),
+    }
+}
+
+/// The same, on a desk that a file keeps.
+pub(crate) fn kept_status(
+    rt: &HostRuntime,
+    ended: Result<u8, Unusable>,
+    script: &str,
+    file: &str,
+    path: &str,
+) -> u8 {
+    match ended {
+        Ok(status) => status,
+        Err(why) if why.fault == ScriptFault::Tables => {
+            cannot_use_so(rt, file, why.because.or(why_no_opening(rt, file)))
+        }
+        Err(why) => run_status(rt, Err(why.fault), script, path),
+    }
+}
+
+/// The exit status of a report of the desk that a file keeps.
+pub(crate) fn report_status(rt: &HostRuntime, printed: Result<(), ScriptFault>, file: &str) -> u8 {
+    match printed {
+        Ok(()) => 0,
+        Err(fault) => match plain_status(rt, fault) {
+            Some(status) => status,
+            None => cannot_read_desk(rt, file),
+        },
+    }
+}
+
+/// The exit status of a copy of the desk that a file keeps.
+pub(crate) fn copy_status(
+    rt: &HostRuntime,
+    copied: Result<(), CopyFault>,
+    file: &str,
+    copy: &str,
+) -> u8 {
+    match copied {
+        Ok(()) => 0,
+        Err(CopyFault::Desk) => cannot_read_desk(rt, file),
+        Err(CopyFault::Copy) => cannot_use_so(rt, copy, why_unwritable(rt, copy)),
+        Err(CopyFault::Memory) => cannot_use(rt, "memory"),
+        Err(CopyFault::Output) => cannot_use(rt, "output"),
+        Err(CopyFault::Taken(beside)) => {
+            let suffix = beside.suffix();
+            let _ = eprintln!(rt; "tcdesk: {copy}{suffix} is there already");
+            UNUSABLE
+        }
+        Err(CopyFault::Restless) => {
+            let _ = eprintln!(rt; "tcdesk: {file} was too busy at each of {MOST_COPIES} copies");
+            UNUSABLE
+        }
+    }
+}
+
+/// The exit status of a desk that was served, with a script and a database file of these names.
+pub(crate) fn service_status(
+    rt: &HostRuntime,
+    ended: Result<u8, ServiceFault>,
+    script: &str,
+    file: &str,
+) -> u8 {
+    match ended {
+        Ok(status) => status,
+        Err(ServiceFault::Port(port)) => {
+            let _ = eprintln!(rt; "tcdesk: cannot use port {port}");
+            UNUSABLE
+        }
+        Err(ServiceFault::Desk(why)) => kept_status(rt, Err(why), script, file, script),
+    }
+}

@@ -1,0 +1,192 @@
+//! A look at what could not be used, to tell why. Nothing is written but a log that holds nothing, and what was told of it stays.
+
+use crate::because::Because;
+use crate::reporting::{find, forget_log};
+use crate::script::LARGEST_SCRIPT;
+use sqlite::{Alter, Connection};
+use sqlite_disk::Wary;
+use std::alloc::Global;
+use std::fs::OpenOptions;
+use std::{fs, io};
+use tc_desk::Config;
+use tc_room::reopen_desk;
+use tc_store::{NEWEST, ReadFault, StoreFault, Tables, Version};
+use tc_types::{Image, Moment};
+
+/// The window, the channel and the links with which a desk is opened to see whether one could have written what it tells.
+const CONFIG: Config = Config {
+    window: 20,
+    channel: 3,
+    ring: None,
+};
+
+/// The number of the newest schema that this program knows.
+fn newest_schema() -> i64 {
+    match NEWEST {
+        Version::First => 1,
+        Version::Second => 2,
+        Version::Third => 3,
+    }
+}
+
+/// Why the file at a path cannot be read.
+pub fn why_unread(rt: &HostRuntime, path: &str) -> Option<Because> {
+    if path == "-" {
+        return None;
+    }
+    match fs::metadata(rt, path) {
+        Err(error) => Because::of_system(error.kind()),
+        Ok(found) if found.is_dir() => Some(Because::Folder),
+        Ok(found) if !found.is_file() => None,
+        Ok(_) => match fs::open(rt, path) {
+            Err(error) => Because::of_system(error.kind()),
+            Ok(_) => None,
+        },
+    }
+}
+
+/// Why the script at a path cannot be read.
+pub fn why_no_script(rt: &HostRuntime, path: &str) -> Option<Because> {
+    if let Some(because) = why_unread(rt, path) {
+        return Some(because);
+    }
+    match fs::metadata(rt, path) {
+        Ok(found) if found.len() > LARGEST_SCRIPT as u64 => Some(Because::TooLong),
+        _ => None,
+    }
+}
+
+/// The folder that a path names a file in.
+fn folder_of(path: &str) -> &str {
+    match path.rfind('/') {
+        Some(0) => "/",
+        Some(end) => path.get(..end).unwrap_or("."),
+        None => ".",
+    }
+}
+
+/// Why no file of this name can be made.
+fn why_unmade(rt: &HostRuntime, path: &str) -> Option<Because> {
+    if path == ":memory:" || path.starts_with("file:") {
+        return Some(Because::NoName);
+    }
+    match fs::metadata(rt, folder_of(path)) {
+        Err(error) if error.kind() == io::ErrorKind::NotFound => Some(Because::NoFolder),
+        Err(error) => Because::of_system(error.kind()),
+        Ok(found) if !found.is_dir() => Some(Because::NoFolder),
+        Ok(_) => Some(Because::Denied),
+    }
+}
+
+/// Why a copy of this name cannot be written.
+pub fn why_unwritable(rt: &HostRuntime, path: &str) -> Option<Because> {
+    match fs::metadata(rt, folder_of(path)) {
+        Err(error) if error.kind() == io::ErrorKind::NotFound => Some(Because::NoFolder),
+        Err(error) => Because::of_system(error.kind()),
+        Ok(found) if !found.is_dir() => Some(Because::NoFolder),
+        Ok(_) => None,
+    }
+}
+
+/// The number of the schema that a database names as a desk's, if it names one.
+fn schema_number<S: Alter + Drop>(store: &mut Connection<S>) -> Option<i64> {
+    let row = store
+        .query_row("SELECT value FROM meta WHERE name = 'schema'", &[])
+        .ok()?;
+    row.get::<i64>(0).ok()
+}
+
+/// Why tables are not taken as a desk's.
+fn why_foreign<S: Alter + Drop>(store: &mut Connection<S>) -> Because {
+    match schema_number(store) {
+        Some(number) if number > newest_schema() => Because::Later,
+        _ => Because::Foreign,
+    }
+}
+
+/// Why no desk opens over these rows.
+fn why_unopened(alloc: Global, image: &Image) -> Option<Because> {
+    let moment = match image.moves.as_slice().last() {
+        Some(last) => last.moment,
+        None => Moment::new(0)?,
+    };
+    match reopen_desk(alloc, image, CONFIG, moment) {
+        Ok(_) => None,
+        Err(_) => Some(Because::Damaged),
+    }
+}
+
+/// Why the rows of these tables cannot be used.
+fn why_unloaded<S: Alter + Drop>(
+    alloc: Global,
+    tables: &mut Tables<S>,
+    version: Version,
+) -> Option<Because> {
+    match tables.load(version) {
+        Ok(image) => why_unopened(alloc, &image),
+        Err(ReadFault::Sqlite(error)) => Because::of_database(&error),
+        Err(ReadFault::Damaged) => Some(Because::Damaged),
+    }
+}
+
+/// Why what a database holds cannot be used, and the connection.
+fn why_unheld<S: Alter + Drop>(
+    alloc: Global,
+    store: Connection<S>,
+) -> (Option<Because>, Connection<S>) {
+    match Tables::open(alloc, store) {
+        Ok((mut tables, version)) => {
+            let because = why_unloaded(alloc, &mut tables, version);
+            (because, tables.into_connection())
+        }
+        Err((StoreFault::Foreign, mut store)) => (Some(why_foreign(&mut store)), store),
+        Err((_, store)) => (None, store),
+    }
+}
+
+/// Why a file that is there cannot be opened to be written.
+fn why_unwritten(rt: &HostRuntime, file: &str) -> Option<Because> {
+    match OpenOptions::new().read(true).write(true).open(rt, file) {
+        Err(error) => Because::of_system(error.kind()),
+        Ok(_) => Some(Because::Denied),
+    }
+}
+
+/// Why the database in a file that is there cannot be used.
+fn why_unkept(rt: &HostRuntime, file: &str) -> Option<Because> {
+    let kept = find(rt, file).ok()?;
+    match Connection::open_from(rt, kept.database.as_str(), false, Wary) {
+        Ok(store) => {
+            let (because, store) = why_unheld(rt.alloc(), store);
+            forget_log(rt, &kept);
+            drop(store);
+            because
+        }
+        Err((error, left)) => {
+            if left.is_some() {
+                forget_log(rt, &kept);
+            }
+            drop(left);
+            Because::of_database(&error).or(why_unwritten(rt, file))
+        }
+    }
+}
+
+/// Why the desk that a file keeps cannot be read.
+pub fn why_no_desk(rt: &HostRuntime, file: &str) -> Option<Because> {
+    match fs::metadata(rt, file) {
+        Err(error) => Because::of_system(error.kind()),
+        Ok(found) if found.is_dir() => Some(Because::Folder),
+        Ok(found) if found.len() == 0 => Some(Because::Empty),
+        Ok(_) => why_unkept(rt, file),
+    }
+}
+
+/// Why the desk that a file keeps cannot be opened, or one made there.
+pub fn why_no_opening(rt: &HostRuntime, file: &str) -> Option<Because> {
+    match fs::metadata(rt, file) {
+        Err(error) if error.kind() == io::ErrorKind::NotFound => why_unmade(rt, file),
+        Ok(found) if found.is_file() && found.len() == 0 => why_unwritten(rt, file),
+        _ => why_no_desk(rt, file),
+    }
+}

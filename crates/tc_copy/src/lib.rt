@@ -1,0 +1,11 @@
+//! A copy of a desk's file while the desk runs: whether what was read of its two files is what a crash would have left.
+//!
+//! The file is read first and its log behind it, each part at its own time, while the desk goes on. Before and behind both the marks of the files are
+//! read; where these are of one state, the log was not emptied meanwhile, and what an opening recovers from the copy is what it would recover
+//! from the desk's own files, had the desk crashed when its log was read.
+#![tactic(auto)]
+
+pub mod laws;
+mod marks;
+
+pub use marks::{LogMark, Marks, Stamp, is_one_state, is_same_file};

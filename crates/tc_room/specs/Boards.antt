@@ -1,0 +1,33 @@
+-- The board of a room, and that of tables over which no desk is opened.
+use Rattle.std.specs.Prelude.{◌≡◌, ℕ, false, IfOk, MatchBool, OnOk, List, Result}
+use Rattle.sqlite_trees.specs.declared.store.Store.{Ghosts}
+use Rattle.sqlite.specs.Held.{Held, state}
+use Rattle.sqlite.specs.State.{HasCleanDisk}
+use Rattle.tc_types.specs.declared.refusals.Refusal.{Refusal}
+use Rattle.tc_types.specs.declared.refusals.Refusal.TheVariants.{Memory, Stopped}
+use Rattle.tc_world.specs.EitherLink.{either}
+use Rattle.tc_book.specs.Sound.{IsSound, book_of}
+use Rattle.tc_store.specs.declared.versions.Version.{Version}
+use Rattle.tc_store.specs.Ledgers.{Ledger}
+use Rattle.tc_store.specs.Schema.{HoldsAs}
+use Rattle.tc_store.specs.Told.{IsTold}
+use Rattle.tc_view.specs.Shown.{IsDeskPage, IsFilePage}
+use Rattle.tc_room.specs.Closed.{LeavesTables, OnlyReads}
+use Rattle.tc_room.specs.Joined.{Standing}
+
+-- a room that goes on tells the page of its desk
+pub record TellsBoard {S : Type 0} (room : Standing S) (page : List ℕ) : Type 0 where
+  pub going : room.stopped ≡ false
+  pub told : IsDeskPage either either room.desk page
+
+-- it refuses to: one that has stopped says so, and else memory was refused
+abbrev pub RefusesBoard : {S : Type 0} → Standing S → Refusal → Type 0
+RefusesBoard room refusal = MatchBool room.stopped (refusal ≡ Stopped) (refusal ≡ Memory)
+
+-- Of tables that hold a ledger whose rows are told by their columns: the page is that of the book which they tell of, and a desk could have written them. The tables
+-- are only read.
+pub record ReadsBoard {S T E : Type 0} (g : Ghosts S) (page_of : T → List ℕ) (result : Result T E) (old new : Held S) : Type 0 where
+  pub told : HasCleanDisk (state g new) → IfOk result (λ page. (version : Version) (ledger : Ledger) → IsTold ledger.image → HoldsAs version (state g old).now ledger
+      → IsSound ledger.image × IsFilePage (book_of ledger.image) (page_of page))
+  pub reads : OnOk result (OnlyReads g old new)
+  pub left : LeavesTables g old new

@@ -1,0 +1,25 @@
+//! The page of the board of a room.
+ghost use Rattle.std.specs.Prelude.{◌≤◌, IfErr, IfOk};
+ghost use Rattle.std.specs.String.{string_bytes, string_len};
+ghost use Rattle.tc_room.specs.Boards.{RefusesBoard, TellsBoard};
+
+use crate::rooms::Room;
+use sqlite::Alter;
+use std::alloc::Global;
+use tc_types::Refusal;
+use tc_view::desk_page;
+use tc_wall::MOST_BYTES;
+
+impl<S: Alter + Drop> Room<S> {
+    /// The page of the board. The desk says it: no table is read. `Stopped` where the room has stopped, else `Memory` where that is refused.
+    pub fn board(&self, alloc: Global) -> Result<String, Refusal>
+        ensures told { IfOk result (λ page. TellsBoard self.now (string_bytes page)) }
+        ensures few { IfOk result (λ page. string_len page ≤ MOST_BYTES) }
+        ensures refused { IfErr result (RefusesBoard self.now) }
+    {
+        if self.stopped() {
+            return Err(Refusal::Stopped);
+        }
+        Ok(desk_page(alloc, &self.desk)?)
+    }
+}

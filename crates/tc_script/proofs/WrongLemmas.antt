@@ -1,0 +1,106 @@
+-- What is told of words that do not follow each other.
+use Rattle.std.proofs.Common.{◌≡◌, ℕ, zero, suc, ◌+◌, ◌<◌, ◌≤◌, Option, Some, None, List, [], ◌∷◌, length, get_or, take, drop, refl, ap, inl, inr, subst, arith, eqb}
+use Rattle.std.specs.Prelude.{◌↔◌, IfSome, IsTrue, is_none}
+use Rattle.std.proofs.lemmas.List.Sums.{count_by-le-length}
+use Rattle.std.proofs.lemmas.List.Splits.{length-slice_split}
+use Rattle.tc_types.specs.ActGrammar.{HasLongAct}
+use Rattle.tc_script.specs.declared.faults.LineFault.{LineFault}
+use Rattle.tc_script.specs.declared.faults.LineFault.TheVariants as fault
+use Rattle.tc_script.specs.declared.slots.Slot.{Slot}
+use Rattle.tc_script.specs.declared.slots.Slot.TheVariants as slot
+use Rattle.tc_script.specs.Slots.{behind}
+use Rattle.tc_script.specs.Fits.{Fits}
+use Rattle.tc_script.specs.Faults.{Blames, Follow, IsTaken, IsWrong, NoneBegins, Tells, line_words}
+use Rattle.tc_script.proofs.Followed.{taken_follows}
+use Rattle.tc_script.proofs.Taken.{follow_taken}
+
+-- words that are judged from this place on, behind some of a line's
+pub record StandAt (which : ℕ) (at : Option Slot) (left all : List (List ℕ)) : Type 0 where
+  pub wrong : (told : LineFault) → IsWrong which at left told → IsWrong 1 (Some slot.Moment) all told
+  pub follow : Follow at left → Follow (Some slot.Moment) all
+  pub count : which + length left ≡ 1 + length all
+
+pub stand_first : (all : List (List ℕ)) → StandAt 1 (Some slot.Moment) all all
+stand_first all = record { wrong = λ told is. is; follow = λ is. is; count = refl }
+
+pub stand_next : (which : ℕ) (at : Slot) (word : List ℕ) (left all : List (List ℕ)) → StandAt which (Some at) (word ∷ left) all → Fits at word
+    → StandAt (which + 1) (behind at word) left all
+stand_next which at word left all so fits = record {
+  wrong = λ told is. so.wrong told (inr (fits, is));
+  follow = λ is. so.follow (fits, is);
+  count = let before = so.count in omega (arith, before);
+}
+
+-- what is wrong does not follow
+pub wrong_follow : (which : ℕ) (at : Option Slot) (ws : List (List ℕ)) (told : LineFault) → IsWrong which at ws told → Follow at ws → ⊥
+wrong_follow which None [] told wrong follow = wrong
+wrong_follow which None (w ∷ ws) told wrong follow = follow
+wrong_follow which (Some at) [] told wrong follow = follow
+wrong_follow which (Some at) (w ∷ ws) told (inl (unfit, is)) follow = unfit follow.0
+wrong_follow which (Some at) (w ∷ ws) told (inr (fits, more)) follow = wrong_follow (which + 1) (behind at w) ws told more follow.1
+
+-- the number of the word that is told
+abbrev pub place_of : LineFault → ℕ
+place_of fault.TooLong = 0
+place_of (fault.Word which at) = which
+place_of (fault.Missing which at) = which
+place_of (fault.Extra which) = which
+
+-- no word before the first of them is told
+place_from : (which : ℕ) (at : Option Slot) (ws : List (List ℕ)) (told : LineFault) → IsWrong which at ws told → which ≤ place_of told
+place_from which None [] told wrong = absurd wrong
+place_from which None (w ∷ ws) told wrong = let is = ap place_of wrong in omega (arith, is)
+place_from which (Some at) [] told wrong = let is = ap place_of wrong in omega (arith, is)
+place_from which (Some at) (w ∷ ws) told (inl (unfit, told_is)) = let is = ap place_of told_is in omega (arith, is)
+place_from which (Some at) (w ∷ ws) told (inr (fits, more)) = let later = place_from (which + 1) (behind at w) ws told more in omega (arith, later)
+
+-- words that follow each other differ from those that do not, up to the word that is told
+differ : (many which : ℕ) (at : Option Slot) (ws others : List (List ℕ)) (told : LineFault) → IsWrong which at ws told → Follow at others
+    → place_of told < which + many → take many others ≡ take many ws → ⊥
+differ zero which at ws others told wrong follow near same = let from = place_from which at ws told wrong in omega (arith, from, near)
+differ (suc many) which None [] others told wrong follow near same = wrong
+differ (suc many) which None (w ∷ ws) [] told wrong follow near same = cc
+differ (suc many) which None (w ∷ ws) (v ∷ vs) told wrong follow near same = follow
+differ (suc many) which (Some at) [] [] told wrong follow near same = follow
+differ (suc many) which (Some at) [] (v ∷ vs) told wrong follow near same = cc
+differ (suc many) which (Some at) (w ∷ ws) [] told wrong follow near same = follow
+differ (suc many) which (Some at) (w ∷ ws) (v ∷ vs) told (inl (unfit, is)) follow near same =
+    let first : v ≡ w = ap (λ (l : List (List ℕ)). get_or l 0 v) same in
+    unfit (subst (Fits at) first follow.0)
+differ (suc many) which (Some at) (w ∷ ws) (v ∷ vs) told (inr (fits, more)) follow near same =
+    let first : v ≡ w = ap (λ (l : List (List ℕ)). get_or l 0 v) same in
+    differ many (which + 1) (behind at w) ws vs told more (subst (λ (x : List ℕ). Follow (behind at x) vs) first follow.1) (omega (arith, near)) (ap (drop 1) same)
+
+none_begins : (given : List ℕ) (told : LineFault) → IsWrong 1 (Some slot.Moment) (line_words given) told → NoneBegins (place_of told) given
+none_begins given told wrong other taken same =
+    differ (place_of told) 1 (Some slot.Moment) (line_words given) (line_words other) told wrong (taken_follows other taken) (omega arith) same
+
+-- what is told is true
+pub wrong_blames : (given : List ℕ) (told : LineFault) → IsWrong 1 (Some slot.Moment) (line_words given) told → Blames given told
+wrong_blames given fault.TooLong wrong = absurd (let from = place_from 1 (Some slot.Moment) (line_words given) fault.TooLong wrong in omega (arith, from))
+wrong_blames given (fault.Word which at) wrong = none_begins given (fault.Word which at) wrong
+wrong_blames given (fault.Missing which at) wrong = none_begins given (fault.Missing which at) wrong
+wrong_blames given (fault.Extra which) wrong = none_begins given (fault.Extra which) wrong
+
+-- ---- the words that are left
+
+pub few_words : (given : List ℕ) → length (line_words given) ≤ length given + 1
+few_words given = let many = length-slice_split (λ byte. eqb byte 32) given in let few = count_by-le-length (λ byte. eqb byte 32) given in omega (arith, many, few)
+
+-- ---- a line as a whole
+
+pub none_taken : (given : List ℕ) (told : Option LineFault) → ¬ HasLongAct given → IfSome told (IsWrong 1 (Some slot.Moment) (line_words given))
+    → (IsTrue (is_none told) → Follow (Some slot.Moment) (line_words given)) → IsTrue (is_none told) ↔ IsTaken given
+none_taken given None short wrong follow = (λ none. follow_taken given short (follow none), λ taken. refl)
+none_taken given (Some told) short wrong follow = (λ none. cc, λ taken. absurd (wrong_follow 1 (Some slot.Moment) (line_words given) told wrong (taken_follows given taken)))
+
+pub wrong_tells : (given : List ℕ) (told : Option LineFault) → ¬ HasLongAct given → IfSome told (IsWrong 1 (Some slot.Moment) (line_words given)) → IfSome told (Tells given)
+wrong_tells given None short wrong = wrong
+wrong_tells given (Some fault.TooLong) short wrong = absurd (let from = place_from 1 (Some slot.Moment) (line_words given) fault.TooLong wrong in omega (arith, from))
+wrong_tells given (Some (fault.Word which at)) short wrong = (short, wrong)
+wrong_tells given (Some (fault.Missing which at)) short wrong = (short, wrong)
+wrong_tells given (Some (fault.Extra which)) short wrong = (short, wrong)
+
+pub wrong_blamed : (given : List ℕ) (told : Option LineFault) → IfSome told (IsWrong 1 (Some slot.Moment) (line_words given)) → IfSome told (Blames given)
+wrong_blamed given None wrong = wrong
+wrong_blamed given (Some told) wrong = wrong_blames given told wrong

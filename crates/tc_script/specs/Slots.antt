@@ -1,0 +1,97 @@
+-- The places of a line, one behind the other.
+use Rattle.std.specs.Prelude.{ℕ, ◌==◌, Bool, true, if◌then◌else◌, Option, Some, None, List, length, get_or, codes}
+use Rattle.std.specs.Option.{option_and_then}
+use Rattle.tc_types.specs.Words.{words}
+use Rattle.tc_script.specs.declared.sorts.Sort.TheVariants.{Insert, Delete, Shift, ShiftAll, Schedule, Other}
+use Rattle.tc_script.specs.declared.slots.Slot.{Slot}
+use Rattle.tc_script.specs.declared.slots.Slot.TheVariants as slot
+use Rattle.tc_script.specs.declared.verbs.Verb.{Verb}
+use Rattle.tc_script.specs.declared.verbs.Verb.TheVariants as verb
+use Rattle.tc_script.specs.Sorts.{is_schedule_sort, is_scheduling, sort_of}
+use Rattle.tc_script.specs.Verbs.{same, verb_in}
+
+-- what stands between the semicolons of a word
+abbrev pub parts : List ℕ → List (List ℕ)
+parts word = words 59 word
+
+-- what stands behind a verb; none where the line ends there
+abbrev pub first_slot : Verb → Option Slot
+first_slot verb.Enter = Some slot.Apid
+first_slot verb.Withdraw = Some slot.Request
+first_slot verb.Approve = Some slot.Request
+first_slot verb.Close = Some slot.Request
+first_slot verb.ApproveStack = Some slot.Name
+first_slot verb.Begin = Some slot.Name
+first_slot verb.Step = Some slot.StepOf
+first_slot verb.Release = Some slot.Request
+first_slot verb.Initiate = Some slot.Initiation
+first_slot verb.Terminate = None
+first_slot verb.Set = Some slot.Setting
+first_slot verb.Tick = None
+first_slot verb.Up = None
+first_slot verb.LoseUp = Some slot.Item
+first_slot verb.LoseDown = Some slot.Item
+first_slot verb.Clcw = None
+first_slot verb.Down = None
+first_slot verb.Work = None
+first_slot verb.Clock = Some slot.Time
+first_slot verb.Places = None
+first_slot verb.History = Some slot.HistoryOf
+first_slot verb.Request = Some slot.Request
+first_slot verb.Link = None
+first_slot verb.Schedule = None
+first_slot verb.Log = Some slot.Execution
+first_slot verb.Report = Some slot.From
+first_slot verb.Waiting = None
+first_slot verb.Moves = Some slot.After
+first_slot verb.Standing = Some slot.StandingAt
+first_slot verb.Steps = Some slot.Name
+first_slot verb.Stack = Some slot.NewName
+first_slot verb.Procedure = Some slot.NewName
+
+abbrev pub behind_initiation : List ℕ → Option Slot
+behind_initiation word = if same word (codes "setvr") then Some slot.Counter else None
+
+abbrev pub behind_setting : List ℕ → Option Slot
+behind_setting word =
+    if same word (codes "vs") then Some slot.Counter
+    else if same word (codes "k") then Some slot.Window
+    else if same word (codes "t1") then Some slot.Ticks
+    else Some slot.Limit
+
+-- the last of four flags is set
+abbrev pub completes : List ℕ → Bool
+completes word = get_or word 3 0 == 99
+
+-- what stands behind this word of an entry, at its place
+abbrev pub behind_entry : Slot → List ℕ → Option Slot
+behind_entry slot.Apid word = Some slot.Ack
+behind_entry slot.Ack word = Some (slot.Critical (completes word))
+behind_entry (slot.Critical completes) word = Some (slot.Service completes)
+behind_entry (slot.Service completes) word = Some (slot.Subtype (is_scheduling word))
+behind_entry (slot.Subtype scheduling) word = Some (slot.Target (sort_of scheduling word))
+behind_entry (slot.Target Insert) word = Some (slot.Times (length (parts word)))
+behind_entry (slot.Target Delete) word = Some (slot.Offset Delete)
+behind_entry (slot.Target Shift) word = Some (slot.Offset Shift)
+behind_entry (slot.Target ShiftAll) word = Some (slot.Offset ShiftAll)
+behind_entry (slot.Target Schedule) word = Some (slot.Offset Schedule)
+behind_entry (slot.Target Other) word = Some (slot.Offset Other)
+behind_entry (slot.Offset sort) word = Some (slot.Outcome (is_schedule_sort sort))
+behind_entry (slot.Times count) word = Some (slot.Outcome true)
+behind_entry other word = None
+
+-- what stands behind this word, at its place; none where the line ends there
+abbrev pub behind : Slot → List ℕ → Option Slot
+behind slot.Moment word = Some slot.Person
+behind slot.Person word = Some slot.Verb
+behind slot.Verb word = option_and_then first_slot (verb_in word)
+behind slot.HistoryOf word = Some slot.After
+behind slot.StandingAt word = Some slot.Past
+behind slot.StepOf word = Some slot.Step
+behind slot.Step word = Some slot.Verdict
+behind slot.Verdict word = Some slot.Second
+behind slot.NewName word = Some slot.Path
+behind slot.From word = Some slot.To
+behind slot.Initiation word = behind_initiation word
+behind slot.Setting word = behind_setting word
+behind other word = behind_entry other word

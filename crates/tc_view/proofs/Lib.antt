@@ -1,0 +1,5 @@
+pub mod GatherLemmas
+pub mod OpenLemmas
+pub mod WayLemmas
+pub mod PageLemmas
+pub mod OneLemmas

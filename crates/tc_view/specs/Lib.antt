@@ -1,0 +1,5 @@
+pub mod Ways
+pub mod Waits
+pub mod Links
+pub mod Shown
+pub mod Gathered

@@ -1,0 +1,82 @@
+//! The pages.
+ghost use Rattle.std.specs.Prelude.{◌≡◌, ◌≤◌, IfOk};
+ghost use Rattle.std.specs.String.{string_bytes, string_len};
+ghost use Rattle.tc_wall.specs.declared.boards.Board.{Board as SomeBoard};
+ghost use Rattle.tc_wall.specs.Page.{board_page};
+ghost use Rattle.tc_view.specs.Shown.{IsDeskPage, IsFilePage, ShowsBook};
+
+use crate::gathering::gather;
+use crate::lives::link_of;
+use crate::opens::open_of;
+use crate::trails::{trails_of, ways_of};
+use crate::waits::waits_of;
+use std::alloc::{AllocError, Allocator};
+use tc_book::Records;
+use tc_desk::Desk;
+use tc_types::{Frame, Report};
+use tc_wall::{Board, KnownSchedule, Live, MOST_BYTES, board_text};
+use tc_world::Carrier;
+
+/// The page of a book, with what is told of a desk that has it open. Fails where memory is refused.
+fn page_of<A: Allocator + Copy + Drop>(
+    alloc: A,
+    records: &Records<A>,
+    live: Option<Live<'_>>,
+) -> Result<String<A>, AllocError>
+    ensures page { IfOk result (λ t. (board : SomeBoard) × ShowsBook records.now.book board × (board.live ≡ live.entry) × (string_bytes t ≡ board_page board)) }
+    ensures few { IfOk result (λ t. string_len t ≤ MOST_BYTES) }
+{
+    // read for the proof alone: the book is good
+    let _mark = records.mark();
+    let waiting = records.waiting(alloc)?;
+    let waits = waits_of(alloc, records.procedure_steps(), &waiting)?;
+    let found = open_of(alloc, records)?;
+    let gathered = gather(alloc, records, &found.first)?;
+    let trails = trails_of(alloc, records, &gathered, &found.first)?;
+    let ways = ways_of(alloc, &trails)?;
+    let counts = records.tallies();
+    let moves = records.rows();
+    let board = Board {
+        entered: records.count(),
+        counts: &counts,
+        waits: &waits,
+        waiting: waiting.len(),
+        live,
+        ways: &ways,
+        opened: found.count,
+        moves,
+        moved: moves.len(),
+    };
+    board_text(alloc, &board)
+}
+
+/// The page of the book of a file that nobody has open. Fails where memory is refused.
+pub fn file_page<A: Allocator + Copy + Drop>(
+    alloc: A,
+    records: &Records<A>,
+) -> Result<String<A>, AllocError>
+    ensures page { IfOk result (λ t. IsFilePage records.now.book (string_bytes t)) }
+    ensures few { IfOk result (λ t. string_len t ≤ MOST_BYTES) }
+{
+    page_of(alloc, records, None)
+}
+
+/// The page of a desk that is open. Fails where memory is refused.
+pub fn desk_page<U: Carrier<Frame> + Drop, D: Carrier<Report> + Drop, A: Allocator + Copy + Drop>(
+    alloc: A,
+    desk: &Desk<U, D, A>,
+) -> Result<String<A>, AllocError>
+    ensures page { IfOk result (λ t. IsDeskPage U.kind D.kind desk.now.parts (string_bytes t)) }
+    ensures few { IfOk result (λ t. string_len t ≤ MOST_BYTES) }
+{
+    let schedule = desk.schedule()?;
+    let live = Live {
+        link: link_of(&desk.link()),
+        schedule: KnownSchedule {
+            enabled: schedule.enabled,
+            activities: &schedule.activities,
+            laid_in: schedule.activities.len(),
+        },
+    };
+    page_of(alloc, desk.records(), Some(live))
+}

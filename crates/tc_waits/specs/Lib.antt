@@ -1,0 +1,3 @@
+pub mod WaitingLines
+pub mod ListLines
+pub mod StepLines

@@ -1,0 +1,10 @@
+pub mod ListLemmas
+pub mod ClockLemmas
+pub mod EscapeLemmas
+pub mod PartLemmas
+pub mod ToldLemmas
+pub mod AxisLemmas
+pub mod RangeLemmas
+pub mod SizeLemmas
+pub mod PageSizeLemmas
+pub mod WalkLemmas

@@ -1,0 +1,27 @@
+-- The heading: how many requests were entered, and the last move; a closed file says so.
+use Rattle.std.specs.Prelude.{ℕ, ◌-◌, Option, Some, None, List, [], ◌∷◌, ◌++◌, codes, length, slice_get}
+use Rattle.tc_types.specs.declared.history.moves.Move.{Move}
+use Rattle.tc_wall.specs.declared.boards.Live.{Live}
+use Rattle.tc_wall.specs.declared.boards.Board.{Board}
+use Rattle.tc_wall.specs.declared.fixed.TheConstants.{HEADING}
+use Rattle.tc_wall.specs.Parts.{Part, Fixed, Number, Time, fixed}
+
+unfoldable pub file_parts : Option Live → List Part
+file_parts (Some live) = []
+file_parts None = Fixed (codes "<p class=\"file\">closed file</p>\n") ∷ []
+
+unfoldable pub entered_parts : ℕ → List Part
+entered_parts entered = Fixed (codes "<p><b>") ∷ Number entered ∷ Fixed (codes "</b> entered</p>\n") ∷ []
+
+unfoldable pub moved_parts : Move → List Part
+moved_parts row =
+    Fixed (codes "<p>last move <b>") ∷ Number row.seq ∷ Fixed (codes "</b> at <b>") ∷ Time row.moment ∷ Fixed (codes "</b> UTC</p>\n") ∷ []
+
+abbrev pub last_parts : Option Move → List Part
+last_parts (Some row) = moved_parts row
+last_parts None = fixed (codes "<p>nothing moved yet</p>\n")
+
+unfoldable pub heading_parts : Board → List Part
+heading_parts b =
+    fixed HEADING.now ++ file_parts b.live ++ entered_parts b.entered ++ last_parts (slice_get b.moves.now (length b.moves.now - 1))
+    ++ fixed (codes "</header>\n")

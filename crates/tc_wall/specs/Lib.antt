@@ -1,0 +1,17 @@
+pub mod Clock
+pub mod Escapes
+pub mod Parts
+pub mod Signs
+pub mod Bounds
+pub mod Heading
+pub mod Tiles
+pub mod Waits
+pub mod LinkParts
+pub mod ScheduleParts
+pub mod Axis
+pub mod Bars
+pub mod WayParts
+pub mod MoveParts
+pub mod Page
+pub mod Told
+pub mod Ranges

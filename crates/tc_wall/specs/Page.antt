@@ -1,0 +1,45 @@
+-- The page: its parts, in order.
+use Rattle.std.specs.Prelude.{ℕ, ◌+◌, ◌&&◌, nat_le, if◌then◌else◌, Option, Some, None, List, [], ◌++◌, codes}
+use Rattle.tc_wall.specs.declared.boards.Live.{Live}
+use Rattle.tc_wall.specs.declared.boards.Board.{Board}
+use Rattle.tc_wall.specs.declared.pages.TheConstants.{MOST_FEW}
+use Rattle.tc_wall.specs.declared.fixed.TheConstants.{HEAD, STYLE, REFRESH, FOOT}
+use Rattle.tc_wall.specs.Parts.{Part, fixed, shown_all}
+use Rattle.tc_wall.specs.Heading.{heading_parts}
+use Rattle.tc_wall.specs.Tiles.{tiles_parts}
+use Rattle.tc_wall.specs.Waits.{waits_parts}
+use Rattle.tc_wall.specs.LinkParts.{link_parts, closed_link_parts}
+use Rattle.tc_wall.specs.ScheduleParts.{known_schedule_parts, closed_schedule_parts}
+use Rattle.tc_wall.specs.WayParts.{ways_parts}
+use Rattle.tc_wall.specs.MoveParts.{moves_parts}
+
+-- how many activities the on-board schedule has; that of a closed file tells of none
+abbrev pub laid_in : Option Live → ℕ
+laid_in None = 0
+laid_in (Some live) = live.schedule.laid_in
+
+-- where there are few rows, the letters are large
+unfoldable pub size_word : Board → List ℕ
+size_word b = if nat_le b.opened MOST_FEW && nat_le (b.waiting + laid_in b.live) MOST_FEW then codes "few" else codes "many"
+
+-- an open desk's page is asked for again
+unfoldable pub refresh_parts : Option Live → List Part
+refresh_parts None = []
+refresh_parts (Some live) = fixed REFRESH.now
+
+unfoldable pub head_parts : Board → List Part
+head_parts b =
+    fixed HEAD.now ++ fixed STYLE.now ++ fixed (codes "</style>\n") ++ refresh_parts b.live
+    ++ fixed (codes "</head>\n<body class=\"") ++ fixed (size_word b) ++ fixed (codes "\">\n")
+
+-- the link and the schedule
+unfoldable pub live_parts : Option Live → List Part
+live_parts None = closed_link_parts ++ closed_schedule_parts
+live_parts (Some live) = link_parts live.link ++ known_schedule_parts live.schedule
+
+unfoldable pub page : Board → List Part
+page b =
+    head_parts b ++ heading_parts b ++ tiles_parts b.counts.now ++ waits_parts b ++ live_parts b.live ++ ways_parts b ++ moves_parts b ++ fixed FOOT.now
+
+unfoldable pub board_page : Board → List ℕ
+board_page b = shown_all (page b)

@@ -1,0 +1,239 @@
+//! The fixed parts of the page. Edit the files of `page/`, and let `tools/page_parts.py` write this one.
+
+/// The head of the page, up to its style.
+pub(crate) const HEAD: &str = r##"<!doctype html>
+<html lang="en">
+<head>
+<meta charset="utf-8">
+<meta name="viewport" content="width=device-width">
+<meta http-equiv="Content-Security-Policy" content="default-src 'none'; style-src 'unsafe-inline'; img-src data:">
+<link rel="icon" href="data:,">
+<title>Telecommand desk</title>
+<style>
+"##;
+
+/// The style.
+pub(crate) const STYLE: &str =
+    r##"/* The wall screen, and below it the paper. Colours are those of Okabe and Ito, which the colour-blind can tell apart. */
+:root {
+  color-scheme: dark;
+  --ground: #0b111b; --panel: #17202e; --line: #33415a; --text: #f2f5fa; --dim: #a9b6c9;
+  --orange: #e69f00; --sky: #56b4e9; --blue: #0072b2; --purple: #cc79a7; --yellow: #f0e442; --green: #00a878; --vermilion: #d55e00;
+  --red: #c4001a; --grey: #8c98a8;
+}
+* { box-sizing: border-box; margin: 0; padding: 0; }
+body {
+  display: grid; gap: 6px; padding: 6px; min-height: 100vh;
+  grid-template: "heading heading moves" auto "tiles tiles moves" auto "link link moves" auto "waits ways moves" auto "schedule ways moves" 1fr
+    / fit-content(600px) minmax(0, 1fr) auto;
+  background: var(--ground); color: var(--text);
+  font: 13px/18px "DejaVu Sans", Verdana, "Segoe UI", "Helvetica Neue", Arial, sans-serif; font-variant-numeric: tabular-nums;
+}
+section { background: var(--panel); padding: 4px 10px; }
+h2 { font-size: 15px; line-height: 20px; }
+table { border-collapse: collapse; width: 100%; }
+th { text-align: left; font-weight: normal; font-size: 11px; line-height: 14px; color: var(--dim); vertical-align: bottom; white-space: nowrap; }
+td, th { padding: 0 8px 0 0; }
+tbody tr { border-top: 1px solid var(--line); }
+table:not(:has(tbody tr)) { display: none; }
+em { font-style: normal; font-weight: bold; white-space: nowrap; }
+.none { color: var(--dim); font-size: 16px; padding: 4px 0; }
+.more { font-weight: bold; padding-top: 2px; }
+.few .waits, .few .ways, .few .schedule { font-size: 16px; line-height: 24px; }
+.few .waits td, .few .ways td { padding-top: 5px; padding-bottom: 5px; }
+.few .waits th, .few .ways th, .few .axis b { font-size: 12px; }
+
+/* (a) the heading */
+header { grid-area: heading; display: flex; gap: 28px; align-items: baseline; }
+h1 { font-size: 28px; line-height: 34px; flex: 1; white-space: nowrap; }
+header p { color: var(--dim); font-size: 16px; white-space: nowrap; }
+header b { color: var(--text); font-size: 26px; }
+header .file { background: var(--text); color: var(--ground); font-weight: bold; font-size: 20px; padding: 2px 12px; }
+
+/* (b) the tiles */
+.tiles { grid-area: tiles; background: none; padding: 0; display: grid; gap: 6px; grid-template-columns: repeat(2, 1fr) 1.9fr repeat(4, 1fr) 1.5fr; }
+.tiles h2 { display: none; }
+.tile { background: var(--panel); border-left: 10px solid var(--grey); padding: 0 4px 3px 8px; }
+.tile b { font-size: 40px; line-height: 42px; }
+.tile i { font-style: normal; font-size: 22px; line-height: 40px; float: right; }
+.tile p { font-size: 14px; line-height: 16px; font-weight: bold; }
+.tile small { display: block; font-size: 11px; line-height: 13px; color: var(--dim); }
+.wait { border-color: var(--orange); }
+.ready { border-color: var(--sky); }
+.way { border-image: linear-gradient(var(--blue) 33%, var(--purple) 33% 66%, var(--green) 66%) 1; }
+.scheduled { border-color: var(--yellow); }
+.doubt { background: var(--vermilion); border-image: repeating-linear-gradient(135deg, #000 0 5px, #fff 5px 10px) 10; }
+.failed { background: var(--red); border-color: #fff; }
+.completed { border-color: var(--green); }
+.doubt, .failed, .doubt small, .failed small { color: #fff; font-weight: bold; }
+.tile.zero { background: var(--panel); border-color: var(--line); border-image: none; color: #71809a; }
+.tile.zero small { color: #71809a; }
+
+/* (c) what waits */
+.waits { grid-area: waits; min-width: 540px; overflow-wrap: break-word; }
+.waits td { vertical-align: top; }
+.waits td:first-child { white-space: nowrap; border-left: 6px solid var(--text); padding-left: 6px; }
+.waits .Entered td:first-child { border-color: var(--orange); }
+.waits .Approved td:first-child { border-color: var(--sky); }
+.waits .Locked td:first-child { border-color: var(--line); }
+.waits .Locked td { color: var(--dim); }
+.waits .Doubtful { background: #5a2800; font-weight: bold; }
+.waits .Doubtful td:first-child { border-color: var(--vermilion); }
+
+/* (d) the link, and the schedule */
+.link { grid-area: link; display: flex; gap: 2px 14px; align-items: center; }
+.link h2 { color: var(--dim); }
+.premise { font-size: 24px; line-height: 34px; font-weight: bold; padding: 0 10px; background: #00614a; white-space: nowrap; }
+.broken .premise { background: var(--red); }
+.closed .premise { background: none; }
+dl { display: flex; flex-wrap: wrap; gap: 0 16px; }
+dt { font-size: 11px; line-height: 13px; color: var(--dim); }
+dd { font-size: 15px; line-height: 20px; white-space: nowrap; }
+.Wait, .Lockout { color: #ffb000; font-weight: bold; }
+.schedule { grid-area: schedule; }
+.schedule ul { list-style: none; columns: 2; column-gap: 12px; }
+.schedule li { break-inside: avoid; white-space: nowrap; border-top: 1px solid var(--line); }
+.schedule li b { display: inline-block; min-width: 76px; }
+
+/* (e) each open request's way */
+.ways { grid-area: ways; }
+.legend { display: flex; flex-wrap: wrap; gap: 0 12px; font-size: 11px; line-height: 15px; list-style: none; color: var(--dim); }
+.legend svg { display: inline-block; width: 18px; height: 11px; vertical-align: -1px; margin-right: 3px; }
+.ways td { white-space: nowrap; }
+.ways td.bar, .ways th.bar { width: 100%; min-width: 200px; padding: 0 6px 0 0; }
+.bar svg { display: block; width: 100%; height: 12px; overflow: visible; }
+.few .bar svg { height: 20px; }
+.bar svg.lines { height: 3px; }
+.axis { position: relative; height: 28px; }
+.axis b { position: absolute; bottom: 0; width: 6.4em; white-space: normal; font-size: 10px; line-height: 14px; font-weight: normal; }
+.ways td.by { max-width: 76px; overflow: hidden; text-overflow: ellipsis; color: var(--dim); }
+.few .ways td.by { max-width: 100px; }
+.ways th:last-child { text-align: right; }
+.ways td.place { font-weight: bold; }
+.ways tr.Doubtful td.place { background: var(--vermilion); color: #fff; padding-left: 4px; }
+#ticks { stroke: var(--grey); stroke-width: 1px; vector-effect: non-scaling-stroke; }
+rect.Entered { fill: var(--orange); }
+rect.Approved { fill: var(--sky); }
+rect.Queued, rect.Sent { fill: var(--blue); }
+rect.Riding, rect.Confirmed { fill: var(--purple); }
+rect.Accepted, rect.Started { fill: var(--green); }
+rect.Queued, rect.Riding, rect.Accepted { y: 3px; height: 4px; }
+rect.Scheduled { fill: var(--yellow); }
+rect.Doubtful { fill: url(#hatch); }
+
+/* (f) the last moves */
+.moves { grid-area: moves; font-size: 12px; line-height: 18px; }
+.moves td { white-space: nowrap; padding-right: 6px; }
+.moves .Doubtful td, .moves .Failed td { color: #ffa36b; }
+
+.sign { display: none; }
+
+@media (max-width: 1400px) {
+  body { display: block; }
+  body > * { margin-bottom: 8px; }
+  .tiles { grid-template-columns: repeat(4, 1fr); }
+}
+
+@media (min-width: 2500px) { body { zoom: 1.33; min-height: 75vh; } }
+@media (min-width: 3800px) { body { zoom: 2; min-height: 50vh; } }
+
+@page { size: landscape; margin: 12mm; @bottom-right { content: "Telecommand desk, page " counter(page) " of " counter(pages); font: 9px sans-serif; } }
+@media print {
+  :root { color-scheme: light; --ground: #fff; --panel: #fff; --line: #999; --text: #000; --dim: #333; }
+  * { print-color-adjust: exact; -webkit-print-color-adjust: exact; }
+  .waits { min-width: 0; }
+  body { display: block; font-size: 11px; line-height: 15px; padding: 0; min-height: 0; }
+  section { padding: 0; margin-bottom: 14px; }
+  .few .waits, .few .ways, .few .schedule { font-size: 13px; line-height: 17px; }
+  h2 { break-after: avoid; border-bottom: 2px solid #000; margin-bottom: 3px; }
+  thead { display: table-header-group; }
+  tr, li, .tile, .link, .schedule { break-inside: avoid; }
+  .link { display: block; }
+  .premise { display: inline-block; margin: 3px 0; }
+  .tiles { grid-template-columns: repeat(4, 1fr); break-inside: avoid; }
+  .tiles h2 { display: block; grid-column: 1 / -1; }
+  .tile { outline: 1px solid #999; }
+  .tile.zero, .tile.zero small { color: #666; }
+  .doubt:not(.zero), .failed:not(.zero) { background: none; border-image: none; color: #000; }
+  .doubt:not(.zero) small, .failed:not(.zero) small { color: #000; }
+  .doubt:not(.zero) { border-color: #000; outline: 3px dashed #000; }
+  .failed:not(.zero) { border-color: var(--red); outline: 3px solid var(--red); }
+  .waits tr.Doubtful { background: #ffd9bf; }
+  .premise { color: #fff; }
+  .closed .premise { color: #000; }
+  .ways td.by, .few .ways td.by { max-width: none; }
+  .moves .Doubtful td, .moves .Failed td { color: #8f2f00; font-weight: bold; }
+  rect { stroke: #000; stroke-width: .5px; vector-effect: non-scaling-stroke; }
+  .Wait, .Lockout { color: #8f2f00; }
+  .sign { display: flex; gap: 40px; background: none; break-inside: avoid; padding-top: 50px; }
+  .sign p { flex: 1; border-top: 1px solid #000; padding-top: 3px; font-size: 13px; }
+}
+"##;
+
+/// That the page is asked for again.
+pub(crate) const REFRESH: &str = r##"<meta http-equiv="refresh" content="5">
+"##;
+
+/// Where the heading begins.
+pub(crate) const HEADING: &str = r##"<header>
+<h1>Telecommand desk</h1>
+"##;
+
+/// Where the tiles begin.
+pub(crate) const TILES: &str = r##"<section class="tiles">
+<h2>How many stand where</h2>
+"##;
+
+/// Where the table of what waits begins.
+pub(crate) const WAITS: &str = r##"<section class="waits">
+<h2>What waits for a person</h2>
+<table>
+<thead><tr><th>What</th><th>Waits for</th><th>By whom</th></tr></thead>
+<tbody>
+"##;
+
+/// Where the on-board schedule begins.
+pub(crate) const SCHEDULE: &str = r##"<section class="schedule">
+<h2>On-board schedule</h2>
+"##;
+
+/// Where the ways begin, with their legend.
+pub(crate) const WAYS: &str = r##"<section class="ways">
+<h2>Each open request's way</h2>
+<ul class="legend">
+<li><svg viewBox="0 0 20 10"><rect class="Entered" width="20" height="10"/></svg>Entered</li>
+<li><svg viewBox="0 0 20 10"><rect class="Approved" width="20" height="10"/></svg>Approved</li>
+<li><svg viewBox="0 0 20 10"><rect class="Queued" width="20" height="10"/></svg>Queued</li>
+<li><svg viewBox="0 0 20 10"><rect class="Sent" width="20" height="10"/></svg>Sent</li>
+<li><svg viewBox="0 0 20 10"><rect class="Confirmed" width="20" height="10"/></svg>Confirmed</li>
+<li><svg viewBox="0 0 20 10"><rect class="Riding" width="20" height="10"/></svg>Riding</li>
+<li><svg viewBox="0 0 20 10"><rect class="Scheduled" width="20" height="10"/></svg>Scheduled</li>
+<li><svg viewBox="0 0 20 10"><rect class="Accepted" width="20" height="10"/></svg>Accepted</li>
+<li><svg viewBox="0 0 20 10"><rect class="Started" width="20" height="10"/></svg>Started</li>
+<li><svg viewBox="0 0 20 10"><defs><pattern id="hatch" width="8" height="8" patternUnits="userSpaceOnUse" patternTransform="rotate(45)"><rect width="8" height="8" fill="#d55e00"/><rect width="3" height="8" fill="#000"/></pattern></defs><rect class="Doubtful" width="20" height="10"/></svg>Doubtful (hatched)</li>
+<li>&#9650; critical: two approve</li>
+<li>time is squeezed where nothing moved</li>
+</ul>
+"##;
+
+/// Where the table of the ways begins, up to its axis.
+pub(crate) const WAYS_HEAD: &str = r##"<table>
+<thead><tr><th>No.</th><th>Name</th><th>Service</th><th></th><th>Author</th><th>Stack</th><th class="bar"><div class="axis">
+"##;
+
+/// Where the table of the last moves begins.
+pub(crate) const MOVES: &str = r##"<section class="moves">
+<h2>Last moves</h2>
+<table>
+<thead><tr><th>Move</th><th>UTC</th><th>Person</th><th>Request</th><th>From</th><th>To</th><th>Why</th></tr></thead>
+<tbody>
+"##;
+
+/// The foot of the page.
+pub(crate) const FOOT: &str = r##"<section class="sign">
+<p>Handed over by</p>
+<p>Taken over by</p>
+</section>
+</body>
+</html>
+"##;

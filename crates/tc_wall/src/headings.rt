@@ -1,0 +1,71 @@
+//! The heading.
+ghost use Rattle.std.specs.Prelude.{◌-◌, length, slice_get, OnOk};
+ghost use Rattle.std.specs.String.{string_bytes};
+ghost use Rattle.tc_wall.specs.Parts.{Adds};
+ghost use Rattle.tc_wall.specs.Heading.{file_parts, entered_parts, moved_parts, last_parts, heading_parts};
+
+use crate::boards::{Board, Live};
+use crate::bounds::add_fixed;
+use crate::fixed::HEADING;
+use crate::times::time_text;
+use std::alloc::{AllocError, Allocator};
+use std::fmt::Write;
+use tc_types::Move;
+
+/// Adds that the file is closed, where it is.
+#[tactic(auto, unfolding(crate::specs::Heading::file_parts))]
+fn add_file<A: Allocator + Copy>(
+    page: &mut String<A>,
+    live: &Option<Live>,
+) -> Result<(), AllocError>
+    ensures { OnOk result (Adds (file_parts live.now) (string_bytes page.old) (string_bytes page.new)) }
+{
+    match live {
+        Some(_) => Ok(()),
+        None => page.push_str("<p class=\"file\">closed file</p>\n"),
+    }
+}
+
+/// Adds how many requests were entered.
+#[tactic(auto, unfolding(crate::specs::Heading::entered_parts))]
+fn add_entered<A: Allocator + Copy>(page: &mut String<A>, entered: u32) -> Result<(), AllocError>
+    ensures { OnOk result (Adds (entered_parts entered) (string_bytes page.old) (string_bytes page.new)) }
+{
+    write!(page, "<p><b>{entered}</b> entered</p>\n")
+}
+
+/// Adds the number of the last move, and its moment.
+#[tactic(auto, unfolding(crate::specs::Heading::moved_parts))]
+fn add_moved<A: Allocator + Copy>(page: &mut String<A>, row: &Move) -> Result<(), AllocError>
+    ensures { OnOk result (Adds (moved_parts row.now) (string_bytes page.old) (string_bytes page.new)) }
+{
+    let seq = row.seq;
+    let time = time_text(row.moment);
+    let time = time.as_str();
+    write!(page, "<p>last move <b>{seq}</b> at <b>{time}</b> UTC</p>\n")
+}
+
+/// Adds the last of these moves, where there is one.
+fn add_last<A: Allocator + Copy>(page: &mut String<A>, moves: &[Move]) -> Result<(), AllocError>
+    ensures { OnOk result (Adds (last_parts (slice_get moves.now (length moves.now - 1))) (string_bytes page.old) (string_bytes page.new)) }
+{
+    match moves.last() {
+        Some(row) => add_moved(page, row),
+        None => add_fixed(page, "<p>nothing moved yet</p>\n"),
+    }
+}
+
+/// Adds the heading: how many requests were entered, and the last move; a closed file says so.
+#[tactic(auto, using(crate::proofs::PartLemmas::then_adds), unfolding(crate::specs::Heading::heading_parts))]
+pub(crate) fn add_heading<A: Allocator + Copy>(
+    page: &mut String<A>,
+    board: &Board,
+) -> Result<(), AllocError>
+    ensures { OnOk result (Adds (heading_parts board.now) (string_bytes page.old) (string_bytes page.new)) }
+{
+    add_fixed(page, HEADING)?;
+    add_file(page, &board.live)?;
+    add_entered(page, board.entered)?;
+    add_last(page, board.moves)?;
+    add_fixed(page, "</header>\n")
+}

@@ -1,0 +1,129 @@
+//! The page.
+ghost use Rattle.std.specs.Prelude.{◌≡◌, ◌≤◌, IfOk, OnOk};
+ghost use Rattle.std.specs.String.{string_bytes, string_len};
+ghost use Rattle.tc_wall.specs.Parts.{Adds};
+ghost use Rattle.tc_wall.specs.Page.{laid_in, size_word, refresh_parts, head_parts, live_parts, page, board_page};
+
+use crate::boards::{Board, Live};
+use crate::bounds::add_fixed;
+use crate::fixed::{FOOT, HEAD, REFRESH, STYLE};
+use crate::headings::add_heading;
+use crate::link_rows::{add_closed_link, add_link};
+use crate::move_rows::add_moves;
+use crate::ranges::keep_board;
+use crate::schedules::{add_closed_schedule, add_known_schedule};
+use crate::tiles::add_tiles;
+use crate::wait_rows::add_waits;
+use crate::ways::add_ways;
+use std::alloc::{AllocError, Allocator};
+
+/// With so many rows at most the letters are large.
+pub(crate) const MOST_FEW: usize = 20;
+
+/// The most bytes that a page has.
+pub const MOST_BYTES: usize = 450_000;
+
+/// How many activities the on-board schedule has; that of a closed file tells of none.
+fn laid_in(live: &Option<Live>) -> usize
+    ensures { result ≡ laid_in live.now }
+{
+    match live {
+        None => 0,
+        Some(live) => live.schedule.laid_in,
+    }
+}
+
+/// Whether there are few rows, or many.
+#[tactic(auto, unfolding(crate::specs::Page::size_word))]
+fn size_word(board: &Board) -> &'static str
+    ensures { result.now ≡ size_word board.now }
+{
+    let laid_in = laid_in(&board.live);
+    if board.opened <= MOST_FEW
+        && board.waiting <= MOST_FEW
+        && laid_in <= MOST_FEW - board.waiting
+    {
+        "few"
+    } else {
+        "many"
+    }
+}
+
+/// Adds that the page is asked for again, where the desk is open.
+#[tactic(auto, unfolding(crate::specs::Page::refresh_parts))]
+fn add_refresh<A: Allocator + Copy>(
+    page: &mut String<A>,
+    live: &Option<Live>,
+) -> Result<(), AllocError>
+    ensures { OnOk result (Adds (refresh_parts live.now) (string_bytes page.old) (string_bytes page.new)) }
+{
+    match live {
+        None => Ok(()),
+        Some(_) => add_fixed(page, REFRESH),
+    }
+}
+
+/// Adds the head of the page, up to where its body begins.
+#[tactic(auto, using(crate::proofs::PartLemmas::then_adds), unfolding(crate::specs::Page::head_parts))]
+fn add_head<A: Allocator + Copy>(page: &mut String<A>, board: &Board) -> Result<(), AllocError>
+    ensures { OnOk result (Adds (head_parts board.now) (string_bytes page.old) (string_bytes page.new)) }
+{
+    add_fixed(page, HEAD)?;
+    add_fixed(page, STYLE)?;
+    add_fixed(page, "</style>\n")?;
+    add_refresh(page, &board.live)?;
+    add_fixed(page, "</head>\n<body class=\"")?;
+    add_fixed(page, size_word(board))?;
+    add_fixed(page, "\">\n")
+}
+
+/// Adds the link, and the on-board schedule.
+#[tactic(auto, using(crate::proofs::PartLemmas::then_adds), unfolding(crate::specs::Page::live_parts))]
+fn add_live<A: Allocator + Copy>(
+    page: &mut String<A>,
+    live: &Option<Live>,
+) -> Result<(), AllocError>
+    ensures { OnOk result (Adds (live_parts live.now) (string_bytes page.old) (string_bytes page.new)) }
+{
+    match live {
+        None => {
+            add_closed_link(page)?;
+            add_closed_schedule(page)
+        }
+        Some(live) => {
+            add_link(page, &live.link)?;
+            add_known_schedule(page, &live.schedule)
+        }
+    }
+}
+
+/// Adds all parts of the page.
+#[tactic(auto, using(crate::proofs::PartLemmas::then_adds), unfolding(crate::specs::Page::page))]
+fn add_page<A: Allocator + Copy>(
+    alloc: A,
+    text: &mut String<A>,
+    board: &Board,
+) -> Result<(), AllocError>
+    ensures { OnOk result (Adds (page board.now) (string_bytes text.old) (string_bytes text.new)) }
+{
+    add_head(text, board)?;
+    add_heading(text, board)?;
+    add_tiles(text, board.counts)?;
+    add_waits(text, board)?;
+    add_live(text, &board.live)?;
+    add_ways(alloc, text, board)?;
+    add_moves(text, board)?;
+    add_fixed(text, FOOT)
+}
+
+/// The board as a page of HTML. Fails where memory is refused.
+#[tactic(auto, using(crate::proofs::PageSizeLemmas::page_size), unfolding(crate::specs::Page::board_page))]
+pub fn board_text<A: Allocator + Copy>(alloc: A, board: &Board) -> Result<String<A>, AllocError>
+    ensures page { IfOk result (λ t. string_bytes t ≡ board_page board.now) }
+    ensures few { IfOk result (λ t. string_len t ≤ MOST_BYTES) }
+{
+    keep_board(board);
+    let mut text = String::new(alloc);
+    add_page(alloc, &mut text, board)?;
+    Ok(text)
+}

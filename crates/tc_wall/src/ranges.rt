@@ -1,0 +1,284 @@
+//! What the types of a board keep. These functions do nothing: their clauses are what the types know.
+ghost use Rattle.std.specs.Prelude.{◌<◌, ◌≤◌, ◌^◌, IfSome, length};
+ghost use Rattle.std.specs.List.{AllByRecursion};
+ghost use Rattle.tc_wall.specs.Ranges.{IsShort, IsMoveInRange, IsWantingInRange, IsWaitingInRange, IsWaitInRange, IsOriginInRange, IsRequestInRange, IsWayInRange, AreQueuesInRange, AreCountersInRange, IsFopInRange, IsFarmInRange, IsLinkInRange, IsActivityInRange, IsScheduleInRange, IsLiveInRange, IsBoardInRange};
+ghost use Rattle.tc_wall.specs.Waits.{text_of};
+
+use crate::boards::{
+    Board, KnownSchedule, Live, MOST_MOVES, MOST_OPEN, MOST_SHOWN_ACTIVITIES, MOST_WAITS, Wait, Way,
+};
+use crate::bounds::{first_of, last_of};
+use crate::links::{FarmLine, FopLine, LinkLines};
+use crate::way_rows::kind;
+use tc_types::{ListedActivity, Move, Name, Origin, PLACES, Request, StepText};
+use tc_waits::{Waiting, Wanting};
+
+/// A name is short.
+fn keep_name(name: &Name)
+    ensures { IsShort name.now }
+{
+    name.keeps_form();
+}
+
+/// So is one that may be missing.
+fn keep_other(by: &Option<Name>)
+    ensures { IfSome by.now IsShort }
+{
+    if let Some(name) = by {
+        keep_name(name);
+    }
+}
+
+/// And the text of a step.
+fn keep_text(text: &Option<StepText>)
+    ensures { length (text_of text.now) ≤ 80 }
+{
+    if let Some(text) = text {
+        text.keeps_form();
+    }
+}
+
+/// The numbers of a move.
+fn keep_move(row: &Move)
+    ensures { IsMoveInRange row.now }
+{
+    let _seq = row.seq;
+    let _request = row.request.get();
+    keep_name(&row.by);
+}
+
+/// Those of these moves.
+#[tactic(auto, using(crate::proofs::RangeLemmas::each_kept))]
+fn keep_moves(rows: &[Move])
+    ensures { AllByRecursion IsMoveInRange rows.now }
+{
+    for row in rows {
+        keep_move(row);
+    }
+}
+
+/// The names of an approval that is wanting.
+fn keep_wanting(approval: &Wanting)
+    ensures { IsWantingInRange approval.now }
+{
+    keep_name(&approval.author);
+    keep_other(&approval.by);
+}
+
+/// What waits.
+fn keep_waiting(waiting: &Waiting)
+    ensures { IsWaitingInRange waiting.now }
+{
+    match waiting {
+        Waiting::Request { request, approval } => {
+            let _number = *request;
+            keep_wanting(approval);
+        }
+        Waiting::Stack {
+            stack,
+            approval,
+            rows,
+            first,
+        } => {
+            let _numbers = (*rows, *first);
+            keep_name(stack);
+            keep_wanting(approval);
+        }
+        Waiting::Free { request } | Waiting::Doubtful { request } => {
+            let _number = *request;
+        }
+        Waiting::Locked { request, lock } => {
+            let _number = *request;
+            let _line = lock.line;
+            keep_name(&lock.stack);
+        }
+        Waiting::Step {
+            execution,
+            procedure,
+            step,
+            ..
+        } => {
+            let _numbers = (*execution, *step);
+            keep_name(procedure);
+        }
+    }
+}
+
+/// A line of what waits.
+fn keep_wait(it: &Wait)
+    ensures { IsWaitInRange it.now }
+{
+    keep_waiting(&it.waiting);
+    keep_text(&it.text);
+}
+
+/// These lines.
+#[tactic(auto, using(crate::proofs::RangeLemmas::each_kept))]
+fn keep_waits(waits: &[Wait])
+    ensures { AllByRecursion IsWaitInRange waits.now }
+{
+    for wait in waits {
+        keep_wait(wait);
+    }
+}
+
+/// The row of a stack.
+fn keep_origin(origin: &Option<Origin>)
+    ensures { IfSome origin.now IsOriginInRange }
+{
+    if let Some(origin) = origin {
+        let _line = origin.line;
+        keep_name(&origin.stack);
+    }
+}
+
+/// A request.
+fn keep_request(request: &Request)
+    ensures { IsRequestInRange request.now }
+{
+    let identity = &request.body.identity;
+    let _numbers = (
+        request.number.get(),
+        identity.apid.get(),
+        identity.count.get(),
+    );
+    let _kind = kind(&request.body.command);
+    keep_name(&request.author);
+    keep_origin(&request.origin);
+}
+
+/// A way.
+fn keep_way(way: &Way)
+    ensures { IsWayInRange way.now }
+{
+    let _moved = way.moved;
+    keep_request(&way.request);
+}
+
+/// These ways.
+#[tactic(auto, using(crate::proofs::RangeLemmas::each_kept))]
+fn keep_ways(ways: &[Way])
+    ensures { AllByRecursion IsWayInRange ways.now }
+{
+    for way in ways {
+        keep_way(way);
+    }
+}
+
+/// What the FOP holds.
+fn keep_queues(fop: &FopLine)
+    ensures { AreQueuesInRange fop.now }
+{
+    let _sent = fop.sent;
+    let _waiting = fop.waiting;
+    let _count = fop.count;
+    let _k = fop.k;
+    let _limit = fop.limit;
+}
+
+/// Its counters.
+fn keep_counters(fop: &FopLine)
+    ensures { AreCountersInRange fop.now }
+{
+    let _vs = fop.vs;
+    let _nn = fop.nn;
+    let _timer = fop.timer;
+    let _t1 = fop.t1;
+}
+
+/// The FOP.
+fn keep_fop(fop: &FopLine)
+    ensures { IsFopInRange fop.now }
+{
+    keep_queues(fop);
+    keep_counters(fop);
+}
+
+/// The FARM.
+fn keep_farm(farm: &FarmLine)
+    ensures { IsFarmInRange farm.now }
+{
+    let _vr = farm.vr;
+    let _farm_b = farm.farm_b;
+    let _window = farm.window;
+}
+
+/// The link.
+fn keep_link(link: &LinkLines)
+    ensures { IsLinkInRange link.now }
+{
+    let _up = link.up;
+    let _down = link.down;
+    keep_fop(&link.fop);
+    keep_farm(&link.farm);
+}
+
+/// An activity.
+fn keep_activity(it: &ListedActivity)
+    ensures { IsActivityInRange it.now }
+{
+    let _numbers = (it.identity.apid.get(), it.identity.count.get());
+}
+
+/// These activities.
+#[tactic(auto, using(crate::proofs::RangeLemmas::each_kept))]
+fn keep_activities(activities: &[ListedActivity])
+    ensures { AllByRecursion IsActivityInRange activities.now }
+{
+    for it in activities {
+        keep_activity(it);
+    }
+}
+
+/// The on-board schedule.
+fn keep_schedule(schedule: &KnownSchedule)
+    ensures { IsScheduleInRange schedule.now }
+{
+    let _count = schedule.laid_in;
+    keep_activities(first_of(schedule.activities, MOST_SHOWN_ACTIVITIES));
+}
+
+/// What is told of a desk that is open.
+fn keep_live(live: &Option<Live>)
+    ensures { IfSome live.now IsLiveInRange }
+{
+    if let Some(live) = live {
+        keep_link(&live.link);
+        keep_schedule(&live.schedule);
+    }
+}
+
+/// The counts.
+#[tactic(auto, using(crate::proofs::RangeLemmas::each_kept_at))]
+fn keep_counts(counts: &[u32; PLACES])
+    ensures { AllByRecursion (λ n. n < 2 ^ 32) counts.now }
+{
+    for count in counts {
+        let _count = *count;
+    }
+}
+
+/// The last move.
+fn keep_last(last: Option<Move>)
+    ensures { IfSome last (λ row. row.seq < 2 ^ 32) }
+{
+    if let Some(row) = last {
+        let _number = row.seq;
+    }
+}
+
+/// A whole board.
+pub(crate) fn keep_board(board: &Board)
+    ensures { IsBoardInRange board.now }
+{
+    let _entered = board.entered;
+    let _waiting = board.waiting;
+    let _opened = board.opened;
+    let _moved = board.moved;
+    keep_counts(board.counts);
+    keep_waits(first_of(board.waits, MOST_WAITS));
+    keep_live(&board.live);
+    keep_ways(first_of(board.ways, MOST_OPEN));
+    keep_last(board.moves.last().copied());
+    keep_moves(last_of(board.moves, MOST_MOVES));
+}

@@ -1,0 +1,252 @@
+"""What the program tells a person besides its answers: each line before its answer, which line was refused and why, why something cannot be used, moments that go back,
+and that it waits for a script.
+
+All that is compared was written by hand. What the program prints without these options stays as it is: the cases that stand elsewhere look for that.
+"""
+import os
+import pty
+import re
+import select
+import sqlite3
+import subprocess
+import tempfile
+import time
+from typing import NamedTuple, Optional, Sequence
+
+from tests.asked import ASKED, TOP
+from tests.runs import Ended, Tried
+
+PATIENCE = 60.0
+NONE = "places 0: 0 0 0 0 0 0 0 0 0 0 0 0 0 0 0\n"
+STACK = "line,apid,service,subtype,target,time,ack,critical,after,outcome\n"
+FILES = {
+    "bad.csv": f"{STACK}1,x,8,1,,,---c,no,,ok\n",
+    "shift.tc": ("# a pass\n100 ann enter 5 ---c no 8 1 - - ok\n\n1O0 ann approve 1\n100 ann stack s1 bad.csv\n100 ann approve 7\n90 ann enter 5 ---c no 8 1 - - ok\n"),
+    "lines.tc": "# a pass\n100 ann enter 5 ---c no 8 1 - - ok\n\n1O0 ann approve 1\n100 ann approve 7\n90 ann enter 5 ---c no 8 1 - - ok\n",
+    "late.tc": "86400 ann enter 5 ---c no 8 1 - - ok\n",
+    "none.tc": "",
+    "load.tc": "100 ann places\n100 ann stack s1 missing.csv\n",
+    "text.db": "no database" * 200,
+    "empty.db": "",
+}
+SHOWN = """\
+> 100 ann enter 5 ---c no 8 1 - - ok
+ok request 1 5/0
+move 1 100 ann 1 - Entered enter
+> 1O0 ann approve 1
+refused 1 BadText
+"""
+
+
+class Case(NamedTuple):
+    """Words of the command line, and how the program has to end: a part of standard error by its lines."""
+    words: str
+    status: int
+    out: Optional[str]
+    err: str
+
+
+def lines_of(*lines: str) -> str:
+    """Lines, each ended by LF."""
+    return "".join(f"{line}\n" for line in lines)
+
+
+def cannot(what: str, why: str = "") -> str:
+    """What is said of what cannot be used."""
+    return lines_of(f"tcdesk: cannot use {what}", *([f"tcdesk: because {why}"] if why else []))
+
+
+FILE, FOLDER = "there is no such file", "it is a folder"
+REASONS = [
+    Case("run missing.tc", 2, "", cannot("missing.tc", FILE)),
+    Case("run none/missing.tc", 2, "", cannot("none/missing.tc", FILE)),
+    Case("run text.db/none.tc", 2, "", cannot("text.db/none.tc", "there is no such folder")),
+    Case("run folder", 2, "", cannot("folder", FOLDER)),
+    Case("run long.tc", 2, "", cannot("long.tc", "it has more than 1048576 bytes")),
+    Case("run load.tc", 2, NONE, cannot("missing.csv", FILE)),
+    Case("check script missing.tc", 2, "", cannot("missing.tc", FILE)),
+    Case("check script folder", 2, "", cannot("folder", FOLDER)),
+    Case("check stack missing.csv", 2, "", cannot("missing.csv", FILE)),
+    Case("check procedure folder", 2, "", cannot("folder", FOLDER)),
+    Case("run --db folder none.tc", 2, "", cannot("folder", FOLDER)),
+    Case("run --db none/desk.db none.tc", 2, "", cannot("none/desk.db", "there is no such folder")),
+    Case("run --db :memory: none.tc", 2, "", cannot(":memory:", "it is no name of a file")),
+    Case("run --db text.db none.tc", 2, "", cannot("text.db", "it is no database, or a damaged one")),
+    Case("run --db foreign.db none.tc", 2, "", cannot("foreign.db", "its tables are not a desk's")),
+    Case("run --db later.db none.tc", 2, "", cannot("later.db", "its tables are of a newer schema, which a later program made")),
+    Case("run --db damaged.db none.tc", 2, "", cannot("damaged.db", "it tells what no desk could have written")),
+    Case("loop --w 20 foreign.db none.tc", 2, "", cannot("foreign.db", "its tables are not a desk's")),
+    Case("loop desk.db missing.tc", 2, "", cannot("missing.tc", FILE)),
+    Case("serve foreign.db 1", 2, "", cannot("foreign.db", "its tables are not a desk's")),
+    Case("report missing.db 0 1", 2, "", cannot("missing.db", FILE)),
+    Case("report folder 0 1", 2, "", cannot("folder", FOLDER)),
+    Case("report empty.db 0 1", 2, "", cannot("empty.db", "it is empty")),
+    Case("report later.db 0 1", 2, "", cannot("later.db", "its tables are of a newer schema, which a later program made")),
+    Case("backup missing.db copy.db", 2, "", cannot("missing.db", FILE)),
+    Case("backup late.db none/copy.db", 2, "", cannot("none/copy.db", "there is no such folder")),
+]
+AT = "tcdesk: --at is Unix seconds, 0 to 4102444799 (for now: $(date +%s)), or an instant such as 2031-05-04T10:00:00Z: "
+WORDS = [Case(f"{command} --at {word}", 2, "", f"{AT}{word}\n")
+         for command in ("run none.tc", "run --db new.db none.tc", "serve new.db 1", "loop new.db none.tc")
+         for word in ("now", "2026-11-28", "4102444800", "01", "2026-11-28T10:00:00.5Z", "2100-01-01T00:00:00Z")]
+WORDS += [Case("check shift none.tc", 2, "", "tcdesk: KIND is script, stack or procedure: shift\n")]
+BEFORE = "tcdesk: opened at {}, before the last move at 86400\n"
+MOMENTS = [
+    Case("run --db late.db none.tc", 0, None, BEFORE.format(0)),
+    Case("run --db late.db --at 86399 none.tc", 0, None, BEFORE.format(86399)),
+    Case("run --db late.db --at 86400 none.tc", 0, None, ""),
+    Case("run --db late.db --at 1970-01-02T00:00:00Z none.tc", 0, None, ""),
+    Case("run --db late.db --at 1970-01-02T01:00:00+02:00 none.tc", 0, None, BEFORE.format(82800)),
+    Case("run --at 2026-11-28T10:00:00Z none.tc", 0, NONE, ""),
+    Case("loop late.db none.tc --at 5", 0, None, BEFORE.format(5)),
+]
+
+
+def made(folder: str) -> None:
+    """Makes the files of the cases in a folder."""
+    os.mkdir(f"{folder}/folder")
+    for name, text in FILES.items():
+        with open(f"{folder}/{name}", "w", encoding="ascii") as file:
+            file.write(text)
+    with open(f"{folder}/long.tc", "wb") as large:
+        large.truncate(1048577)
+    run(folder, ["run", "--db", "late.db", "late.tc"])
+    run(folder, ["run", "--db", "later.db", "none.tc"])
+    run(folder, ["run", "--db", "damaged.db", "late.tc"])
+    changed(f"{folder}/later.db", "UPDATE meta SET value = 4 WHERE name = 'schema'", "CREATE TABLE news (at INTEGER)")
+    changed(f"{folder}/damaged.db", "DELETE FROM move")
+    changed(f"{folder}/foreign.db", "CREATE TABLE notes (text TEXT)")
+
+
+def changed(path: str, *statements: str) -> None:
+    """Changes a database by SQLite."""
+    connection = sqlite3.connect(path)
+    for it in statements:
+        connection.execute(it)
+    connection.commit()
+    connection.close()
+
+
+def run(folder: str, words: Sequence[str]) -> Ended:
+    """How the program ends on these words."""
+    it = subprocess.run([ASKED.program, *words], cwd=folder, stdin=subprocess.DEVNULL, capture_output=True, timeout=PATIENCE, check=False)
+    return Ended(it.returncode, it.stdout.decode("latin-1"), it.stderr.decode("latin-1"))
+
+
+def differs(case: Case, ended: Ended) -> list[str]:
+    """How a case ends otherwise than is wanted."""
+    is_right = ended.status == case.status and case.out in (None, ended.out) and ended.err == case.err
+    return [] if is_right else [f"{case.words}: wanted {case[1:]}, and got {ended}"]
+
+
+def on_terminal(folder: str, words: Sequence[str], typed: bytes) -> str:
+    """What a terminal shows of the program, once it was typed so and then Ctrl-D."""
+    process, screen = pty.fork()
+    if process == 0:
+        os.chdir(folder)
+        os.execv(ASKED.program, [ASKED.program, *words])
+    os.write(screen, typed + b"\x04")
+    shown, end = b"", time.monotonic() + PATIENCE
+    while time.monotonic() < end and select.select([screen], [], [], PATIENCE)[0]:
+        try:
+            some = os.read(screen, 4096)
+        except OSError:
+            break
+        if not some:
+            break
+        shown += some
+    os.close(screen)
+    os.waitpid(process, 0)
+    return shown.decode("latin-1").replace("\r\n", "\n")
+
+
+class Told(Tried):
+    """What is told besides the answers."""
+
+    def setUp(self) -> None:
+        """A folder with the files of the cases."""
+        place = tempfile.TemporaryDirectory(prefix="told-")
+        self.addCleanup(place.cleanup)
+        self.folder = place.name
+        made(self.folder)
+
+    def all_end(self, cases: Sequence[Case]) -> None:
+        """Each case ends as is wanted."""
+        self.no_faults([fault for it in cases for fault in differs(it, run(self.folder, it.words.split(" ")))])
+
+    def test_reasons(self) -> None:
+        """Why something cannot be used stands behind it."""
+        self.all_end(REASONS)
+
+    def test_busy(self) -> None:
+        """A file that another program has open."""
+        held = sqlite3.connect(f"{self.folder}/late.db")
+        held.execute("BEGIN EXCLUSIVE")
+        busy = cannot("late.db", "another program has it open")
+        self.all_end([Case("run --db late.db none.tc", 2, "", busy), Case("report late.db 0 1", 2, "", busy)])
+        held.close()
+
+    def test_denied(self) -> None:
+        """Files that this user may not read."""
+        if os.geteuid() == 0:
+            self.skipTest("the root user may read and write all files")
+        os.chmod(f"{self.folder}/none.tc", 0)
+        os.chmod(f"{self.folder}/late.db", 0o400)
+        why = "there is no permission for it"
+        self.all_end([Case("run none.tc", 2, "", cannot("none.tc", why)), Case("run --db late.db late.tc", 2, "", cannot("late.db", why))])
+
+    def test_words(self) -> None:
+        """Words of the command line that are wrong."""
+        self.all_end(WORDS)
+
+    def test_moments(self) -> None:
+        """Openings by instants, and before the last move."""
+        self.all_end(MOMENTS)
+
+    def test_echo(self) -> None:
+        """Each line that is answered stands before its answer, and else all is printed as ever."""
+        for words in (["run"], ["run", "--db", "new.db"]):
+            plain, shown = run(self.folder, [*words, "shift.tc"]), run(self.folder, ["run", "--echo", "shift.tc"])
+            self.assertEqual((plain.status, plain.out), (shown.status, re.sub("(?m)^> .*\n", "", shown.out)))
+        self.assertTrue(shown.out.startswith(SHOWN), shown.out)
+        with open(f"{self.folder}/shift.tc", encoding="ascii") as file:
+            answered = [line for line in file.read().splitlines() if line and line[0] != "#"]
+        self.assertEqual([f"> {line}" for line in answered], [line for line in shown.out.splitlines() if line[0] == ">"])
+
+    def test_loop_echo(self) -> None:
+        """A loop shows its lines as a run does."""
+        shown, sent = run(self.folder, ["run", "--echo", "lines.tc"]), run(self.folder, ["loop", "new.db", "lines.tc", "--echo"])
+        self.assertEqual(shown[:2], sent[:2])
+
+    def test_refusals(self) -> None:
+        """Which line was refused, and why, is told where all is to be told, and off a terminal only then; with the lines that go back in time."""
+        wanted = lines_of('shift.tc:4: refused 1 BadText: word 1: not a moment, whole Unix seconds from 0 to 4102444799, in plain digits: "1O0"',
+                          "shift.tc:5: refused 1 BadText: tcdesk check stack bad.csv tells what is wrong with that file",
+                          "shift.tc:6: refused 2 UnknownRequest: no request has this number",
+                          "shift.tc:7: at 90, before the last move at 100")
+        self.all_end([Case("run shift.tc", 1, None, ""), Case("run --verbose shift.tc", 1, None, wanted)])
+        loop = lines_of(*[line.replace("shift.tc:6", "shift.tc:5").replace("shift.tc:7", "shift.tc:6").replace("shift", "lines")
+                          for line in wanted.splitlines() if "bad.csv" not in line])
+        self.assertEqual("tcdesk: new.db is a new desk\n" + loop, run(self.folder, ["loop", "new.db", "lines.tc", "--verbose"]).err)
+
+    def test_terminal(self) -> None:
+        """On a terminal the program says that it waits, and tells which line was refused."""
+        waits = "tcdesk: waits for the lines of a script; Ctrl-D at the begin of a line ends it, and tcdesk --help tells the commands\n"
+        typed = b"100 ann fly\n"
+        typed_to: list[list[str]] = [[], ["run", "-"], ["run", "--echo", "-"]]
+        for words in typed_to:
+            shown = on_terminal(self.folder, words, typed)
+            self.assertIn(waits, shown)
+            self.assertIn('-:1: refused 1 BadText: word 3: not an act, a question or a load: "fly"\n', shown)
+            self.assertEqual("--echo" in words, "> 100 ann fly\n" in shown)
+
+    def test_usage(self) -> None:
+        """The lines of use are true: no command has to be named."""
+        self.assertIn("\nUsage: tcdesk [COMMAND]\n", run(self.folder, ["--help"]).out)
+        self.assertIn("\nUsage: tcdesk run [OPTIONS] <SCRIPT>\n", run(self.folder, ["run", "--help"]).out)
+
+    def test_examples(self) -> None:
+        """The rehearsals of the manual have no line that is none, but for those that are meant to be refused."""
+        names = sorted(it for it in os.listdir(f"{TOP}/examples") if it.endswith(".tc"))
+        told = {it: run(TOP, ["check", "script", f"examples/{it}"]) for it in names}
+        self.assertEqual({}, {name: ended.out for name, ended in told.items() if ended.out != "ok\n"})
