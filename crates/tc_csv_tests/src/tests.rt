@@ -14,6 +14,7 @@ mod procedure_texts;
 mod random_procedures;
 mod random_stacks;
 mod random_texts;
+mod stack_rows;
 mod stack_texts;
 mod written;
 
