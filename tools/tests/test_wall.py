@@ -79,6 +79,15 @@ bob close 2
 = request 9 Approved locked by line 2 of heater
 = execution 1 warm next 2 second yes
 """.splitlines()
+# What the page says of itself.
+HEADINGS = ["How many stand where", "What waits for a person", "Link", "On-board schedule", "Each open request's way", "Last moves"]
+WAIT_HEADS = ["What", "Waits for", "By whom"]
+WAY_HEADS = ["No.", "Name", "Service", "", "Author", "Stack", "", "Stands at"]
+MOVE_HEADS = ["Move", "UTC", "Person", "Request", "From", "To", "Why"]
+LEGEND = [("Entered", "Entered"), ("Approved", "Approved"), ("Queued", "Queued"), ("Sent", "Sent"), ("Confirmed", "Confirmed"), ("Riding", "Riding"),
+          ("Scheduled", "Scheduled"), ("Accepted", "Accepted"), ("Started", "Started"), ("Doubtful", "Doubtful (hatched)"),
+          ("", "&#9650; critical: two approve"), ("", "time is squeezed where nothing moved")]
+SIGNATURES = ["Handed over by", "Taken over by"]
 STEPS = ["procedure warm author ann steps 3", "step 1 second no request - check the battery", f"step 2 second yes request - {STEP_TEXT}",
          "step 3 second no request - look again"]
 BAD = """\
@@ -464,6 +473,19 @@ class Parts(unittest.TestCase):
             self.assertTrue(text.endswith("\n") and "\r" not in text and "\t" not in text, part.file)
             self.assertEqual([], re.findall(r"@import|https?:|url\((?!#)", text), part.file)
         self.assertEqual(sorted(os.listdir(wall.FOLDER)), sorted(part.file for part in PARTS))
+
+    def test_words(self) -> None:
+        """The headings, the heads of columns and the words of the legend are these, written by hand: the plain program reads them from the same files."""
+        for closed in (False, True):
+            for desk in (busy(), in_doubt()):
+                text = board_page(desk, closed).decode("ascii")
+                parts = [it for it in text.split("<section ")[1:] if not it.startswith('class="sign"')]
+                self.assertEqual(HEADINGS, [re.findall("<h2>(.*?)</h2>", it)[0] for it in parts])
+                heads = [re.findall("<th(?: [^>]*)?>([^<]*)", it) for it in parts]
+                self.assertEqual([WAIT_HEADS, WAY_HEADS, MOVE_HEADS], [it for it in heads if it])
+                legend = text[text.index('<ul class="legend">'):text.index("</ul>", text.index('<ul class="legend">'))]
+                self.assertEqual(LEGEND, re.findall(r'<li>(?:<svg.*?<rect class="(\w+)"[^>]*/></svg>)?([^<]*)</li>', legend))
+                self.assertEqual(SIGNATURES, re.findall("<p>(.*?)</p>", text[text.index('class="sign"'):]))
 
     def test_constants(self) -> None:
         """The crate has them as they are: after an edit tools/page_parts.py writes its constants."""
