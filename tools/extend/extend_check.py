@@ -1,5 +1,5 @@
 #!/usr/bin/env python3
-"""Whether the pages of docs/extend/ are true: tools/extend_check.sh [NAME ..]
+"""Whether the pages of docs/extend/ are true: tools/extend_check.sh [NAME ..] [--crate CRATE] [--unproved]
 
 Each patch of tools/extend/ is a small change of its kind: an act on the book, a question, a table. It is applied to a copy of
 crates/. It may touch those files alone that docs/extend/NAME.md lists, or a page that its line `also: PAGE ..` names. And what it
@@ -12,6 +12,9 @@ functions call is proved anew.
 
 For each line `prove:` there is a line with what it cost, and for each patch one with the files that its pages list and it leaves as
 they are. The last line is `N passed, M failed`, and the status is 1 where one failed.
+
+One crate of one patch is tried by `act --crate tc_book`. With --unproved nothing is proved, and that takes seconds: what a patch makes
+has to be taken by all of the compiler but the prover.
 """
 import argparse
 import os
@@ -33,6 +36,8 @@ from kept_modules import unpack  # noqa: E402
 
 # What a file's name on a page may have in the place of a name that the change chooses.
 ANY_NAME = re.compile(r"NAME|TABLE|GROUP")
+# The prover's word for no function: a crate is read, and nothing of it is proved.
+UNPROVED = [""]
 
 
 def listed(page: str) -> dict[str, str]:
@@ -96,7 +101,7 @@ class Prover:
                 self.unpacked.add(name)
 
     def words(self, crate: Crate, functions: Sequence[str]) -> list[str]:
-        """The words of a check of these functions, over the crates below as sources."""
+        """The words of a check of these functions, over the crates below as sources; of no function, by the empty name."""
         kit, below, known = self.kit, crate.below(), crate.crates
         of_kit = {it for name in [crate.name, *below] for it in known[name] if it not in known}
         made = [kit.rattle, "check", "--crate-name", crate.name, "src/lib.rt", "-L", f"dependency={kit.top}/rlibs"]
@@ -110,7 +115,8 @@ class Prover:
 
     def prove(self, crate: Crate, functions: Sequence[str]) -> None:
         """Proves these functions, and says what it cost."""
-        self.prepare([crate.name, *crate.below()])
+        if functions != UNPROVED:
+            self.prepare([crate.name, *crate.below()])
         began = time.time()
         ran = subprocess.Popen(self.words(crate, functions), cwd=crate.folder, stdout=subprocess.PIPE, stderr=subprocess.STDOUT, text=True)
         assert ran.stdout
@@ -130,15 +136,19 @@ class Prover:
         )
 
 
-def try_patch(patch: Patch, given: argparse.Namespace) -> None:
-    """Raises Untrue where the page of this patch is not true."""
+def try_patch(patch: Patch, given: argparse.Namespace) -> str:
+    """In which crates what this patch makes was proved. Raises Untrue where its page is not true."""
     if strays := patch.strays():
         raise Untrue(f"no page lists {', '.join(strays)}")
+    asked = [it for it in patch.asked if it[0] == (given.crate or it[0])]
+    if not asked:
+        raise Untrue(f"it has no line for {given.crate}")
     with patch.applied() as room, tempfile.TemporaryDirectory(prefix="extend-kept-") as own:
         os.chdir(room)
         prover, crates = Prover(given, given.kept or own), crates_of()
-        for name, *functions in patch.asked:
-            prover.prove(Crate(name, crates, prover.kit), functions)
+        for name, *functions in asked:
+            prover.prove(Crate(name, crates, prover.kit), UNPROVED if given.unproved else functions)
+    return f"{'read' if given.unproved else 'proved'} in {', '.join(name for name, *_ in asked)}"
 
 
 def whole(path: str) -> str:
@@ -151,6 +161,8 @@ def asked(patches: Sequence[str]) -> argparse.Namespace:
     to.add_argument("--built", metavar="FOLDER", type=whole, help="where the libraries lie, as FOLDER/CRATE.rlib (crates/CRATE/out/rlib)")
     to.add_argument("--kept", metavar="FOLDER", type=whole, help="a folder for what is proved, which serves a later run (none)")
     to.add_argument("--jobs", type=int, default=1, help="how many functions the prover takes at once (1)")
+    to.add_argument("--crate", metavar="CRATE", help="the line `prove:` of this crate alone (each)")
+    to.add_argument("--unproved", action="store_true", help="whether a patch applies, touches what its pages list, and is taken by the compiler; nothing is proved")
     to.add_argument("names", nargs="*", metavar="NAME", help=f"of {', '.join(patches)} (all)")
     given = to.parse_args()
     if unknown := [it for it in given.names if it not in patches]:
@@ -165,13 +177,13 @@ def main() -> int:
     for name in names:
         patch = Patch(name)
         try:
-            try_patch(patch, given)
+            done = try_patch(patch, given)
         except Untrue as why:
             failed += 1
             print(f"FAIL {name}: {why}", flush=True)
         else:
             left = ", ".join(patch.left()) or "none"
-            print(f"ok   {name}: {len(patch.touched)} files of crates/, proved; left as they are: {left}", flush=True)
+            print(f"ok   {name}: {len(patch.touched)} files of crates/, {done}; left as they are: {left}", flush=True)
     print(f"{len(names) - failed} passed, {failed} failed")
     return 1 if failed else 0
 

@@ -10,11 +10,8 @@ import random
 import shutil
 import signal
 import subprocess
-import tempfile
 import time
 from collections import Counter
-from concurrent.futures import ProcessPoolExecutor
-from functools import partial
 from typing import Optional
 
 from generate.days import day_script
@@ -22,10 +19,9 @@ from model.kept import sqlite3
 from model.lines import is_answered
 from model.rows import Tables, empty_tables
 from model.tables import opened_tables
-from tests.asked import ASKED
 from tests.new_desks import holds_no_table, new_desk
 from tests.plain_runs import Plain, kept_tables, text_of, unlike
-from tests.runs import Tried, bytes_of, quick_folder, run_kept, write_files
+from tests.runs import Tried, bytes_of, run_kept, write_files
 
 KILLS, SHARES, DAYS, SPAN, MOST_LINES = 10_000, 4, 10, 1000, 200
 
@@ -115,11 +111,4 @@ class Kills(Tried):
 
     def test_kills(self) -> None:
         """So many kills, in four processes, each with a seed of its own."""
-        first, kills = ASKED.seed_or(1), ASKED.count_or(KILLS)
-        seeds = range(first, first + SHARES)
-        print(f"kills: seeds {first} to {first + SHARES - 1}", flush=True)
-        with tempfile.TemporaryDirectory(prefix="kills-", dir=quick_folder()) as work, ProcessPoolExecutor(SHARES) as pool:
-            told = list(pool.map(partial(share, ASKED.program, work, -(-kills // SHARES)), seeds))
-        counts: Counter[str] = sum((it for it, _ in told), Counter())
-        print(f"kills: {', '.join(f'{count} {it}' for it, count in sorted(counts.items()))}")
-        self.no_faults([fault for _, bad in told for fault in bad])
+        self.shared_out("kills", share, KILLS, SHARES)

@@ -1,11 +1,15 @@
 """How the tests run the program on files, and look at what it leaves there."""
 import os
 import subprocess
+import tempfile
 import unittest
+from collections import Counter
+from concurrent.futures import ProcessPoolExecutor
 from dataclasses import dataclass
-from typing import Iterable, NamedTuple, Optional, Sequence
+from functools import partial
+from typing import Callable, Iterable, NamedTuple, Optional, Sequence
 
-from tests.asked import TOOLS
+from tests.asked import ASKED, TOOLS
 from tests.new_desks import said_first, said_then
 
 
@@ -70,3 +74,16 @@ class Tried(unittest.TestCase):
         """Fails where there are faults."""
         if faults:
             self.fail("\n".join(faults))
+
+    def shared_out(self, name: str, share: Callable[[str, str, int, int], tuple[Counter[str], list[str]]], count: int, shares: int) -> Counter[str]:
+        """Has so many things tried, each share of them in a process with a seed of its own, by the program, in a folder. Tells the seeds and how the
+        things went, and fails where a share found a fault."""
+        first, count = ASKED.seed_or(1), ASKED.count_or(count)
+        seeds = range(first, first + shares)
+        print(f"{name}: seeds {first} to {first + shares - 1}", flush=True)
+        with tempfile.TemporaryDirectory(prefix=f"{name}-", dir=quick_folder()) as work, ProcessPoolExecutor(shares) as pool:
+            told = list(pool.map(partial(share, ASKED.program, work, -(-count // shares)), seeds))
+        counts: Counter[str] = sum((it for it, _ in told), Counter())
+        print(f"{name}: {', '.join(f'{amount} {it}' for it, amount in sorted(counts.items()))}")
+        self.no_faults([fault for _, faults in told for fault in faults])
+        return counts

@@ -10,9 +10,6 @@ import shutil
 import tempfile
 import time
 from collections import Counter
-from concurrent.futures import ProcessPoolExecutor
-from functools import partial
-from typing import Optional
 
 from generate.http_days import Call, Exchange, PostedDay, posted_day
 from model.kept import sqlite3
@@ -20,7 +17,7 @@ from model.rows import Tables, empty_tables
 from tests.asked import ASKED
 from tests.http_peer import Ended, Fault, Server, received, send
 from tests.plain_runs import kept_tables, unlike
-from tests.runs import Tried, quick_folder
+from tests.runs import Tried
 
 POSTS, SHARES, OF_DESK, MOST_OF_DAY, SPAN = 3000, 2, 2500, 160, 10_000
 
@@ -114,7 +111,7 @@ class Desk:
         return ""
 
 
-def share(program: str, work: str, count: int, seed: int) -> tuple[Counter[str], Optional[str]]:
+def share(program: str, work: str, count: int, seed: int) -> tuple[Counter[str], list[str]]:
     """So many posts by a seed: how they went, and what was wrong."""
     dice, counts, desks = random.Random(seed), Counter[str](), 0
     while counts["posts"] < count:
@@ -126,11 +123,11 @@ def share(program: str, work: str, count: int, seed: int) -> tuple[Counter[str],
             except Fault as fault:
                 why = str(fault)
             if why:
-                return counts + desk.counts, f"seed {seed}, desk {desks}, day {desk.day}: {why}"
+                return counts + desk.counts, [f"seed {seed}, desk {desks}, day {desk.day}: {why}"]
         counts += desk.counts
         counts["rows of replies"] += len(desk.tables.reply)
         shutil.rmtree(desk.folder)
-    return counts, None
+    return counts, []
 
 
 class Repeats(Tried):
@@ -138,14 +135,7 @@ class Repeats(Tried):
 
     def test_repeats(self) -> None:
         """So many posts, in two processes, each with a seed of its own."""
-        first, count = ASKED.seed_or(1), ASKED.count_or(POSTS)
-        seeds = range(first, first + SHARES)
-        print(f"repeats: seeds {first} to {first + SHARES - 1}", flush=True)
-        with tempfile.TemporaryDirectory(prefix="repeats-", dir=quick_folder()) as work, ProcessPoolExecutor(SHARES) as pool:
-            told = list(pool.map(partial(share, ASKED.program, work, -(-count // SHARES)), seeds))
-        counts: Counter[str] = sum((it for it, _ in told), Counter())
-        print(f"repeats: {', '.join(f'{amount} {it}' for it, amount in sorted(counts.items()))}")
-        self.no_faults([why for _, why in told if why])
+        counts = self.shared_out("repeats", share, POSTS, SHARES)
         if ASKED.is_whole:
             for it in ("kept replies", "questions by a GET", "longer than a response", "killed behind an answer", "killed at a front of an act", "opened with moves"):
                 self.assertGreater(counts[it], 0, it)
