@@ -2,6 +2,7 @@
 use Rattle.std.proofs.Common.{◌≡◌, ℕ, IsTrue, List, inl, inr, refl, subst, sym}
 use Rattle.std.proofs.Math.Logic.{∥∥₁_map}
 use Rattle.sqlite_disk.specs.declared.Disk as disk
+use Rattle.sqlite_trees.specs.Tree.{Trees}
 use Rattle.sqlite_store.specs.declared.store.FileStore.{FileStore}
 use Rattle.sqlite_store.specs.FileStore.{view}
 use Rattle.sqlite_catalog.proofs.ReadLemmas.{lists_once}
@@ -17,6 +18,7 @@ use Rattle.tc_desk.specs.declared.configs.Config.{Config}
 use Rattle.tc_store.specs.declared.versions.Version.{Version}
 use Rattle.tc_store.specs.Ledgers.{KeptAnswer, Ledger, newest}
 use Rattle.tc_store.specs.Schema.{schema_of, HoldsAs}
+use Rattle.tc_store.specs.Steps.{HasRows}
 use Rattle.tc_store.specs.Told.{IsTold}
 use Rattle.tc_desk.specs.Replies.{Reply}
 use Rattle.tc_room.specs.declared.callers.Caller.{Caller}
@@ -30,17 +32,28 @@ use Rattle.tc_cli.specs.Crash.{HasLedgerAs, HasRowsAs, HoldsSome, IsEither, IsRe
 -- a sound database whose trees are the tables of a version has the schema of that version
 desk_rows : (version : Version) (db : Database) (ledger : Ledger) → IsDatabase db → HasRowsAs version db.trees ledger → HoldsAs version db ledger
 desk_rows version db ledger sound rows =
-    record { schema = lists_once _ db.schema (schema_of version) sound.lists rows.1.lists; rows = rows.0; lacks = rows.2; sound = sound }
+    record {
+      layout = rows.layout;
+      fits = rows.fits;
+      schema = lists_once _ db.schema (schema_of rows.layout version) sound.lists rows.listed.lists;
+      rows = rows.rows;
+      lacks = rows.lacks;
+      sound = sound;
+    }
+
+-- what the files hold as tables of the newest version
+rows_as : (trees : Trees) (ledger : Ledger) → HasRows trees ledger → HasRowsAs newest trees ledger
+rows_as trees ledger has = record { layout = has.layout; fits = has.fits; rows = has.rows; listed = has.listed; lacks = tt }
 
 -- what tables of the newest version leave
 pub of_newest : {D : Type 0} {g : disk.Ghosts D} (last : Held (FileStore D g)) (May : Ledger → Type 0) → Leaves over_files last May → LeavesSome over_files last (OfNewest May)
-of_newest last May leaves trees may = let left = leaves trees may in (newest, left.0, (refl, left.1), (left.2.0, left.2.1, tt))
+of_newest last May leaves trees may = let left = leaves trees may in (newest, left.0, (refl, left.1), rows_as trees left.0 left.2)
 
 -- one of the tables that a crash leaves is found
 pub found_again : {D E : Type 0} {g : disk.Ghosts D} {h : disk.Ghosts E} (last : Held (FileStore D g)) (found : Held (FileStore E h)) (May : Version → Ledger → Type 0)
     → IsTrue (view last.store).is_numbered → IsReopened last found → LeavesSome over_files last May → HoldsSome May (file_state found).now
 found_again last found May numbered again leaves =
-    ∥∥₁_map (next_run last.store numbered (λ db may. let left = leaves db may in (schema_of left.0, left.3.1)) again.bytes again.left (file_state found) again.finds)
+    ∥∥₁_map (next_run last.store numbered (λ db may. let left = leaves db may in (schema_of left.3.layout left.0, left.3.listed)) again.bytes again.left (file_state found) again.finds)
     (λ recovered.
     let now = (file_state found).now in
     let same : now ≡ (file_state found).committed = again.opened.0.clean in
@@ -90,7 +103,7 @@ opening_leaves version store last chosen moment old replies told has leaves tree
       | inl before ↦ (version, ledger_of old replies, inl refl, has.leaves trees before)
       | inr made ↦
           let opened = made told in
-          (newest, ledger_of opened.2.book replies, inr (opened.2.book, (opened.2, opened.3, refl), refl), (opened.4.0, opened.4.1, tt))
+          (newest, ledger_of opened.2.book replies, inr (opened.2.book, (opened.2, opened.3, refl), refl), rows_as trees (ledger_of opened.2.book replies) opened.4)
     ]
 
 -- and that is opened again

@@ -17,6 +17,8 @@ use Rattle.tc_book.specs.Tables.{image_of}
 use Rattle.tc_desk.specs.declared.configs.Config.{Config}
 use Rattle.tc_sql.specs.Contents.{Matches}
 use Rattle.tc_store.specs.declared.versions.Version.{Version}
+use Rattle.tc_store.specs.declared.versions.Layout.{Layout}
+use Rattle.tc_store.specs.Layouts.{IsLayoutOf}
 use Rattle.tc_store.specs.Ledgers.{KeptAnswer, Ledger, newest}
 use Rattle.tc_store.specs.Schema.{schema_of, contents_of, HoldsAs, Lacks}
 use Rattle.tc_room.specs.Calls.{KeepsAll}
@@ -25,9 +27,13 @@ use Rattle.tc_room.specs.Joined.{LinkState, Standing}
 use Rattle.tc_room.specs.Opening as opening
 use Rattle.tc_room.specs.Opening.{OpensLeft}
 
--- what the files hold, as tables of a version with these rows and no other
-abbrev pub HasRowsAs : Version → Trees → Ledger → Type 0
-HasRowsAs version trees ledger = Matches trees (contents_of version ledger.image ledger.replies) × IsListed (schema_of version) trees × Lacks version ledger.image ledger.replies
+-- what the files hold, as tables of a version, in one of its orders, with these rows and no other
+pub record HasRowsAs (version : Version) (trees : Trees) (ledger : Ledger) : Type 0 where
+  pub layout : Layout
+  pub fits : IsLayoutOf layout version
+  pub rows : Matches trees (contents_of layout version ledger.image ledger.replies)
+  pub listed : IsListed (schema_of layout version) trees
+  pub lacks : Lacks version ledger.image ledger.replies
 
 -- the tables of a connection are of a version and hold this ledger, and a crash leaves just that
 pub record HasLedgerAs {S : Type 0} (g : Ghosts S) (version : Version) (tables : Held S) (ledger : Ledger) : Type 0 where

@@ -14,8 +14,8 @@ use Rattle.tc_store.specs.declared.batches.Batch.{Batch}
 use Rattle.tc_types.specs.Tables.{Image, with_row, applied}
 use Rattle.tc_store.specs.Ledgers.{with_image, from_of, kept_in, written}
 use Rattle.tc_sql.specs.Contents.{Matches}
-use Rattle.tc_store.specs.Schema.{newest_schema, contents, Holds}
-use Rattle.tc_store.specs.Steps.{Goes, Does, IsNewIn, AreNew, Step, Replied, Migrated, Wrote, HasBatch}
+use Rattle.tc_store.specs.Schema.{Holds}
+use Rattle.tc_store.specs.Steps.{Goes, Does, IsNewIn, AreNew, Step, Replied, Migrated, Wrote, HasRows, HasBatch}
 
 -- two calls, neither of which commits
 pub survives_both : (a b c : State) → Survives a b (λ _. ⊥) → Survives b c (λ _. ⊥) → Survives a c (λ _. ⊥)
@@ -61,7 +61,7 @@ module _ {S : Type 0} (g : Ghosts S) where
   survives_commit a b c batch one step two = survives_then (state g a) (state g b) (state g c) (λ _. ⊥) (λ db. db ≡ (state g b).now.trees) (HasBatch (state g a).now batch) (λ _ db none. absurd none)
       (λ clean db is ledger held.
       let after = (step (omega (arith, clean, two.clean))).holds ledger held in
-      subst (λ (trees : Trees). Matches trees (contents (written batch ledger)) × IsSound newest_schema trees) (sym is) (after.rows, subst (λ s. IsSound s (state g b).now.trees) after.schema after.sound))
+      subst (λ (trees : Trees). HasRows trees (written batch ledger)) (sym is) (record { layout = after.layout; fits = after.fits; rows = after.rows; listed = subst (λ s. IsSound s (state g b).now.trees) after.schema after.sound }))
       (survives_begun a b (λ _. ⊥) one) two
 
   -- a batch: the tables are brought to the newest version, then come the rows, then the reply

@@ -27,9 +27,11 @@ use Rattle.tc_types.specs.declared.tables.cargo.Cargo.{Cargo}
 use Rattle.tc_types.specs.declared.tables.rows.Row.{Row}
 use Rattle.tc_types.specs.declared.tables.rows.Row.TheVariants.{Entered, Placed, Moved, Tallied, Approved, Loaded, StackApproved, ProcedureLoaded, StepLoaded, Begun, Recorded, Carried}
 use Rattle.tc_store.specs.declared.versions.Version.{Version}
+use Rattle.tc_store.specs.declared.versions.Layout.{Layout}
+use Rattle.tc_store.specs.Layouts.{IsLayoutOf}
 use Rattle.tc_store.specs.declared.batches.Batch.{Batch}
 use Rattle.tc_types.specs.Tables.{Image, with_row}
-use Rattle.tc_store.specs.Ledgers.{KeptAnswer, Ledger, is_same_call, with_image, from_of, kept_in, written, empty_ledger}
+use Rattle.tc_store.specs.Ledgers.{KeptAnswer, Ledger, is_same_call, with_image, newest, from_of, kept_in, written, empty_ledger}
 use Rattle.tc_sql.specs.Builds.{Builds, BuildsTo, no_schema}
 use Rattle.tc_sql.specs.Contents.{Contents, Matches}
 use Rattle.tc_store.specs.Approvals.{is_same_approval}
@@ -39,7 +41,7 @@ use Rattle.tc_store.specs.Procedures.{is_same_procedure}
 use Rattle.tc_store.specs.ProcedureSteps.{is_same_step}
 use Rattle.tc_store.specs.Records.{is_same_record}
 use Rattle.tc_store.specs.Cargo.{is_same_cargo}
-use Rattle.tc_store.specs.Schema.{newest_schema, contents, HoldsAs, Holds}
+use Rattle.tc_store.specs.Schema.{newest_schema, schema_of, contents, HoldsAs, Holds}
 use Rattle.tc_store.specs.declared.faults.StoreFault.{StoreFault}
 use Rattle.tc_store.specs.declared.faults.StoreFault.TheVariants.{Commit}
 
@@ -167,13 +169,20 @@ abbrev pub TellsCommit : {S : Type 0} → Ghosts S → (Held S → Held S → Ty
 TellsCommit g Done old new (Commit error) = FailsAtCommit g Done old new error
 TellsCommit g Done old new _ = ⊤
 
+-- the trees of tables of the newest version, in one of its orders, which have the rows of this ledger and no other
+pub record HasRows (trees : Trees) (ledger : Ledger) : Type 0 where
+  pub layout : Layout
+  pub fits : IsLayoutOf layout newest
+  pub rows : Matches trees (contents layout ledger)
+  pub listed : IsSound (schema_of layout newest) trees
+
 -- the trees of an empty desk
 abbrev pub IsNewDesk : Trees → Type 0
-IsNewDesk trees = Matches trees (contents empty_ledger) × IsSound newest_schema trees
+IsNewDesk trees = HasRows trees empty_ledger
 
 -- the trees that a batch leaves where it was written whole
 abbrev pub HasBatch : Database → Batch → Trees → Type 0
-HasBatch old batch trees = (ledger : Ledger) → HoldsAs (from_of batch) old ledger → Matches trees (contents (written batch ledger)) × IsSound newest_schema trees
+HasBatch old batch trees = (ledger : Ledger) → HoldsAs (from_of batch) old ledger → HasRows trees (written batch ledger)
 
 -- a crash leaves no other trees than these
 abbrev pub LeavesOnly : State → Trees → Type 0

@@ -8,7 +8,7 @@ use Rattle.tc_desk.specs.State.{IsConfig}
 use Rattle.tc_store.specs.Ledgers.{Ledger, with_image}
 use Rattle.tc_store.specs.Schema.{HoldsAs}
 use Rattle.tc_room.specs.Crash.{HasRows}
-use Rattle.tc_room.proofs.OpeningLemmas.{left_read, why_unopened}
+use Rattle.tc_room.proofs.OpeningLemmas.{left_read, shows_desk, why_unopened}
 use Rattle.tc_room.proofs.TableLemmas.{leaves_more, leaves_none, leaves_over, written}
 use Rattle.tc_room.proofs.opening.open_left.Goals as goal
 
@@ -54,9 +54,9 @@ returns-clause-kept g c = rw c.into_connection-in-Err-write_rows.ensures (λ cle
     subst (λ now. HoldsAs of now ledger) (sym (c.in-Err-write_rows.ensures.kept clean is_open)) (c.in-Ok.ensures.reads.same before of ledger held))
 
 pub returns-in-Err-reopen_desk-clause-memory : goal.returns-in-Err-reopen_desk-clause-memory
-returns-in-Err-reopen_desk-clause-memory g c = rw c.into_connection-in-Err-reopen_desk.ensures (λ memory clean ours. (rows_in c.in-Ok.image, c.in-Ok.ensures.told, c.in-Ok.ensures.shown clean ours))
+returns-in-Err-reopen_desk-clause-memory g c = rw c.into_connection-in-Err-reopen_desk.ensures (λ memory clean ours. shows_desk c.args.version _ (rows_in c.in-Ok.image) c.in-Ok.ensures.told ours (c.in-Ok.ensures.shown clean))
 
 pub returns-in-Ok-write_rows-clause-shown : goal.returns-in-Ok-write_rows-clause-shown
 returns-in-Ok-write_rows-clause-shown g c = rw c.over.ensures (λ clean ours.
     let before : HasCleanDisk (state g.S.Store c.load.new.self) = omega (arith, clean, c.write_rows.ensures.crash.clean) in
-    (rows_in c.in-Ok.image, c.in-Ok.ensures.told, c.in-Ok.ensures.shown before ours))
+    shows_desk c.args.version _ (rows_in c.in-Ok.image) c.in-Ok.ensures.told ours (c.in-Ok.ensures.shown before))
