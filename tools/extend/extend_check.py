@@ -7,8 +7,8 @@ makes has to be proved: the functions that its lines `prove: CRATE FUNCTION ..` 
 
 A patch changes a low crate, so no library above it can be used as it is: all crates are given as sources. But a library holds the
 modules that the check of its crate proved (kept_modules.py), and the prover takes those of them that the patch does not reach. So
-the libraries should be built: crates/*/out/rlib, by `rt ci`, or in one folder (--built). Of a crate that has none all that these
-functions call is proved anew.
+the libraries should be built: crates/*/out/rlib, by `rt lib` in the folder of each crate, or in one folder (--built). Those of `rt ci` do
+not serve. Of a crate that has none all that these functions call is proved anew.
 
 For each line `prove:` there is a line with what it cost, and for each patch one with the files that its pages list and it leaves as
 they are. The last line is `N passed, M failed`, and the status is 1 where one failed.
@@ -97,7 +97,8 @@ class Prover:
         """Has the modules at hand that the libraries of these crates hold."""
         for name in names:
             if name not in self.unpacked and os.path.isdir(self.library(name)):
-                unpack(self.library(name), self.kept)
+                if not unpack(self.library(name), self.kept):
+                    print(f"     {name}: its library holds statements alone, as `rt ci` makes it, so it serves for nothing", flush=True)
                 self.unpacked.add(name)
 
     def words(self, crate: Crate, functions: Sequence[str]) -> list[str]:

@@ -3,6 +3,8 @@
 They lie in the library's `toolchain/checked.a`, an archive as `ar` writes it, under the names that they have in a folder for
 `--incremental`. Put into such a folder they serve a check that has the crate as its source: the prover takes each that is as it
 was, with all that it imports, and proves the others. So nothing hangs on a library that is older than its text.
+
+That is so of a library of `rt lib` or `rt check`. One of `rt ci` holds statements alone, as members `part/..`, of which none serves.
 """
 import os
 from collections.abc import Iterator
@@ -29,15 +31,20 @@ def members(archive: BinaryIO) -> Iterator[tuple[str, bytes]]:
             yield name.removesuffix("/"), content
 
 
-def unpack(library: str, kept: str) -> None:
+def unpack(library: str, kept: str) -> int:
     """Puts the modules of a library into a folder of what is kept, where the toolchain that built it looks for them. What is there
-    already stays."""
+    already stays. How many modules the library has."""
     with open(f"{library}/format", encoding="utf-8") as it:
         build = next(row.split(" ", 1)[1].strip() for row in it if row.startswith("rattle-build "))
     home = f"{kept}/{build.replace('/', '_')}"
     os.makedirs(home, exist_ok=True)
+    found = 0
     with open(f"{library}/toolchain/checked.a", "rb") as archive:
         for name, content in members(archive):
-            if name.endswith(".oantt") and "/" not in name and not os.path.exists(f"{home}/{name}"):
+            if not name.endswith(".oantt") or "/" in name:
+                continue
+            found += 1
+            if not os.path.exists(f"{home}/{name}"):
                 with open(f"{home}/{name}", "wb") as to:
                     to.write(content)
+    return found

@@ -104,7 +104,6 @@ pub(crate) fn ask<U: Carrier<Frame> + Drop, D: Carrier<Report> + Drop, A: Alloca
     ensures most { IfOk result (λ flight. length flight.said ≤ MOST_TOLD) }
     ensures room { OnOk result (length records.new.book.history + rows ≤ records.new.most_rows) }
 {
-    // bound, so that what holds of an Ok is a goal of its own
     let flight = fly(records, world, alloc, event, rows)?;
     Ok(flight)
 }
@@ -121,7 +120,6 @@ pub(crate) fn pass<U: Carrier<Frame> + Drop, D: Carrier<Report> + Drop, A: Alloc
     ensures kept_room { puts_down event ≡ false → D.covered world.old.down ≤ D.covered world.new.down }
     ensures heard { IfOk result (λ flight. (stamp : Stamp) (mirror : MirrorState) (book : Book) → heard_all stamp mirror flight.said book ≡ book) }
 {
-    // bound, so that what holds of an Ok is a goal of its own
     let flight = fly(records, world, alloc, event, 0)?;
     Ok(flight)
 }

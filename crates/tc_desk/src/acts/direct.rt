@@ -79,7 +79,6 @@ impl<U: Carrier<Frame> + Drop, D: Carrier<Report> + Drop, A: Allocator + Copy + 
             return Err(Refusal::BadDirective);
         }
         let event = Event::Directive(given);
-        // bound, so that what holds of an Ok is a goal of its own
         let flight = pass(&mut self.records, &mut self.world, self.alloc, event)?;
         Ok(flight)
     }

@@ -94,7 +94,6 @@ pub(crate) fn prepare<A: Allocator + Copy + Drop>(
     ensures here { IfOk result (λ departure. stands records.now.book n (Approved ∷ []) ≡ true) }
     ensures rows { IfOk result (λ departure. has_all_rows records.now.book ≡ false) }
 {
-    // two look-ups, since it is no clause of `request` that what it finds has this number
     let number = records.number_of(n).ok_or(Refusal::UnknownRequest)?;
     let request = records.request(n).ok_or(Refusal::UnknownRequest)?;
     if records.stands(n, &[Place::Entered]) {
