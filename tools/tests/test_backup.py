@@ -255,8 +255,8 @@ class Copies(Tried):
             while not counts["the end"] and not self.bad:
                 tried = [(number, way) for number in range(first, first + 4) for way in WAYS]
                 for (number, way), became in zip(tried, pool.map(lambda it: self.stopped(folder, shim, *it), tried)):
-                    counts[became] += became in ("stopped", "nothing to halve", "the end")
-                    self.told(f"stopped at call {number}, {way}", NO_FAULT if became in counts else became)
+                    counts[became] += 1
+                    self.told(f"stopped at call {number}, {way}", NO_FAULT if became in ("stopped", "nothing to halve", "the end") else became)
                 first += 4
         print(f"backup: stopped at calls: {', '.join(f'{many} {how}' for how, many in sorted(counts.items()))}")
 
