@@ -438,7 +438,7 @@ class Copies(Tried):
         """A copy into another folder is refused for the desk with no reason, and the desk's own folder is as it was, by its time too."""
         before, time_before = {it: look(f"{folder.path}/{it}") for it in folder.names()}, os.stat(folder.path).st_mtime_ns
         ran = subprocess.run([ASKED.program, "backup", DESK, f"{self.folder().path}/{COPY}"], cwd=folder.path, stdin=subprocess.DEVNULL, capture_output=True,
-                             timeout=PATIENCE, check=False)
+                             timeout=900, check=False)
         self.same(name, (2, b"", f"tcdesk: cannot use {DESK}\n".encode()), (ran.returncode, ran.stdout, ran.stderr))
         self.same(f"{name}: what is there", before, {it: look(f"{folder.path}/{it}") for it in folder.names()})
         self.same(f"{name}: when the folder changed", time_before, os.stat(folder.path).st_mtime_ns)
