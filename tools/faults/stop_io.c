@@ -12,6 +12,7 @@
 // No sync is passed on to the disk, whose time it would cost: here a sync is where what was done before it can be lost no more.
 #define _GNU_SOURCE
 #include <errno.h>
+#include <fcntl.h>
 #include <stdio.h>
 #include <stdlib.h>
 #include <sys/stat.h>
@@ -26,7 +27,6 @@ enum { FILES = 2, NEITHER = -1, STOPPED = 137, NOTHING_TO_HALVE = 138 };
 // What a call took away: the bytes that stood at a place, and the length that the file had.
 struct change {
     struct change *before;
-    int descriptor;
     off_t at;
     off_t length;
     size_t size;
@@ -99,7 +99,6 @@ static void remember(int file, int descriptor, off_t at, off_t end) {
         abort();
     }
     change->before = changes[file];
-    change->descriptor = descriptor;
     change->at = at;
     change->length = length;
     change->size = size;
@@ -115,14 +114,18 @@ static void keep(int file) {
     }
 }
 
-// Undoes what was done to a file since its last sync, the last first.
+// Undoes what was done to a file since its last sync, the last first. It is opened by its path: by then the program may have closed it, or taken it away.
 static void lose(int file) {
+    int descriptor = open(paths[file], O_WRONLY);
+    if (descriptor < 0) {
+        return;
+    }
     for (struct change *change = changes[file]; change != NULL; change = change->before) {
-        if (put(change->descriptor, change->bytes, change->size, change->at) != (ssize_t)change->size ||
-            cut(change->descriptor, change->length) != 0) {
+        if (put(descriptor, change->bytes, change->size, change->at) != (ssize_t)change->size || cut(descriptor, change->length) != 0) {
             abort();
         }
     }
+    close(descriptor);
 }
 
 // Counts a call, and says whether the program stops at it, which it does once what is lost is undone.
