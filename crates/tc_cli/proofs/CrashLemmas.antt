@@ -20,6 +20,7 @@ use Rattle.tc_store.specs.Ledgers.{KeptAnswer, Ledger, newest}
 use Rattle.tc_store.specs.Schema.{schema_of, HoldsAs}
 use Rattle.tc_store.specs.Steps.{HasRows}
 use Rattle.tc_store.specs.Told.{IsTold}
+use Rattle.tc_store.proofs.LayoutLemmas.{holds_in}
 use Rattle.tc_desk.specs.Replies.{Reply}
 use Rattle.tc_room.specs.declared.callers.Caller.{Caller}
 use Rattle.tc_room.specs.Calls.{IsMadeOnce, KeepsAll}
@@ -32,14 +33,7 @@ use Rattle.tc_cli.specs.Crash.{HasLedgerAs, HasRowsAs, HoldsSome, IsEither, IsRe
 -- a sound database whose trees are the tables of a version has the schema of that version
 desk_rows : (version : Version) (db : Database) (ledger : Ledger) → IsDatabase db → HasRowsAs version db.trees ledger → HoldsAs version db ledger
 desk_rows version db ledger sound rows =
-    record {
-      layout = rows.layout;
-      fits = rows.fits;
-      schema = lists_once _ db.schema (schema_of rows.layout version) sound.lists rows.listed.lists;
-      rows = rows.rows;
-      lacks = rows.lacks;
-      sound = sound;
-    }
+    holds_in rows.layout version db ledger rows.fits (lists_once _ db.schema (schema_of rows.layout version) sound.lists rows.listed.lists) rows.rows rows.lacks sound
 
 -- what the files hold as tables of the newest version
 rows_as : (trees : Trees) (ledger : Ledger) → HasRows trees ledger → HasRowsAs newest trees ledger

@@ -15,7 +15,7 @@ use Rattle.tc_store.specs.declared.versions.Version.{Version}
 use Rattle.tc_store.specs.declared.versions.Version.TheVariants.{First, Second, Third}
 use Rattle.tc_store.specs.Ledgers.{Ledger}
 use Rattle.tc_store.specs.declared.versions.Layout.{Layout}
-use Rattle.tc_store.specs.Schema.{schema_of, IsSchemaOf, HoldsAs}
+use Rattle.tc_store.specs.Schema.{schema_of, layout_of, layout_in, IsSchemaOf, HoldsAs}
 use Rattle.tc_store.specs.Shows.{ShowsAll}
 use Rattle.tc_store.specs.Told.{IsTold}
 use Rattle.tc_room.specs.Joined.{LinkState}
@@ -61,15 +61,15 @@ told_back layout Third = refl
 
 -- a schema is of one version
 same_version : (a b : Version) (schema : Schema) → IsSchemaOf a schema → IsSchemaOf b schema → a ≡ b
-same_version a b schema one two = sym (told_back one.layout a) ∙ ap (λ (s : Schema). version_behind (drop 11 s.tables)) (sym one.is ∙ two.is) ∙ told_back two.layout b
+same_version a b schema one two = sym (told_back (layout_of schema) a) ∙ ap (λ (s : Schema). version_behind (drop 11 s.tables)) (sym one.is ∙ two.is) ∙ told_back (layout_of schema) b
 
 -- tables that hold a ledger have the schema of their version
-pub schema_in : (version : Version) (db : Database) (ledger : Ledger) → HoldsAs version db ledger → IsSchemaOf version db.schema
-schema_in version db ledger held = record { layout = held.layout; fits = held.fits; is = held.schema }
+pub schema_held : (version : Version) (db : Database) (ledger : Ledger) → HoldsAs version db ledger → IsSchemaOf version db.schema
+schema_held version db ledger held = record { fits = held.fits; is = held.schema }
 
 -- and show what is read of them
 pub shows_desk : (version : Version) (db : Database) (rows : Image) → IsTold rows → IsSchemaOf version db.schema → ((layout : Layout) → db.schema ≡ schema_of layout version → ShowsAll layout version db rows) → ShowsDesk version db
-shows_desk version db rows told ours shows = (ours.layout, ours.is, rows, told, shows ours.layout ours.is)
+shows_desk version db rows told ours shows = (ours, rows, told, shows (layout_in db) ours.is)
 
 -- tables of a version that were found in a database
 module _ {S : Type 0} (g : Ghosts S) (tables store : Held S) (at : Version) (same : tables ≡ store) (ours : IsSchemaOf at (state g store).now.schema) where
@@ -78,7 +78,7 @@ module _ {S : Type 0} (g : Ghosts S) (tables store : Held S) (at : Version) (sam
   found_held version ledger held =
       let now = (state g store).now in
       subst (λ (t : Held S). HoldsAs at (state g t).now ledger) (sym same)
-      (subst (λ (v : Version). HoldsAs v now ledger) (same_version version at now.schema (schema_in version now ledger held) ours) held)
+      (subst (λ (v : Version). HoldsAs v now ledger) (same_version version at now.schema (schema_held version now ledger held) ours) held)
 
   -- and what they show the database shows
   pub found_shown : (version : Version) → IsSchemaOf version (state g store).now.schema → (IsSchemaOf at (state g tables).now.schema → ShowsDesk at (state g tables).now) → ShowsDesk version (state g store).now

@@ -18,9 +18,8 @@ use Rattle.tc_book.specs.Tables.{image_of}
 use Rattle.tc_desk.specs.declared.configs.Config.{Config}
 use Rattle.tc_desk.specs.Opening.{reopened_parts}
 use Rattle.tc_store.specs.declared.versions.Version.{Version}
-use Rattle.tc_store.specs.declared.versions.Layout.{Layout}
 use Rattle.tc_store.specs.Ledgers.{Ledger, IsKeptAnswer, empty_ledger}
-use Rattle.tc_store.specs.Schema.{schema_of, HoldsAs}
+use Rattle.tc_store.specs.Schema.{layout_in, IsSchemaOf, HoldsAs}
 use Rattle.tc_store.specs.Shows.{ShowsAll}
 use Rattle.tc_store.specs.Told.{IsTold}
 use Rattle.tc_room.specs.Crash.{HasRows, LeavesOr, ledger_of}
@@ -42,7 +41,7 @@ pub record ReadsLeft (config : Config) (moment : ℕ) (image : Image) (desk : Li
 
 -- tables of a version that show rows as a desk writes them, and no others
 abbrev pub ShowsDesk : Version → Database → Type 0
-ShowsDesk version db = (layout : Layout) × (db.schema ≡ schema_of layout version) × (rows : Image) × IsTold rows × ShowsAll layout version db rows
+ShowsDesk version db = IsSchemaOf version db.schema × (rows : Image) × IsTold rows × ShowsAll (layout_in db) version db rows
 
 -- A room that was opened at a moment over tables with these rows, which a desk could have written, and the moves that this made: its desk is what
 -- the opening makes of them, and its tables are of the newest version, and hold its book and the replies as they were.

@@ -29,7 +29,7 @@ use Rattle.tc_sql.proofs.Changes.{matches_at}
 use Rattle.tc_store.specs.Cargo.{cargo_tree, cargo_places, cargo_form, cargo_put, cargo_terms, cargo_values, is_same_cargo}
 use Rattle.tc_store.specs.Meta.{meta_tree, version_number, version_shown}
 use Rattle.tc_store.specs.Loads.{all_cargo_text, all_cargo_columns, all_version_columns}
-use Rattle.tc_store.specs.Schema.{HasCargo, schema_of, contents_of, HoldsAs}
+use Rattle.tc_store.specs.Schema.{HasCargo, schema_of, contents_of, HoldsAs, layout_in}
 use Rattle.tc_store.specs.Shows.{shown_of, ShowsRows}
 use Rattle.tc_store.specs.Reads.{IsQuiet}
 use Rattle.tc_store.specs.Steps.{Ran, Step}
@@ -141,7 +141,7 @@ back Third = refl
 -- tables of one version do not name another
 pub version_named : (of named : Version) (db : Database) (ledger : Ledger) → HoldsAs of db ledger → ShowsRows (db.trees meta_tree) all_version_columns (version_shown named ∷ []) → of ≡ named
 version_named of named db ledger held shows =
-    let at = matches_at db.trees meta_tree (contents_of held.layout of ledger.image ledger.replies) held.rows refl in
+    let at = matches_at db.trees meta_tree (contents_of (layout_in db) of ledger.image ledger.replies) held.rows refl in
     let shown : version_shown named ∷ [] ≡ version_shown of ∷ [] = shows.order (subst IsTable (sym at.0) at.1) ∙ ap (map (shown_of all_version_columns)) at.0 in
     let number : version_number named ≡ version_number of = cc in
     sym (back of) ∙ ap version_at (sym number) ∙ back named

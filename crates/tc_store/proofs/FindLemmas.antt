@@ -24,7 +24,7 @@ use Rattle.tc_sql.proofs.Appends.{shown_numbered}
 use Rattle.tc_sql.proofs.Changes.{matches_at}
 use Rattle.tc_sql.proofs.Selects.{equal_numbers, listed}
 use Rattle.tc_store.specs.Replies.{reply_tree, reply_values, find_text, find_tests, find_columns}
-use Rattle.tc_store.specs.Schema.{schema_of, contents, Holds}
+use Rattle.tc_store.specs.Schema.{schema_of, contents, Holds, layout_in}
 use Rattle.tc_store.specs.Reads.{IsQuiet}
 use Rattle.tc_store.specs.Shows.{shown_of}
 use Rattle.tc_store.proofs.ReplyLemmas.{reply_rows}
@@ -77,10 +77,10 @@ rows_found : (person : List ℕ) (number : ℕ) (ledger : Ledger) (old new : Sta
     → rows ≡ map body_shown (filter (is_of person number) ledger.replies)
 rows_found person number ledger old new rows held h =
     let params = Text person ∷ Int (pos number) ∷ [] in
-    let tree = reply_tree held.layout in
-    let there = reply_rows Third ledger tt held.layout in
-    let at = matches_at old.now.trees tree (contents held.layout ledger) held.rows there.0 in
-    listed tree find_tests find_columns no_limit params (schema_of held.layout newest) find_text old new held.schema (find_is held.layout) rows (subst IsTable (sym at.0) at.1) h
+    let tree = reply_tree (layout_in old.now) in
+    let there = reply_rows Third ledger tt (layout_in old.now) in
+    let at = matches_at old.now.trees tree (contents (layout_in old.now) ledger) held.rows there.0 in
+    listed tree find_tests find_columns no_limit params (schema_of (layout_in old.now) newest) find_text old new held.schema (find_is (layout_in old.now)) rows (subst IsTable (sym at.0) at.1) h
     ∙ ap (λ all. map (shown_of find_columns) (filter (passes find_tests params) all)) (at.0 ∙ there.1)
     ∙ shown_numbered reply_values body_shown (passes find_tests params) (is_of person number) (shown_of find_columns)
     (λ n k. ap₂ (λ a b. a && (b && true)) (equal_texts k.person person) (equal_numbers k.number number) ∙ both_true (bytes_eq k.person person) (k.number == number)) (λ n k. refl) 1 ledger.replies

@@ -22,7 +22,7 @@ use Rattle.tc_sql.specs.Numbered.{numbered_from, numbered}
 use Rattle.tc_sql.specs.Lists.{passes, no_limit, ListsFrom}
 use Rattle.tc_sql.proofs.Changes.{matches_at}
 use Rattle.tc_sql.proofs.Selects.{listed, listed_as}
-use Rattle.tc_store.specs.Schema.{schema_of, contents_of, HoldsAs}
+use Rattle.tc_store.specs.Schema.{schema_of, contents_of, HoldsAs, layout_in}
 use Rattle.tc_store.specs.Meta.{meta_tree, version_shown}
 use Rattle.tc_store.specs.Loads.{all_version_columns}
 use Rattle.tc_store.specs.Told.{IsTold, IsToldRequest, IsToldStep, IsToldRecord}
@@ -135,9 +135,9 @@ pub rows_keyed : {X : Type 0} (tree : Layout → ℕ) (columns : List Term) (row
     → ((layout : Layout) → rows_in (tree layout) (contents_of layout version ledger.image ledger.replies) ≡ map row xs) → ((x : X) → shown_of columns (row x) ≡ shown x) → HoldsAs version old.now ledger → Shown text [] old new rows
     → rows ≡ map shown xs
 rows_keyed tree columns row shown text lists xs version ledger old new rows named is showed held h =
-    let at = rising (tree held.layout) row xs version ledger old held (named held.layout) (is held.layout) in
-    listed (tree held.layout) [] columns no_limit [] (schema_of held.layout version) text old new held.schema (lists held.layout version) rows at.1 h
-    ∙ listed_as (tree held.layout) [] columns no_limit [] row shown (λ x. true) xs old.now.trees at.0 (λ x. refl) showed
+    let at = rising (tree (layout_in old.now)) row xs version ledger old held (named (layout_in old.now)) (is (layout_in old.now)) in
+    listed (tree (layout_in old.now)) [] columns no_limit [] (schema_of (layout_in old.now) version) text old new held.schema (lists (layout_in old.now) version) rows at.1 h
+    ∙ listed_as (tree (layout_in old.now)) [] columns no_limit [] row shown (λ x. true) xs old.now.trees at.0 (λ x. refl) showed
     ∙ ap (map shown) (filter_true xs)
 
 -- one whose rows are numbered in the order in which they came
@@ -151,9 +151,9 @@ pub rows_numbered_in : {X : Type 0} (tree : Layout → ℕ) (columns : List Term
     → ((layout : Layout) → rows_in (tree layout) (contents_of layout version ledger.image ledger.replies) ≡ numbered (map values xs)) → ((n : ℕ) (x : X) → shown_of columns (Int (pos n) ∷ values x) ≡ values x)
     → HoldsAs version old.now ledger → Shown text [] old new rows → rows ≡ map values xs
 rows_numbered_in tree columns values text xs version lists ledger old new rows named is showed held h =
-    let at = matches_at old.now.trees (tree held.layout) (contents_of held.layout version ledger.image ledger.replies) held.rows (named held.layout) in
-    listed (tree held.layout) [] columns no_limit [] (schema_of held.layout version) text old new held.schema (lists held.layout) rows (subst IsTable (sym at.0) at.1) h
-    ∙ ap (λ all. map (shown_of columns) (filter (passes [] []) all)) (at.0 ∙ is held.layout)
+    let at = matches_at old.now.trees (tree (layout_in old.now)) (contents_of (layout_in old.now) version ledger.image ledger.replies) held.rows (named (layout_in old.now)) in
+    listed (tree (layout_in old.now)) [] columns no_limit [] (schema_of (layout_in old.now) version) text old new held.schema (lists (layout_in old.now)) rows (subst IsTable (sym at.0) at.1) h
+    ∙ ap (λ all. map (shown_of columns) (filter (passes [] []) all)) (at.0 ∙ is (layout_in old.now))
     ∙ shown_numbered columns values showed 1 xs
 
 -- so it is in each version, where each has the table

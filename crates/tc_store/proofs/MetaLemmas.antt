@@ -20,7 +20,7 @@ use Rattle.tc_sql.specs.Puts.{PutsInto, HasPut}
 use Rattle.tc_sql.proofs.Inserts.{inserts}
 use Rattle.tc_sql.proofs.Changes.{matches_put}
 use Rattle.tc_store.specs.Layouts.{IsLayoutOf}
-use Rattle.tc_store.specs.declared.versions.Layout.TheVariants.{Made, Copied}
+use Rattle.tc_store.specs.declared.versions.Layout.TheVariants.{Made}
 use Rattle.tc_store.specs.declared.versions.Layout.{Layout}
 use Rattle.tc_store.specs.Meta.{meta_tree, meta_form, meta_put, meta_terms, version_row}
 use Rattle.tc_store.specs.Requests.{request_tree}
@@ -39,6 +39,7 @@ use Rattle.tc_store.specs.declared.versions.Version.{Version}
 use Rattle.tc_store.specs.Ledgers.{newest}
 use Rattle.tc_store.specs.Schema.{newest_schema, schema_of, create_texts, texts_count, Holds}
 use Rattle.tc_store.specs.Steps.{Ran, Defined, Versioned, Step, Filled, blank_ledger}
+use Rattle.tc_store.proofs.LayoutLemmas.{holds_in}
 use Rattle.tc_store.proofs.SchemaLemmas.{built, built_as}
 use Rattle.tc_store.proofs.StepLemmas.{goes_then}
 
@@ -61,7 +62,7 @@ versioned_from old new to put =
     let before : Matches old.trees no_rows = ((none.0, tt), ((none.1.0, tt), ((none.1.1.0, tt), ((none.1.1.1.0, tt), ((none.1.1.1.1.0, tt), ((none.1.1.1.1.1.0, tt), ((none.1.1.1.1.1.1.0, tt), ((none.1.1.1.1.1.1.1.0, tt), ((none.1.1.1.1.1.1.1.1.0, tt), ((none.1.1.1.1.1.1.1.1.1.0, tt), ((none.1.1.1.1.1.1.1.1.1.1.0, tt), ((none.1.1.1.1.1.1.1.1.1.1.1.0, tt), ((none.1.1.1.1.1.1.1.1.1.1.1.1.0, tt), tt))))))))))))) in
     let clear : are_tables old.schema no_rows ≡ true = ap (λ s. are_tables s no_rows) to.builds in
     let row : version_row newest ∷ [] ≡ put_row (with_rowid Chosen (old.trees meta_tree) given) (old.trees meta_tree) = ap (λ rows. put_row (with_rowid Chosen rows given) rows) (sym none.0) in
-    record { layout = Made; fits = tt; schema = put.schema ∙ to.builds; rows = matches_put meta_tree (with_rowid Chosen (old.trees meta_tree) given) (version_row newest ∷ []) old new no_rows put clear row before; lacks = tt; sound = put.sound }
+    holds_in Made newest new blank_ledger tt (put.schema ∙ to.builds) (matches_put meta_tree (with_rowid Chosen (old.trees meta_tree) given) (version_row newest ∷ []) old new no_rows put clear row before) tt put.sound
 
 pub versioned : {S : Type 0} (g : Ghosts S) (old new : Held S) (r : Result ℕ Error) → IfOk r (λ count. Ran g meta_put [] count old new) → OnOk r (Versioned g old new)
 versioned g old new (Err e) h = tt

@@ -47,9 +47,9 @@ use Rattle.tc_store.specs.Meta.{meta_tree, meta_form, meta_update, version_row, 
 use Rattle.tc_store.specs.Replies.{reply_tree, reply_values}
 use Rattle.tc_store.specs.Cargo.{cargo_tree, cargo_values}
 use Rattle.tc_sql.specs.Numbered.{numbered}
-use Rattle.tc_store.specs.Schema.{missing_texts, schema_of, contents_of, contents, Lacks, HoldsAs}
+use Rattle.tc_store.specs.Schema.{missing_texts, schema_of, contents_of, contents, Lacks, layout_in}
 use Rattle.tc_store.specs.Steps.{Ran, AreOf, IsFilled, Defined, Migrated}
-use Rattle.tc_store.proofs.LayoutLemmas.{in_each, still_fits}
+use Rattle.tc_store.proofs.LayoutLemmas.{in_each, still_fits, holds_in}
 use Rattle.tc_store.proofs.SchemaLemmas.{built_from}
 use Rattle.tc_store.proofs.StepLemmas.{goes_then}
 
@@ -192,7 +192,7 @@ migrated g from a b c (Ok count) one h = record {
       let old = (state g a).now in
       let mid = (state g b).now in
       let new = (state g c).now in
-      let layout = held.layout in
+      let layout = layout_in old in
       let all = contents_of layout from ledger.image ledger.replies in
       let filled : IsFilled old all = record { of = subst (λ (s : Schema). AreOf s.tables all) (sym held.schema) (all_of layout from ledger); rows = held.rows; sound = held.sound } in
       let behind = one.behind (schema_of layout newest) all (subst (λ s. Builds s (missing_texts from) (schema_of layout newest)) (sym held.schema) (built_from layout from held.fits)) filled in
@@ -200,15 +200,8 @@ migrated g from a b c (Ok count) one h = record {
       let rows : Matches mid.trees (grown layout from ledger) = subst (Matches mid.trees) is behind.filled.rows in
       let at = matches_at mid.trees meta_tree (grown layout from ledger) rows refl in
       let put = updates layout from (state g b) (state g c) count behind.schema at.0 h.executes in
-      record {
-        layout = layout;
-        fits = still_fits layout from held.fits;
-        schema = put.schema ∙ behind.schema;
-        rows = subst (Matches new.trees) (named_newest from ledger layout) (
+      holds_in layout newest new ledger (still_fits layout from held.fits) (put.schema ∙ behind.schema) (subst (Matches new.trees) (named_newest from ledger layout) (
             matches_put meta_tree (version_row newest) (version_row newest ∷ []) mid new (grown layout from ledger) put (ap (λ s. are_tables s (grown layout from ledger)) behind.schema ∙ clear_grown from ledger layout)
-            (put_there from ∙ ap (put_row (version_row newest)) (sym at.0)) rows);
-        lacks = tt;
-        sound = put.sound;
-      };
+            (put_there from ∙ ap (put_row (version_row newest)) (sym at.0)) rows)) tt put.sound;
   goes = goes_then g a b c one.goes h.goes;
 }

@@ -24,7 +24,7 @@ use Rattle.tc_sql.specs.Numbered.{numbered_from, numbered, IsKeyedAt, AreAlike, 
 use Rattle.tc_sql.proofs.Appends.{appends, same_text, matches_appended}
 use Rattle.tc_sql.proofs.Changes.{matches_at}
 use Rattle.tc_store.specs.Replies.{reply_tree, reply_places, reply_form, reply_put, reply_terms, reply_values}
-use Rattle.tc_store.specs.Schema.{schema_of, contents_of, contents, HasReplies, HoldsAs, Holds}
+use Rattle.tc_store.specs.Schema.{schema_of, contents_of, contents, HasReplies, HoldsAs, Holds, layout_in}
 use Rattle.tc_store.specs.Shows.{IsReplyRow, IsNumbered, AreNumbered, AreJudged}
 use Rattle.tc_store.specs.Steps.{Ran, Replied}
 use Rattle.tc_store.proofs.LayoutLemmas.{in_each}
@@ -65,21 +65,21 @@ reply_rows Third ledger has (Copied Second) = (refl, refl)
 reply_rows Third ledger has (Copied Third) = (refl, refl)
 
 has_appended : (k : KeptAnswer) (old new : State) (count : ℕ) → Executes reply_put (reply_values k) old new (Ok count) → (ledger : Ledger) (held : Holds old.now ledger)
-    → HasAppended (reply_tree held.layout) reply_values is_same_call k ledger.replies old.now new.now
+    → HasAppended (reply_tree (layout_in old.now)) reply_values is_same_call k ledger.replies old.now new.now
 has_appended k old new count h ledger held =
-    let there = reply_rows Third ledger tt held.layout in
-    appended k old new count h ledger.replies held.layout held.schema ((matches_at old.now.trees (reply_tree held.layout) (contents held.layout ledger) held.rows there.0).0 ∙ there.1)
+    let there = reply_rows Third ledger tt (layout_in old.now) in
+    appended k old new count h ledger.replies (layout_in old.now) held.schema ((matches_at old.now.trees (reply_tree (layout_in old.now)) (contents (layout_in old.now) ledger) held.rows there.0).0 ∙ there.1)
 
 becomes : (k : KeptAnswer) (ledger : Ledger) (layout : Layout)
     → with_rows (reply_tree layout) (numbered (map reply_values (ledger.replies ++ k ∷ []))) (contents layout ledger) ≡ contents layout (record ledger { replies = ledger.replies ++ k ∷ [] })
 becomes k ledger = in_each _ refl refl refl refl
 
-holds_behind : (k : KeptAnswer) (old new : Database) (ledger : Ledger) (held : Holds old ledger) → HasAppended (reply_tree held.layout) reply_values is_same_call k ledger.replies old new
+holds_behind : (k : KeptAnswer) (old new : Database) (ledger : Ledger) (held : Holds old ledger) → HasAppended (reply_tree (layout_in old)) reply_values is_same_call k ledger.replies old new
     → Holds new (record ledger { replies = ledger.replies ++ k ∷ [] })
 holds_behind k old new ledger held it =
-    let there = reply_rows Third ledger tt held.layout in
-    holds_after old new (reply_tree held.layout) (numbered (map reply_values (ledger.replies ++ k ∷ []))) ledger (record ledger { replies = ledger.replies ++ k ∷ [] }) it.put.schema it.put.sound held
-    (matches_appended reply_values is_same_call k ledger.replies (reply_tree held.layout) old new (contents held.layout ledger) it (unindexed old ledger held) there.0 there.1 held.rows) (becomes k ledger held.layout)
+    let there = reply_rows Third ledger tt (layout_in old) in
+    holds_after old new (reply_tree (layout_in old)) (numbered (map reply_values (ledger.replies ++ k ∷ []))) ledger (record ledger { replies = ledger.replies ++ k ∷ [] }) it.put.schema it.put.sound held
+    (matches_appended reply_values is_same_call k ledger.replies (reply_tree (layout_in old)) old new (contents (layout_in old) ledger) it (unindexed old ledger held) there.0 there.1 held.rows) (becomes k ledger (layout_in old))
 
 pub replied : {S : Type 0} (g : Ghosts S) (k : KeptAnswer) (old new : Held S) (r : Result ℕ Error) → IfOk r (λ count. Ran g reply_put (reply_values k) count old new) → OnOk r (Replied g (Some k) old new)
 replied g k old new (Err e) h = tt
@@ -108,16 +108,16 @@ each_kept : (n : ℕ) (replies : List KeptAnswer) → AllByRecursion IsReplyRow 
 each_kept n [] all = tt
 each_kept n (k ∷ replies) all = (subst IsKeptAnswer (sym (same_reply k all.0.kept all.0.is)) all.0.sound, each_kept (n + 1) replies all.1)
 
-kept_in_rows : (version : Version) → HasReplies version → (ledger : Ledger) (db : Database) (held : HoldsAs version db ledger) → AreJudged held.layout version db → AllByRecursion IsKeptAnswer ledger.replies
+kept_in_rows : (version : Version) → HasReplies version → (ledger : Ledger) (db : Database) (held : HoldsAs version db ledger) → AreJudged (layout_in db) version db → AllByRecursion IsKeptAnswer ledger.replies
 kept_in_rows version has ledger db held judged =
-    let tree = reply_tree held.layout in
-    let named = reply_rows version ledger has held.layout in
-    let at = matches_at db.trees tree (contents_of held.layout version ledger.image ledger.replies) held.rows named.0 in
+    let tree = reply_tree (layout_in db) in
+    let named = reply_rows version ledger has (layout_in db) in
+    let at = matches_at db.trees tree (contents_of (layout_in db) version ledger.image ledger.replies) held.rows named.0 in
     let rows : db.trees tree ≡ numbered (map reply_values ledger.replies) = at.0 ∙ named.1 in
     let stand : AreNumbered (db.trees tree) = record { rise = subst IsTable (sym at.0) at.1; whole = subst (AllByRecursion IsNumbered) (sym rows) (numbered_rows 1 (map reply_values ledger.replies)) } in
     each_kept 1 ledger.replies (subst (AllByRecursion IsReplyRow) rows (judged has stand))
 
-pub all_kept : (version : Version) (ledger : Ledger) (db : Database) (held : HoldsAs version db ledger) → AreJudged held.layout version db → AllByRecursion IsKeptAnswer ledger.replies
+pub all_kept : (version : Version) (ledger : Ledger) (db : Database) (held : HoldsAs version db ledger) → AreJudged (layout_in db) version db → AllByRecursion IsKeptAnswer ledger.replies
 all_kept First ledger db held judged = subst (AllByRecursion IsKeptAnswer) (sym held.lacks.0) tt
 all_kept Second ledger db held judged = kept_in_rows Second tt ledger db held judged
 all_kept Third ledger db held judged = kept_in_rows Third tt ledger db held judged

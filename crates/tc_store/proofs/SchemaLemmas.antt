@@ -41,8 +41,9 @@ use Rattle.tc_store.specs.Replies.{reply_form, reply_text}
 use Rattle.tc_store.specs.Cargo.{cargo_tree, cargo_form, cargo_text}
 use Rattle.sqlite_schema.specs.declared.schema.Schema.{Schema}
 use Rattle.sqlite_catalog.specs.Change.{created, indexed}
-use Rattle.tc_store.specs.Schema.{first_texts, create_texts, first_indexes, keys_of, keys_past_records, schema_of, newest_schema, texts_count, missing_texts, contents, Holds}
+use Rattle.tc_store.specs.Schema.{first_texts, create_texts, first_indexes, keys_of, keys_past_records, schema_of, newest_schema, texts_count, missing_texts, contents, Holds, layout_in}
 use Rattle.tc_store.specs.Steps.{Goes, IsNewIn, Step}
+use Rattle.tc_store.proofs.LayoutLemmas.{holds_in}
 use Rattle.tc_store.proofs.Rows.{same_put}
 
 -- ---- the tables that are made one after another
@@ -286,12 +287,12 @@ clear (Copied Third) ledger = refl
 
 -- where one tree changed, and the ledger with it
 pub holds_after : (old new : Database) (tree : ℕ) (rows : List Values) (ledger after : Ledger) → new.schema ≡ old.schema → IsDatabase new → (held : Holds old ledger)
-    → Matches new.trees (with_rows tree rows (contents held.layout ledger)) → with_rows tree rows (contents held.layout ledger) ≡ contents held.layout after → Holds new after
+    → Matches new.trees (with_rows tree rows (contents (layout_in old) ledger)) → with_rows tree rows (contents (layout_in old) ledger) ≡ contents (layout_in old) after → Holds new after
 holds_after old new tree rows ledger after same sound held has becomes =
-    record { layout = held.layout; fits = held.fits; schema = same ∙ held.schema; rows = subst (Matches new.trees) becomes has; lacks = tt; sound = sound }
+    holds_in (layout_in old) newest new after held.fits (same ∙ held.schema) (subst (Matches new.trees) becomes has) tt sound
 
-pub unindexed : (db : Database) (ledger : Ledger) (held : Holds db ledger) → are_tables db.schema (contents held.layout ledger) ≡ true
-unindexed db ledger held = ap (λ s. are_tables s (contents held.layout ledger)) held.schema ∙ clear held.layout ledger
+pub unindexed : (db : Database) (ledger : Ledger) (held : Holds db ledger) → are_tables db.schema (contents (layout_in db) ledger) ≡ true
+unindexed db ledger held = ap (λ s. are_tables s (contents (layout_in db) ledger)) held.schema ∙ clear (layout_in db) ledger
 
 -- a row in a table that is keyed by a number
 module _ {S : Type 0} (g : Ghosts S) {X : Type 0} (key : X → ℕ) (row : X → Values) (keyed : IsKeyed key row) (x : X) (list : Image → List X) (tree : Layout → ℕ) (entry : Row) (old new : Held S)
@@ -304,28 +305,28 @@ module _ {S : Type 0} (g : Ghosts S) {X : Type 0} (key : X → ℕ) (row : X →
   abbrev after : Database
   after = (state g new).now
 
-  there : (ledger : Ledger) (held : Holds before ledger) → (before.trees (tree held.layout) ≡ map row (list ledger.image)) × IsTable (map row (list ledger.image))
+  there : (ledger : Ledger) (held : Holds before ledger) → (before.trees (tree (layout_in before)) ≡ map row (list ledger.image)) × IsTable (map row (list ledger.image))
   there ledger held =
-      let at = matches_at before.trees (tree held.layout) (contents held.layout ledger) held.rows (named held.layout ledger) in
-      (at.0 ∙ is held.layout ledger, subst IsTable (is held.layout ledger) at.1)
+      let at = matches_at before.trees (tree (layout_in before)) (contents (layout_in before) ledger) held.rows (named (layout_in before) ledger) in
+      (at.0 ∙ is (layout_in before) ledger, subst IsTable (is (layout_in before) ledger) at.1)
 
-  holds_put : (ledger : Ledger) (held : Holds before ledger) → HasPut (tree held.layout) (row x) before after → Holds after (with_image (entry ∷ []) ledger)
+  holds_put : (ledger : Ledger) (held : Holds before ledger) → HasPut (tree (layout_in before)) (row x) before after → Holds after (with_image (entry ∷ []) ledger)
   holds_put ledger held put =
-      let at = tree held.layout in
-      let all = contents held.layout ledger in
+      let at = tree (layout_in before) in
+      let all = contents (layout_in before) ledger in
       holds_after before after at (map row (tables.put_by key x (list ledger.image))) ledger (with_image (entry ∷ []) ledger) put.schema put.sound held
       (subst (λ ys. Matches after.trees (with_rows at (map row ys) all)) (same_put key x (list ledger.image))
-      (matches_keyed key row keyed x (list ledger.image) at before after all put (unindexed before ledger held) (named held.layout ledger) (is held.layout ledger) held.rows)) (becomes held.layout ledger)
+      (matches_keyed key row keyed x (list ledger.image) at before after all put (unindexed before ledger held) (named (layout_in before) ledger) (is (layout_in before) ledger) held.rows)) (becomes (layout_in before) ledger)
 
-  is_new : (ledger : Ledger) (held : Holds before ledger) → HasInserted (tree held.layout) (row x) before after → list_any (λ y. key y == key x) (list ledger.image) ≡ false
+  is_new : (ledger : Ledger) (held : Holds before ledger) → HasInserted (tree (layout_in before)) (row x) before after → list_any (λ y. key y == key x) (list ledger.image) ≡ false
   is_new ledger held inserted = sym (taken_keyed key row keyed x (list ledger.image)) ∙ ap (λ rows. is_taken rows (row x)) (sym (there ledger held).0) ∙ inserted.fresh
 
   -- a new one, where no row had its key
   pub stepped : ((image : Image) → list_any (λ y. key y == key x) (list image) ≡ false → IsNewIn image entry)
       → ((layout : Layout) → old.schema ≡ schema_of layout newest → HasInserted (tree layout) (row x) before after) → Goes g old new → Step g (entry ∷ []) old new
   stepped alone inserted goes = record {
-    fresh = λ ledger held. (alone ledger.image (is_new ledger held (inserted held.layout held.schema)), tt);
-    holds = λ ledger held. holds_put ledger held (inserted held.layout held.schema).put;
+    fresh = λ ledger held. (alone ledger.image (is_new ledger held (inserted (layout_in before) held.schema)), tt);
+    holds = λ ledger held. holds_put ledger held (inserted (layout_in before) held.schema).put;
     goes = goes;
   }
 
@@ -335,7 +336,7 @@ module _ {S : Type 0} (g : Ghosts S) {X : Type 0} (key : X → ℕ) (row : X →
       → Step g (entry ∷ []) old new
   stepped_over free put goes = record {
     fresh = λ ledger held. (free ledger.image, tt);
-    holds = λ ledger held. holds_put ledger held (put (list ledger.image) held.layout held.schema (there ledger held).0 (there ledger held).1);
+    holds = λ ledger held. holds_put ledger held (put (list ledger.image) (layout_in before) held.schema (there ledger held).0 (there ledger held).1);
     goes = goes;
   }
 
@@ -346,18 +347,18 @@ module _ {S : Type 0} (g : Ghosts S) {X : Type 0} (values : X → Values) (same 
     (becomes : (layout : Layout) (ledger : Ledger) → with_rows (tree layout) (numbered (map values (list ledger.image ++ x ∷ []))) (contents layout ledger) ≡ contents layout (with_image (entry ∷ []) ledger))
     (alone : (image : Image) → list_any (λ y. same y x) (list image) ≡ false → IsNewIn image entry)
     (appended : (xs : List X) (layout : Layout) → old.schema ≡ schema_of layout newest → (state g old).now.trees (tree layout) ≡ numbered (map values xs) → HasAppended (tree layout) values same x xs (state g old).now (state g new).now) where
-  has_appended : (ledger : Ledger) (held : Holds (state g old).now ledger) → HasAppended (tree held.layout) values same x (list ledger.image) (state g old).now (state g new).now
+  has_appended : (ledger : Ledger) (held : Holds (state g old).now ledger) → HasAppended (tree (layout_in (state g old).now)) values same x (list ledger.image) (state g old).now (state g new).now
   has_appended ledger held =
-      appended (list ledger.image) held.layout held.schema ((matches_at (state g old).now.trees (tree held.layout) (contents held.layout ledger) held.rows (named held.layout ledger)).0 ∙ is held.layout ledger)
+      appended (list ledger.image) (layout_in (state g old).now) held.schema ((matches_at (state g old).now.trees (tree (layout_in (state g old).now)) (contents (layout_in (state g old).now) ledger) held.rows (named (layout_in (state g old).now) ledger)).0 ∙ is (layout_in (state g old).now) ledger)
 
   pub stepped_last : Goes g old new → Step g (entry ∷ []) old new
   stepped_last goes = record {
     fresh = λ ledger held. (alone ledger.image (has_appended ledger held).alone, tt);
     holds = λ ledger held.
-        let at = tree held.layout in
+        let at = tree (layout_in (state g old).now) in
         let it = has_appended ledger held in
         holds_after (state g old).now (state g new).now at (numbered (map values (list ledger.image ++ x ∷ []))) ledger (with_image (entry ∷ []) ledger) it.put.schema it.put.sound held
-        (matches_appended values same x (list ledger.image) at (state g old).now (state g new).now (contents held.layout ledger) it (unindexed (state g old).now ledger held)
-        (named held.layout ledger) (is held.layout ledger) held.rows) (becomes held.layout ledger);
+        (matches_appended values same x (list ledger.image) at (state g old).now (state g new).now (contents (layout_in (state g old).now) ledger) it (unindexed (state g old).now ledger held)
+        (named (layout_in (state g old).now) ledger) (is (layout_in (state g old).now) ledger) held.rows) (becomes (layout_in (state g old).now) ledger);
     goes = goes;
   }

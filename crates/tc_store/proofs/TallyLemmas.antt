@@ -26,7 +26,7 @@ use Rattle.tc_sql.specs.Lists.{ListsFrom, no_limit}
 use Rattle.tc_sql.specs.Puts.{ReplacesIn, HasPut}
 use Rattle.tc_sql.proofs.Replaces.{replaces}
 use Rattle.tc_sql.proofs.Selects.{listed, listed_as}
-use Rattle.tc_store.specs.Schema.{schema_of, contents_of, HoldsAs}
+use Rattle.tc_store.specs.Schema.{schema_of, contents_of, HoldsAs, layout_in}
 use Rattle.tc_store.specs.Steps.{Ran, Step}
 use Rattle.tc_store.specs.Tallies.{tally_tree, tally_form, tally_put, tally_terms, tally_given, tally_row, tally_columns, tally_shown, tallies_text}
 use Rattle.tc_store.proofs.LayoutLemmas.{in_each}
@@ -73,9 +73,9 @@ tallies_there version ledger = in_each _ refl refl refl refl
 
 pub rows_tallies : (version : Version) (ledger : Ledger) (old new : State) (rows : List Row) → HoldsAs version old.now ledger → Shown tallies_text [] old new rows → rows ≡ map tally_shown ledger.image.tallies
 rows_tallies version ledger old new rows held h =
-    let tree = tally_tree held.layout in
-    let at = rising tree tally_row ledger.image.tallies version ledger old held (tallies_named version ledger held.layout) (tallies_there version ledger held.layout) in
-    listed tree [] tally_columns no_limit [] (schema_of held.layout version) tallies_text old new held.schema (tallies_is held.layout version) rows at.1 h
+    let tree = tally_tree (layout_in old.now) in
+    let at = rising tree tally_row ledger.image.tallies version ledger old held (tallies_named version ledger (layout_in old.now)) (tallies_there version ledger (layout_in old.now)) in
+    listed tree [] tally_columns no_limit [] (schema_of (layout_in old.now) version) tallies_text old new held.schema (tallies_is (layout_in old.now) version) rows at.1 h
     ∙ listed_as tree [] tally_columns no_limit [] tally_row tally_shown (λ (t : Tally). true) ledger.image.tallies old.now.trees at.0 (λ t. refl) (λ t. refl)
     ∙ ap (map tally_shown) (filter_true ledger.image.tallies)
 

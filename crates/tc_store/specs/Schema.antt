@@ -1,5 +1,6 @@
 -- The tables of the desk in each version of their schema, and when a database holds a ledger.
-use Rattle.std.specs.Prelude.{◌≡◌, ℕ, ◌+◌, List, [], ◌∷◌, ◌++◌, map, drop, ⊤}
+use Rattle.std.specs.Prelude.{◌≡◌, ℕ, ◌+◌, ◌==◌, if◌then◌else◌, List, [], ◌∷◌, ◌++◌, map, drop, find, unwrap_or, option_map, ⊤}
+use Rattle.std.specs.Str.{bytes_eq}
 use Rattle.sqlite_schema.specs.declared.schema.Table.{Table}
 use Rattle.sqlite_schema.specs.declared.schema.Index.{Index}
 use Rattle.sqlite_schema.specs.declared.schema.Schema.{Schema}
@@ -115,11 +116,21 @@ schema_of layout version = record { tables = first_tables layout ++ tables_behin
 abbrev pub newest_schema : Schema
 newest_schema = schema_of Made newest
 
+-- the order that the number of the index of the moves tells
+abbrev pub layout_at : ℕ → Layout
+layout_at n = if n == 4 then Made else (if n == 18 then Copied First else (if n == 20 then Copied Second else Copied Third))
+
+-- in which order the tables of a schema stand: by where the index of the moves stands
+abbrev pub layout_of : Schema → Layout
+layout_of schema = layout_at (unwrap_or (option_map (λ (i : Index). i.tree) (find (λ (i : Index). bytes_eq i.name move_index.name) schema.indexes)) 0)
+
+abbrev pub layout_in : Database → Layout
+layout_in db = layout_of db.schema
+
 -- a schema is of this version, in one of the orders
 pub record IsSchemaOf (version : Version) (schema : Schema) : Type 0 where
-  pub layout : Layout
-  pub fits : IsLayoutOf layout version
-  pub is : schema ≡ schema_of layout version
+  pub fits : IsLayoutOf (layout_of schema) version
+  pub is : schema ≡ schema_of (layout_of schema) version
 
 -- the rows of each table that a version has behind those of the first
 abbrev pub contents_behind : Layout → Version → Image → List KeptAnswer → Contents
@@ -159,10 +170,9 @@ Lacks Third image replies = ⊤
 
 -- the database has the schema of this version, in one of the orders, and its tables have the rows of the ledger and no other
 pub record HoldsAs (version : Version) (db : Database) (ledger : Ledger) : Type 0 where
-  pub layout : Layout
-  pub fits : IsLayoutOf layout version
-  pub schema : db.schema ≡ schema_of layout version
-  pub rows : Matches db.trees (contents_of layout version ledger.image ledger.replies)
+  pub fits : IsLayoutOf (layout_in db) version
+  pub schema : db.schema ≡ schema_of (layout_in db) version
+  pub rows : Matches db.trees (contents_of (layout_in db) version ledger.image ledger.replies)
   pub lacks : Lacks version ledger.image ledger.replies
   pub sound : IsDatabase db
 

@@ -5,7 +5,7 @@ use Rattle.tc_store.specs.Ledgers.{empty_ledger}
 use Rattle.tc_store.specs.Schema.{HoldsAs}
 use Rattle.tc_room.specs.Crash.{HasRows}
 use Rattle.tc_room.specs.Opening.{OpensTo}
-use Rattle.tc_room.proofs.OpeningLemmas.{found_held, found_shown, keeps_same, not_empty, schema_in}
+use Rattle.tc_room.proofs.OpeningLemmas.{found_held, found_shown, keeps_same, not_empty, schema_held}
 use Rattle.tc_room.proofs.rooms.Room.open.Goals as goal
 
 pub returns-in-Ok-clause-opened : goal.returns-in-Ok-clause-opened
@@ -51,7 +51,7 @@ returns-in-Err-Foreign-default-clause-crash g c = IfErr-weaker c.open_new.result
     (λ e crash clean. record {
       anew = λ none trees may.
           subst (λ (t : Held _). (state g.S.Store t).may_leave trees ⊎ HasRows trees empty_ledger) c.in-Err-Foreign-default.ensures.kept (crash clean trees may);
-      held = λ version ledger held. absurd (c.in-Err-Foreign-default.ensures.foreign c.in-Err-Foreign-default.field-0-0-is version (schema_in version _ ledger held));
+      held = λ version ledger held. absurd (c.in-Err-Foreign-default.ensures.foreign c.in-Err-Foreign-default.field-0-0-is version (schema_held version _ ledger held));
     })
     c.open_new.ensures.crash
 

@@ -6,6 +6,24 @@ use Rattle.tc_store.specs.Steps.{blank_image}
 use Rattle.tc_store.proofs.LoadLemmas.{reads_then}
 use Rattle.tc_store.proofs.loads.judges.judge_of_procedures.Goals as goal
 
+pub returns-in_err-load_steps : goal.returns-in_err-load_steps
+returns-in_err-load_steps g c = record {
+  reads = (record {
+    finds = search rules;
+    same = search rules;
+    left = (reads_then g.S.Store c.in_ok-load_procedures.ensures.reads c.load_steps.ensures.reads).left;
+  });
+}
+
+pub returns-in_err-load_executions : goal.returns-in_err-load_executions
+returns-in_err-load_executions g c = record {
+  reads = (record {
+    finds = search rules;
+    same = search rules;
+    left = (reads_then g.S.Store (reads_then g.S.Store c.in_ok-load_procedures.ensures.reads c.in_ok-load_steps.ensures.reads) c.load_executions.ensures.reads).left;
+  });
+}
+
 pub returns-in_err-load_records : goal.returns-in_err-load_records
 returns-in_err-load_records g c = record {
   reads = (record {

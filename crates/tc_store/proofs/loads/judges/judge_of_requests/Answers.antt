@@ -6,6 +6,24 @@ use Rattle.tc_store.specs.Steps.{blank_image}
 use Rattle.tc_store.proofs.LoadLemmas.{reads_then}
 use Rattle.tc_store.proofs.loads.judges.judge_of_requests.Goals as goal
 
+pub returns-in_err-judge_moves : goal.returns-in_err-judge_moves
+returns-in_err-judge_moves g c = record {
+  reads = (record {
+    finds = search rules;
+    same = search rules;
+    left = (reads_then g.S.Store c.in_ok-load_requests.ensures.reads c.judge_moves.ensures.reads).left;
+  });
+}
+
+pub returns-in_err-load_tallies : goal.returns-in_err-load_tallies
+returns-in_err-load_tallies g c = record {
+  reads = (record {
+    finds = search rules;
+    same = search rules;
+    left = (reads_then g.S.Store (reads_then g.S.Store c.in_ok-load_requests.ensures.reads c.in_ok-judge_moves.ensures.reads) c.load_tallies.ensures.reads).left;
+  });
+}
+
 pub returns-in_err-load_approvals : goal.returns-in_err-load_approvals
 returns-in_err-load_approvals g c = record {
   reads = (record {

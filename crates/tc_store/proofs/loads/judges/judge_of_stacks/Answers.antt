@@ -1,9 +1,19 @@
+use Rattle.std.proofs.Common.{rules}
 use Rattle.sqlite.specs.Held.{state}
 use Rattle.tc_types.specs.Tables.{Image}
 use Rattle.tc_store.specs.Shows.{ShowsStacks}
 use Rattle.tc_store.specs.Steps.{blank_image}
 use Rattle.tc_store.proofs.LoadLemmas.{reads_then}
 use Rattle.tc_store.proofs.loads.judges.judge_of_stacks.Goals as goal
+
+pub returns-in_err-load_stack_approvals : goal.returns-in_err-load_stack_approvals
+returns-in_err-load_stack_approvals g c = record {
+  reads = (record {
+    finds = search rules;
+    same = search rules;
+    left = (reads_then g.S.Store c.in_ok-load_stacks.ensures.reads c.load_stack_approvals.ensures.reads).left;
+  });
+}
 
 pub returns : goal.returns
 returns g c =

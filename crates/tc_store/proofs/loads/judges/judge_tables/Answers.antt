@@ -1,8 +1,36 @@
+use Rattle.std.proofs.Common.{rules}
 use Rattle.std.proofs.Common.{refl}
 use Rattle.sqlite.specs.Held.{state}
 use Rattle.tc_store.proofs.ReadLemmas.{if_ok}
 use Rattle.tc_store.proofs.LoadLemmas.{reads_then, joined}
 use Rattle.tc_store.proofs.loads.judges.judge_tables.Goals as goal
+
+pub returns-in_err-judge_of_requests : goal.returns-in_err-judge_of_requests
+returns-in_err-judge_of_requests g c = record {
+  reads = (record {
+    finds = search rules;
+    same = search rules;
+    left = (reads_then g.S.Store c.in_ok-check_version.ensures.reads c.judge_of_requests.ensures.reads).left;
+  });
+}
+
+pub returns-in_err-judge_of_stacks : goal.returns-in_err-judge_of_stacks
+returns-in_err-judge_of_stacks g c = record {
+  reads = (record {
+    finds = search rules;
+    same = search rules;
+    left = (reads_then g.S.Store (reads_then g.S.Store c.in_ok-check_version.ensures.reads c.in_ok-judge_of_requests.ensures.reads) c.judge_of_stacks.ensures.reads).left;
+  });
+}
+
+pub returns-in_err-judge_of_procedures : goal.returns-in_err-judge_of_procedures
+returns-in_err-judge_of_procedures g c = record {
+  reads = (record {
+    finds = search rules;
+    same = search rules;
+    left = (reads_then g.S.Store (reads_then g.S.Store (reads_then g.S.Store c.in_ok-check_version.ensures.reads c.in_ok-judge_of_requests.ensures.reads) c.in_ok-judge_of_stacks.ensures.reads) c.judge_of_procedures.ensures.reads).left;
+  });
+}
 
 pub returns : goal.returns
 returns g c =
