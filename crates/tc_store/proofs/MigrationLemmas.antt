@@ -201,7 +201,7 @@ migrated g from a b c (Ok count) one h = record {
       let at = matches_at mid.trees meta_tree (grown layout from ledger) rows refl in
       let put = updates layout from (state g b) (state g c) count behind.schema at.0 h.executes in
       holds_in layout newest new ledger (still_fits layout from held.fits) (put.schema ∙ behind.schema) (subst (Matches new.trees) (named_newest from ledger layout) (
-            matches_put meta_tree (version_row newest) (version_row newest ∷ []) mid new (grown layout from ledger) put (ap (λ s. are_tables s (grown layout from ledger)) behind.schema ∙ clear_grown from ledger layout)
-            (put_there from ∙ ap (put_row (version_row newest)) (sym at.0)) rows)) tt put.sound;
+      matches_put meta_tree (version_row newest) (version_row newest ∷ []) mid new (grown layout from ledger) put (ap (λ s. are_tables s (grown layout from ledger)) behind.schema ∙ clear_grown from ledger layout)
+      (put_there from ∙ ap (put_row (version_row newest)) (sym at.0)) rows)) tt put.sound;
   goes = goes_then g a b c one.goes h.goes;
 }

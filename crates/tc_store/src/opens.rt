@@ -49,7 +49,12 @@ fn is_first(alloc: Global, schema: &Schema) -> Result<bool, AllocError>
     if is_in(alloc, schema, Layout::Made, Version::First)? {
         return Ok(true);
     }
-    let is_copied = is_in(alloc, schema, Layout::Copied(Version::First), Version::First)?;
+    let is_copied = is_in(
+        alloc,
+        schema,
+        Layout::Copied(Version::First),
+        Version::First,
+    )?;
     Ok(is_copied)
 }
 
@@ -61,10 +66,20 @@ fn is_second(alloc: Global, schema: &Schema) -> Result<bool, AllocError>
     if is_in(alloc, schema, Layout::Made, Version::Second)? {
         return Ok(true);
     }
-    if is_in(alloc, schema, Layout::Copied(Version::First), Version::Second)? {
+    if is_in(
+        alloc,
+        schema,
+        Layout::Copied(Version::First),
+        Version::Second,
+    )? {
         return Ok(true);
     }
-    let is_copied = is_in(alloc, schema, Layout::Copied(Version::Second), Version::Second)?;
+    let is_copied = is_in(
+        alloc,
+        schema,
+        Layout::Copied(Version::Second),
+        Version::Second,
+    )?;
     Ok(is_copied)
 }
 
@@ -76,13 +91,28 @@ fn is_third(alloc: Global, schema: &Schema) -> Result<bool, AllocError>
     if is_in(alloc, schema, Layout::Made, Version::Third)? {
         return Ok(true);
     }
-    if is_in(alloc, schema, Layout::Copied(Version::First), Version::Third)? {
+    if is_in(
+        alloc,
+        schema,
+        Layout::Copied(Version::First),
+        Version::Third,
+    )? {
         return Ok(true);
     }
-    if is_in(alloc, schema, Layout::Copied(Version::Second), Version::Third)? {
+    if is_in(
+        alloc,
+        schema,
+        Layout::Copied(Version::Second),
+        Version::Third,
+    )? {
         return Ok(true);
     }
-    let is_copied = is_in(alloc, schema, Layout::Copied(Version::Third), Version::Third)?;
+    let is_copied = is_in(
+        alloc,
+        schema,
+        Layout::Copied(Version::Third),
+        Version::Third,
+    )?;
     Ok(is_copied)
 }
 
