@@ -58,11 +58,14 @@ const NAMES: [&str; 6] = [
 fn real_path(rt: &HostRuntime, copy: &str) -> Result<String, CopyFault> {
     let folder = fs::canonicalize(rt, folder_of(copy)).map_err(|_| CopyFault::Copy)?;
     let folder = folder.as_str().trim_end_matches('/');
-    let name = match copy.rfind('/') {
-        Some(end) => copy.get(end + 1..).unwrap_or(copy),
-        None => copy,
+    let path = match copy.rfind('/') {
+        Some(end) => {
+            let name = copy.get(end..).unwrap_or(copy);
+            format!(in rt.alloc(); "{folder}{name}")
+        }
+        None => format!(in rt.alloc(); "{folder}/{copy}"),
     };
-    Ok(format!(in rt.alloc(); "{folder}/{name}")?)
+    Ok(path?)
 }
 
 /// Whether two paths are one, or lead to one file.
