@@ -1,6 +1,6 @@
 -- While every start was good, what the link claims of its sessions is kept by each act: from what its events are to the sessions, and
 -- what they tell of requests.
-use Rattle.std.proofs.Common.{◌≡◌, ℕ, inl, inr, true, Option, Some, None, List, [], ◌∷◌, ◌++◌, length, refl, sym, ◌∙◌, ap, subst, arith}
+use Rattle.std.proofs.Common.{◌≡◌, ℕ, inl, inr, Bool, true, false, Option, Some, None, List, [], ◌∷◌, ◌++◌, length, refl, sym, ◌∙◌, ap, subst, arith}
 use Rattle.std.specs.Prelude.{if◌then◌else◌}
 use Rattle.std.specs.List.{flat_map}
 use Rattle.std.proofs.lemmas.List.{append_assoc, append-nil}
@@ -12,6 +12,7 @@ use Rattle.tc_types.specs.declared.acts.Act.TheVariants as act
 use Rattle.tc_types.specs.declared.acts.LinkAct.{LinkAct}
 use Rattle.tc_types.specs.declared.acts.LinkAct.TheVariants as link_act
 use Rattle.tc_fop.specs.declared.signals.Indication.TheVariants as signal
+use Rattle.tc_fop.specs.Moves.{is_initiation}
 use Rattle.tc_fop.specs.Requests.{waiting_requests}
 use Rattle.tc_world.specs.declared.events.Event.{Event}
 use Rattle.tc_world.specs.declared.events.Event.TheVariants as event
@@ -24,12 +25,13 @@ use Rattle.tc_world.specs.Session.{nothing_yet}
 use Rattle.tc_world.specs.Sublist.{IsSublist, IsSublist-same}
 use Rattle.tc_world.specs.Telling.{TellsRequests, leaves_said, sent_said, offered_by}
 use Rattle.tc_world.specs.Window.{Distinct, IsPrefixed, ArePrefixed, IsClaimed, Follows}
-use Rattle.tc_world.specs.World.{Whole, Happens, IsAsBefore, all_sent}
+use Rattle.tc_world.specs.World.{Whole, Happens, IsAsBefore, all_sent, clean_by, is_good_start}
 use Rattle.tc_world.proofs.Bridge.{OnlyLoses}
 use Rattle.tc_world.proofs.Claims.{as_before_seen}
 use Rattle.tc_world.proofs.Lists.{sublist_front, sublist_both}
 use Rattle.tc_world.proofs.Requests.{distinct_sub, distinct_front, distinct_push, prefixed, prefixed_push, accepted_distinct}
-use Rattle.tc_world.proofs.Stills.{clean_is, clean_before}
+use Rattle.tc_world.proofs.Starting.{both_true}
+use Rattle.tc_world.proofs.Stills.{clean_is}
 use Rattle.tc_world.proofs.WindowSteps.{run_keeps_window}
 use Rattle.tc_book.specs.declared.stamps.Stamp.{Stamp}
 use Rattle.tc_book.specs.Logs.{released_with}
@@ -82,6 +84,23 @@ pub new_windowed : {U D : Type 0} (kind : Kind U Frame) (other : Kind D Report) 
 new_windowed kind other config up down = record { past = λ clean. tt; newest = λ clean. nothing_in_window; distinct = tt }
 
 -- ---- one event
+
+-- where every start was good after it, every start was good before
+initiation_clean : (initiation before good : Bool) → (if initiation then (if before then good else false) else before) ≡ true → before ≡ true
+initiation_clean true before good e = (both_true before good e).0
+initiation_clean false before good e = e
+
+clean_before : {U D : Type 0} (up : Kind U Frame) (down : Kind D Report) (given : Event) (w : Whole U D) → clean_by up down given w ≡ true → w.clean ≡ true
+clean_before up down (event.Offer request body) w e = e
+clean_before up down (event.Directive given) w e = initiation_clean (is_initiation given) w.clean (is_good_start up down given w) e
+clean_before up down event.Tick w e = e
+clean_before up down (event.Uplink free) w e = e
+clean_before up down (event.LoseUp place) w e = e
+clean_before up down event.Release w e = e
+clean_before up down event.Clcw w e = e
+clean_before up down (event.Put telemetry) w e = e
+clean_before up down event.Downlink w e = e
+clean_before up down (event.LoseDown place) w e = e
 
 -- what is told to be sent left the wait queue
 said_leave : (all : List LinkIndication) → IsSublist (flat_map sent_said all) (flat_map leaves_said all)
