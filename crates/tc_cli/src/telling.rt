@@ -142,19 +142,14 @@ fn text_reason(alloc: Global, line: &[u8], loads: bool) -> Result<Option<String>
     if let Some(wrong) = script_line(alloc, 1, line)? {
         return Ok(Some(String::from_str(alloc, without_place(wrong.as_str()))?));
     }
-    match read_load(line) {
-        Ok(load) if !loads => {
-            let kind = kind_word(load.kind);
-            Ok(Some(format!(in alloc; "a loop loads no {kind}")?))
-        }
-        Ok(load) => {
-            let (kind, path) = (kind_word(load.kind), load.path);
-            Ok(Some(format!(in alloc;
-                "tcdesk check {kind} {path} tells what is wrong with that file"
-            )?))
-        }
-        Err(_) => Ok(None),
+    let Ok(load) = read_load(line) else {
+        return Ok(None);
+    };
+    let (kind, path) = (kind_word(load.kind), load.path);
+    if !loads {
+        return Ok(Some(format!(in alloc; "a loop loads no {kind}")?));
     }
+    Ok(Some(format!(in alloc; "tcdesk check {kind} {path} tells what is wrong with that file")?))
 }
 
 /// Why a line was refused with this.
