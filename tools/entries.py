@@ -51,6 +51,8 @@ ENTRIES = (
           modules=("tests.test_views",), needs="sqlite3 for the stock shell, or that is not tried", takes_seed=True),
     Entry("versions", "files of each earlier version of the schema: worked, opened again and reported beside the same desks of the newest, and their kept replies",
           modules=("tests.test_versions",)),
+    Entry("copied", "copies of desks' files by SQLite's own tools: worked, opened again, copied again, and what ANALYZE leaves", modules=("tests.test_copied",),
+          needs="sqlite3 for the stock shell, or that is not tried"),
     Entry("changed", "files that were left and changed, with what each opening answers written by hand", modules=("tests.test_changed",)),
     Entry("broken", "a file of which one value or row was changed: what no desk could have written is refused", modules=("tests.test_broken",),
           takes_seed=True),

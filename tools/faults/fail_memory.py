@@ -63,7 +63,8 @@ def over_the_end() -> list[str]:
 
 
 # Scripts of which each request is refused, in memory; and each how manyth of those of a desk that is kept, and of one of an earlier version.
-EACH = ("one-lost-frame", "limit-alert", "two-activities-too-early", "two-activities", "insert-eight", "stack-approval", "interlock", "procedure")
+EACH = ("one-lost-frame", "limit-alert", "insert-too-early", "insert", "two-activities-too-early", "two-activities", "insert-eight", "stack-approval",
+        "interlock", "procedure")
 KEPT_STEP, OLDER_STEP = 5, 13
 
 

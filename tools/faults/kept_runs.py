@@ -11,7 +11,7 @@ from typing import NamedTuple, Optional, Sequence
 from generate.texts import joined
 from model.facts import MOST_ROWS, MOST_STEPS, PROCEDURE_HEADER, SCHEMA_VERSION, STACK_HEADER
 from model.kept import sqlite3
-from model.rows import Tables, empty_tables
+from model.rows import Reply, Tables, empty_tables
 from tests.made_files import EARLIER, as_version, make_file, some_replies
 from tests.new_desks import holds_no_table, new_desk, without_beside
 from tests.plain_runs import Plain, case_lines, kept_tables, text_of, unlike
@@ -33,6 +33,8 @@ class Run(NamedTuple):
     is_left_open: bool = False
     # Of which version of the schema the desk before it is: one of an earlier version is made by SQLite, with replies where that has a table of them.
     version: int = SCHEMA_VERSION
+    # How many replies of a page each the desk before it has, which is made by SQLite then.
+    pages: int = 0
 
     @property
     def is_older(self) -> bool:
@@ -116,11 +118,17 @@ RUNS = (
         Run(f"the opening of one of version {version} that moves nothing", QUIET, (), 3, version=version),
         Run(f"the opening of one of version {version} that was stopped", ON_THE_WAY, (), ON_THE_WAY_REQUESTS, is_left_open=True, version=version))),
     Run("a script of several acts", QUIET, ACTS, 3),
+    Run("an insert", (), of_case("insert")),
     Run("an insert of two", (), of_case("two-activities")),
     Run("an insert of two, one of which comes too early", (), of_case("two-activities-too-early")),
     Run(f"the load of {MOST_ROWS} rows", QUIET, (STACK, "bob approvestack many"), 3),
     Run(f"the load of {MOST_STEPS} steps", QUIET, (PROCEDURE, "ann begin long"), 3),
 )
+
+# Questions, and acts, over a file of more pages than the 2,000 that the program holds in memory: the last that its opening read are held in place of those of
+# the moves, of the counts and of the requests, so that what asks for these reads the file.
+READING = Run("questions and acts that read the file", QUIET,
+              ("zed history 1 0", "zed places", "ann enter 5 a--c no 8 4 - - ok", "bob approve 4", "zed history 4 0"), 3, pages=2200)
 
 
 def stack_of(rows: int) -> bytes:
@@ -130,6 +138,11 @@ def stack_of(rows: int) -> bytes:
         named, times = joined(str(row - at) for at in range(8, 0, -1)), joined(["1970-01-01T00:10:00Z"] * 8)
         made[row - 1] = f"{row},9,11,4,{named},{times},---c,no,{row - 1},ok"
     return text_of([STACK_HEADER, *made]).encode()
+
+
+def page_replies(count: int) -> list[Reply]:
+    """So many replies, each so long that a page of the file takes one of them."""
+    return [Reply("ann", number, "x" * 3899 + "\n") for number in range(1, count + 1)]
 
 
 def procedure_of(steps: int) -> bytes:
@@ -179,9 +192,9 @@ class Desks:
         err, line = without_beside(it.stderr.decode("latin-1")), new_desk(database)
         return Ended(it.returncode, it.stdout.decode("latin-1"), err.removeprefix(line), err.startswith(line))
 
-    def calls(self, folder: str, script: str, moment: int) -> int:
+    def calls(self, folder: str, script: str, moment: int, **settings: str) -> int:
         """How many calls a run makes that is not stopped."""
-        told = self.run(folder, script, moment, STOP_AT="0").err.strip()
+        told = self.run(folder, script, moment, STOP_AT="0", **settings).err.strip()
         if not told.isdigit() or told == "0":
             raise AssertionError(f"the program's calls on its files are not seen: {told}")
         return int(told)
@@ -220,6 +233,8 @@ class Trial:
     def plain_left(self) -> Optional[Tables]:
         """The tables of the desk that the run begins with; none where there is none."""
         left = Plain(with_moment(LEFT, self.run.left), FILES, is_kept=True).states[-1] if self.run.left else None
+        if left and self.run.pages:
+            return replace(left, reply=page_replies(self.run.pages))
         return as_version(replace(left, reply=some_replies(REPLIES)), self.run.version) if left and self.run.is_older else left
 
     def right_of(self, state: int) -> Seen:
@@ -243,7 +258,7 @@ class Trial:
         folder = self.empty()
         if not self.run.left:
             return folder
-        if self.run.is_older:
+        if self.run.is_older or self.run.pages:
             make_file(f"{folder}/desk.db", self.states[0], self.run.is_left_open)
             return folder
         script = self.script_of("before", with_moment(LEFT, self.run.left))

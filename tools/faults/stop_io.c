@@ -1,6 +1,6 @@
 // Preloaded before a program, this stops it dead at one of its calls that change or sync a database file or the log beside it, and leaves the
-// two files as the end of the program, or of the power, would leave them; or it fails all these calls from one on. The settings are variables, each
-// without effect where it is not set:
+// two files as the end of the program, or of the power, would leave them; or it fails all these calls from one on, with those that read the two
+// files or without them. The settings are variables, each without effect where it is not set:
 //   STOP_FILE  the path of the database file; its log has that name with -wal behind it
 //   STOP_AT    the call of this number, from 1, is not made: the program ends there, with status 137. Of 0 none is stopped, and their number
 //              is told on the standard error at the end
@@ -9,6 +9,8 @@
 //   STOP_LOST  1: before that, of each file all is undone that was done to it since its last sync. With STOP_HALF the half that is made comes
 //              to the disk all the same, as from one that writes in another order
 //   FAIL_FROM  the call of this number, from 1, fails, and so does each one behind it; nothing is made of them
+//   FAIL_READS 1: the calls that read either file count too, and are stopped or fail as the others do. Half of a read is nothing, as of a sync. Where
+//              it is not set no read is looked at
 // No sync is passed on to the disk, whose time it would cost: here a sync is where what was done before it can be lost no more.
 #define _GNU_SOURCE
 #include <errno.h>
@@ -42,6 +44,7 @@ static unsigned long stop_at;
 static unsigned long stop_half;
 static unsigned long stop_lost;
 static unsigned long fail_from;
+static unsigned long fail_reads;
 
 __attribute__((constructor)) static void read_settings(void) {
     const char *path = getenv("STOP_FILE");
@@ -53,6 +56,7 @@ __attribute__((constructor)) static void read_settings(void) {
     stop_half = setting("STOP_HALF");
     stop_lost = setting("STOP_LOST");
     fail_from = setting("FAIL_FROM");
+    fail_reads = setting("FAIL_READS");
 }
 
 __attribute__((destructor)) static void tell_calls(void) {
@@ -149,6 +153,27 @@ static int fails_here(void) {
     return 1;
 }
 
+// Counts a call of which no half can be made, ends the program where it stops there, and says whether the call fails.
+static int whole_fails(void) {
+    if (stops_here()) {
+        _exit(stop_half ? NOTHING_TO_HALVE : STOPPED);
+    }
+    return fails_here();
+}
+
+// Counts a read, where reads count and it is of one of the files, and says whether it fails.
+static int read_fails(int descriptor) { return fail_reads && file_of(descriptor) != NEITHER && whole_fails(); }
+
+ssize_t pread(int descriptor, void *bytes, size_t size, off_t at) {
+    return read_fails(descriptor) ? -1 : syscall(SYS_pread64, descriptor, bytes, size, at);
+}
+
+ssize_t pread64(int descriptor, void *bytes, size_t size, off_t at) { return pread(descriptor, bytes, size, at); }
+
+ssize_t read(int descriptor, void *bytes, size_t size) {
+    return read_fails(descriptor) ? -1 : syscall(SYS_read, descriptor, bytes, size);
+}
+
 // A write to one of the files, at a place.
 static ssize_t write_to(int file, int descriptor, const void *bytes, size_t size, off_t at) {
     if (stops_here()) {
@@ -209,10 +234,7 @@ int fsync(int descriptor) {
     if (file == NEITHER) {
         return 0;
     }
-    if (stops_here()) {
-        _exit(stop_half ? NOTHING_TO_HALVE : STOPPED);
-    }
-    if (fails_here()) {
+    if (whole_fails()) {
         return -1;
     }
     keep(file);

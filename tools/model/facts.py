@@ -309,6 +309,15 @@ PRIMARY KEY (request, position)) STRICT
 SCHEMAS = {1: SCHEMA[:12], 2: SCHEMA[:13], SCHEMA_VERSION: SCHEMA}
 
 
+def copied(statements: list[str]) -> list[str]:
+    """The same in the order in which SQLite's own tools copy what they made: the index of the moves behind all tables."""
+    return sorted(statements, key=lambda it: it.startswith("CREATE INDEX"))
+
+
+# Of each version all orders in which they may stand: as a desk makes them, and as they were copied when the tables were of this version or of an earlier one.
+ORDERS = {version: [made, *(copied(made[:len(SCHEMAS[of])]) + made[len(SCHEMAS[of]):] for of in SCHEMAS if of <= version)] for version, made in SCHEMAS.items()}
+
+
 def columns_by(statements: list[str]) -> dict[str, dict[str, type]]:
     """The columns of each table that these make, and the class of its values, in order."""
     found = (re.match(r"CREATE TABLE (\w+) \((.*)\) STRICT", it) for it in statements)

@@ -1,7 +1,7 @@
 """How the file of a desk is read, by Python's SQLite: the rows of its tables, without the program."""
 from typing import Any
 
-from model.facts import SCHEMA_VERSION, TABLES
+from model.facts import ORDERS, SCHEMA_VERSION, TABLES
 from model.rows import ROWS, Tables
 
 try:
@@ -28,6 +28,11 @@ def columns_of(connection: sqlite3.Connection) -> dict[str, list[str]]:
 def statements_of(connection: sqlite3.Connection) -> list[str]:
     """The statements that made the tables, indexes and views of the file, in order."""
     return [it for it, in connection.execute("SELECT sql FROM sqlite_schema WHERE sql IS NOT NULL ORDER BY rowid")]
+
+
+def are_desks(statements: list[str]) -> bool:
+    """Whether these make the tables and the index of a version, in one of the orders in which they may stand, and nothing more."""
+    return any(statements in orders for orders in ORDERS.values())
 
 
 def version_of(connection: sqlite3.Connection) -> int:

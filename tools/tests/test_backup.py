@@ -364,9 +364,31 @@ class Copies(Tried):
         os.link(path / "other", path / PARTS[0])
         self.refused("a file of two names in the place of the parts", folder, f"cannot use {COPY}")
         folder.forget(PARTS[0], "other")
-        for end in ("", "-wal"):
-            os.rename(f"{folder.path}/{DESK}{end}", f"{folder.path}/{PARTS[0]}{end}")
-        self.refused("the desk in the place of the parts", folder, f"cannot use {COPY}", COPY, PARTS[0])
+
+    def test_own_names(self) -> None:
+        """No name that a copy takes may be the desk's own, or lead to it: the desk stays as it is."""
+        for end, err in ((".part", f"cannot use {COPY}"), (".part-wal", f"cannot use {COPY}"), (".part-journal", f"cannot use {COPY}"),
+                         ("-wal", f"{COPY}-wal is there already"), ("-journal", f"{COPY}-journal is there already")):
+            folder, _ = self.left(12, 3)
+            for it in ("", "-wal"):
+                os.rename(f"{folder.path}/{DESK}{it}", f"{folder.path}/{COPY}{end}{it}")
+            self.refused(f"the desk is COPY{end}", folder, err, desk=f"{COPY}{end}")
+            os.symlink(".", f"{folder.path}/served.here")
+            self.refused(f"the desk is COPY{end}, by a link", folder, err.replace(COPY, f"served.here/{COPY}"), f"served.here/{COPY}", f"{COPY}{end}")
+        folder, _ = self.left(12, 0)
+        folder.forget(f"{DESK}-wal")
+        for end in ("-wal", "-journal"):
+            self.refused(f"COPY is DB{end}", folder, f"cannot use {DESK}{end}", f"{DESK}{end}")
+            self.refused(f"COPY is DB{end}, by a path", folder, f"cannot use {folder.path}/{DESK}{end}", f"{folder.path}/{DESK}{end}")
+        folder, _ = self.left(12, 3)
+        part = Path(folder.path, PARTS[1])
+        for own in (DESK, f"{DESK}-wal"):
+            part.symlink_to(own)
+            self.refused(f"the log of the parts is a link to {own}", folder, f"cannot use {COPY}")
+            folder.forget(PARTS[1])
+            os.link(f"{folder.path}/{own}", part)
+            self.refused(f"the log of the parts is another name of {own}", folder, f"cannot use {COPY}")
+            folder.forget(PARTS[1])
 
     def test_no_desks(self) -> None:
         """Files that are no desk's."""
@@ -393,6 +415,33 @@ class Copies(Tried):
         Path(place.path, f"{DESK}-journal").write_bytes(b"\xd9")
         self.refused("a rollback journal beside it", place, f"cannot use {DESK}")
         self.refused("no file", self.folder(), f"cannot use {DESK}")
+
+    def test_only_read(self) -> None:
+        """Of what cannot be copied nothing is written to tell why, nor is anything made or taken away beside it, also where a program has it open."""
+        folder, _ = self.left(12, 0)
+        whole = Path(folder.path, DESK).read_bytes()
+        for name, text, beside in (("a text", b"no database\n" * 100, ""), ("a text with a log of nothing", b"no database\n" * 100, "-wal"),
+                                   ("a desk that is cut short", whole[:5000], ""), ("a desk with a log of nothing, cut short", whole[:5000], "-wal"),
+                                   ("a desk with a journal", whole, "-journal")):
+            place = self.folder()
+            Path(place.path, DESK).write_bytes(text)
+            if beside:
+                Path(place.path, f"{DESK}{beside}").write_bytes(b"\xd9" * 41)
+            self.only_read(name, place)
+        folder, _ = self.left(12, 3)
+        with self.served(folder) as server:
+            posted(server, posts(), lambda done: done == 1)
+            Path(folder.path, f"{DESK}-journal").write_bytes(b"\xd9")
+            self.only_read("a served desk with a journal", folder)
+
+    def only_read(self, name: str, folder: Folder) -> None:
+        """A copy into another folder is refused for the desk with no reason, and the desk's own folder is as it was, by its time too."""
+        before, time_before = {it: look(f"{folder.path}/{it}") for it in folder.names()}, os.stat(folder.path).st_mtime_ns
+        ran = subprocess.run([ASKED.program, "backup", DESK, f"{self.folder().path}/{COPY}"], cwd=folder.path, stdin=subprocess.DEVNULL, capture_output=True,
+                             timeout=900, check=False)
+        self.same(name, (2, b"", f"tcdesk: cannot use {DESK}\n".encode()), (ran.returncode, ran.stdout, ran.stderr))
+        self.same(f"{name}: what is there", before, {it: look(f"{folder.path}/{it}") for it in folder.names()})
+        self.same(f"{name}: when the folder changed", time_before, os.stat(folder.path).st_mtime_ns)
 
     # ---- a desk that nobody has open
 

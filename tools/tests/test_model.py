@@ -11,8 +11,8 @@ from generate.left_changes import (OF_CARGO, OF_FIRST, OF_FIRST_ROWS, OF_FIVE, O
                                    alone)
 from generate.left_desks import EVERYWHERE, FILES, FIVE, FULL, GOING, LISTS, OTHERS, RIDERS, WHOLE, Left
 from model.desk import Desk
-from model.facts import MOST_HISTORY, SCHEMAS, Cause, Place
-from model.kept import connect, read_tables, statements_of
+from model.facts import MOST_HISTORY, Cause, Place
+from model.kept import connect, are_desks, read_tables, statements_of
 from model.rows import ROWS, Move, Tables
 from model.sound import why_unsound
 from tests.changes import change_file, changed_by
@@ -46,10 +46,10 @@ def rows_of(case: Case) -> tuple[Tables, int]:
 
 
 def has_tables(path: str) -> bool:
-    """Whether a file has the tables and indexes of a version, and no other."""
+    """Whether a file has the tables and the index of a version, in one of the orders, and no other."""
     connection = connect(path)
     try:
-        return statements_of(connection) in SCHEMAS.values()
+        return are_desks(statements_of(connection))
     finally:
         connection.close()
 

@@ -26,6 +26,7 @@ FILES = {
     "late.tc": "86400 ann enter 5 ---c no 8 1 - - ok\n",
     "none.tc": "",
     "load.tc": "100 ann places\n100 ann stack s1 missing.csv\n",
+    "loads.tc": "100 ann stack s1 bad.csv\n100 ann procedure p1 missing.csv\n1O0 ann stack s1 bad.csv\n",
     "text.db": "no database" * 200,
     "empty.db": "",
 }
@@ -56,7 +57,8 @@ def cannot(what: str, why: str = "") -> str:
     return lines_of(f"tcdesk: cannot use {what}", *([f"tcdesk: because {why}"] if why else []))
 
 
-FILE, FOLDER = "there is no such file", "it is a folder"
+FILE, FOLDER, NO_NAME = "there is no such file", "it is a folder", "it is no name of a file"
+LONG = "n" * 252  # a name that a file may have, and a log beside it may not
 REASONS = [
     Case("run missing.tc", 2, "", cannot("missing.tc", FILE)),
     Case("run none/missing.tc", 2, "", cannot("none/missing.tc", FILE)),
@@ -70,7 +72,12 @@ REASONS = [
     Case("check procedure folder", 2, "", cannot("folder", FOLDER)),
     Case("run --db folder none.tc", 2, "", cannot("folder", FOLDER)),
     Case("run --db none/desk.db none.tc", 2, "", cannot("none/desk.db", "there is no such folder")),
-    Case("run --db :memory: none.tc", 2, "", cannot(":memory:", "it is no name of a file")),
+    Case("run --db :memory: none.tc", 2, "", cannot(":memory:", NO_NAME)),
+    Case("run --db  none.tc", 2, "", cannot("", NO_NAME)),
+    Case("run --db dangling none.tc", 2, "", cannot("dangling")),
+    Case(f"run --db {LONG} none.tc", 2, "", cannot(LONG)),
+    Case(f"run --db {LONG} none.tc", 2, "", cannot(LONG)),
+    Case("run --db left.db none.tc", 2, "", cannot("left.db")),
     Case("run --db text.db none.tc", 2, "", cannot("text.db", "it is no database, or a damaged one")),
     Case("run --db foreign.db none.tc", 2, "", cannot("foreign.db", "its tables are not a desk's")),
     Case("run --db later.db none.tc", 2, "", cannot("later.db", "its tables are of a newer schema, which a later program made")),
@@ -82,7 +89,13 @@ REASONS = [
     Case("report folder 0 1", 2, "", cannot("folder", FOLDER)),
     Case("report empty.db 0 1", 2, "", cannot("empty.db", "it is empty")),
     Case("report later.db 0 1", 2, "", cannot("later.db", "its tables are of a newer schema, which a later program made")),
+    Case("report left.db 0 1", 2, "", cannot("left.db")),
     Case("backup missing.db copy.db", 2, "", cannot("missing.db", FILE)),
+    Case("backup folder copy.db", 2, "", cannot("folder", FOLDER)),
+    Case("backup empty.db copy.db", 2, "", cannot("empty.db", "it is empty")),
+    Case("backup text.db copy.db", 2, "", cannot("text.db")),
+    Case("backup left.db copy.db", 2, "", cannot("left.db")),
+    Case("backup late.db ", 2, "", cannot("", NO_NAME)),
     Case("backup late.db none/copy.db", 2, "", cannot("none/copy.db", "there is no such folder")),
 ]
 AT = "tcdesk: --at is Unix seconds, 0 to 4102444799 (for now: $(date +%s)), or an instant such as 2031-05-04T10:00:00Z: "
@@ -113,6 +126,10 @@ def made(folder: str) -> None:
     run(folder, ["run", "--db", "late.db", "late.tc"])
     run(folder, ["run", "--db", "later.db", "none.tc"])
     run(folder, ["run", "--db", "damaged.db", "late.tc"])
+    os.symlink("nowhere/desk.db", f"{folder}/dangling")
+    run(folder, ["run", "--db", "left.db", "late.tc"])
+    with open(f"{folder}/left.db-journal", "wb") as journal:
+        journal.write(b"\xd9" * 512)
     changed(f"{folder}/later.db", "UPDATE meta SET value = 4 WHERE name = 'schema'", "CREATE TABLE news (at INTEGER)")
     changed(f"{folder}/damaged.db", "DELETE FROM move")
     changed(f"{folder}/foreign.db", "CREATE TABLE notes (text TEXT)")
@@ -192,8 +209,12 @@ class Told(Tried):
             self.skipTest("the root user may read and write all files")
         os.chmod(f"{self.folder}/none.tc", 0)
         os.chmod(f"{self.folder}/late.db", 0o400)
+        os.chmod(f"{self.folder}/text.db", 0)
+        os.mkdir(f"{self.folder}/shut", 0o500)
         why = "there is no permission for it"
-        self.all_end([Case("run none.tc", 2, "", cannot("none.tc", why)), Case("run --db late.db late.tc", 2, "", cannot("late.db", why))])
+        self.all_end([Case("run none.tc", 2, "", cannot("none.tc", why)), Case("run --db late.db late.tc", 2, "", cannot("late.db", why)),
+                      Case("run --db shut/desk.db late.tc", 2, "", cannot("shut/desk.db", why)), Case("backup late.db shut/copy.db", 2, "", cannot("shut/copy.db", why)),
+                      Case("backup text.db copy.db", 2, "", cannot("text.db", why))])
 
     def test_words(self) -> None:
         """Words of the command line that are wrong."""
@@ -228,6 +249,12 @@ class Told(Tried):
         loop = lines_of(*[line.replace("shift.tc:6", "shift.tc:5").replace("shift.tc:7", "shift.tc:6").replace("shift", "lines")
                           for line in wanted.splitlines() if "bad.csv" not in line])
         self.assertEqual("tcdesk: new.db is a new desk\n" + loop, run(self.folder, ["loop", "new.db", "lines.tc", "--verbose"]).err)
+
+    def test_loop_loads(self) -> None:
+        """A loop loads no file: of a line that would nothing else is told, but where the line is none."""
+        wanted = lines_of("tcdesk: new.db is a new desk", "loads.tc:1: refused 1 BadText: a loop loads no stack", "loads.tc:2: refused 1 BadText: a loop loads no procedure",
+                          'loads.tc:3: refused 1 BadText: word 1: not a moment, whole Unix seconds from 0 to 4102444799, in plain digits: "1O0"')
+        self.all_end([Case("loop new.db loads.tc --verbose", 1, None, wanted)])
 
     def test_terminal(self) -> None:
         """On a terminal the program says that it waits, and tells which line was refused."""

@@ -8,29 +8,24 @@ the file to the newest version. Inserts of several activities, which no earlier 
 same desks of the newest version, whose inserts have one activity each.
 """
 import os
-import tempfile
-from typing import Any
 
 from model.calls import Calls
 from model.desk import Desk
 from model.facts import SCHEMA_VERSION
 from model.http import Acts, Loads, answer_to, reply_response
-from model.kept import connect, read_tables
-from model.rows import Tables, move_line, places_line
+from model.kept import read_tables
+from model.rows import Tables, move_line
 from model.sound import why_unsound
 from model.tables import opened_moves, opened_tables
 from tests.asked import ASKED
-from tests.changes import left_beside, why_not_opened
+from tests.changes import why_not_opened
 from tests.http_peer import Server
-from tests.made_files import OLD_DAY, OLDER, Older, as_version, make_file, make_older
-from tests.plain_runs import Plain, text_of, unlike
-from tests.report_cases import ALL, Cases, changed, difference, digests
-from tests.report_printer import moves_in, report_of
-from tests.runs import Ended, Tried, bytes_of, run_kept, write_files
+from tests.made_files import OLD_DAY, OLDER, Older, as_version, make_file
+from tests.plain_runs import Plain, text_of
+from tests.report_cases import difference
+from tests.runs import Ended, run_kept, write_files
 from tests.test_calls import Exchange, exchanges
-
-# When each is opened again.
-AGAIN = 9000
+from tests.worked_desks import AGAIN, Worked, stored
 
 
 def list_day(behind: int) -> list[str]:
@@ -40,17 +35,6 @@ def list_day(behind: int) -> list[str]:
     lines += [f"{OLD_DAY} bob approve {it}" for it in range(first, first + 6)]
     lines += [f"{OLD_DAY} ann {it}" for it in ("initiate none", f"release {first + 4}", "up", "work", "down", "set k 1", f"release {first + 5}")]
     return lines + [f"{OLD_DAY} ann request {it}" for it in range(first, first + 6)]
-
-
-def stored(path: str) -> tuple[list[Any], dict[str, list[Any]]]:
-    """What SQLite finds in a file alone: what its tables and indexes were made by, in order; and all rows, with the numbers under which they stand."""
-    connection = connect(path, "immutable=1")
-    try:
-        listed = connection.execute("SELECT rowid, type, name, tbl_name, sql FROM sqlite_schema ORDER BY rowid").fetchall()
-        names = [name for _, kind, name, *_ in listed if kind == "table"]
-        return listed, {name: connection.execute(f"SELECT rowid, * FROM {name} ORDER BY rowid").fetchall() for name in names}
-    finally:
-        connection.close()
 
 
 def by_plain(tables: Tables, told: list[Exchange]) -> list[bytes]:
@@ -63,29 +47,14 @@ def by_plain(tables: Tables, told: list[Exchange]) -> list[bytes]:
     return responses
 
 
-class Versions(Tried):
+class Versions(Worked):
     """Files of earlier versions."""
 
-    def setUp(self) -> None:
-        """A folder to work in, and no fault yet."""
-        folder = tempfile.TemporaryDirectory(prefix="versions-")
-        self.addCleanup(folder.cleanup)
-        self.cases, self.faults = Cases(ASKED.program, folder.name), list[str]()
-
-    def tell(self, name: object, *faults: str) -> None:
-        """Notes what of a case is not as it should be."""
-        self.faults += [f"{name}: {it}" for it in faults if it]
-
-    def settle(self, what: str) -> None:
-        """Tells what was found."""
-        print(f"versions: {what}, {len(self.faults)} faults")
-        self.no_faults(self.faults)
+    looks_at = "versions"
 
     def made(self, older: Older) -> tuple[str, Tables]:
         """A folder with one of the files, and its tables, which a desk could have written."""
-        folder = self.cases.folder()
-        make_older(f"{folder}/desk.db", older)
-        tables = read_tables(f"{folder}/desk.db")
+        folder, tables = super().made(older)
         self.assertEqual((older.version, None), (tables.version, why_unsound(tables)), older)
         return folder, tables
 
@@ -95,29 +64,14 @@ class Versions(Tried):
         make_file(f"{folder}/desk.db", as_version(tables, SCHEMA_VERSION))
         return folder
 
-    def day(self, older: Older, folder: str) -> list[str]:
-        """The day of a desk: what of that is not as it is written."""
-        write_files(folder, {"day.tc": older.lines.encode()})
-        ran = self.cases.call(folder, ["run", "--db", "desk.db", "--at", str(OLD_DAY), "day.tc"])
-        return [difference(older.printed, ran.out), "" if (ran.status, ran.err) == (0, "") else f"status {ran.status}, {ran.err!r}"]
-
     def newest(self, folder: str, wanted: Tables) -> list[str]:
         """In what the file of a desk is not of the newest version, as a new desk's is, or has other tables than these."""
         new = self.cases.folder()
         self.cases.run(new, [], "--db", "desk.db")
         listed, rows = stored(f"{folder}/desk.db")
-        beside = {*left_beside(folder)} - {"day.tc", "served.out", "served.err"}
-        return [unlike(read_tables(f"{folder}/desk.db"), wanted),
+        return [*super().newest(folder, wanted),
                 "" if listed == stored(f"{new}/desk.db")[0] else f"its schema is {listed}",
-                "" if rows.get("meta") == [(1, "schema", SCHEMA_VERSION)] else f"meta has {rows.get('meta')}",
-                f"beside it stay {beside}" if beside else ""]
-
-    def again(self, folder: str, tables: Tables) -> list[str]:
-        """In what another opening, of these tables, is not one that moves nothing and changes no byte."""
-        before = bytes_of(f"{folder}/desk.db")
-        ran = run_kept(ASKED.program, folder, "desk.db", AGAIN, "/dev/null")
-        is_right = (ran.status, ran.lines, ran.errors) == (0, [places_line(tables)], "")
-        return ["" if is_right else f"opened again: {ran}", "" if bytes_of(f"{folder}/desk.db") == before else "opened again the file is another"]
+                "" if rows.get("meta") == [(1, "schema", SCHEMA_VERSION)] else f"meta has {rows.get('meta')}"]
 
     def test_days(self) -> None:
         """Each is worked for a day, beside the same desk of the newest version, and then opened again."""
@@ -125,8 +79,8 @@ class Versions(Tried):
             folder, tables = self.made(older)
             twin, plain = self.twin(tables), Plain(older.lines.splitlines(), {}, left=tables, moment=OLD_DAY, is_kept=True)
             self.tell(f"{older}, the plain desk", difference(older.printed, plain.whole))
-            self.tell(older, *self.day(older, folder), *self.newest(folder, plain.states[-1]))
-            self.tell(f"{older}, in the newest", *self.day(older, twin))
+            self.tell(older, *self.day(older.lines, older.printed, folder), *self.newest(folder, plain.states[-1]))
+            self.tell(f"{older}, in the newest", *self.day(older.lines, older.printed, twin))
             self.tell(older, "" if stored(f"{folder}/desk.db") == stored(f"{twin}/desk.db") else "its rows are not those of the same desk of the newest version")
             self.tell(older, *self.again(folder, plain.states[-1]))
         self.settle(f"{len(OLDER)} days")
@@ -182,17 +136,6 @@ class Versions(Tried):
             self.tell(f"{older}, opened", *self.reported(folder, opened_tables(tables, OLD_DAY)))
         self.settle(f"{len(OLDER)} reports")
 
-    def reported(self, folder: str, tables: Tables) -> list[str]:
-        """What of the reports of a desk with these tables is not as it should be: of all its moves, of some, and of none."""
-        moves, last = moves_in("\n".join(move_line(it) for it in tables.move)), tables.move[-1].moment
-        faults = []
-        for begin, end in (ALL, (1, last), (last, last)):
-            before = digests(folder)
-            ran = self.cases.call(folder, ["report", "desk.db", str(begin), str(end)])
-            is_right = (ran.status, ran.err) == (0, "") and before.keys() == set(os.listdir(folder))
-            faults += [difference(report_of(moves, "closed", begin, end), ran.out), changed(before, folder), "" if is_right else f"{ran.status}, {ran.err!r}"]
-        return faults
-
     def test_replies(self) -> None:
         """Each call of which a reply is kept is sent again, to a server that brings the file to the newest version, to one behind a day, and to the next one: it is
         answered as it was, byte for byte, and nothing is done."""
@@ -207,7 +150,7 @@ class Versions(Tried):
             self.tell(f"{older}, the plain desk", "" if by_plain(tables, told) == [it.response for it in told] else "it answers otherwise")
             for name, is_worked in ((f"{older}, served", False), (f"{older}, served behind a day", True)):
                 folder, _ = self.made(older)
-                self.tell(name, *(self.day(older, folder) if is_worked else []))
+                self.tell(name, *(self.day(older.lines, older.printed, folder) if is_worked else []))
                 self.tell(name, *self.sent_again(folder, told), *self.sent_again(folder, told))
                 count += 2 * len(told)
         self.assertGreater(count, 0)

@@ -10,7 +10,7 @@ use Rattle.tc_types.specs.Counts.{no_counts}
 use Rattle.tc_types.specs.declared.history.moves.Move.{Move}
 use Rattle.tc_desk.specs.declared.configs.Config as configs
 use Rattle.tc_store.specs.declared.versions.Version.{Version}
-use Rattle.tc_store.specs.Schema.{schema_of}
+use Rattle.tc_store.specs.Schema.{IsSchemaOf}
 use Rattle.tc_front.specs.Write.{Stream, Writes}
 use Rattle.tc_room.specs.Opening.{KeepsTables, LeavesOpening}
 use Rattle.tc_cli.specs.declared.script.ScriptFault.{ScriptFault}
@@ -39,5 +39,5 @@ opening_told moves bytes old new (Err fault) are writes is counted =
 pub stays : {S : Type 0} (g : Ghosts S) (config : configs.Config) (moment : ℕ) (store left : Held S)
     → (HasCleanDisk (state g left) → IsTrue (state g left).is_open → KeepsTables (state g store).now (state g left).now)
     → (HasCleanDisk (state g left) → LeavesOpening g config moment store left)
-    → ((state g store).now.schema ≢ no_schema → ((version : Version) → (state g store).now.schema ≢ schema_of version) → left ≡ store) → StaysUnopened g config moment store left
+    → ((state g store).now.schema ≢ no_schema → ((version : Version) → ¬ IsSchemaOf version (state g store).now.schema) → left ≡ store) → StaysUnopened g config moment store left
 stays g config moment store left kept crash foreign = record { kept = kept; crash = crash; foreign = foreign }

@@ -1,5 +1,5 @@
 -- What an opening finds in files that a crash left.
-use Rattle.std.specs.Prelude.{◌≡◌, ◌⊎◌, ℕ, List}
+use Rattle.std.specs.Prelude.{◌≡◌, ◌⊎◌, ℕ, List, []}
 use Rattle.sqlite_trees.specs.Tree.{Trees}
 use Rattle.sqlite_trees.specs.declared.store.Store.{Ghosts}
 use Rattle.sqlite_catalog.specs.Listing.{IsSound as IsListed}
@@ -15,19 +15,27 @@ use Rattle.tc_types.specs.declared.history.moves.Move.{Move}
 use Rattle.tc_book.specs.Book.{Book}
 use Rattle.tc_book.specs.Tables.{image_of}
 use Rattle.tc_desk.specs.declared.configs.Config.{Config}
+use Rattle.tc_sql.specs.Builds.{no_schema}
 use Rattle.tc_sql.specs.Contents.{Matches}
 use Rattle.tc_store.specs.declared.versions.Version.{Version}
-use Rattle.tc_store.specs.Ledgers.{KeptAnswer, Ledger, newest}
+use Rattle.tc_store.specs.declared.versions.Layout.{Layout}
+use Rattle.tc_store.specs.Layouts.{IsLayoutOf}
+use Rattle.tc_store.specs.Ledgers.{KeptAnswer, Ledger, empty_ledger, newest}
 use Rattle.tc_store.specs.Schema.{schema_of, contents_of, HoldsAs, Lacks}
 use Rattle.tc_room.specs.Calls.{KeepsAll}
 use Rattle.tc_room.specs.Crash.{ledger_of}
-use Rattle.tc_room.specs.Joined.{LinkState, Standing}
+use Rattle.tc_room.specs.Joined.{IsKept, LinkState, Standing}
 use Rattle.tc_room.specs.Opening as opening
 use Rattle.tc_room.specs.Opening.{OpensLeft}
+use Rattle.tc_room.specs.Room.{IsJustOpened}
 
--- what the files hold, as tables of a version with these rows and no other
-abbrev pub HasRowsAs : Version → Trees → Ledger → Type 0
-HasRowsAs version trees ledger = Matches trees (contents_of version ledger.image ledger.replies) × IsListed (schema_of version) trees × Lacks version ledger.image ledger.replies
+-- what the files hold, as tables of a version, in one of its orders, with these rows and no other
+pub record HasRowsAs (version : Version) (trees : Trees) (ledger : Ledger) : Type 0 where
+  pub layout : Layout
+  pub fits : IsLayoutOf layout version
+  pub rows : Matches trees (contents_of layout version ledger.image ledger.replies)
+  pub listed : IsListed (schema_of layout version) trees
+  pub lacks : Lacks version ledger.image ledger.replies
 
 -- the tables of a connection are of a version and hold this ledger, and a crash leaves just that
 pub record HasLedgerAs {S : Type 0} (g : Ghosts S) (version : Version) (tables : Held S) (ledger : Ledger) : Type 0 where
@@ -53,9 +61,9 @@ pub record IsReopened {D E : Type 0} {g : disk.Ghosts D} {h : disk.Ghosts E} (la
   pub finds : FindsIn bytes (file_state found)
   pub opened : IsOpened found
 
--- what an opening makes of the tables of a book
+-- what an opening makes of the tables of a book: one that a room keeps
 abbrev pub OpensBook : Config → ℕ → Book → Book → Type 0
-OpensBook config moment old new = (desk : LinkState) × opening.IsReopened config moment (image_of old) desk × (new ≡ desk.book)
+OpensBook config moment old new = (desk : LinkState) × opening.IsReopened config moment (image_of old) desk × (new ≡ desk.book) × IsKept new
 
 -- the tables of a book as it was, or of what was made of it, with the replies as they were
 abbrev pub IsEither : Book → (Book → Type 0) → List KeptAnswer → Ledger → Type 0
@@ -70,3 +78,11 @@ OpensEither g old Makes replies config moment moves room =
 abbrev pub OpensKeeping : {S : Type 0} → Ghosts S → (Ledger → Type 0) → List KeptAnswer → Config → ℕ → List Move → Standing S → Type 0
 OpensKeeping g May replies config moment moves room =
     ∥ ((ledger : Ledger) × May ledger × KeepsAll replies ledger.replies × OpensLeft g config moment ledger moves room) ∥₁
+
+-- a crash leaves a database with no table
+abbrev pub LeavesNone : {S : Type 0} → Ghosts S → Held S → Type 0
+LeavesNone g tables = (trees : Trees) → (state g tables).may_leave trees → IsListed no_schema trees
+
+-- a room that was opened over a database with no table, where nothing happened yet; or over the tables of an empty desk
+abbrev pub OpensNew : {S : Type 0} → Ghosts S → Config → ℕ → List Move → Standing S → Type 0
+OpensNew g config moment moves room = ∥ ((IsJustOpened g config room × (moves ≡ [])) ⊎ OpensLeft g config moment empty_ledger moves room) ∥₁

@@ -9,7 +9,7 @@ use Rattle.tc_types.specs.Lines.{move_line}
 use Rattle.tc_types.specs.declared.history.moves.Move.{Move}
 use Rattle.tc_desk.specs.declared.configs.Config as configs
 use Rattle.tc_store.specs.declared.versions.Version.{Version}
-use Rattle.tc_store.specs.Schema.{schema_of}
+use Rattle.tc_store.specs.Schema.{IsSchemaOf}
 use Rattle.tc_room.specs.Joined.{Standing}
 use Rattle.tc_room.specs.Opening.{KeepsTables, LeavesOpening, OpensAs}
 use Rattle.tc_room.specs.Replies.{ended}
@@ -34,7 +34,7 @@ CutsOpening _ moves part = ⊥
 pub record StaysUnopened {S : Type 0} (g : Ghosts S) (config : configs.Config) (moment : ℕ) (store left : Held S) : Type 0 where
   pub kept : HasCleanDisk (state g left) → IsTrue (state g left).is_open → KeepsTables (state g store).now (state g left).now
   pub crash : HasCleanDisk (state g left) → LeavesOpening g config moment store left
-  pub foreign : (state g store).now.schema ≢ no_schema → ((version : Version) → (state g store).now.schema ≢ schema_of version) → left ≡ store
+  pub foreign : (state g store).now.schema ≢ no_schema → ((version : Version) → ¬ IsSchemaOf version (state g store).now.schema) → left ≡ store
 
 module _ {S : Type 0} (g : Ghosts S) where
   -- In a room that was opened, the moves of the opening are written, and then what the lines are answered.

@@ -2,6 +2,7 @@
 //! log beside it, opened there as a desk, brought into one file and given its name.
 
 use crate::copying::{Beside, CopyFault, Parts, copy_files, forget};
+use crate::looking::folder_of;
 use crate::marking::stamp_of;
 use crate::reporting::{Kept, find, log_path};
 use crate::run::put;
@@ -38,6 +39,64 @@ fn refuse_taken(rt: &HostRuntime, copy: &str) -> Result<(), CopyFault> {
             Ok(_) => return Err(CopyFault::Taken(file)),
             Err(error) if error.kind() == io::ErrorKind::NotFound => {}
             Err(_) => return Err(CopyFault::Copy),
+        }
+    }
+    Ok(())
+}
+
+/// The names that a copy has, or takes while it is made, by what stands behind its own.
+const NAMES: [&str; 6] = [
+    "",
+    "-wal",
+    "-journal",
+    ".part",
+    ".part-wal",
+    ".part-journal",
+];
+
+/// The path of a copy that is not there yet, with no link in that of its folder.
+fn real_path(rt: &HostRuntime, copy: &str) -> Result<String, CopyFault> {
+    let folder = fs::canonicalize(rt, folder_of(copy)).map_err(|_| CopyFault::Copy)?;
+    let folder = folder.as_str().trim_end_matches('/');
+    let path = match copy.rfind('/') {
+        Some(end) => {
+            let name = copy.get(end..).unwrap_or(copy);
+            format!(in rt.alloc(); "{folder}{name}")
+        }
+        None => format!(in rt.alloc(); "{folder}/{copy}"),
+    };
+    Ok(path?)
+}
+
+/// Whether two paths are one, or lead to one file.
+fn is_one_file(rt: &HostRuntime, one: &str, other: &str) -> bool {
+    if one == other {
+        return true;
+    }
+    match (fs::metadata(rt, one), fs::metadata(rt, other)) {
+        (Ok(one), Ok(other)) => is_same_file(&stamp_of(&one), &stamp_of(&other)),
+        _ => false,
+    }
+}
+
+/// Whether a path, in which no folder is a link, is that of the desk's file or of what may stand beside it, or leads there.
+fn is_own(rt: &HostRuntime, path: &str, kept: &Kept) -> Result<bool, CopyFault> {
+    let database = kept.database.as_str();
+    let journal = format!(in rt.alloc(); "{database}-journal")?;
+    Ok(
+        is_one_file(rt, path, database)
+            || is_one_file(rt, path, kept.log.as_str())
+            || is_one_file(rt, path, journal.as_str()),
+    )
+}
+
+/// Fails where a name that the copy takes is the desk's own: what is made there, or taken away, would be the desk.
+fn refuse_own(rt: &HostRuntime, copy: &str, kept: &Kept) -> Result<(), CopyFault> {
+    let real = real_path(rt, copy)?;
+    for suffix in NAMES {
+        let path = format!(in rt.alloc(); "{real}{suffix}")?;
+        if is_own(rt, path.as_str(), kept)? {
+            return Err(CopyFault::Copy);
         }
     }
     Ok(())
@@ -171,7 +230,7 @@ fn checked(rt: &HostRuntime, parts: &Parts) -> Result<String, CopyFault> {
 }
 
 /// The folder of a file that is there, open.
-fn folder_of(rt: &HostRuntime, path: &str) -> io::Result<File> {
+fn open_folder(rt: &HostRuntime, path: &str) -> io::Result<File> {
     let mut folder = fs::canonicalize(rt, path)?;
     folder.pop();
     File::open(rt, folder.as_str())
@@ -184,7 +243,7 @@ fn name_copy(rt: &HostRuntime, copy: &str, kept: &Kept, parts: &Parts) -> io::Re
         .file
         .set_permissions(Permissions::from_mode(mode & 0o777))?;
     parts.file.sync_all()?;
-    let folder = folder_of(rt, parts.database.as_str())?;
+    let folder = open_folder(rt, parts.database.as_str())?;
     fs::rename(rt, parts.database.as_str(), copy)?;
     folder.sync_all()
 }
@@ -205,6 +264,7 @@ pub fn backup(rt: &HostRuntime, file: &str, copy: &str) -> Result<(), CopyFault>
     let kept = find(rt, file)?;
     refuse_journal(rt, &kept)?;
     refuse_taken(rt, copy)?;
+    refuse_own(rt, copy, &kept)?;
     let parts = claim(rt, copy, &kept)?;
     match make(rt, copy, &kept, &parts) {
         Ok(line) => {

@@ -2,7 +2,9 @@
 
 use crate::because::{Because, Unusable};
 use crate::copying::{CopyFault, MOST_COPIES};
-use crate::looking::{why_no_desk, why_no_opening, why_no_script, why_unread, why_unwritable};
+use crate::looking::{
+    why_no_desk, why_no_opening, why_no_script, why_uncopied, why_unread, why_unwritable,
+};
 use crate::script::ScriptFault;
 use crate::serving::ServiceFault;
 
@@ -106,7 +108,7 @@ pub(crate) fn copy_status(
 ) -> u8 {
     match copied {
         Ok(()) => 0,
-        Err(CopyFault::Desk) => cannot_read_desk(rt, file),
+        Err(CopyFault::Desk) => cannot_use_so(rt, file, why_uncopied(rt, file)),
         Err(CopyFault::Copy) => cannot_use_so(rt, copy, why_unwritable(rt, copy)),
         Err(CopyFault::Memory) => cannot_use(rt, "memory"),
         Err(CopyFault::Output) => cannot_use(rt, "output"),

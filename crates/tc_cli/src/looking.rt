@@ -1,4 +1,4 @@
-//! A look at what could not be used, to tell why. Nothing is written but a log that holds nothing, and what was told of it stays.
+//! A look at what could not be used, to tell why. Nothing is written but a log that holds nothing, and what was told of it stays. Where no look tells why, no reason is told.
 
 use crate::because::Because;
 use crate::reporting::{find, forget_log};
@@ -7,6 +7,7 @@ use sqlite::{Alter, Connection};
 use sqlite_disk::Wary;
 use std::alloc::Global;
 use std::fs::OpenOptions;
+use std::os::unix::fs::MetadataExt;
 use std::{fs, io};
 use tc_desk::Config;
 use tc_room::reopen_desk;
@@ -29,11 +30,8 @@ fn newest_schema() -> i64 {
     }
 }
 
-/// Why the file at a path cannot be read.
-pub fn why_unread(rt: &HostRuntime, path: &str) -> Option<Because> {
-    if path == "-" {
-        return None;
-    }
+/// Why the file of this name cannot be read.
+fn why_unreadable(rt: &HostRuntime, path: &str) -> Option<Because> {
     match fs::metadata(rt, path) {
         Err(error) => Because::of_system(error.kind()),
         Ok(found) if found.is_dir() => Some(Because::Folder),
@@ -42,6 +40,15 @@ pub fn why_unread(rt: &HostRuntime, path: &str) -> Option<Because> {
             Err(error) => Because::of_system(error.kind()),
             Ok(_) => None,
         },
+    }
+}
+
+/// Why the file at a path cannot be read, where `-` is the standard input.
+pub fn why_unread(rt: &HostRuntime, path: &str) -> Option<Because> {
+    if path == "-" {
+        None
+    } else {
+        why_unreadable(rt, path)
     }
 }
 
@@ -57,7 +64,7 @@ pub fn why_no_script(rt: &HostRuntime, path: &str) -> Option<Because> {
 }
 
 /// The folder that a path names a file in.
-fn folder_of(path: &str) -> &str {
+pub(crate) fn folder_of(path: &str) -> &str {
     match path.rfind('/') {
         Some(0) => "/",
         Some(end) => path.get(..end).unwrap_or("."),
@@ -65,27 +72,39 @@ fn folder_of(path: &str) -> &str {
     }
 }
 
-/// Why no file of this name can be made.
-fn why_unmade(rt: &HostRuntime, path: &str) -> Option<Because> {
-    if path == ":memory:" || path.starts_with("file:") {
+/// Whether the mode of a folder says that this user may make no file in it. Of the root user it says nothing, nor of another's folder where the group may.
+fn is_shut(rt: &HostRuntime, folder: &fs::Metadata) -> bool {
+    let Ok(own) = fs::metadata(rt, "/proc/self") else {
+        return false;
+    };
+    let may = if own.uid() == folder.uid() {
+        0o200
+    } else {
+        0o022
+    };
+    own.uid() != 0 && folder.mode() & may == 0
+}
+
+/// Why a file of this name cannot be made.
+pub fn why_unwritable(rt: &HostRuntime, path: &str) -> Option<Because> {
+    if path.is_empty() {
         return Some(Because::NoName);
     }
     match fs::metadata(rt, folder_of(path)) {
         Err(error) if error.kind() == io::ErrorKind::NotFound => Some(Because::NoFolder),
         Err(error) => Because::of_system(error.kind()),
         Ok(found) if !found.is_dir() => Some(Because::NoFolder),
-        Ok(_) => Some(Because::Denied),
+        Ok(found) if is_shut(rt, &found) => Some(Because::Denied),
+        Ok(_) => None,
     }
 }
 
-/// Why a copy of this name cannot be written.
-pub fn why_unwritable(rt: &HostRuntime, path: &str) -> Option<Because> {
-    match fs::metadata(rt, folder_of(path)) {
-        Err(error) if error.kind() == io::ErrorKind::NotFound => Some(Because::NoFolder),
-        Err(error) => Because::of_system(error.kind()),
-        Ok(found) if !found.is_dir() => Some(Because::NoFolder),
-        Ok(_) => None,
+/// Why no desk of this name can be made.
+fn why_unmade(rt: &HostRuntime, path: &str) -> Option<Because> {
+    if path == ":memory:" || path.starts_with("file:") {
+        return Some(Because::NoName);
     }
+    why_unwritable(rt, path)
 }
 
 /// The number of the schema that a database names as a desk's, if it names one.
@@ -148,7 +167,7 @@ fn why_unheld<S: Alter + Drop>(
 fn why_unwritten(rt: &HostRuntime, file: &str) -> Option<Because> {
     match OpenOptions::new().read(true).write(true).open(rt, file) {
         Err(error) => Because::of_system(error.kind()),
-        Ok(_) => Some(Because::Denied),
+        Ok(_) => None,
     }
 }
 
@@ -179,6 +198,14 @@ pub fn why_no_desk(rt: &HostRuntime, file: &str) -> Option<Because> {
         Ok(found) if found.is_dir() => Some(Because::Folder),
         Ok(found) if found.len() == 0 => Some(Because::Empty),
         Ok(_) => why_unkept(rt, file),
+    }
+}
+
+/// Why the desk that a file keeps cannot be copied, where a look tells that opens nothing to be written: a program may have the desk open, and work.
+pub fn why_uncopied(rt: &HostRuntime, file: &str) -> Option<Because> {
+    match fs::metadata(rt, file) {
+        Ok(found) if found.is_file() && found.len() == 0 => Some(Because::Empty),
+        _ => why_unreadable(rt, file),
     }
 }
 

@@ -204,7 +204,7 @@ pub fn send_to_file(
     let mut writer = Counted::new(io::writer(rt));
     match open_told(rt.alloc(), store, opening, &mut writer) {
         Ok(mut room) => {
-            let watch = HostWatch::new(rt, script, telling);
+            let watch = HostWatch::of_loop(rt, script, telling);
             watch.opened(opening.moment, latest_moment(&room));
             let ended = send_script(rt, &mut room, &lines, &watch, &mut writer);
             closed(room.into_connection(), ended)

@@ -3,7 +3,8 @@
 //! `tcdesk run SCRIPT` takes the lines of the file SCRIPT, or of the standard input where SCRIPT is `-`, and prints
 //! what the desk answers. Given no words at all it is `tcdesk run -`. The options `--w N` and `--vc N` choose the FARM's
 //! window and the virtual channel. With `--db FILE` the desk is kept in a database file, and is opened there at the moment `--at MOMENT`. With `--echo` each line stands
-//! before its answer; with `--verbose` the standard error tells of each line that was refused, as it does on a terminal, and of each that goes back in time.
+//! before its answer; with `--verbose` the standard error tells of each line that was refused, as it does on a terminal, and of each act and load that was accepted and lies before the last
+//! move.
 //!
 //! `tcdesk report DB FROM TO` prints the shift report of the desk that the file DB keeps, which it only reads.
 //!

@@ -5,14 +5,14 @@ use crate::paths::read_most;
 use crate::reporting::Kept;
 use std::os::unix::fs::MetadataExt;
 use std::{fs, io};
-use tc_copy::{LogMark, Marks, Stamp};
+use tc_copy::{FileStamp, LogMark, Marks};
 
 /// How many bytes the head of a log has.
 const HEAD: usize = 32;
 
 /// The stamp of an open file.
-pub(crate) fn stamp_of(found: &fs::Metadata) -> Stamp {
-    Stamp {
+pub(crate) fn stamp_of(found: &fs::Metadata) -> FileStamp {
+    FileStamp {
         device: found.dev(),
         inode: found.ino(),
         size: found.len(),

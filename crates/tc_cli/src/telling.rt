@@ -19,6 +19,8 @@ pub struct HostWatch<'a> {
     telling: Telling,
     /// Whether each line that is refused is told.
     tells_refusals: bool,
+    /// Whether the lines of the script may load files.
+    loads: bool,
 }
 
 impl<'a> HostWatch<'a> {
@@ -29,7 +31,15 @@ impl<'a> HostWatch<'a> {
             script,
             telling,
             tells_refusals: telling.verbose || rt.stderr().is_terminal(),
+            loads: true,
         }
+    }
+
+    /// The same, of a script whose lines are sent over HTTP, where a line that loads a file is no act.
+    pub fn of_loop(rt: &'a HostRuntime, script: &'a str, telling: Telling) -> Self {
+        let mut watch = HostWatch::new(rt, script, telling);
+        watch.loads = false;
+        watch
     }
 }
 
@@ -126,27 +136,28 @@ fn without_place(text: &str) -> &str {
     }
 }
 
-/// Why a text was refused with `BadText` or `TooLong`: which word of the line is wrong; or, where the line is none that is wrong, how to find out what is wrong with the file
-/// that it loads.
-fn text_reason(alloc: Global, line: &[u8]) -> Result<Option<String>, AllocError> {
+/// Why a text was refused with `BadText` or `TooLong`: which word of the line is wrong; or, where the line is none that is wrong, that lines load nothing here, or else how to find out
+/// what is wrong with the file that it loads.
+fn text_reason(alloc: Global, line: &[u8], loads: bool) -> Result<Option<String>, AllocError> {
     if let Some(wrong) = script_line(alloc, 1, line)? {
         return Ok(Some(String::from_str(alloc, without_place(wrong.as_str()))?));
     }
-    match read_load(line) {
-        Ok(load) => {
-            let (kind, path) = (kind_word(load.kind), load.path);
-            Ok(Some(format!(in alloc;
-                "tcdesk check {kind} {path} tells what is wrong with that file"
-            )?))
-        }
-        Err(_) => Ok(None),
+    let Ok(load) = read_load(line) else {
+        return Ok(None);
+    };
+    let (kind, path) = (kind_word(load.kind), load.path);
+    if !loads {
+        return Ok(Some(format!(in alloc; "a loop loads no {kind}")?));
     }
+    Ok(Some(format!(in alloc; "tcdesk check {kind} {path} tells what is wrong with that file")?))
 }
 
 /// Why a line was refused with this.
-fn reason(alloc: Global, refusal: Refusal, line: &[u8]) -> Option<String> {
+fn reason(alloc: Global, refusal: Refusal, line: &[u8], loads: bool) -> Option<String> {
     let found = match refusal {
-        Refusal::BadText | Refusal::TooLong | Refusal::BadActivity => text_reason(alloc, line),
+        Refusal::BadText | Refusal::TooLong | Refusal::BadActivity => {
+            text_reason(alloc, line, loads)
+        }
         _ => Ok(None),
     };
     match found {
@@ -195,7 +206,8 @@ impl HostWatch<'_> {
     fn tell_refusal(&self, told: &Answered<'_>, refusal: Refusal) {
         let (script, number) = (self.script, told.number);
         let (code, name) = (refusal.number(), refusal.name());
-        let _ = match reason(self.rt.alloc(), refusal, told.line) {
+        let why = reason(self.rt.alloc(), refusal, told.line, self.loads);
+        let _ = match why {
             Some(why) => {
                 let why = why.as_str();
                 eprintln!(self.rt; "{script}:{number}: refused {code} {name}: {why}")

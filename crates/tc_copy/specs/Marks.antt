@@ -1,11 +1,11 @@
 -- The marks of a database file and its log: when two readings of them are of one state.
 use Rattle.std.specs.Prelude.{◌≡◌, ◌⊎◌, ℕ, ◌==◌, if◌then◌else◌, List, Option, Some, None, slice_index}
-use Rattle.tc_copy.specs.declared.marks.Stamp.{Stamp}
+use Rattle.tc_copy.specs.declared.marks.FileStamp.{FileStamp}
 use Rattle.tc_copy.specs.declared.marks.LogMark.{LogMark}
 use Rattle.tc_copy.specs.declared.marks.Marks.{Marks}
 
 -- two stamps are of one file
-abbrev pub IsSameFile : Stamp → Stamp → Type 0
+abbrev pub IsSameFile : FileStamp → FileStamp → Type 0
 IsSameFile one other = (one.device ≡ other.device) × (one.inode ≡ other.inode)
 
 -- The head of a log stands: its first byte is that of SQLite's magic number, which is taken away before a log is emptied, and comes back last.

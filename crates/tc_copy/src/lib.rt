@@ -8,4 +8,4 @@
 pub mod laws;
 mod marks;
 
-pub use marks::{LogMark, Marks, Stamp, is_one_state, is_same_file};
+pub use marks::{FileStamp, LogMark, Marks, is_one_state, is_same_file};

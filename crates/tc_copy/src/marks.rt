@@ -8,7 +8,7 @@ const FIRST: u8 = 0x37;
 
 /// Which file it is, how long, and when it was written last, as the system tells.
 #[derive(Clone, Copy, Debug, PartialEq, Eq)]
-pub struct Stamp {
+pub struct FileStamp {
     pub device: u64,
     pub inode: u64,
     pub size: u64,
@@ -19,19 +19,19 @@ pub struct Stamp {
 /// A log that is there: its stamp, and its first bytes, with zeros behind its end where it is shorter.
 #[derive(Clone, Copy, Debug)]
 pub struct LogMark {
-    pub stamp: Stamp,
+    pub stamp: FileStamp,
     pub head: [u8; 32],
 }
 
 /// What is read of a database file and its log, to tell whether the log was emptied meanwhile.
 #[derive(Clone, Copy, Debug)]
 pub struct Marks {
-    pub file: Stamp,
+    pub file: FileStamp,
     pub log: Option<LogMark>,
 }
 
 /// Whether two stamps are of one file.
-pub fn is_same_file(one: &Stamp, other: &Stamp) -> bool
+pub fn is_same_file(one: &FileStamp, other: &FileStamp) -> bool
     ensures { IsTrue result ↔ IsSameFile one.now other.now }
 {
     one.device == other.device && one.inode == other.inode
@@ -59,7 +59,7 @@ fn is_same_log(before: &Marks, after: &Marks) -> bool
 }
 
 /// Whether two stamps are the same in all that they tell.
-fn is_same_stamp(one: &Stamp, other: &Stamp) -> bool
+fn is_same_stamp(one: &FileStamp, other: &FileStamp) -> bool
     ensures { IsTrue result ↔ (one.now ≡ other.now) }
 {
     one == other

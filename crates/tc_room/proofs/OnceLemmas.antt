@@ -37,7 +37,7 @@ use Rattle.tc_room.specs.declared.answers.Untold.{Untold}
 use Rattle.tc_room.specs.declared.callers.Caller.{Caller}
 use Rattle.tc_room.specs.declared.calls.Called.{Called}
 use Rattle.tc_room.specs.Answers.{Asks, RefusesWith, Says}
-use Rattle.tc_room.specs.Calls.{ActsAnew, ActsTrue, AnswersCall, AnswersMaking, AsksOnce, CallsTrue, IsAnew, IsCalled, JudgesActText, LoadsAnew, LooksUp, MakesOnce, StaysSo, kept_with, with_reply}
+use Rattle.tc_room.specs.Calls.{ActsAnew, ActsTrue, AnswersCall, AnswersMaking, AsksOnce, CallsTrue, IsAnew, IsCalled, IsMadeOnce, JudgesActText, LoadsAnew, LooksUp, MakesOnce, StaysSo, kept_with, with_reply}
 use Rattle.tc_room.specs.Crash.{HasRows, Leaves, ledger_of}
 use Rattle.tc_room.specs.Joined.{HasLedger, HoldsBook, Link, LinkState, Standing, desk_in}
 use Rattle.tc_room.specs.Replies.{AreLines, ended, is_refused}
@@ -103,8 +103,7 @@ module _ {S : Type 0} (g : Ghosts S) (old new : Standing S) (caller : Caller) (M
   -- the database failed
   pub makes_failed : Free → new.stopped ≡ true
       → ((replies : List KeptAnswer) → HoldsBook g old replies → HasCleanDisk (state g new.tables) → IsTrue (state g new.tables).is_open → Holds (state g new.tables).now (ledger_of old.desk.book replies))
-      → ((replies : List KeptAnswer) → HoldsBook g old replies → HasCleanDisk (state g new.tables) → Leaves g new.tables (λ ledger. (ledger ≡ ledger_of old.desk.book replies)
-      ⊎ ((reply : Reply) × (desk : LinkState) × Makes reply desk × (ledger ≡ ledger_of desk.book (kept_with replies caller reply)))))
+      → ((replies : List KeptAnswer) → HoldsBook g old replies → HasCleanDisk (state g new.tables) → Leaves g new.tables (IsMadeOnce old.desk.book replies caller Makes))
       → new.opened ≡ old.opened → AnswersMaking g caller Makes Free old (Err Store) new
   makes_failed free stopped holds leaves opened =
       λ replies held clean. inr (free, record { reply = refl; stopped = stopped; tables = holds replies held clean; crash = leaves replies held clean; opened = opened })

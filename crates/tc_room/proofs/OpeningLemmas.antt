@@ -14,7 +14,10 @@ use Rattle.tc_desk.specs.declared.configs.Config.{Config}
 use Rattle.tc_store.specs.declared.versions.Version.{Version}
 use Rattle.tc_store.specs.declared.versions.Version.TheVariants.{First, Second, Third}
 use Rattle.tc_store.specs.Ledgers.{Ledger}
-use Rattle.tc_store.specs.Schema.{schema_of, HoldsAs}
+use Rattle.tc_store.specs.declared.versions.Layout.{Layout}
+use Rattle.tc_store.specs.Schema.{schema_of, layout_of, layout_in, IsSchemaOf, HoldsAs}
+use Rattle.tc_store.specs.Shows.{ShowsAll}
+use Rattle.tc_store.specs.Told.{IsTold}
 use Rattle.tc_room.specs.Joined.{LinkState}
 use Rattle.tc_room.specs.Opening.{KeepsTables, ReadsLeft, ShowsDesk}
 
@@ -37,9 +40,9 @@ has_any [] = false
 has_any (x ∷ xs) = true
 
 -- a desk's schema has tables
-pub not_empty : (version : Version) → schema_of version ≡ no_schema → ⊥
+pub not_empty : (version : Version) (schema : Schema) → IsSchemaOf version schema → schema ≡ no_schema → ⊥
 unfolding has_any
-not_empty version same = true_false (ap (λ (s : Schema). has_any s.tables) same)
+not_empty version schema ours none = true_false (ap (λ (s : Schema). has_any s.tables) (sym ours.is ∙ none))
 
 -- a database that is as it was has the tables that it had
 pub keeps_same : (old new : Database) → new ≡ old → KeepsTables old new
@@ -51,25 +54,34 @@ version_behind [] = First
 version_behind (a ∷ []) = Second
 version_behind (a ∷ b ∷ xs) = Third
 
-told_back : (version : Version) → version_behind (drop 11 (schema_of version).tables) ≡ version
-told_back First = refl
-told_back Second = refl
-told_back Third = refl
+told_back : (layout : Layout) (version : Version) → version_behind (drop 11 (schema_of layout version).tables) ≡ version
+told_back layout First = refl
+told_back layout Second = refl
+told_back layout Third = refl
 
 -- a schema is of one version
-pub same_version : (a b : Version) → schema_of a ≡ schema_of b → a ≡ b
-same_version a b same = sym (told_back a) ∙ ap (λ (s : Schema). version_behind (drop 11 s.tables)) same ∙ told_back b
+same_version : (a b : Version) (schema : Schema) → IsSchemaOf a schema → IsSchemaOf b schema → a ≡ b
+same_version a b schema one two = sym (told_back (layout_of schema) a) ∙ ap (λ (s : Schema). version_behind (drop 11 s.tables)) (sym one.is ∙ two.is) ∙ told_back (layout_of schema) b
+
+-- tables that hold a ledger have the schema of their version
+pub schema_held : (version : Version) (db : Database) (ledger : Ledger) → HoldsAs version db ledger → IsSchemaOf version db.schema
+schema_held version db ledger held = record { fits = held.fits; is = held.schema }
+
+-- and show what is read of them
+pub shows_desk : (version : Version) (db : Database) (rows : Image) → IsTold rows → IsSchemaOf version db.schema → ((layout : Layout) → db.schema ≡ schema_of layout version → ShowsAll layout version db rows) → ShowsDesk version db
+shows_desk version db rows told ours shows = (ours, rows, told, shows (layout_in db) ours.is)
 
 -- tables of a version that were found in a database
-module _ {S : Type 0} (g : Ghosts S) (tables store : Held S) (at : Version) (same : tables ≡ store) (ours : (state g store).now.schema ≡ schema_of at) where
+module _ {S : Type 0} (g : Ghosts S) (tables store : Held S) (at : Version) (same : tables ≡ store) (ours : IsSchemaOf at (state g store).now.schema) where
   -- they hold as of theirs what the database holds as of any
   pub found_held : (version : Version) (ledger : Ledger) → HoldsAs version (state g store).now ledger → HoldsAs at (state g tables).now ledger
   found_held version ledger held =
+      let now = (state g store).now in
       subst (λ (t : Held S). HoldsAs at (state g t).now ledger) (sym same)
-      (subst (λ (v : Version). HoldsAs v (state g store).now ledger) (same_version version at (sym held.schema ∙ ours)) held)
+      (subst (λ (v : Version). HoldsAs v now ledger) (same_version version at now.schema (schema_held version now ledger held) ours) held)
 
   -- and what they show the database shows
-  pub found_shown : (version : Version) → (state g store).now.schema ≡ schema_of version → ((state g tables).now.schema ≡ schema_of at → ShowsDesk at (state g tables).now) → ShowsDesk version (state g store).now
+  pub found_shown : (version : Version) → IsSchemaOf version (state g store).now.schema → (IsSchemaOf at (state g tables).now.schema → ShowsDesk at (state g tables).now) → ShowsDesk version (state g store).now
   found_shown version is shows =
-      subst (λ (v : Version). ShowsDesk v (state g store).now) (same_version at version (sym ours ∙ is))
-      (subst (λ (t : Held S). ShowsDesk at (state g t).now) same (shows (ap (λ (t : Held S). (state g t).now.schema) same ∙ ours)))
+      subst (λ (v : Version). ShowsDesk v (state g store).now) (same_version at version (state g store).now.schema ours is)
+      (subst (λ (t : Held S). ShowsDesk at (state g t).now) same (shows (subst (λ (t : Held S). IsSchemaOf at (state g t).now.schema) (sym same) ours)))

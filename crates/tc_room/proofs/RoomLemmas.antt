@@ -38,6 +38,8 @@ use Rattle.tc_desk.specs.Replies.{Reply, act_reply, history_lines, Replies, refu
 use Rattle.tc_store.specs.Ledgers.{KeptAnswer, empty_ledger}
 use Rattle.tc_store.specs.Schema.{Holds}
 use Rattle.tc_store.specs.Steps.{LeavesOnly}
+use Rattle.tc_book.proofs.ConservedLemmas.{conserved}
+use Rattle.tc_book.proofs.SoundLemmas.{good_sound}
 use Rattle.tc_room.specs.Crash.{LeavesActs, ledger_of}
 use Rattle.tc_room.specs.Joined.{HasLedger, HoldsBook, IsKept, LinkState, Standing}
 use Rattle.tc_room.specs.Answers.{IsUnread}
@@ -142,6 +144,10 @@ good-few book good = rw (good.entered, length-map) good.few
 -- a good book is kept, for nobody is lost of any history
 pub kept_good : (book : Book) → ((history : List Move) → IsConserved history) → ((book : Book) → IsGoodBook book → IsSound (image_of book)) → IsGoodBook book → IsKept book
 kept_good book nobody_is_lost are_sound good = record { good = good; sound = are_sound book good; told = good_told book good; conserved = nobody_is_lost book.history }
+
+-- so is each, by these two
+pub kept_book : (book : Book) → IsGoodBook book → IsKept book
+kept_book book good = kept_good book conserved good_sound good
 
 pub not_some : {X : Type 0} (o : Option X) → ((x : X) → o ≡ Some x → ⊥) → o ≡ None
 not_some None none = refl

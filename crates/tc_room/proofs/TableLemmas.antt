@@ -14,14 +14,14 @@ use Rattle.tc_book.specs.Book.{Book}
 use Rattle.tc_store.specs.declared.versions.Version.{Version}
 use Rattle.tc_store.specs.Ledgers.{KeptAnswer, Ledger, newest, with_image}
 use Rattle.tc_store.specs.Reads.{OnlyReads}
-use Rattle.tc_store.specs.Schema.{HoldsAs, Holds}
+use Rattle.tc_store.specs.Schema.{layout_in, HoldsAs, Holds}
 use Rattle.tc_store.specs.Steps.{LeavesOnly}
 use Rattle.tc_room.specs.Crash.{HasRows, Leaves, LeavesActs, LeavesOr, ledger_of}
 use Rattle.tc_room.specs.Joined.{HasLedger}
 
 -- the trees of a database that holds a ledger
 has_rows : (db : Database) (ledger : Ledger) (trees : Trees) → Holds db ledger → trees ≡ db.trees → HasRows trees ledger
-has_rows db ledger trees held same = subst (λ (found : Trees). HasRows found ledger) (sym same) (held.rows, subst (λ s. IsListed s db.trees) held.schema held.sound)
+has_rows db ledger trees held same = subst (λ (found : Trees). HasRows found ledger) (sym same) (record { layout = layout_in db; fits = held.fits; rows = held.rows; listed = subst (λ s. IsListed s db.trees) held.schema held.sound })
 
 -- tables that hold a ledger, of which a crash leaves nothing else
 pub only_ledger : {S : Type 0} (g : Ghosts S) (tables : Held S) (ledger : Ledger) → Holds (state g tables).now ledger → LeavesOnly (state g tables) (state g tables).now.trees → HasLedger g tables ledger

@@ -22,12 +22,13 @@ use Rattle.tc_board.specs.Mirror.{mirror_of}
 use Rattle.tc_book.specs.declared.stamps.Stamp.{Stamp}
 use Rattle.tc_book.specs.Acts.{first_refusal}
 use Rattle.tc_book.specs.Book.{Book}
+use Rattle.tc_book.specs.Good.{IsGoodBook}
 use Rattle.std.specs.declared.alloc.Global.{Global}
 use Rattle.tc_desk.specs.declared.dones.Done.{Done}
 use Rattle.tc_desk.specs.Acts.{is_question, refusal_of}
 use Rattle.tc_desk.specs.Downlink.{KeepsWhole, came_down}
 use Rattle.tc_desk.specs.Fair.{IsFairlyTold}
-use Rattle.tc_desk.specs.Headline.{TakesAccepted, clean_after}
+use Rattle.tc_desk.specs.Headline.{TakesAccepted, TellsTrue, clean_after}
 use Rattle.tc_desk.specs.Loads.{Loading, LoadStep, tests_of_load}
 use Rattle.tc_desk.specs.Machine.{DeskStep, stamp_of}
 use Rattle.tc_desk.specs.Replies.{Reply, act_reply, refusal_reply}
@@ -38,7 +39,7 @@ use Rattle.tc_room.specs.declared.calls.Called.{Called}
 use Rattle.tc_room.specs.declared.callers.Caller.{Caller}
 use Rattle.tc_room.specs.Answers.{Says}
 use Rattle.tc_room.specs.Crash.{Leaves, ledger_of}
-use Rattle.tc_room.specs.Joined.{HasLedger, HoldsBook, LinkState, Standing, desk_in}
+use Rattle.tc_room.specs.Joined.{HasLedger, HoldsBook, IsKept, LinkState, Standing, desk_in}
 use Rattle.tc_room.specs.Loads.{IsNotRead, IsTooLong, SpellsLoading}
 use Rattle.tc_room.specs.Replies.{AreLines, ended, is_refused}
 use Rattle.tc_room.specs.Room.{FailsStore, StepsDesk, Stops}
@@ -90,10 +91,10 @@ pub record DoesOnce {S : Type 0} (g : Ghosts S) (replies : List KeptAnswer) (cal
   pub opened : new.opened ≡ old.opened
   pub going : new.stopped ≡ false
 
--- the tables of a book with the replies as they were, or of what was made of it with its reply beside them: all of it, or nothing
+-- the tables of a book with the replies as they were, or of what was made of it, a book that a room keeps, with its reply beside them: all of it, or nothing
 abbrev pub IsMadeOnce : Book → List KeptAnswer → Caller → (Reply → LinkState → Type 0) → Ledger → Type 0
 IsMadeOnce before replies caller Makes ledger = (ledger ≡ ledger_of before replies)
-    ⊎ ((reply : Reply) × (desk : LinkState) × Makes reply desk × (ledger ≡ ledger_of desk.book (kept_with replies caller reply)))
+    ⊎ ((reply : Reply) × (desk : LinkState) × Makes reply desk × IsKept desk.book × (ledger ≡ ledger_of desk.book (kept_with replies caller reply)))
 
 -- The database failed, and the room has stopped. Its tables hold the book and the replies as they were before, where the database is still open. After a
 -- crash they hold that, or what was asked is there as a whole with its reply.
@@ -246,3 +247,11 @@ outcome_in (Err untold) = outcome_of untold.refusal
 -- Whatever the tables hold: an act or a load that is called stops a room exactly with an answer 31, and is told 32 only where it has stopped.
 abbrev pub StopsCalled : {S : Type 0} → Standing S → Called → Standing S → Type 0
 StopsCalled old called new = called.acts ≡ true → Stops old (outcome_in called.answer) new
+
+-- What every call that is made anew keeps to, whatever the tables hold: it stops the room with an answer 31 alone; what the rows tell of the link is true; the book
+-- stays a good one; and of a disk that gives back what was written now, so it was before.
+pub record KeepsAnew {S : Type 0} (g : Ghosts S) (old : Standing S) (called : Called) (new : Standing S) : Type 0 where
+  pub stops : StopsCalled old called new
+  pub told : TellsTrue new.opened new.desk
+  pub good : IsGoodBook new.desk.book
+  pub clean : HasCleanDisk (state g new.tables) → HasCleanDisk (state g old.tables)

@@ -2,17 +2,11 @@
 use Rattle.std.specs.Prelude.{◌≡◌, ◌⊎◌, List}
 use Rattle.sqlite_trees.specs.Tree.{Trees}
 use Rattle.sqlite_trees.specs.declared.store.Store.{Ghosts}
-use Rattle.sqlite_catalog.specs.Listing.{IsSound as IsListed}
 use Rattle.sqlite.specs.Held.{Held, state}
 use Rattle.tc_book.specs.Book.{Book}
 use Rattle.tc_book.specs.Tables.{image_of}
-use Rattle.tc_sql.specs.Contents.{Matches}
 use Rattle.tc_store.specs.Ledgers.{KeptAnswer, Ledger}
-use Rattle.tc_store.specs.Schema.{newest_schema, contents}
-
--- what the files hold, as a desk's tables with these rows and no other
-abbrev pub HasRows : Trees → Ledger → Type 0
-HasRows trees ledger = Matches trees (contents ledger) × IsListed newest_schema trees
+pub use Rattle.tc_store.specs.Steps.{HasRows}
 
 -- the tables of a book, and the replies that are kept beside it
 abbrev pub ledger_of : Book → List KeptAnswer → Ledger

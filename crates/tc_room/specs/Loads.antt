@@ -24,7 +24,7 @@ use Rattle.tc_room.specs.declared.loadings.Spelled.TheVariants as spelled
 use Rattle.tc_store.specs.Ledgers.{KeptAnswer}
 use Rattle.tc_store.specs.Schema.{Holds}
 use Rattle.tc_room.specs.Crash.{LeavesActs, ledger_of}
-use Rattle.tc_room.specs.Joined.{HasLedger, HoldsBook, LinkState, Standing}
+use Rattle.tc_room.specs.Joined.{HasLedger, HoldsBook, IsKept, LinkState, Standing}
 
 -- what was read of a text, under a name
 abbrev pub loading_of : List ℕ → Spelled → Loading
@@ -58,9 +58,9 @@ pub record StepsLoad {S : Type 0} (g : Ghosts S) (replies : List KeptAnswer) (ol
   pub whole : new.whole ≡ old.whole
   pub going : new.stopped ≡ false
 
--- one load makes this book
+-- one load makes this book, which is one that a room keeps
 abbrev pub LoadsBook : LinkState → Stamp → Loading → Book → Type 0
-LoadsBook old stamp given book = (reply : Reply) × (new : LinkState) × LoadStep old stamp given reply new × (book ≡ new.book)
+LoadsBook old stamp given book = (reply : Reply) × (new : LinkState) × LoadStep old stamp given reply new × (book ≡ new.book) × IsKept book
 
 -- The database failed at a load that no test refused, and the room has stopped. Its tables hold the book as it was before, where the database is
 -- still open. After a crash they hold that, or the load is there as a whole.

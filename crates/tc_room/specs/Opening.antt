@@ -19,11 +19,11 @@ use Rattle.tc_desk.specs.declared.configs.Config.{Config}
 use Rattle.tc_desk.specs.Opening.{reopened_parts}
 use Rattle.tc_store.specs.declared.versions.Version.{Version}
 use Rattle.tc_store.specs.Ledgers.{Ledger, IsKeptAnswer, empty_ledger}
-use Rattle.tc_store.specs.Schema.{HoldsAs}
+use Rattle.tc_store.specs.Schema.{layout_in, IsSchemaOf, HoldsAs}
 use Rattle.tc_store.specs.Shows.{ShowsAll}
 use Rattle.tc_store.specs.Told.{IsTold}
 use Rattle.tc_room.specs.Crash.{HasRows, LeavesOr, ledger_of}
-use Rattle.tc_room.specs.Joined.{HasLedger, Link, LinkState, Standing}
+use Rattle.tc_room.specs.Joined.{HasLedger, IsKept, Link, LinkState, Standing}
 use Rattle.tc_room.specs.Room.{IsJustOpened}
 
 -- a desk as it is opened at a moment over these tables, over links of the kind that was chosen, with nothing in flight
@@ -41,7 +41,7 @@ pub record ReadsLeft (config : Config) (moment : ℕ) (image : Image) (desk : Li
 
 -- tables of a version that show rows as a desk writes them, and no others
 abbrev pub ShowsDesk : Version → Database → Type 0
-ShowsDesk version db = (rows : Image) × IsTold rows × ShowsAll version db rows
+ShowsDesk version db = IsSchemaOf version db.schema × (rows : Image) × IsTold rows × ShowsAll (layout_in db) version db rows
 
 -- A room that was opened at a moment over tables with these rows, which a desk could have written, and the moves that this made: its desk is what
 -- the opening makes of them, and its tables are of the newest version, and hold its book and the replies as they were.
@@ -66,10 +66,10 @@ pub record KeepsTables (old new : Database) : Type 0 where
   pub empty : old.schema ≡ no_schema → new ≡ old
   pub held : (version : Version) (ledger : Ledger) → HoldsAs version old ledger → HoldsAs version new ledger
 
--- the tables of the desk that is opened at a moment over tables with these rows
+-- the tables of the desk that is opened at a moment over tables with these rows, whose book is one that a room keeps
 abbrev pub OpensTo : Config → ℕ → Ledger → Trees → Type 0
 OpensTo config moment ledger trees = IsTold ledger.image → IsSound ledger.image × AllByRecursion IsKeptAnswer ledger.replies × (desk : LinkState) × IsReopened config moment ledger.image desk
-    × HasRows trees (ledger_of desk.book ledger.replies)
+    × IsKept desk.book × HasRows trees (ledger_of desk.book ledger.replies)
 
 -- What a crash leaves of an opening that was refused: what it left before, or the whole of what an opening makes of it.
 pub record LeavesOpening {S : Type 0} (g : Ghosts S) (config : Config) (moment : ℕ) (store left : Held S) : Type 0 where

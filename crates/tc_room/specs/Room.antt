@@ -20,7 +20,7 @@ use Rattle.tc_desk.specs.Replies.{Reply, refusal_reply}
 use Rattle.tc_store.specs.Ledgers.{KeptAnswer}
 use Rattle.tc_store.specs.Schema.{Holds}
 use Rattle.tc_room.specs.Crash.{LeavesActs, ledger_of}
-use Rattle.tc_room.specs.Joined.{HasLedger, HoldsBook, Link, LinkState, Standing}
+use Rattle.tc_room.specs.Joined.{HasLedger, HoldsBook, IsKept, Link, LinkState, Standing}
 
 -- a desk where nothing happened yet, over links of the kind that was chosen, with nothing in flight
 abbrev pub IsNewDesk : Config → LinkState → Type 0
@@ -43,9 +43,9 @@ pub record StepsDesk {S : Type 0} (g : Ghosts S) (replies : List KeptAnswer) (ol
   pub opened : new.opened ≡ old.opened
   pub going : new.stopped ≡ false
 
--- one step of the desk machine makes this book
+-- one step of the desk machine makes this book, which is one that a room keeps
 abbrev pub MakesBook : LinkState → Stamp → Act → Book → Type 0
-MakesBook old stamp given book = (reply : Reply) × (new : LinkState) × DeskStep either either old stamp given reply new × (book ≡ new.book)
+MakesBook old stamp given book = (reply : Reply) × (new : LinkState) × DeskStep either either old stamp given reply new × (book ≡ new.book) × IsKept book
 
 -- The database failed at what no test refused, and the room has stopped. Its tables hold the book as it was before, where the database is still
 -- open. After a crash they hold that, or what was asked is there as a whole.
@@ -74,6 +74,12 @@ AnswersStep lines g old stamp given new (Err refusal) = RoomStep g old stamp giv
 pub record Stops {X S : Type 0} (old : Standing S) (result : Result X Refusal) (new : Standing S) : Type 0 where
   pub stopped : (new.stopped ≡ true) ↔ ((old.stopped ≡ true) ⊎ (result ≡ Err Store))
   pub same : result ≡ Err Stopped → (old.stopped ≡ true) × (new ≡ old)
+
+-- What the desk of a room answers to a question, whoever asks, with no look at the tables: a step of the room, and, whatever the tables hold, 32 only where it has
+-- stopped, and 31 never where it goes on.
+pub record AsksDesk {X S : Type 0} (lines : X → Reply) (g : Ghosts S) (room : Standing S) (given : Act) (result : Result X Refusal) : Type 0 where
+  pub answered : (stamp : Stamp) → AnswersStep lines g room stamp given room result
+  pub stops : Stops room result room
 
 -- What every call of a room keeps to: it stops with an answer 31 alone; as many rows of the history stood once it was opened; and what the rows since
 -- then tell of the link is true, and while every start was good the FARM is not in Lockout.

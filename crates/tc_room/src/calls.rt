@@ -4,21 +4,18 @@
 //! ever, and the reply of an act or a load that was accepted is kept for good, in the same batch as its rows.
 ghost use Rattle.std.specs.Prelude.{◌≡◌, ◌⊎◌, true, false, Some, None, Ok, Err, IfOk, MatchOption, List, Result};
 ghost use Rattle.std.specs.String.{string_bytes};
-ghost use Rattle.sqlite.specs.Held.{state};
-ghost use Rattle.sqlite.specs.State.{HasCleanDisk};
 ghost use Rattle.tc_types.specs.declared.acts.Line.{Line as SomeLine};
 ghost use Rattle.tc_types.specs.declared.refusals.Refusal.{Refusal as SomeRefusal};
 ghost use Rattle.tc_types.specs.declared.refusals.Refusal.TheVariants.{Memory};
 ghost use Rattle.tc_types.specs.Names.{IsName};
 ghost use Rattle.tc_world.specs.declared.events.LinkIndication.{LinkIndication};
 ghost use Rattle.tc_world.specs.EitherLink.{either};
-ghost use Rattle.tc_book.specs.Good.{IsGoodBook};
 ghost use Rattle.tc_desk.specs.Acts.{is_question, refusal_of};
 ghost use Rattle.tc_desk.specs.Headline.{TellsTrue};
 ghost use Rattle.tc_desk.specs.Machine.{DeskStep};
 ghost use Rattle.tc_desk.specs.Replies.{Reply, refusal_reply};
 ghost use Rattle.tc_room.specs.Answers.{Says};
-ghost use Rattle.tc_room.specs.Calls.{ActsAnew, ActsTrue, AnswersActCall, AnswersLoadCall, AsksOnce, CallsTrue, IsAnew, IsCalled, IsUnfit, JudgesActText, LoadsAnew, LoadsTextOnce, MakesOnce, StopsCalled, outcome_in};
+ghost use Rattle.tc_room.specs.Calls.{ActsAnew, ActsTrue, AnswersActCall, AnswersLoadCall, AsksOnce, CallsTrue, IsAnew, IsCalled, IsUnfit, JudgesActText, KeepsAnew, LoadsAnew, LoadsTextOnce, MakesOnce, StopsCalled, outcome_in};
 ghost use Rattle.tc_room.specs.Joined.{FollowsBoard, IsKept};
 ghost use Rattle.tc_room.specs.Replies.{AreLines, ended, is_refused};
 
@@ -113,12 +110,9 @@ impl<S: Alter + Drop> Room<S> {
         requires going { self.old.stopped ≡ false }
         requires acts { is_question act ≡ false }
         ensures called { IsCalled (IsAnew S.Store (λ replies acts reply new. (acts ≡ true) × MakesOnce S.Store replies caller (DeskStep either either self.old.desk stamp act) (refusal_of stamp self.old.desk act ≡ None) self.old reply new) self.old) self.old result self.new }
-        ensures stops { StopsCalled self.old result self.new }
-        ensures told { TellsTrue self.new.opened self.new.desk }
-        ensures good { IsGoodBook self.new.desk.book }
+        ensures keeps { KeepsAnew S.Store self.old result self.new }
         ensures acted { IfOk result.answer (λ answer. answer.refusal ≡ None → (said : List LinkIndication) × ActsTrue act said self.old self.new) }
         ensures mirror { FollowsBoard self.new }
-        ensures clean { HasCleanDisk (state S.Store self.new.tables) → HasCleanDisk (state S.Store self.old.tables) }
     {
         match self.act_kept(alloc, caller, stamp, act) {
             Ok(text) => granted(text),
@@ -130,12 +124,9 @@ impl<S: Alter + Drop> Room<S> {
     fn ask_once(&mut self, alloc: Global, caller: Caller, line: Line) -> Called
         requires going { self.old.stopped ≡ false }
         ensures called { IsCalled (IsAnew S.Store (λ replies acts reply new. AsksOnce S.Store replies caller self.old line acts reply new) self.old) self.old result self.new }
-        ensures stops { StopsCalled self.old result self.new }
-        ensures told { TellsTrue self.new.opened self.new.desk }
-        ensures good { IsGoodBook self.new.desk.book }
+        ensures keeps { KeepsAnew S.Store self.old result self.new }
         ensures acted { IfOk result.answer (λ answer. answer.refusal ≡ None → (self.new.desk ≡ self.old.desk) ⊎ ((said : List LinkIndication) × ActsTrue line.act said self.old self.new)) }
         ensures mirror { FollowsBoard self.new }
-        ensures clean { HasCleanDisk (state S.Store self.new.tables) → HasCleanDisk (state S.Store self.old.tables) }
     {
         match line.act {
             Act::Ask(query) => {
@@ -168,12 +159,9 @@ impl<S: Alter + Drop> Room<S> {
     ) -> Called
         requires going { self.old.stopped ≡ false }
         ensures called { IsCalled (IsAnew S.Store (λ replies acts reply new. ActsAnew S.Store moment text.now replies caller self.old acts reply new) self.old) self.old result self.new }
-        ensures stops { StopsCalled self.old result self.new }
-        ensures told { TellsTrue self.new.opened self.new.desk }
-        ensures good { IsGoodBook self.new.desk.book }
+        ensures keeps { KeepsAnew S.Store self.old result self.new }
         ensures acted { CallsTrue text.now self.old result self.new }
         ensures mirror { FollowsBoard self.new }
-        ensures clean { HasCleanDisk (state S.Store self.new.tables) → HasCleanDisk (state S.Store self.old.tables) }
     {
         // read for the proof alone: what the rows tell is true, and the mirror follows the spacecraft
         let _opened = self.opened();
@@ -223,10 +211,7 @@ impl<S: Alter + Drop> Room<S> {
     ) -> Called
         requires going { self.old.stopped ≡ false }
         ensures called { IsCalled (IsAnew S.Store (λ replies acts reply new. (acts ≡ true) × LoadsTextOnce S.Store kind stamp name csv.now replies caller self.old reply new) self.old) self.old result self.new }
-        ensures stops { StopsCalled self.old result self.new }
-        ensures told { TellsTrue self.new.opened self.new.desk }
-        ensures good { IsGoodBook self.new.desk.book }
-        ensures clean { HasCleanDisk (state S.Store self.new.tables) → HasCleanDisk (state S.Store self.old.tables) }
+        ensures keeps { KeepsAnew S.Store self.old result self.new }
     {
         // read for the proof alone: what the rows tell is true
         let _opened = self.opened();
@@ -252,10 +237,7 @@ impl<S: Alter + Drop> Room<S> {
     ) -> Called
         requires going { self.old.stopped ≡ false }
         ensures called { IsCalled (IsAnew S.Store (λ replies acts reply new. LoadsAnew S.Store kind moment name.now csv.now replies caller self.old acts reply new) self.old) self.old result self.new }
-        ensures stops { StopsCalled self.old result self.new }
-        ensures told { TellsTrue self.new.opened self.new.desk }
-        ensures good { IsGoodBook self.new.desk.book }
-        ensures clean { HasCleanDisk (state S.Store self.new.tables) → HasCleanDisk (state S.Store self.old.tables) }
+        ensures keeps { KeepsAnew S.Store self.old result self.new }
     {
         // read for the proof alone: what the rows tell is true
         let _opened = self.opened();

@@ -9,7 +9,7 @@ ghost use Rattle.tc_types.specs.declared.refusals.Refusal.TheVariants.{BadDirect
 ghost use Rattle.tc_desk.specs.State.{IsConfig};
 ghost use Rattle.tc_store.specs.declared.versions.Version.{Version as SomeVersion};
 ghost use Rattle.tc_store.specs.Ledgers.{Ledger, empty_ledger};
-ghost use Rattle.tc_store.specs.Schema.{schema_of, HoldsAs};
+ghost use Rattle.tc_store.specs.Schema.{IsSchemaOf, HoldsAs};
 ghost use Rattle.tc_store.specs.Told.{IsTold};
 ghost use Rattle.tc_room.specs.Crash.{HasRows, LeavesOr};
 ghost use Rattle.tc_room.specs.Opening.{KeepsTables, LeavesOpening, OpensAs, OpensLeft, OpensTo, ShowsDesk};
@@ -45,11 +45,11 @@ fn open_left<S: Alter + Drop>(
     requires fit { IsConfig config }
     ensures left { IfOk result (λ opened. HasCleanDisk (state S.Store opened.room.tables) → (ledger : Ledger) → IsTold ledger.image → HoldsAs version (state S.Store tables).now ledger → OpensLeft S.Store config moment ledger opened.moves.items opened.room) }
     ensures going { IfOk result (λ opened. opened.room.stopped ≡ false) }
-    ensures shown { IfOk result (λ opened. HasCleanDisk (state S.Store opened.room.tables) → (state S.Store tables).now.schema ≡ schema_of version → ShowsDesk version (state S.Store tables).now) }
+    ensures shown { IfOk result (λ opened. HasCleanDisk (state S.Store opened.room.tables) → IsSchemaOf version (state S.Store tables).now.schema → ShowsDesk version (state S.Store tables).now) }
     ensures kept { IfErr result (λ e. HasCleanDisk (state S.Store e.1) → IsTrue (state S.Store e.1).is_open → (of : SomeVersion) (ledger : Ledger) → HoldsAs of (state S.Store tables).now ledger → HoldsAs of (state S.Store e.1).now ledger) }
     ensures crash { IfErr result (λ e. HasCleanDisk (state S.Store e.1) → (ledger : Ledger) → HoldsAs version (state S.Store tables).now ledger → LeavesOr S.Store tables e.1 (OpensTo config moment ledger)) }
     ensures kind { IfErr result (λ e. (e.0 ≡ Memory) ⊎ (e.0 ≡ Store)) }
-    ensures memory { IfErr result (λ e. e.0 ≡ Memory → HasCleanDisk (state S.Store e.1) → (state S.Store tables).now.schema ≡ schema_of version → ShowsDesk version (state S.Store tables).now) }
+    ensures memory { IfErr result (λ e. e.0 ≡ Memory → HasCleanDisk (state S.Store e.1) → IsSchemaOf version (state S.Store tables).now.schema → ShowsDesk version (state S.Store tables).now) }
 {
     let mut tables = tables;
     let image = match tables.load(version) {
@@ -112,18 +112,18 @@ impl<S: Alter + Drop> Room<S> {
     ) -> Result<OpenedRoom<S>, (Refusal, Connection<S>)>
         ensures opened { IfOk result (λ opened. OpensAs S.Store config moment store opened.moves.items opened.room) }
         ensures going { IfOk result (λ opened. opened.room.stopped ≡ false) }
-        ensures ours { OnOk result (((state S.Store store).now.schema ≡ no_schema) ⊎ ((version : SomeVersion) × ((state S.Store store).now.schema ≡ schema_of version))) }
+        ensures ours { OnOk result (((state S.Store store).now.schema ≡ no_schema) ⊎ ((version : SomeVersion) × IsSchemaOf version (state S.Store store).now.schema)) }
         // tables that were opened showed rows as a desk writes them, and told their own version
-        ensures shown { IfOk result (λ opened. HasCleanDisk (state S.Store opened.room.tables) → (version : SomeVersion) → (state S.Store store).now.schema ≡ schema_of version → ShowsDesk version (state S.Store store).now) }
+        ensures shown { IfOk result (λ opened. HasCleanDisk (state S.Store opened.room.tables) → (version : SomeVersion) → IsSchemaOf version (state S.Store store).now.schema → ShowsDesk version (state S.Store store).now) }
         ensures config { OnOk result (IsConfig config) }
         ensures refused { IfErr result (λ e. (e.0 ≡ BadDirective) ↔ (¬ IsConfig config)) }
         ensures kind { IfErr result (λ e. (e.0 ≡ BadDirective) ⊎ (e.0 ≡ Memory) ⊎ (e.0 ≡ Store)) }
         // tables that show no rows as a desk writes them are refused with `Store`, and never with `Memory`
-        ensures memory { IfErr result (λ e. e.0 ≡ Memory → HasCleanDisk (state S.Store e.1) → (version : SomeVersion) → (state S.Store store).now.schema ≡ schema_of version → ShowsDesk version (state S.Store store).now) }
+        ensures memory { IfErr result (λ e. e.0 ≡ Memory → HasCleanDisk (state S.Store e.1) → (version : SomeVersion) → IsSchemaOf version (state S.Store store).now.schema → ShowsDesk version (state S.Store store).now) }
         ensures kept { IfErr result (λ e. HasCleanDisk (state S.Store e.1) → IsTrue (state S.Store e.1).is_open → KeepsTables (state S.Store store).now (state S.Store e.1).now) }
         // also after a crash they are as they were, or all of the opening is there
         ensures crash { IfErr result (λ e. HasCleanDisk (state S.Store e.1) → LeavesOpening S.Store config moment store e.1) }
-        ensures foreign { IfErr result (λ e. (state S.Store store).now.schema ≢ no_schema → ((version : SomeVersion) → (state S.Store store).now.schema ≢ schema_of version) → e.1 ≡ store) }
+        ensures foreign { IfErr result (λ e. (state S.Store store).now.schema ≢ no_schema → ((version : SomeVersion) → ¬ IsSchemaOf version (state S.Store store).now.schema) → e.1 ≡ store) }
     {
         if !is_fit(config) {
             return Err((Refusal::BadDirective, store));

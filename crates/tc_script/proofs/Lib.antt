@@ -1,6 +1,8 @@
 pub mod FormLemmas
 pub mod ListLemmas
 pub mod WordLemmas
-pub mod Followed
+pub mod NextWord
+pub mod EntryWords
+pub mod ActWords
+pub mod LineWords
 pub mod WrongLemmas
-pub mod Taken

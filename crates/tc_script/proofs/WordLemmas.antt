@@ -1,12 +1,27 @@
 -- Words that are compared with words of the grammar.
-use Rattle.std.proofs.Common.{◌≡◌, ◌≢◌, ◌∙◌, ℕ, ◌<◌, Bool, true, false, List, codes, refl, sym, arith}
+use Rattle.std.proofs.Common.{◌≡◌, ◌≢◌, ◌∙◌, ℕ, ◌<◌, ◌||◌, Bool, true, false, List, [], ◌∷◌, codes, refl, sym, inl, inr, arith}
+use Rattle.std.specs.Prelude.{◌⊎◌}
 use Rattle.std.specs.Cmp.Lexicographic.{same_text}
 use Rattle.std.specs.Fmt.{decimal, digits}
 use Rattle.std.proofs.lemmas.Fmt.{decimal_injective}
 use Rattle.tc_script.specs.Verbs.{same}
+use Rattle.tc_script.specs.Fits.{is_one_of}
 
 pub word_is : (a b : List ℕ) → same a b ≡ true → a ≡ b
 word_is a b is = same_text a b (sym is)
+
+-- a word is one of these
+abbrev pub IsAny : List ℕ → List (List ℕ) → Type 0
+IsAny word [] = ⊥
+IsAny word (name ∷ names) = (word ≡ name) ⊎ IsAny word names
+
+pub any_of : (names : List (List ℕ)) (word : List ℕ) → is_one_of names word ≡ true → IsAny word names
+any_of [] word is = cc
+any_of (name ∷ names) word is = by_first (same word name) refl is (any_of names word)
+  where
+    by_first : (first : Bool) → same word name ≡ first → (first || is_one_of names word) ≡ true → (is_one_of names word ≡ true → IsAny word names) → (word ≡ name) ⊎ IsAny word names
+    by_first true equal is later = inl (word_is word name equal)
+    by_first false equal is later = inr (later is)
 
 -- the decimals of the on-board schedule's service and subtypes
 pub decimal_1 : decimal 1 ≡ codes "1"

@@ -11,8 +11,7 @@ use Rattle.tc_script.specs.declared.slots.Slot.TheVariants as slot
 use Rattle.tc_script.specs.Slots.{behind}
 use Rattle.tc_script.specs.Fits.{Fits}
 use Rattle.tc_script.specs.Faults.{Blames, Follow, IsTaken, IsWrong, NoneBegins, Tells, line_words}
-use Rattle.tc_script.proofs.Followed.{taken_follows}
-use Rattle.tc_script.proofs.Taken.{follow_taken}
+use Rattle.tc_script.proofs.LineWords.{follow_taken, taken_follows}
 
 -- words that are judged from this place on, behind some of a line's
 pub record StandAt (which : ℕ) (at : Option Slot) (left all : List (List ℕ)) : Type 0 where

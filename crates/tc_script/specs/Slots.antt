@@ -5,49 +5,12 @@ use Rattle.tc_types.specs.Words.{words}
 use Rattle.tc_script.specs.declared.sorts.Sort.TheVariants.{Insert, Delete, Shift, ShiftAll, Schedule, Other}
 use Rattle.tc_script.specs.declared.slots.Slot.{Slot}
 use Rattle.tc_script.specs.declared.slots.Slot.TheVariants as slot
-use Rattle.tc_script.specs.declared.verbs.Verb.{Verb}
-use Rattle.tc_script.specs.declared.verbs.Verb.TheVariants as verb
 use Rattle.tc_script.specs.Sorts.{is_schedule_sort, is_scheduling, sort_of}
-use Rattle.tc_script.specs.Verbs.{same, verb_in}
+use Rattle.tc_script.specs.Verbs.{first_slot, same, verb_in}
 
 -- what stands between the semicolons of a word
 abbrev pub parts : List ℕ → List (List ℕ)
 parts word = words 59 word
-
--- what stands behind a verb; none where the line ends there
-abbrev pub first_slot : Verb → Option Slot
-first_slot verb.Enter = Some slot.Apid
-first_slot verb.Withdraw = Some slot.Request
-first_slot verb.Approve = Some slot.Request
-first_slot verb.Close = Some slot.Request
-first_slot verb.ApproveStack = Some slot.Name
-first_slot verb.Begin = Some slot.Name
-first_slot verb.Step = Some slot.StepOf
-first_slot verb.Release = Some slot.Request
-first_slot verb.Initiate = Some slot.Initiation
-first_slot verb.Terminate = None
-first_slot verb.Set = Some slot.Setting
-first_slot verb.Tick = None
-first_slot verb.Up = None
-first_slot verb.LoseUp = Some slot.Item
-first_slot verb.LoseDown = Some slot.Item
-first_slot verb.Clcw = None
-first_slot verb.Down = None
-first_slot verb.Work = None
-first_slot verb.Clock = Some slot.Time
-first_slot verb.Places = None
-first_slot verb.History = Some slot.HistoryOf
-first_slot verb.Request = Some slot.Request
-first_slot verb.Link = None
-first_slot verb.Schedule = None
-first_slot verb.Log = Some slot.Execution
-first_slot verb.Report = Some slot.From
-first_slot verb.Waiting = None
-first_slot verb.Moves = Some slot.After
-first_slot verb.Standing = Some slot.StandingAt
-first_slot verb.Steps = Some slot.Name
-first_slot verb.Stack = Some slot.NewName
-first_slot verb.Procedure = Some slot.NewName
 
 abbrev pub behind_initiation : List ℕ → Option Slot
 behind_initiation word = if same word (codes "setvr") then Some slot.Counter else None

@@ -1,45 +1,11 @@
 //! What stands behind a word.
 ghost use Rattle.std.specs.Prelude.{◌≡◌};
-ghost use Rattle.tc_script.specs.Slots.{behind, behind_entry, behind_initiation, behind_setting, completes, first_slot};
+ghost use Rattle.tc_script.specs.Slots.{behind, behind_entry, behind_initiation, behind_setting, completes};
 
 use crate::lists::count_parts;
 use crate::slots::Slot;
 use crate::sorts::Sort;
 use crate::verbs::{Verb, same};
-
-/// What stands behind a verb; `None` where the line ends there.
-fn first_slot(verb: Verb) -> Option<Slot>
-    ensures { result ≡ first_slot verb }
-{
-    match verb {
-        Verb::Enter => Some(Slot::Apid),
-        Verb::Withdraw | Verb::Approve | Verb::Close | Verb::Release | Verb::Request => {
-            Some(Slot::Request)
-        }
-        Verb::ApproveStack | Verb::Begin | Verb::Steps => Some(Slot::Name),
-        Verb::Step => Some(Slot::StepOf),
-        Verb::Initiate => Some(Slot::Initiation),
-        Verb::Set => Some(Slot::Setting),
-        Verb::LoseUp | Verb::LoseDown => Some(Slot::Item),
-        Verb::Clock => Some(Slot::Time),
-        Verb::History => Some(Slot::HistoryOf),
-        Verb::Moves => Some(Slot::After),
-        Verb::Standing => Some(Slot::StandingAt),
-        Verb::Log => Some(Slot::Execution),
-        Verb::Report => Some(Slot::From),
-        Verb::Stack | Verb::Procedure => Some(Slot::NewName),
-        Verb::Terminate
-        | Verb::Tick
-        | Verb::Up
-        | Verb::Clcw
-        | Verb::Down
-        | Verb::Work
-        | Verb::Places
-        | Verb::Link
-        | Verb::Schedule
-        | Verb::Waiting => None,
-    }
-}
 
 /// What stands behind `initiate` and this word.
 fn behind_initiation(word: &[u8]) -> Option<Slot>
@@ -110,7 +76,7 @@ pub(crate) fn behind(slot: Slot, word: &[u8]) -> Option<Slot>
     match slot {
         Slot::Moment => Some(Slot::Person),
         Slot::Person => Some(Slot::Verb),
-        Slot::Verb => first_slot(Verb::read(word)?),
+        Slot::Verb => Verb::read(word)?.first_slot(),
         Slot::HistoryOf => Some(Slot::After),
         Slot::StandingAt => Some(Slot::Past),
         Slot::StepOf => Some(Slot::Step),

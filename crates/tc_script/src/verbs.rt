@@ -1,6 +1,8 @@
-//! The first words of acts, questions and loads.
+//! The first words of acts, questions and loads, and what stands behind each.
 ghost use Rattle.std.specs.Prelude.{◌≡◌};
-ghost use Rattle.tc_script.specs.Verbs.{same, verb_in, verb_word};
+ghost use Rattle.tc_script.specs.Verbs.{first_slot, same, verb_in, verb_word};
+
+use crate::slots::Slot;
 
 /// What an act, a question or a load begins with.
 #[derive(Clone, Copy, Debug, PartialEq, Eq)]
@@ -152,6 +154,40 @@ impl Verb {
             Verb::Steps => "steps",
             Verb::Stack => "stack",
             Verb::Procedure => "procedure",
+        }
+    }
+
+    /// What stands behind it; `None` where the line ends there.
+    pub(crate) fn first_slot(self) -> Option<Slot>
+        ensures { result ≡ first_slot self }
+    {
+        match self {
+            Verb::Enter => Some(Slot::Apid),
+            Verb::Withdraw | Verb::Approve | Verb::Close | Verb::Release | Verb::Request => {
+                Some(Slot::Request)
+            }
+            Verb::ApproveStack | Verb::Begin | Verb::Steps => Some(Slot::Name),
+            Verb::Step => Some(Slot::StepOf),
+            Verb::Initiate => Some(Slot::Initiation),
+            Verb::Set => Some(Slot::Setting),
+            Verb::LoseUp | Verb::LoseDown => Some(Slot::Item),
+            Verb::Clock => Some(Slot::Time),
+            Verb::History => Some(Slot::HistoryOf),
+            Verb::Moves => Some(Slot::After),
+            Verb::Standing => Some(Slot::StandingAt),
+            Verb::Log => Some(Slot::Execution),
+            Verb::Report => Some(Slot::From),
+            Verb::Stack | Verb::Procedure => Some(Slot::NewName),
+            Verb::Terminate
+            | Verb::Tick
+            | Verb::Up
+            | Verb::Clcw
+            | Verb::Down
+            | Verb::Work
+            | Verb::Places
+            | Verb::Link
+            | Verb::Schedule
+            | Verb::Waiting => None,
         }
     }
 

@@ -13,6 +13,9 @@ use Rattle.sqlite_sql.specs.Ops.{binary, is_true, from_truth}
 use Rattle.sqlite_tied.specs.Compute.{everything}
 use Rattle.sqlite.specs.Listing.{understood, listing_schema}
 use Rattle.sqlite.specs.State.{State, Shown}
+use Rattle.tc_store.specs.Ledgers.{newest}
+use Rattle.tc_store.specs.declared.versions.Layout.TheVariants.{Made, Copied}
+use Rattle.tc_store.specs.declared.versions.Layout.{Layout}
 use Rattle.tc_store.specs.Ledgers.{KeptAnswer, Ledger, reply_at}
 use Rattle.tc_store.specs.declared.versions.Version.{Version}
 use Rattle.tc_store.specs.declared.versions.Version.TheVariants.{First, Second, Third}
@@ -21,20 +24,33 @@ use Rattle.tc_sql.proofs.Appends.{shown_numbered}
 use Rattle.tc_sql.proofs.Changes.{matches_at}
 use Rattle.tc_sql.proofs.Selects.{equal_numbers, listed}
 use Rattle.tc_store.specs.Replies.{reply_tree, reply_values, find_text, find_tests, find_columns}
-use Rattle.tc_store.specs.Schema.{schema_of, newest_schema, contents, Holds}
+use Rattle.tc_store.specs.Schema.{schema_of, contents, Holds, layout_in}
 use Rattle.tc_store.specs.Reads.{IsQuiet}
 use Rattle.tc_store.specs.Shows.{shown_of}
+use Rattle.tc_store.proofs.ReplyLemmas.{reply_rows}
 
-pub find_is : ListsFrom newest_schema reply_tree find_text find_tests find_columns no_limit
+pub find_is : (layout : Layout) → ListsFrom (schema_of layout newest) (reply_tree layout) find_text find_tests find_columns no_limit
 unfolding understood everything
-find_is = record { names = _; command = refl; plain = (refl, refl); unlisted = refl }
+find_is Made = record { names = _; command = refl; plain = (refl, refl); unlisted = refl }
+find_is (Copied First) = record { names = _; command = refl; plain = (refl, refl); unlisted = refl }
+find_is (Copied Second) = record { names = _; command = refl; plain = (refl, refl); unlisted = refl }
+find_is (Copied Third) = record { names = _; command = refl; plain = (refl, refl); unlisted = refl }
 
 -- a version without the table does not understand it
-pub find_quiet : (version : Version) → IsQuiet (understood (schema_of version) find_text)
+pub find_quiet : (layout : Layout) (version : Version) → IsQuiet (understood (schema_of layout version) find_text)
 unfolding understood listing_schema everything
-find_quiet First = tt
-find_quiet Second = (refl, refl)
-find_quiet Third = (refl, refl)
+find_quiet Made First = tt
+find_quiet Made Second = (refl, refl)
+find_quiet Made Third = (refl, refl)
+find_quiet (Copied First) First = tt
+find_quiet (Copied First) Second = (refl, refl)
+find_quiet (Copied First) Third = (refl, refl)
+find_quiet (Copied Second) First = tt
+find_quiet (Copied Second) Second = (refl, refl)
+find_quiet (Copied Second) Third = (refl, refl)
+find_quiet (Copied Third) First = tt
+find_quiet (Copied Third) Second = (refl, refl)
+find_quiet (Copied Third) Third = (refl, refl)
 
 truth_of : (b : Bool) → is_true (from_truth (Some b)) ≡ b
 truth_of true = refl
@@ -61,9 +77,11 @@ rows_found : (person : List ℕ) (number : ℕ) (ledger : Ledger) (old new : Sta
     → rows ≡ map body_shown (filter (is_of person number) ledger.replies)
 rows_found person number ledger old new rows held h =
     let params = Text person ∷ Int (pos number) ∷ [] in
-    let at = matches_at old.now.trees reply_tree (contents ledger) held.rows refl in
-    listed reply_tree find_tests find_columns no_limit params newest_schema find_text old new held.schema find_is rows (subst IsTable (sym at.0) at.1) h
-    ∙ ap (λ all. map (shown_of find_columns) (filter (passes find_tests params) all)) at.0
+    let tree = reply_tree (layout_in old.now) in
+    let there = reply_rows Third ledger tt (layout_in old.now) in
+    let at = matches_at old.now.trees tree (contents (layout_in old.now) ledger) held.rows there.0 in
+    listed tree find_tests find_columns no_limit params (schema_of (layout_in old.now) newest) find_text old new held.schema (find_is (layout_in old.now)) rows (subst IsTable (sym at.0) at.1) h
+    ∙ ap (λ all. map (shown_of find_columns) (filter (passes find_tests params) all)) (at.0 ∙ there.1)
     ∙ shown_numbered reply_values body_shown (passes find_tests params) (is_of person number) (shown_of find_columns)
     (λ n k. ap₂ (λ a b. a && (b && true)) (equal_texts k.person person) (equal_numbers k.number number) ∙ both_true (bytes_eq k.person person) (k.number == number)) (λ n k. refl) 1 ledger.replies
 

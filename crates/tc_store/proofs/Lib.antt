@@ -1,4 +1,5 @@
 pub mod Rows
+pub mod LayoutLemmas
 pub mod SchemaLemmas
 pub mod MetaLemmas
 pub mod RequestLemmas

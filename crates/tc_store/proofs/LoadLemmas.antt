@@ -14,6 +14,7 @@ use Rattle.sqlite.specs.Held.{Held, state}
 use Rattle.sqlite.specs.declared.error.Error.{Error}
 use Rattle.sqlite.proofs.StateLemmas.{survives_then, survives_weaker}
 use Rattle.tc_types.specs.Tables.{Image}
+use Rattle.tc_store.specs.declared.versions.Layout.{Layout}
 use Rattle.tc_store.specs.declared.versions.Version.{Version}
 use Rattle.tc_store.specs.Ledgers.{Ledger}
 use Rattle.tc_sql.specs.Contents.{has_tree, rows_in}
@@ -21,7 +22,7 @@ use Rattle.tc_sql.specs.Numbered.{numbered_from, numbered}
 use Rattle.tc_sql.specs.Lists.{passes, no_limit, ListsFrom}
 use Rattle.tc_sql.proofs.Changes.{matches_at}
 use Rattle.tc_sql.proofs.Selects.{listed, listed_as}
-use Rattle.tc_store.specs.Schema.{schema_of, contents_of, HoldsAs}
+use Rattle.tc_store.specs.Schema.{schema_of, contents_of, HoldsAs, layout_in}
 use Rattle.tc_store.specs.Meta.{meta_tree, version_shown}
 use Rattle.tc_store.specs.Loads.{all_version_columns}
 use Rattle.tc_store.specs.Told.{IsTold, IsToldRequest, IsToldStep, IsToldRecord}
@@ -37,14 +38,14 @@ on_ok (Err e) P Q h f = tt
 
 module _ {S : Type 0} (g : Ghosts S) where
   pub stays_same : (held : Held S) → Stays g held held
-  stays_same held = record { same = λ version has. refl; holds = λ version ledger h. h }
+  stays_same held = record { same = λ layout version has. refl; holds = λ version ledger h. h }
 
   pub spares_same : (held : Held S) → Spares g held held
   spares_same held = record { kept = λ clean is_open version ledger h. h; crash = search rules; outside = λ h. h }
 
   pub stays_then : (old mid new : Held S) → Stays g old mid → Stays g mid new → Stays g old new
   stays_then old mid new one two =
-      record { same = λ version has. two.same version (ap (λ (db : Database). db.schema) (one.same version has) ∙ has) ∙ one.same version has; holds = λ version ledger h. two.holds version ledger (one.holds version ledger h) }
+      record { same = λ layout version has. two.same layout version (ap (λ (db : Database). db.schema) (one.same layout version has) ∙ has) ∙ one.same layout version has; holds = λ version ledger h. two.holds version ledger (one.holds version ledger h) }
 
   pub spares_then : (old mid new : Held S) → (HasCleanDisk (state g mid) → Stays g old mid) → Spares g old mid → Spares g mid new → Spares g old new
   spares_then old mid new stays one two = record {
@@ -60,13 +61,14 @@ module _ {S : Type 0} (g : Ghosts S) where
   clean_before it clean = omega (arith, clean, it.left.crash.clean)
 
   -- A call that reads, after another that was Ok: what both find is so of the database before the first. The two are as one call, so that a third can follow.
-  pub reads_then : {A B E : Type 0} {P : Version → Database → A → Type 0} {Q : Version → Database → B → Type 0} {old mid new : Held S} {x : A} {r : Result B E} → Reads {E = E} g (λ db a. (version : Version) → db.schema ≡ schema_of version → P version db a) old mid (Ok x)
-      → Reads g (λ db b. (version : Version) → db.schema ≡ schema_of version → Q version db b) mid new r → Reads g (λ db b. (version : Version) → db.schema ≡ schema_of version → P version db x × Q version db b) old new r
+  pub reads_then : {A B E : Type 0} {P : Layout → Version → Database → A → Type 0} {Q : Layout → Version → Database → B → Type 0} {old mid new : Held S} {x : A} {r : Result B E} → Reads {E = E} g (λ db a. (layout : Layout) (version : Version) → db.schema ≡ schema_of layout version → P layout version db a) old mid (Ok x)
+      → Reads g (λ db b. (layout : Layout) (version : Version) → db.schema ≡ schema_of layout version → Q layout version db b) mid new r → Reads g (λ db b. (layout : Layout) (version : Version) → db.schema ≡ schema_of layout version → P layout version db x × Q layout version db b) old new r
   reads_then {Q = Q} {old = old} {mid = mid} {new = new} {r = r} one two = record {
     finds = λ clean.
         let before = clean_before two clean in
-        if_ok r _ _ (two.finds clean) (λ b shows version has.
-        let there = (one.same before).same version has in (one.finds before version has, subst (λ (db : Database). Q version db b) there (shows version (ap (λ (db : Database). db.schema) there ∙ has))));
+        if_ok r _ _ (two.finds clean) (λ b shows layout version has.
+        let there = (one.same before).same layout version has in
+        (one.finds before layout version has, subst (λ (db : Database). Q layout version db b) there (shows layout version (ap (λ (db : Database). db.schema) there ∙ has))));
     same = λ clean. on_ok r _ _ (two.same clean) (stays_then old mid new (one.same (clean_before two clean)));
     left = spares_then old mid new one.same one.left two.left;
   }
@@ -89,7 +91,7 @@ module _ {S : Type 0} (g : Ghosts S) where
     outside = it.left.outside;
   }
 
-  module _ (text : List ℕ) (all : (version : Version) → IsQuiet (understood (schema_of version) text)) (params : Row) (old new : Held S) where
+  module _ (text : List ℕ) (all : (layout : Layout) (version : Version) → IsQuiet (understood (schema_of layout version) text)) (params : Row) (old new : Held S) where
     quiet : Survives (state g old) (state g new) (CommitsShowing text params (state g old)) → Survives (state g old) (state g new) (λ _. (version : Version) (ledger : Ledger) → HoldsAs version (state g old).now ledger → ⊥)
     quiet =
         survives_weaker (state g old) (state g new) (CommitsShowing text params (state g old)) (λ _. (version : Version) (ledger : Ledger) → HoldsAs version (state g old).now ledger → ⊥)
@@ -97,7 +99,7 @@ module _ {S : Type 0} (g : Ghosts S) where
 
     pub stays_after : (rows : List Row) → Shown text params (state g old) (state g new) rows → Stays g old new
     stays_after rows h = record {
-      same = λ version has. still_same text all params (state g old) (state g new) version has rows h;
+      same = λ layout version has. still_same text all params (state g old) (state g new) layout version has rows h;
       holds = λ version ledger held. still_holds text all params (state g old) (state g new) version ledger held rows h;
     }
 
@@ -128,12 +130,14 @@ abbrev shown_of : List Term → Row → Row
 shown_of columns r = eval_all columns ([] ∷ r ∷ [])
 
 -- a table whose key is a number
-pub rows_keyed : {X : Type 0} (tree : ℕ) (columns : List Term) (row shown : X → Row) (text : List ℕ) → ((version : Version) → ListsFrom (schema_of version) tree text [] columns no_limit) → (xs : List X) (version : Version) (ledger : Ledger) (old new : State)
-    → (rows : List Row) → has_tree tree (contents_of version ledger.image ledger.replies) ≡ true → rows_in tree (contents_of version ledger.image ledger.replies) ≡ map row xs → ((x : X) → shown_of columns (row x) ≡ shown x) → HoldsAs version old.now ledger → Shown text [] old new rows → rows ≡ map shown xs
+pub rows_keyed : {X : Type 0} (tree : Layout → ℕ) (columns : List Term) (row shown : X → Row) (text : List ℕ) → ((layout : Layout) (version : Version) → ListsFrom (schema_of layout version) (tree layout) text [] columns no_limit)
+    → (xs : List X) (version : Version) (ledger : Ledger) (old new : State) (rows : List Row) → ((layout : Layout) → has_tree (tree layout) (contents_of layout version ledger.image ledger.replies) ≡ true)
+    → ((layout : Layout) → rows_in (tree layout) (contents_of layout version ledger.image ledger.replies) ≡ map row xs) → ((x : X) → shown_of columns (row x) ≡ shown x) → HoldsAs version old.now ledger → Shown text [] old new rows
+    → rows ≡ map shown xs
 rows_keyed tree columns row shown text lists xs version ledger old new rows named is showed held h =
-    let at = rising tree row xs version ledger old held named is in
-    listed tree [] columns no_limit [] (schema_of version) text old new held.schema (lists version) rows at.1 h
-    ∙ listed_as tree [] columns no_limit [] row shown (λ x. true) xs old.now.trees at.0 (λ x. refl) showed
+    let at = rising (tree (layout_in old.now)) row xs version ledger old held (named (layout_in old.now)) (is (layout_in old.now)) in
+    listed (tree (layout_in old.now)) [] columns no_limit [] (schema_of (layout_in old.now) version) text old new held.schema (lists (layout_in old.now) version) rows at.1 h
+    ∙ listed_as (tree (layout_in old.now)) [] columns no_limit [] row shown (λ x. true) xs old.now.trees at.0 (λ x. refl) showed
     ∙ ap (map shown) (filter_true xs)
 
 -- one whose rows are numbered in the order in which they came
@@ -142,20 +146,22 @@ shown_numbered : {X : Type 0} (columns : List Term) (values : X → Row) → ((n
 shown_numbered columns values showed n [] = refl
 shown_numbered columns values showed n (x ∷ xs) = ap₂ (λ a b. a ∷ b) (showed n x) (shown_numbered columns values showed (n + 1) xs)
 
-pub rows_numbered_in : {X : Type 0} (tree : ℕ) (columns : List Term) (values : X → Row) (text : List ℕ) (xs : List X) (version : Version) → ListsFrom (schema_of version) tree text [] columns no_limit → (ledger : Ledger) (old new : State) (rows : List Row)
-    → has_tree tree (contents_of version ledger.image ledger.replies) ≡ true → rows_in tree (contents_of version ledger.image ledger.replies) ≡ numbered (map values xs) → ((n : ℕ) (x : X) → shown_of columns (Int (pos n) ∷ values x) ≡ values x)
+pub rows_numbered_in : {X : Type 0} (tree : Layout → ℕ) (columns : List Term) (values : X → Row) (text : List ℕ) (xs : List X) (version : Version) → ((layout : Layout) → ListsFrom (schema_of layout version) (tree layout) text [] columns no_limit)
+    → (ledger : Ledger) (old new : State) (rows : List Row) → ((layout : Layout) → has_tree (tree layout) (contents_of layout version ledger.image ledger.replies) ≡ true)
+    → ((layout : Layout) → rows_in (tree layout) (contents_of layout version ledger.image ledger.replies) ≡ numbered (map values xs)) → ((n : ℕ) (x : X) → shown_of columns (Int (pos n) ∷ values x) ≡ values x)
     → HoldsAs version old.now ledger → Shown text [] old new rows → rows ≡ map values xs
 rows_numbered_in tree columns values text xs version lists ledger old new rows named is showed held h =
-    let at = matches_at old.now.trees tree (contents_of version ledger.image ledger.replies) held.rows named in
-    listed tree [] columns no_limit [] (schema_of version) text old new held.schema lists rows (subst IsTable (sym at.0) at.1) h
-    ∙ ap (λ all. map (shown_of columns) (filter (passes [] []) all)) (at.0 ∙ is)
+    let at = matches_at old.now.trees (tree (layout_in old.now)) (contents_of (layout_in old.now) version ledger.image ledger.replies) held.rows (named (layout_in old.now)) in
+    listed (tree (layout_in old.now)) [] columns no_limit [] (schema_of (layout_in old.now) version) text old new held.schema (lists (layout_in old.now)) rows (subst IsTable (sym at.0) at.1) h
+    ∙ ap (λ all. map (shown_of columns) (filter (passes [] []) all)) (at.0 ∙ is (layout_in old.now))
     ∙ shown_numbered columns values showed 1 xs
 
 -- so it is in each version, where each has the table
-pub rows_numbered : {X : Type 0} (tree : ℕ) (columns : List Term) (values : X → Row) (text : List ℕ) → ((version : Version) → ListsFrom (schema_of version) tree text [] columns no_limit) → (xs : List X) (version : Version) (ledger : Ledger) (old new : State)
-    → (rows : List Row) → has_tree tree (contents_of version ledger.image ledger.replies) ≡ true → rows_in tree (contents_of version ledger.image ledger.replies) ≡ numbered (map values xs) → ((n : ℕ) (x : X) → shown_of columns (Int (pos n) ∷ values x) ≡ values x)
+pub rows_numbered : {X : Type 0} (tree : Layout → ℕ) (columns : List Term) (values : X → Row) (text : List ℕ) → ((layout : Layout) (version : Version) → ListsFrom (schema_of layout version) (tree layout) text [] columns no_limit)
+    → (xs : List X) (version : Version) (ledger : Ledger) (old new : State) (rows : List Row) → ((layout : Layout) → has_tree (tree layout) (contents_of layout version ledger.image ledger.replies) ≡ true)
+    → ((layout : Layout) → rows_in (tree layout) (contents_of layout version ledger.image ledger.replies) ≡ numbered (map values xs)) → ((n : ℕ) (x : X) → shown_of columns (Int (pos n) ∷ values x) ≡ values x)
     → HoldsAs version old.now ledger → Shown text [] old new rows → rows ≡ map values xs
-rows_numbered tree columns values text lists xs version = rows_numbered_in tree columns values text xs version (lists version)
+rows_numbered tree columns values text lists xs version = rows_numbered_in tree columns values text xs version (λ layout. lists layout version)
 
 -- one row more was read
 pub all_at : {X : Type 0} (P : X → Type 0) (xs : List X) (k : ℕ) (d : X) → k < length xs → AllByRecursion P xs → P (get_or xs k d)
@@ -176,10 +182,10 @@ all_told [] = tt
 all_told (x ∷ xs) = (tt, all_told xs)
 
 -- what was read of requests, of stacks and of procedures is one image
-pub joined : (of : Version) (db : Database) → ShowsRows (db.trees meta_tree) all_version_columns (version_shown of ∷ [])
-    → ((a : Image) × ShowsRequests of db a.requests a.moves a.tallies a.approvals a.cargo × AllByRecursion IsToldRequest a.requests) → ((b : Image) × ShowsStacks db b.stacks b.stack_approvals)
-    → ((c : Image) × ShowsProcedures db c.procedures c.steps c.executions c.records × AllByRecursion IsToldStep c.steps × AllByRecursion IsToldRecord c.records) → AreJudged of db → (image : Image) × ShowsAll of db image × IsTold image
-joined of db version a b c judged =
+pub joined : (layout : Layout) (of : Version) (db : Database) → ShowsRows (db.trees meta_tree) all_version_columns (version_shown of ∷ [])
+    → ((a : Image) × ShowsRequests layout of db a.requests a.moves a.tallies a.approvals a.cargo × AllByRecursion IsToldRequest a.requests) → ((b : Image) × ShowsStacks layout db b.stacks b.stack_approvals)
+    → ((c : Image) × ShowsProcedures layout db c.procedures c.steps c.executions c.records × AllByRecursion IsToldStep c.steps × AllByRecursion IsToldRecord c.records) → AreJudged layout of db → (image : Image) × ShowsAll layout of db image × IsTold image
+joined layout of db version a b c judged =
     let image : Image = record {
       requests = a.0.requests;
       moves = a.0.moves;
@@ -193,6 +199,6 @@ joined of db version a b c judged =
       records = c.0.records;
       cargo = a.0.cargo;
     } in
-    let shows : ShowsAll of db image = record { version = version; requests = a.1; stacks = b.1; procedures = c.1; replies = judged } in
+    let shows : ShowsAll layout of db image = record { version = version; requests = a.1; stacks = b.1; procedures = c.1; replies = judged } in
     let told : IsTold image = record { requests = a.2; steps = c.2; records = c.3 } in
     (image, shows, told)

@@ -29,6 +29,8 @@ use Rattle.sqlite.specs.State.{State, mode_of, Executes}
 use Rattle.sqlite.specs.Held.{Held, state}
 use Rattle.sqlite.specs.declared.error.Error.{Error}
 use Rattle.sqlite.proofs.Callers.{command_of, statement_of, runs_as, one_step}
+use Rattle.tc_store.specs.declared.versions.Layout.TheVariants.{Made, Copied}
+use Rattle.tc_store.specs.declared.versions.Layout.{Layout}
 use Rattle.tc_store.specs.declared.versions.Version.{Version}
 use Rattle.tc_store.specs.declared.versions.Version.TheVariants.{First, Second, Third}
 use Rattle.tc_store.specs.Ledgers.{Ledger, newest}
@@ -45,8 +47,9 @@ use Rattle.tc_store.specs.Meta.{meta_tree, meta_form, meta_update, version_row, 
 use Rattle.tc_store.specs.Replies.{reply_tree, reply_values}
 use Rattle.tc_store.specs.Cargo.{cargo_tree, cargo_values}
 use Rattle.tc_sql.specs.Numbered.{numbered}
-use Rattle.tc_store.specs.Schema.{missing_texts, schema_of, newest_schema, contents_of, contents, HoldsAs}
+use Rattle.tc_store.specs.Schema.{missing_texts, schema_of, contents_of, contents, Lacks, HoldsAs, Holds, layout_in}
 use Rattle.tc_store.specs.Steps.{Ran, AreOf, IsFilled, Defined, Migrated}
+use Rattle.tc_store.proofs.LayoutLemmas.{told_layout, in_each, still_fits, holds_in}
 use Rattle.tc_store.proofs.SchemaLemmas.{built_from}
 use Rattle.tc_store.proofs.StepLemmas.{goes_then}
 
@@ -55,17 +58,23 @@ use Rattle.tc_store.proofs.StepLemmas.{goes_then}
 abbrev program : Program
 program = record { lets = []; body = update_query }
 
-update_is : command_of (understood newest_schema meta_update) ≡ Update 0 program
+update_is : (layout : Layout) → command_of (understood (schema_of layout newest) meta_update) ≡ Update 0 program
 unfolding understood everything
-update_is = refl
+update_is Made = refl
+update_is (Copied First) = refl
+update_is (Copied Second) = refl
+update_is (Copied Third) = refl
 
-update_plain : IsPlain (understood newest_schema meta_update)
+update_plain : (layout : Layout) → IsPlain (understood (schema_of layout newest) meta_update)
 unfolding understood everything
-update_plain = (refl, refl)
+update_plain Made = (refl, refl)
+update_plain (Copied First) = (refl, refl)
+update_plain (Copied Second) = (refl, refl)
+update_plain (Copied Third) = (refl, refl)
 
-quiet : (olds news : List Row) → works newest_schema Enforced 0 meta_tree olds news ≡ []
+quiet : (layout : Layout) (olds news : List Row) → works (schema_of layout newest) Enforced 0 meta_tree olds news ≡ []
 unfolding understood everything
-quiet olds news = refl
+quiet layout olds news = refl
 
 -- the row of each version is found
 found : (from : Version) → filter (passes update_query.filter []) (version_row from ∷ []) ≡ version_row from ∷ []
@@ -103,26 +112,27 @@ gone_there First = refl
 gone_there Second = refl
 gone_there Third = refl
 
-updates : (from : Version) (old new : State) (count : ℕ) → old.now.schema ≡ newest_schema → old.now.trees meta_tree ≡ version_row from ∷ [] → Executes meta_update [] old new (Ok count)
+updates : (layout : Layout) (from : Version) (old new : State) (count : ℕ) → old.now.schema ≡ schema_of layout newest → old.now.trees meta_tree ≡ version_row from ∷ [] → Executes meta_update [] old new (Ok count)
     → HasPut meta_tree (version_row newest) old.now new.now
-updates from old new count has held h =
+updates layout from old new count has held h =
+    let schema = schema_of layout newest in
     let db = old.now.trees in
     let table = table_of meta_form meta_tree in
-    let task : Task = record { limit = old.step_limit; keys = Enforced; schema = newest_schema; table = table; params = [] } in
+    let task : Task = record { limit = old.step_limit; keys = Enforced; schema = schema; table = table; params = [] } in
     let command = Update 0 program in
-    let w = runs_as meta_update [] old new newest_schema has command update_is update_plain count h in
-    let placed = subst (λ s. Does old.step_limit (mode_of old) [] (record old.now { schema = s }) (statement_of meta_update (understood newest_schema meta_update)) None command (Ok (w.tally, new.now))) has w.changed in
+    let w = runs_as meta_update [] old new schema has command (update_is layout) (update_plain layout) count h in
+    let placed = subst (λ s. Does old.step_limit (mode_of old) [] (record old.now { schema = s }) (statement_of meta_update (understood schema meta_update)) None command (Ok (w.tally, new.now))) has w.changed in
     let done : OnRows task (mode_of old) None command db (Ok (w.tally, new.now)) = placed in
     let whole = went done in
     let queried = went whole.1 in
     let shows : queried.0 ≡ (Int (pos 1) ∷ version_row newest) ∷ [] = answers db queried.0 from (queried.1.answer Null) held in
     let put = went queried.2 in
     let edit = edit_of db table (ids_of queried.0) Given 1 queried.0 in
-    let step = one_step newest_schema Enforced db put.0 edit (quiet (taken_by db edit) edit.news) put.1 in
+    let step = one_step schema Enforced db put.0 edit (quiet layout (taken_by db edit) edit.news) put.1 in
     let rows : edited db edit ≡ put_row (version_row newest) (db meta_tree) =
     ap (λ all. edited db (edit_of db table (ids_of all) Given 1 all)) shows ∙ ap (λ v. put_row v (without_rowid (pos 1) (db meta_tree))) (cast_row_fits meta_form meta_tree (version_row newest) refl)
     ∙ ap (λ all. put_row (version_row newest) (without_rowid (pos 1) all)) held ∙ ap (put_row (version_row newest)) (gone_there from) ∙ put_there from ∙ ap (put_row (version_row newest)) (sym held) in
-    let now : new.now ≡ record { schema = newest_schema; trees = whole.0.trees } = ap (λ (p : Tally × Database). p.1) (same_value (went (went whole.2).2).2) in
+    let now : new.now ≡ record { schema = schema; trees = whole.0.trees } = ap (λ (p : Tally × Database). p.1) (same_value (went (went whole.2).2).2) in
     let trees : whole.0.trees ≡ put.0 = ap (λ (one : Written). one.trees) (same_value put.2) in
     let seen : new.now.trees ≡ put.0 = ap (λ (d : Database). d.trees) now ∙ trees in
     record {
@@ -135,67 +145,72 @@ updates from old new count has held h =
 -- ---- the tables
 
 -- what those of a version have when the missing ones stand behind them: all that the newest has, but for the version
-abbrev grown : Version → Ledger → Contents
-grown from ledger = (meta_tree, version_row from ∷ []) ∷ drop 1 (contents ledger)
+abbrev grown : Layout → Version → Ledger → Contents
+grown layout from ledger = (meta_tree, version_row from ∷ []) ∷ drop 1 (contents layout ledger)
 
 abbrev AreBlank : Contents → Type 0
 AreBlank more = AllByRecursion (λ (e : ℕ × List Row). e.1 ≡ []) more
 
 -- a table that was made behind, where there is no row of it
-no_replies : (e : ℕ × List Row) (ledger : Ledger) → e.0 ≡ reply_tree → e.1 ≡ [] → ledger.replies ≡ [] → e ≡ (reply_tree, numbered (map reply_values ledger.replies))
-no_replies e ledger tree blank none = λ i. (tree i, (blank ∙ ap (λ replies. numbered (map reply_values replies)) (sym none)) i)
+no_replies : (layout : Layout) (e : ℕ × List Row) (ledger : Ledger) → e.0 ≡ reply_tree layout → e.1 ≡ [] → ledger.replies ≡ [] → e ≡ (reply_tree layout, numbered (map reply_values ledger.replies))
+no_replies layout e ledger tree blank none = λ i. (tree i, (blank ∙ ap (λ replies. numbered (map reply_values replies)) (sym none)) i)
 
-no_cargo : (e : ℕ × List Row) (ledger : Ledger) → e.0 ≡ cargo_tree → e.1 ≡ [] → ledger.image.cargo ≡ [] → e ≡ (cargo_tree, numbered (map cargo_values ledger.image.cargo))
-no_cargo e ledger tree blank none = λ i. (tree i, (blank ∙ ap (λ cargo. numbered (map cargo_values cargo)) (sym none)) i)
+no_cargo : (layout : Layout) (e : ℕ × List Row) (ledger : Ledger) → e.0 ≡ cargo_tree layout → e.1 ≡ [] → ledger.image.cargo ≡ [] → e ≡ (cargo_tree layout, numbered (map cargo_values ledger.image.cargo))
+no_cargo layout e ledger tree blank none = λ i. (tree i, (blank ∙ ap (λ cargo. numbered (map cargo_values cargo)) (sym none)) i)
 
 -- those that were made behind are the newest's
-more_is : (from : Version) (ledger : Ledger) (more : Contents) (db : Database) → HoldsAs from db ledger → AreBlank more → AreOf newest_schema.tables (contents_of from ledger.image ledger.replies ++ more)
-    → contents_of from ledger.image ledger.replies ++ more ≡ grown from ledger
-more_is First ledger [] db held blank of = absurd of.1.1.1.1.1.1.1.1.1.1.1
-more_is First ledger (e ∷ []) db held blank of = absurd of.1.1.1.1.1.1.1.1.1.1.1.1
-more_is First ledger (e ∷ f ∷ []) db held blank of =
-    let replies = no_replies e ledger of.1.1.1.1.1.1.1.1.1.1.1.0 blank.0 held.lacks.0 in
-    let cargo = no_cargo f ledger of.1.1.1.1.1.1.1.1.1.1.1.1.0 blank.1.0 held.lacks.1 in
-    λ i. contents_of First ledger.image ledger.replies ++ replies i ∷ cargo i ∷ []
-more_is First ledger (e ∷ f ∷ h ∷ more) db held blank of = absurd of.1.1.1.1.1.1.1.1.1.1.1.1.1
-more_is Second ledger [] db held blank of = absurd of.1.1.1.1.1.1.1.1.1.1.1.1
-more_is Second ledger (e ∷ []) db held blank of = ap (λ l. contents_of Second ledger.image ledger.replies ++ l ∷ []) (no_cargo e ledger of.1.1.1.1.1.1.1.1.1.1.1.1.0 blank.0 held.lacks)
-more_is Second ledger (e ∷ f ∷ more) db held blank of = absurd of.1.1.1.1.1.1.1.1.1.1.1.1.1
-more_is Third ledger [] db held blank of = refl
-more_is Third ledger (e ∷ more) db held blank of = absurd of.1.1.1.1.1.1.1.1.1.1.1.1.1
+more_is : (layout : Layout) (from : Version) (ledger : Ledger) (more : Contents) → Lacks from ledger.image ledger.replies → AreBlank more
+    → AreOf (schema_of layout newest).tables (contents_of layout from ledger.image ledger.replies ++ more) → contents_of layout from ledger.image ledger.replies ++ more ≡ grown layout from ledger
+more_is layout First ledger [] lacks blank of = absurd of.1.1.1.1.1.1.1.1.1.1.1
+more_is layout First ledger (e ∷ []) lacks blank of = absurd of.1.1.1.1.1.1.1.1.1.1.1.1
+more_is layout First ledger (e ∷ f ∷ []) lacks blank of =
+    let replies = no_replies layout e ledger of.1.1.1.1.1.1.1.1.1.1.1.0 blank.0 lacks.0 in
+    let cargo = no_cargo layout f ledger of.1.1.1.1.1.1.1.1.1.1.1.1.0 blank.1.0 lacks.1 in
+    λ i. contents_of layout First ledger.image ledger.replies ++ replies i ∷ cargo i ∷ []
+more_is layout First ledger (e ∷ f ∷ h ∷ more) lacks blank of = absurd of.1.1.1.1.1.1.1.1.1.1.1.1.1
+more_is layout Second ledger [] lacks blank of = absurd of.1.1.1.1.1.1.1.1.1.1.1.1
+more_is layout Second ledger (e ∷ []) lacks blank of = ap (λ l. contents_of layout Second ledger.image ledger.replies ++ l ∷ []) (no_cargo layout e ledger of.1.1.1.1.1.1.1.1.1.1.1.1.0 blank.0 lacks)
+more_is layout Second ledger (e ∷ f ∷ more) lacks blank of = absurd of.1.1.1.1.1.1.1.1.1.1.1.1.1
+more_is layout Third ledger [] lacks blank of = refl
+more_is layout Third ledger (e ∷ more) lacks blank of = absurd of.1.1.1.1.1.1.1.1.1.1.1.1.1
 
-all_of : (from : Version) (ledger : Ledger) → AreOf (schema_of from).tables (contents_of from ledger.image ledger.replies)
-all_of First ledger = (refl, (refl, (refl, (refl, (refl, (refl, (refl, (refl, (refl, (refl, (refl, tt)))))))))))
-all_of Second ledger = (refl, (refl, (refl, (refl, (refl, (refl, (refl, (refl, (refl, (refl, (refl, (refl, tt))))))))))))
-all_of Third ledger = (refl, (refl, (refl, (refl, (refl, (refl, (refl, (refl, (refl, (refl, (refl, (refl, (refl, tt)))))))))))))
+all_of : (layout : Layout) (from : Version) (ledger : Ledger) → AreOf (schema_of layout from).tables (contents_of layout from ledger.image ledger.replies)
+all_of layout First ledger = (refl, (refl, (refl, (refl, (refl, (refl, (refl, (refl, (refl, (refl, (refl, tt)))))))))))
+all_of layout Second ledger = (refl, (refl, (refl, (refl, (refl, (refl, (refl, (refl, (refl, (refl, (refl, (refl, tt))))))))))))
+all_of layout Third ledger = (refl, (refl, (refl, (refl, (refl, (refl, (refl, (refl, (refl, (refl, (refl, (refl, (refl, tt)))))))))))))
 
-named_newest : (from : Version) (ledger : Ledger) → with_rows meta_tree (version_row newest ∷ []) (grown from ledger) ≡ contents ledger
-named_newest from ledger = refl
+named_newest : (from : Version) (ledger : Ledger) (layout : Layout) → with_rows meta_tree (version_row newest ∷ []) (grown layout from ledger) ≡ contents layout ledger
+named_newest from ledger = in_each _ refl refl refl refl
 
-clear_grown : (from : Version) (ledger : Ledger) → are_tables newest_schema (grown from ledger) ≡ true
-clear_grown from ledger = refl
+clear_grown : (from : Version) (ledger : Ledger) (layout : Layout) → are_tables (schema_of layout newest) (grown layout from ledger) ≡ true
+clear_grown from ledger = in_each _ refl refl refl refl
+
+-- tables that became the newest's hold what they held, in the order in which they stood
+brought : {S : Type 0} (g : Ghosts S) (from : Version) (a b c : Held S) (count : ℕ) → Defined g (missing_texts from) a b → Ran g meta_update [] count b c → (ledger : Ledger) → HoldsAs from (state g a).now ledger
+    → Holds (state g c).now ledger × (layout_in (state g c).now ≡ layout_in (state g a).now)
+brought g from a b c count one h ledger held =
+    let old = (state g a).now in
+    let mid = (state g b).now in
+    let new = (state g c).now in
+    let layout = layout_in old in
+    let all = contents_of layout from ledger.image ledger.replies in
+    let filled : IsFilled old all = record { of = subst (λ (s : Schema). AreOf s.tables all) (sym held.schema) (all_of layout from ledger); rows = held.rows; sound = held.sound } in
+    let behind = one.behind (schema_of layout newest) all (subst (λ s. Builds s (missing_texts from) (schema_of layout newest)) (sym held.schema) (built_from layout from held.fits)) filled in
+    let is = more_is layout from ledger behind.more held.lacks behind.blank (subst (λ (s : Schema). AreOf s.tables (all ++ behind.more)) behind.schema behind.filled.of) in
+    let rows : Matches mid.trees (grown layout from ledger) = subst (Matches mid.trees) is behind.filled.rows in
+    let at = matches_at mid.trees meta_tree (grown layout from ledger) rows refl in
+    let put = updates layout from (state g b) (state g c) count behind.schema at.0 h.executes in
+    let fits = still_fits layout from held.fits in (
+      holds_in layout newest new ledger fits (put.schema ∙ behind.schema) (subst (Matches new.trees) (named_newest from ledger layout) (
+          matches_put meta_tree (version_row newest) (version_row newest ∷ []) mid new (grown layout from ledger) put (ap (λ s. are_tables s (grown layout from ledger)) behind.schema ∙ clear_grown from ledger layout)
+          (put_there from ∙ ap (put_row (version_row newest)) (sym at.0)) rows)) tt put.sound,
+      told_layout layout newest new.schema fits (put.schema ∙ behind.schema),
+    )
 
 pub migrated : {S : Type 0} (g : Ghosts S) (from : Version) (a b c : Held S) (r : Result ℕ Error) → Defined g (missing_texts from) a b → IfOk r (λ count. Ran g meta_update [] count b c) → OnOk r (Migrated g from a c)
 migrated g from a b c (Err e) one h = tt
 migrated g from a b c (Ok count) one h = record {
-  holds = λ ledger held.
-      let old = (state g a).now in
-      let mid = (state g b).now in
-      let new = (state g c).now in
-      let all = contents_of from ledger.image ledger.replies in
-      let filled : IsFilled old all = record { of = subst (λ (s : Schema). AreOf s.tables all) (sym held.schema) (all_of from ledger); rows = held.rows; sound = held.sound } in
-      let behind = one.behind newest_schema all (subst (λ s. Builds s (missing_texts from) newest_schema) (sym held.schema) (built_from from)) filled in
-      let is = more_is from ledger behind.more old held behind.blank (subst (λ (s : Schema). AreOf s.tables (all ++ behind.more)) behind.schema behind.filled.of) in
-      let rows : Matches mid.trees (grown from ledger) = subst (Matches mid.trees) is behind.filled.rows in
-      let at = matches_at mid.trees meta_tree (grown from ledger) rows refl in
-      let put = updates from (state g b) (state g c) count behind.schema at.0 h.executes in
-      record {
-        schema = put.schema ∙ behind.schema;
-        rows = subst (Matches new.trees) (named_newest from ledger) (
-            matches_put meta_tree (version_row newest) (version_row newest ∷ []) mid new (grown from ledger) put (ap (λ s. are_tables s (grown from ledger)) behind.schema ∙ clear_grown from ledger)
-            (put_there from ∙ ap (put_row (version_row newest)) (sym at.0)) rows);
-        lacks = tt;
-        sound = put.sound;
-      };
+  holds = λ ledger held. (brought g from a b c count one h ledger held).0;
+  order = λ ledger held. (brought g from a b c count one h ledger held).1;
   goes = goes_then g a b c one.goes h.goes;
 }

@@ -11,19 +11,20 @@ use Rattle.sqlite_resolve.specs.declared.error.CompileError.{CompileError}
 use Rattle.sqlite.specs.State.{State, Shown, FailsToQuery, IsNotRun, CommitsShowing}
 use Rattle.sqlite.proofs.Callers.{never_commits}
 use Rattle.sqlite.specs.declared.error.Error.{Error}
+use Rattle.tc_store.specs.declared.versions.Layout.{Layout}
 use Rattle.tc_store.specs.declared.versions.Version.{Version}
 use Rattle.tc_store.specs.Ledgers.{Ledger}
 use Rattle.tc_sql.specs.Contents.{has_tree, rows_in}
 use Rattle.tc_sql.proofs.Changes.{matches_at}
 use Rattle.tc_sql.proofs.Selects.{unchanged, fails_unchanged}
-use Rattle.tc_store.specs.Schema.{schema_of, contents_of, HoldsAs}
+use Rattle.tc_store.specs.Schema.{schema_of, contents_of, HoldsAs, layout_in}
 use Rattle.tc_store.specs.Reads.{IsQuiet}
 
 -- a table has the rows of the ledger, and their rowids rise
-pub rising : {X : Type 0} (tree : ℕ) (row : X → Row) (xs : List X) (version : Version) (ledger : Ledger) (s : State) → HoldsAs version s.now ledger → has_tree tree (contents_of version ledger.image ledger.replies) ≡ true → rows_in tree (contents_of version ledger.image ledger.replies) ≡ map row xs
+pub rising : {X : Type 0} (tree : ℕ) (row : X → Row) (xs : List X) (version : Version) (ledger : Ledger) (s : State) → (held : HoldsAs version s.now ledger) → has_tree tree (contents_of (layout_in s.now) version ledger.image ledger.replies) ≡ true → rows_in tree (contents_of (layout_in s.now) version ledger.image ledger.replies) ≡ map row xs
     → (s.now.trees tree ≡ map row xs) × IsTable (s.now.trees tree)
 rising tree row xs version ledger s held named is =
-    let at = matches_at s.now.trees tree (contents_of version ledger.image ledger.replies) held.rows named in
+    let at = matches_at s.now.trees tree (contents_of (layout_in s.now) version ledger.image ledger.replies) held.rows named in
     (at.0 ∙ is, subst IsTable (sym at.0) at.1)
 
 -- ---- a text that only reads
@@ -54,20 +55,20 @@ module _ (text : List ℕ) (params : Row) (schema : Schema) (quiet : IsQuiet (un
   none_committed db h = never_commits text params old db (subst (λ s. IsPlain (understood s text)) (sym has) (plain_of schema text h.0 (subst (λ s. understood s text ≡ Ok h.0) has h.1.is) quiet)) h
 
 -- tables of each version stay
-module _ (text : List ℕ) (quiet : (version : Version) → IsQuiet (understood (schema_of version) text)) (params : Row) (old new : State) where
-  pub still_same : (version : Version) → old.now.schema ≡ schema_of version → (rows : List Row) → Shown text params old new rows → new.now ≡ old.now
-  still_same version has rows h = same_after text params (schema_of version) (quiet version) old new has rows h
+module _ (text : List ℕ) (quiet : (layout : Layout) (version : Version) → IsQuiet (understood (schema_of layout version) text)) (params : Row) (old new : State) where
+  pub still_same : (layout : Layout) (version : Version) → old.now.schema ≡ schema_of layout version → (rows : List Row) → Shown text params old new rows → new.now ≡ old.now
+  still_same layout version has rows h = same_after text params (schema_of layout version) (quiet layout version) old new has rows h
 
   pub still_holds : (version : Version) (ledger : Ledger) → HoldsAs version old.now ledger → (rows : List Row) → Shown text params old new rows → HoldsAs version new.now ledger
-  still_holds version ledger held rows h = subst (λ d. HoldsAs version d ledger) (sym (still_same version held.schema rows h)) held
+  still_holds version ledger held rows h = subst (λ d. HoldsAs version d ledger) (sym (still_same (layout_in old.now) version held.schema rows h)) held
 
   -- a read that fails leaves the tables too, where the connection is open and no transaction was
   pub fails_holding : (version : Version) (ledger : Ledger) → HoldsAs version old.now ledger → (e : Error) → (IsTrue old.is_open → old.now ≡ old.committed) → FailsToQuery text params old new e → IsTrue new.is_open
       → HoldsAs version new.now ledger
-  fails_holding version ledger held e settled h stays = subst (λ d. HoldsAs version d ledger) (sym (same_failing text params (schema_of version) (quiet version) old new held.schema e settled h stays)) held
+  fails_holding version ledger held e settled h stays = subst (λ d. HoldsAs version d ledger) (sym (same_failing text params (schema_of (layout_in old.now) version) (quiet (layout_in old.now) version) old new held.schema e settled h stays)) held
 
   pub commits_none : (version : Version) (ledger : Ledger) → HoldsAs version old.now ledger → (db : Trees) → ¬ CommitsShowing text params old db
-  commits_none version ledger held db = none_committed text params (schema_of version) (quiet version) old new held.schema db
+  commits_none version ledger held db = none_committed text params (schema_of (layout_in old.now) version) (quiet (layout_in old.now) version) old new held.schema db
 
 pub if_ok : {T E : Type 0} (r : Result T E) (P Q : T → Type 0) → IfOk r P → ((x : T) → P x → Q x) → IfOk r Q
 if_ok (Ok x) P Q h f = f x h

@@ -10,6 +10,8 @@ use Rattle.sqlite_tied.specs.Compute.{everything}
 use Rattle.sqlite.specs.Effect.{Database}
 use Rattle.sqlite.specs.Listing.{understood, listing_schema}
 use Rattle.sqlite.specs.State.{State, Shown}
+use Rattle.tc_store.specs.declared.versions.Layout.TheVariants.{Made, Copied}
+use Rattle.tc_store.specs.declared.versions.Layout.{Layout}
 use Rattle.tc_store.specs.Ledgers.{KeptAnswer}
 use Rattle.tc_store.specs.declared.versions.Version.{Version}
 use Rattle.tc_store.specs.declared.versions.Version.TheVariants.{First, Second, Third}
@@ -23,27 +25,45 @@ use Rattle.tc_store.specs.Shows.{shown_of, as_number, number_of, IsNumbered, Are
 use Rattle.tc_store.proofs.ShowLemmas.{map_all}
 use Rattle.tc_store.proofs.NumberLemmas.{filter_on, passes_from, rest_of, all_left}
 
-reply_page_is : (version : Version) → HasReplies version → ListsFrom (schema_of version) reply_tree reply_page_text reply_page_tests reply_page_columns reply_page_limit
+reply_page_is : (layout : Layout) (version : Version) → HasReplies version → ListsFrom (schema_of layout version) (reply_tree layout) reply_page_text reply_page_tests reply_page_columns reply_page_limit
 unfolding understood everything
-reply_page_is First has = absurd has
-reply_page_is Second has = record { names = _; command = refl; plain = (refl, refl); unlisted = refl }
-reply_page_is Third has = record { names = _; command = refl; plain = (refl, refl); unlisted = refl }
+reply_page_is Made First has = absurd has
+reply_page_is Made Second has = record { names = _; command = refl; plain = (refl, refl); unlisted = refl }
+reply_page_is Made Third has = record { names = _; command = refl; plain = (refl, refl); unlisted = refl }
+reply_page_is (Copied First) First has = absurd has
+reply_page_is (Copied First) Second has = record { names = _; command = refl; plain = (refl, refl); unlisted = refl }
+reply_page_is (Copied First) Third has = record { names = _; command = refl; plain = (refl, refl); unlisted = refl }
+reply_page_is (Copied Second) First has = absurd has
+reply_page_is (Copied Second) Second has = record { names = _; command = refl; plain = (refl, refl); unlisted = refl }
+reply_page_is (Copied Second) Third has = record { names = _; command = refl; plain = (refl, refl); unlisted = refl }
+reply_page_is (Copied Third) First has = absurd has
+reply_page_is (Copied Third) Second has = record { names = _; command = refl; plain = (refl, refl); unlisted = refl }
+reply_page_is (Copied Third) Third has = record { names = _; command = refl; plain = (refl, refl); unlisted = refl }
 
 -- a version without the table does not understand it
-pub page_quiet : (version : Version) → IsQuiet (understood (schema_of version) reply_page_text)
+pub page_quiet : (layout : Layout) (version : Version) → IsQuiet (understood (schema_of layout version) reply_page_text)
 unfolding understood listing_schema everything
-page_quiet First = tt
-page_quiet Second = (refl, refl)
-page_quiet Third = (refl, refl)
+page_quiet Made First = tt
+page_quiet Made Second = (refl, refl)
+page_quiet Made Third = (refl, refl)
+page_quiet (Copied First) First = tt
+page_quiet (Copied First) Second = (refl, refl)
+page_quiet (Copied First) Third = (refl, refl)
+page_quiet (Copied Second) First = tt
+page_quiet (Copied Second) Second = (refl, refl)
+page_quiet (Copied Second) Third = (refl, refl)
+page_quiet (Copied Third) First = tt
+page_quiet (Copied Third) Second = (refl, refl)
+page_quiet (Copied Third) Third = (refl, refl)
 
-page_rows : (version : Version) → HasReplies version → (first : ℤ) (old new : State) (rows : List Row) → old.now.schema ≡ schema_of version → AreNumbered (old.now.trees reply_tree) → Shown reply_page_text (Int first ∷ []) old new rows
-    → rows ≡ take reply_page_size (map (shown_of reply_page_columns) (rows_from first (old.now.trees reply_tree)))
-page_rows version replies first old new rows has numbered h =
+page_rows : (layout : Layout) (version : Version) → HasReplies version → (first : ℤ) (old new : State) (rows : List Row) → old.now.schema ≡ schema_of layout version → AreNumbered (old.now.trees (reply_tree layout)) → Shown reply_page_text (Int first ∷ []) old new rows
+    → rows ≡ take reply_page_size (map (shown_of reply_page_columns) (rows_from first (old.now.trees (reply_tree layout))))
+page_rows layout version replies first old new rows has numbered h =
     let params = Int first ∷ [] in
-    listed reply_tree reply_page_tests reply_page_columns reply_page_limit params (schema_of version) reply_page_text old new has (reply_page_is version replies) rows numbered.rise h
-    ∙ paged reply_tree reply_page_tests reply_page_columns reply_page_limit params reply_page_size _ refl
+    listed (reply_tree layout) reply_page_tests reply_page_columns reply_page_limit params (schema_of layout version) reply_page_text old new has (reply_page_is layout version replies) rows numbered.rise h
+    ∙ paged (reply_tree layout) reply_page_tests reply_page_columns reply_page_limit params reply_page_size _ refl
     ∙ ap (λ l. take reply_page_size (map (shown_of reply_page_columns) l))
-    (filter_on (passes reply_page_tests params) (λ row. int_le first (number_of row)) IsNumbered (passes_from first) (old.now.trees reply_tree) numbered.whole)
+    (filter_on (passes reply_page_tests params) (λ row. int_le first (number_of row)) IsNumbered (passes_from first) (old.now.trees (reply_tree layout)) numbered.whole)
 
 -- these were judged, and those from a number on are left
 pub record AreJudgedTo (rows : List Row) (first : ℤ) : Type 0 where
@@ -70,19 +90,19 @@ at_of (r ∷ rows) (suc k) last got = at_of rows k last got
 next_of : (m n : ℤ) → int_le (m +ℤ pos 1) n ≡ int_lt m n
 next_of m n = grind (arith, ints)
 
-module _ (version : Version) (replies : HasReplies version) (first : ℤ) (was : Database) (old new : State) (page seen : List Row) (there : old.now ≡ was) (has : was.schema ≡ schema_of version) (numbered : AreNumbered (was.trees reply_tree))
-    (so_far : AreJudgedTo (was.trees reply_tree) first) (h : Shown reply_page_text (Int first ∷ []) old new page) (same : seen ≡ page)
+module _ (layout : Layout) (version : Version) (replies : HasReplies version) (first : ℤ) (was : Database) (old new : State) (page seen : List Row) (there : old.now ≡ was) (has : was.schema ≡ schema_of layout version) (numbered : AreNumbered (was.trees (reply_tree layout)))
+    (so_far : AreJudgedTo (was.trees (reply_tree layout)) first) (h : Shown reply_page_text (Int first ∷ []) old new page) (same : seen ≡ page)
     (judges : AllByRecursion (λ (row : Row). length row ≡ 4) seen → AllByRecursion (λ (row : Row). AreOfReply (drop 1 row)) seen) where
   abbrev rows : List Row
-  rows = was.trees reply_tree
+  rows = was.trees (reply_tree layout)
 
   abbrev taken : List Row
   taken = take reply_page_size (rows_from first rows)
 
   seen_is : seen ≡ map (shown_of reply_page_columns) taken
   seen_is =
-      same ∙ page_rows version replies first old new page (ap (λ (db : Database). db.schema) there ∙ has) (subst (λ (db : Database). AreNumbered (db.trees reply_tree)) (sym there) numbered) h
-      ∙ ap (λ (db : Database). take reply_page_size (map (shown_of reply_page_columns) (rows_from first (db.trees reply_tree)))) there ∙ take-map (shown_of reply_page_columns) reply_page_size (rows_from first rows)
+      same ∙ page_rows layout version replies first old new page (ap (λ (db : Database). db.schema) there ∙ has) (subst (λ (db : Database). AreNumbered (db.trees (reply_tree layout))) (sym there) numbered) h
+      ∙ ap (λ (db : Database). take reply_page_size (map (shown_of reply_page_columns) (rows_from first (db.trees (reply_tree layout))))) there ∙ take-map (shown_of reply_page_columns) reply_page_size (rows_from first rows)
 
   taken_judged : AllByRecursion IsReplyRow taken
   taken_judged =

@@ -18,6 +18,7 @@ use Rattle.sqlite.specs.State.{State, Shown}
 use Rattle.sqlite.proofs.Callers.{reads_as}
 use Rattle.tc_sql.specs.Lists.{listing, passes, no_limit, ListsFrom}
 use Rattle.tc_sql.proofs.Selects.{listed, kept_rows, overlay_none}
+use Rattle.tc_store.specs.declared.versions.Layout.{Layout}
 use Rattle.tc_store.specs.declared.versions.Version.{Version}
 use Rattle.tc_store.specs.Schema.{schema_of}
 use Rattle.tc_store.specs.Meta.{meta_tree, version_number, version_shown}
@@ -71,13 +72,13 @@ module _ (tree : ℕ) (columns : List Term) where
       let values : map (λ (o : Output). o.1) a.kept ≡ map (shown_of columns) (db tree) = ap (map (λ (o : Output). o.1)) kept ∙ map-map (λ (o : Output). o.1) (λ r. output shows (rowed r)) (db tree) in
       subst (λ l. IsPermutation l rows) values (subst (IsPermutation (map (λ (o : Output). o.1) a.kept)) (sym a.shown) (IsPermutation-map (λ (o : Output). o.1) a.kept a.ordered a.same))
 
-  pub all_shown : (version : Version) (text : List ℕ) (old new : State) → old.now.schema ≡ schema_of version → ListsFrom (schema_of version) tree text [] columns no_limit → (rows : List Row) → Shown text [] old new rows
+  pub all_shown : (layout : Layout) (version : Version) (text : List ℕ) (old new : State) → old.now.schema ≡ schema_of layout version → ListsFrom (schema_of layout version) tree text [] columns no_limit → (rows : List Row) → Shown text [] old new rows
       → ShowsRows (old.now.trees tree) columns rows
-  all_shown version text old new has it rows h =
-      let read = reads_as text [] old new (schema_of version) has (Select (record { lets = []; body = listing tree [] columns no_limit }) it.names) it.command it.plain it.unlisted rows h in
+  all_shown layout version text old new has it rows h =
+      let read = reads_as text [] old new (schema_of layout version) has (Select (record { lets = []; body = listing tree [] columns no_limit }) it.names) it.command it.plain it.unlisted rows h in
       record {
         all = any_order old.now.trees rows (read.answer Null);
-        order = λ table. listed tree [] columns no_limit [] (schema_of version) text old new has it rows table h ∙ ap (map (shown_of columns)) (filter_true (old.now.trees tree));
+        order = λ table. listed tree [] columns no_limit [] (schema_of layout version) text old new has it rows table h ∙ ap (map (shown_of columns)) (filter_true (old.now.trees tree));
       }
 
 -- so what is read of them are the rows of the table
@@ -89,20 +90,22 @@ map_all f P each (x ∷ xs) = (each x, map_all f P each xs)
 pub shown_wide : {X : Type 0} (columns : List Term) (shown : X → Row) → ((x : X) → length (shown x) ≡ length columns) → (rows : List Row) → AreWide shown (map (shown_of columns) rows)
 shown_wide columns shown wide rows = map_all (shown_of columns) _ (λ row x. length-map columns (λ t. eval t ([] ∷ row ∷ [])) ∙ sym (wide x)) rows
 
-pub table_shown_in : {X : Type 0} (tree : ℕ) (columns : List Term) (shown : X → Row) → ((x : X) → length (shown x) ≡ length columns) → (text : List ℕ) (version : Version) → ListsFrom (schema_of version) tree text [] columns no_limit
-    → (old new : State) (rows seen : List Row) (items : List X) → seen ≡ rows → (AreWide shown seen → seen ≡ map shown items) → Shown text [] old new rows → old.now.schema ≡ schema_of version
+pub table_shown_in : {X : Type 0} (tree : ℕ) (columns : List Term) (shown : X → Row) → ((x : X) → length (shown x) ≡ length columns) → (text : List ℕ) (layout : Layout) (version : Version) → ListsFrom (schema_of layout version) tree text [] columns no_limit
+    → (old new : State) (rows seen : List Row) (items : List X) → seen ≡ rows → (AreWide shown seen → seen ≡ map shown items) → Shown text [] old new rows → old.now.schema ≡ schema_of layout version
     → ShowsRows (old.now.trees tree) columns (map shown items)
-table_shown_in {X} tree columns shown wide text version it old new rows seen items same reads h has =
-    let all = all_shown tree columns version text old new has it rows h in
+table_shown_in {X} tree columns shown wide text layout version it old new rows seen items same reads h has =
+    let all = all_shown tree columns layout version text old new has it rows h in
     let P : Row → Type 0 = λ row. (x : X) → length row ≡ length (shown x) in
     let fits : AreWide shown rows = recursion_from_All P rows (All-permutation P (map (shown_of columns) (old.now.trees tree)) rows all.all (All-from_recursion P _ (shown_wide columns shown wide (old.now.trees tree)))) in
     subst (ShowsRows (old.now.trees tree) columns) (sym same ∙ reads (subst (AreWide shown) (sym same) fits)) all
 
 -- so it is in each version, where each has the table
-pub table_shown : {X : Type 0} (tree : ℕ) (columns : List Term) (shown : X → Row) → ((x : X) → length (shown x) ≡ length columns) → (text : List ℕ) → ((version : Version) → ListsFrom (schema_of version) tree text [] columns no_limit)
-    → (old new : State) (rows seen : List Row) (items : List X) → seen ≡ rows → (AreWide shown seen → seen ≡ map shown items) → Shown text [] old new rows → (version : Version) → old.now.schema ≡ schema_of version
-    → ShowsRows (old.now.trees tree) columns (map shown items)
-table_shown tree columns shown wide text it old new rows seen items same reads h version has = table_shown_in tree columns shown wide text version (it version) old new rows seen items same reads h has
+pub table_shown : {X : Type 0} (tree : Layout → ℕ) (columns : List Term) (shown : X → Row) → ((x : X) → length (shown x) ≡ length columns) → (text : List ℕ)
+    → ((layout : Layout) (version : Version) → ListsFrom (schema_of layout version) (tree layout) text [] columns no_limit) → (old new : State) (rows seen : List Row) (items : List X) → seen ≡ rows
+    → (AreWide shown seen → seen ≡ map shown items) → Shown text [] old new rows → (layout : Layout) (version : Version) → old.now.schema ≡ schema_of layout version
+    → ShowsRows (old.now.trees (tree layout)) columns (map shown items)
+table_shown tree columns shown wide text it old new rows seen items same reads h layout version has =
+    table_shown_in (tree layout) columns shown wide text layout version (it layout version) old new rows seen items same reads h has
 
 -- the one row of `meta`
 pub one_version : (of : Version) (rows : List Row) (d : Row) → length rows ≡ 1 → (column (get_or rows 0 d) 0 ≡ Text (codes "schema")) × (column (get_or rows 0 d) 1 ≡ Int (pos (version_number of))) → AllByRecursion (λ (row : Row). length row ≡ 2) rows
@@ -111,8 +114,9 @@ one_version of [] d long named wide = absurd (omega (arith, long))
 one_version of (row ∷ []) d long named wide = ap (λ r. r ∷ []) (whole_row row (version_shown of) wide.0 (named.0, (named.1, tt)))
 one_version of (row ∷ other ∷ rows) d long named wide = absurd (omega (arith, long))
 
-pub version_is : (of : Version) (old new : State) (rows seen : List Row) → seen ≡ rows → (AllByRecursion (λ (row : Row). length row ≡ 2) seen → seen ≡ version_shown of ∷ []) → Shown all_version_text [] old new rows → (version : Version) → old.now.schema ≡ schema_of version
+pub version_is : (of : Version) (old new : State) (rows seen : List Row) → seen ≡ rows → (AllByRecursion (λ (row : Row). length row ≡ 2) seen → seen ≡ version_shown of ∷ []) → Shown all_version_text [] old new rows → (layout : Layout) (version : Version)
+    → old.now.schema ≡ schema_of layout version
     → ShowsRows (old.now.trees meta_tree) all_version_columns (version_shown of ∷ [])
-version_is of old new rows seen same told h version has =
-    table_shown meta_tree all_version_columns (λ (_ : ℕ). version_shown of) (λ _. refl) all_version_text all_version_is old new rows seen (0 ∷ []) same
-    (λ wide. told (all_weaker _ (λ (row : Row). length row ≡ 2) (λ row w. w 0) seen wide)) h version has
+version_is of old new rows seen same told h layout version has =
+    table_shown (λ _. meta_tree) all_version_columns (λ (_ : ℕ). version_shown of) (λ _. refl) all_version_text all_version_is old new rows seen (0 ∷ []) same
+    (λ wide. told (all_weaker _ (λ (row : Row). length row ≡ 2) (λ row w. w 0) seen wide)) h layout version has

@@ -15,47 +15,68 @@ use Rattle.tc_types.specs.declared.history.places.Place.TheVariants as place
 use Rattle.tc_types.specs.declared.tables.rows.Row.TheVariants.{Tallied}
 use Rattle.tc_types.specs.declared.tables.rows.Tally.{Tally}
 use Rattle.tc_types.specs.Tables.{tally_key}
+use Rattle.tc_store.specs.Ledgers.{newest}
+use Rattle.tc_store.specs.declared.versions.Version.TheVariants.{First, Second, Third}
+use Rattle.tc_store.specs.declared.versions.Layout.TheVariants.{Made, Copied}
+use Rattle.tc_store.specs.declared.versions.Layout.{Layout}
 use Rattle.tc_store.specs.declared.versions.Version.{Version}
 use Rattle.tc_store.specs.Ledgers.{Ledger}
+use Rattle.tc_sql.specs.Contents.{has_tree, rows_in}
 use Rattle.tc_sql.specs.Lists.{ListsFrom, no_limit}
 use Rattle.tc_sql.specs.Puts.{ReplacesIn, HasPut}
 use Rattle.tc_sql.proofs.Replaces.{replaces}
 use Rattle.tc_sql.proofs.Selects.{listed, listed_as}
-use Rattle.tc_store.specs.Schema.{newest_schema, schema_of, HoldsAs}
+use Rattle.tc_store.specs.Schema.{schema_of, contents_of, HoldsAs, layout_in}
 use Rattle.tc_store.specs.Steps.{Ran, Step}
 use Rattle.tc_store.specs.Tallies.{tally_tree, tally_form, tally_put, tally_terms, tally_given, tally_row, tally_columns, tally_shown, tallies_text}
+use Rattle.tc_store.proofs.LayoutLemmas.{in_each}
 use Rattle.tc_store.proofs.SchemaLemmas.{stepped_over}
 use Rattle.tc_store.proofs.ReadLemmas.{rising}
 
-tally_replaces : ReplacesIn newest_schema tally_form tally_tree tally_put tally_terms
+tally_replaces : (layout : Layout) → ReplacesIn (schema_of layout newest) tally_form (tally_tree layout) tally_put tally_terms
 unfolding understood everything
-tally_replaces = record { at = 3; listed = refl; command = refl; plain = (refl, refl); single = refl; quiet = λ _ _. refl; alone = λ _ _. refl }
+tally_replaces Made = record { at = 3; listed = refl; command = refl; plain = (refl, refl); single = refl; quiet = λ _ _. refl; alone = λ _ _. refl }
+tally_replaces (Copied First) = record { at = 3; listed = refl; command = refl; plain = (refl, refl); single = refl; quiet = λ _ _. refl; alone = λ _ _. refl }
+tally_replaces (Copied Second) = record { at = 3; listed = refl; command = refl; plain = (refl, refl); single = refl; quiet = λ _ _. refl; alone = λ _ _. refl }
+tally_replaces (Copied Third) = record { at = 3; listed = refl; command = refl; plain = (refl, refl); single = refl; quiet = λ _ _. refl; alone = λ _ _. refl }
 
-replaced : (t : Tally) (old new : State) (count : ℕ) → Executes tally_put (tally_given t) old new (Ok count) → (xs : List Tally) → old.now.schema ≡ newest_schema → old.now.trees tally_tree ≡ map tally_row xs
-    → IsTable (map tally_row xs) → HasPut tally_tree (tally_row t) old.now new.now
-replaced t old new count h xs has held table = replaces tally_replaces tally_key tally_row (λ _. refl) t xs (tally_given t) old new (Ok count) has held table refl refl refl h
+replaced : (t : Tally) (old new : State) (count : ℕ) → Executes tally_put (tally_given t) old new (Ok count) → (xs : List Tally) (layout : Layout) → old.now.schema ≡ schema_of layout newest → old.now.trees (tally_tree layout) ≡ map tally_row xs
+    → IsTable (map tally_row xs) → HasPut (tally_tree layout) (tally_row t) old.now new.now
+replaced t old new count h xs layout has held table = replaces (tally_replaces layout) tally_key tally_row (λ _. refl) t xs (tally_given t) old new (Ok count) has held table refl refl refl h
 
 pub tallied : {S : Type 0} (g : Ghosts S) (t : Tally) (old new : Held S) (r : Result ℕ Error) → IfOk r (λ count. Ran g tally_put (tally_given t) count old new) → OnOk r (Step g (Tallied t ∷ []) old new)
 tallied g t old new (Err e) h = tt
 tallied g t old new (Ok count) h =
-    stepped_over g tally_key tally_row (λ _. refl) t (λ image. image.tallies) tally_tree (Tallied t) old new (λ image. refl) (λ image. refl) (λ image. refl) (λ image. tt)
+    stepped_over g tally_key tally_row (λ _. refl) t (λ image. image.tallies) tally_tree (Tallied t) old new (in_each _ (λ ledger. refl) (λ ledger. refl) (λ ledger. refl) (λ ledger. refl))
+    (in_each _ (λ ledger. refl) (λ ledger. refl) (λ ledger. refl) (λ ledger. refl))
+    (in_each _ (λ ledger. refl) (λ ledger. refl) (λ ledger. refl) (λ ledger. refl)) (λ image. tt)
     (replaced t (state g old) (state g new) count h.executes) h.goes
 
 -- ---- the amounts
 
-pub tallies_is : (version : Version) → ListsFrom (schema_of version) tally_tree tallies_text [] tally_columns no_limit
+pub tallies_is : (layout : Layout) (version : Version) → ListsFrom (schema_of layout version) (tally_tree layout) tallies_text [] tally_columns no_limit
 unfolding understood everything
-tallies_is version = record { names = _; command = refl; plain = (refl, refl); unlisted = refl }
+tallies_is Made version = record { names = _; command = refl; plain = (refl, refl); unlisted = refl }
+tallies_is (Copied First) version = record { names = _; command = refl; plain = (refl, refl); unlisted = refl }
+tallies_is (Copied Second) version = record { names = _; command = refl; plain = (refl, refl); unlisted = refl }
+tallies_is (Copied Third) version = record { names = _; command = refl; plain = (refl, refl); unlisted = refl }
 
 filter_true : {X : Type 0} (xs : List X) → filter (λ _. true) xs ≡ xs
 filter_true [] = refl
 filter_true (x ∷ xs) = ap (λ l. x ∷ l) (filter_true xs)
 
+tallies_named : (version : Version) (ledger : Ledger) (layout : Layout) → has_tree (tally_tree layout) (contents_of layout version ledger.image ledger.replies) ≡ true
+tallies_named version ledger = in_each _ refl refl refl refl
+
+tallies_there : (version : Version) (ledger : Ledger) (layout : Layout) → rows_in (tally_tree layout) (contents_of layout version ledger.image ledger.replies) ≡ map tally_row ledger.image.tallies
+tallies_there version ledger = in_each _ refl refl refl refl
+
 pub rows_tallies : (version : Version) (ledger : Ledger) (old new : State) (rows : List Row) → HoldsAs version old.now ledger → Shown tallies_text [] old new rows → rows ≡ map tally_shown ledger.image.tallies
 rows_tallies version ledger old new rows held h =
-    let at = rising tally_tree tally_row ledger.image.tallies version ledger old held refl refl in
-    listed tally_tree [] tally_columns no_limit [] (schema_of version) tallies_text old new held.schema (tallies_is version) rows at.1 h
-    ∙ listed_as tally_tree [] tally_columns no_limit [] tally_row tally_shown (λ (t : Tally). true) ledger.image.tallies old.now.trees at.0 (λ t. refl) (λ t. refl)
+    let tree = tally_tree (layout_in old.now) in
+    let at = rising tree tally_row ledger.image.tallies version ledger old held (tallies_named version ledger (layout_in old.now)) (tallies_there version ledger (layout_in old.now)) in
+    listed tree [] tally_columns no_limit [] (schema_of (layout_in old.now) version) tallies_text old new held.schema (tallies_is (layout_in old.now) version) rows at.1 h
+    ∙ listed_as tree [] tally_columns no_limit [] tally_row tally_shown (λ (t : Tally). true) ledger.image.tallies old.now.trees at.0 (λ t. refl) (λ t. refl)
     ∙ ap (map tally_shown) (filter_true ledger.image.tallies)
 
 abbrev none : Tally

@@ -8,11 +8,13 @@ use Rattle.sqlite_schema.specs.declared.schema.Kind.TheVariants as kind
 use Rattle.sqlite_sql.specs.Term.{Term, lit, col}
 use Rattle.tc_types.specs.declared.tables.rows.Approval.{Approval}
 use Rattle.tc_sql.specs.Forms.{Form, column_of}
+use Rattle.tc_store.specs.declared.versions.Layout.{Layout}
+use Rattle.tc_store.specs.Layouts.{past_moves}
 use Rattle.tc_store.specs.declared.approvals.TheConstants.{CREATE, PUT}
 
 -- behind that of `tally`; the next one is its index
-abbrev pub approval_tree : ℕ
-approval_tree = 6
+abbrev pub approval_tree : Layout → ℕ
+approval_tree layout = past_moves layout 5
 
 -- where a row has its key
 abbrev pub approval_places : List ℕ

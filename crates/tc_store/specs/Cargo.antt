@@ -7,11 +7,13 @@ use Rattle.sqlite_schema.specs.declared.schema.Kind.TheVariants as kind
 use Rattle.sqlite_sql.specs.Term.{Term, lit, col}
 use Rattle.tc_types.specs.declared.tables.cargo.Cargo.{Cargo}
 use Rattle.tc_sql.specs.Forms.{Form, column_of}
+use Rattle.tc_store.specs.declared.versions.Layout.{Layout}
+use Rattle.tc_store.specs.Layouts.{past_replies}
 use Rattle.tc_store.specs.declared.cargo.TheConstants.{CREATE, PUT}
 
 -- behind the index of `reply`; the next one is its own index
-abbrev pub cargo_tree : ℕ
-cargo_tree = 21
+abbrev pub cargo_tree : Layout → ℕ
+cargo_tree layout = past_replies layout 20
 
 -- where a row has its key
 abbrev pub cargo_places : List ℕ

@@ -6,11 +6,13 @@ use Rattle.sqlite_schema.specs.declared.schema.Kind.TheVariants as kind
 use Rattle.sqlite_sql.specs.Term.{Term, lit, col}
 use Rattle.tc_types.specs.declared.tables.rows.BegunExecution.{BegunExecution}
 use Rattle.tc_sql.specs.Forms.{Form, column_of}
+use Rattle.tc_store.specs.declared.versions.Layout.{Layout}
+use Rattle.tc_store.specs.Layouts.{past_moves}
 use Rattle.tc_store.specs.declared.executions.TheConstants.{CREATE, PUT}
 
 -- behind the index of `step`
-abbrev pub execution_tree : ℕ
-execution_tree = 16
+abbrev pub execution_tree : Layout → ℕ
+execution_tree layout = past_moves layout 15
 
 abbrev pub execution_form : Form
 execution_form = record {

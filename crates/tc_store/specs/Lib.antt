@@ -1,6 +1,7 @@
 pub mod Faults
 pub mod CallNumbers
 pub mod Ledgers
+pub mod Layouts
 pub mod Meta
 pub mod Requests
 pub mod Moves

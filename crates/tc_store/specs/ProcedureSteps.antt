@@ -8,11 +8,13 @@ use Rattle.sqlite_schema.specs.declared.schema.Kind.TheVariants as kind
 use Rattle.sqlite_sql.specs.Term.{Term, lit, col}
 use Rattle.tc_types.specs.declared.tables.rows.ProcedureStep.{ProcedureStep}
 use Rattle.tc_sql.specs.Forms.{Form, column_of}
+use Rattle.tc_store.specs.declared.versions.Layout.{Layout}
+use Rattle.tc_store.specs.Layouts.{past_moves}
 use Rattle.tc_store.specs.declared.procedure_steps.TheConstants.{CREATE, PUT}
 
 -- behind the index of `procedure`; the next one is its own index
-abbrev pub step_tree : ℕ
-step_tree = 14
+abbrev pub step_tree : Layout → ℕ
+step_tree layout = past_moves layout 13
 
 -- where a row has its key
 abbrev pub step_places : List ℕ

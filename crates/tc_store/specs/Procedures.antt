@@ -8,11 +8,13 @@ use Rattle.sqlite_schema.specs.declared.schema.Kind.TheVariants as kind
 use Rattle.sqlite_sql.specs.Term.{Term, lit, col}
 use Rattle.tc_types.specs.declared.tables.rows.LoadedProcedure.{LoadedProcedure}
 use Rattle.tc_sql.specs.Forms.{Form, column_of}
+use Rattle.tc_store.specs.declared.versions.Layout.{Layout}
+use Rattle.tc_store.specs.Layouts.{past_moves}
 use Rattle.tc_store.specs.declared.procedures.TheConstants.{CREATE, PUT}
 
 -- behind the index of `stack_approval`; the next one is its own index
-abbrev pub procedure_tree : ℕ
-procedure_tree = 12
+abbrev pub procedure_tree : Layout → ℕ
+procedure_tree layout = past_moves layout 11
 
 -- where a row has its key
 abbrev pub procedure_places : List ℕ

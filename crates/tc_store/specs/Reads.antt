@@ -7,6 +7,7 @@ use Rattle.sqlite.specs.Held.{Held, state}
 use Rattle.sqlite_resolve.specs.declared.compiled.Compiled.{Compiled}
 use Rattle.sqlite_resolve.specs.declared.error.CompileError.{CompileError}
 use Rattle.tc_store.specs.declared.versions.Version.{Version}
+use Rattle.tc_store.specs.declared.versions.Layout.{Layout}
 use Rattle.tc_store.specs.Ledgers.{Ledger}
 use Rattle.tc_store.specs.Schema.{schema_of, HoldsAs}
 
@@ -17,7 +18,7 @@ IsQuiet (Err e) = ⊤
 
 -- The tables hold what they held, of whatever version they are. A database with the schema of a desk is the very same, whatever its rows are.
 pub record Stays {S : Type 0} (g : Ghosts S) (old new : Held S) : Type 0 where
-  pub same : (version : Version) → (state g old).now.schema ≡ schema_of version → (state g new).now ≡ (state g old).now
+  pub same : (layout : Layout) (version : Version) → (state g old).now.schema ≡ schema_of layout version → (state g new).now ≡ (state g old).now
   pub holds : (version : Version) (ledger : Ledger) → HoldsAs version (state g old).now ledger → HoldsAs version (state g new).now ledger
 
 -- so they do, also after a fault, where the connection is open, and a crash leaves no other tables than before

@@ -8,14 +8,16 @@ use Rattle.sqlite_schema.specs.declared.schema.Kind.TheVariants as kind
 use Rattle.sqlite_sql.specs.declared.ops.BinaryOp.TheVariants.{Compare}
 use Rattle.sqlite_sql.specs.declared.ops.CompareOp.TheVariants.{Eq, Ge}
 use Rattle.sqlite_sql.specs.Term.{Term, lit, col, op2}
+use Rattle.tc_store.specs.declared.versions.Layout.{Layout}
+use Rattle.tc_store.specs.Layouts.{past_records}
 use Rattle.tc_store.specs.Ledgers.{KeptAnswer}
 use Rattle.tc_sql.specs.Forms.{Form, column_of}
 use Rattle.tc_store.specs.declared.replies.TheConstants.{CREATE, PUT, FIND}
 use Rattle.tc_store.specs.declared.loads.replies.TheConstants.{PAGE_TEXT, REPLY_PAGE}
 
 -- behind that of `record` and its index; the next one is its own index
-abbrev pub reply_tree : ℕ
-reply_tree = 19
+abbrev pub reply_tree : Layout → ℕ
+reply_tree layout = past_records layout 18
 
 -- where a row has its key
 abbrev pub reply_places : List ℕ

@@ -21,6 +21,7 @@ use Rattle.tc_types.specs.declared.tables.rows.StepRecord.{StepRecord}
 use Rattle.tc_types.specs.declared.tables.cargo.Cargo.{Cargo}
 use Rattle.tc_types.specs.Grammar.{outcome_word}
 use Rattle.tc_store.specs.declared.versions.Version.{Version}
+use Rattle.tc_store.specs.declared.versions.Layout.{Layout}
 use Rattle.tc_store.specs.declared.versions.Version.TheVariants.{First, Second, Third}
 use Rattle.tc_types.specs.Tables.{Image}
 use Rattle.tc_store.specs.Ledgers.{KeptAnswer, IsKeptAnswer}
@@ -72,30 +73,30 @@ abbrev pub rows_from : ℤ → List Row → List Row
 rows_from first rows = filter (λ row. int_le first (number_of row)) rows
 
 -- the table of cargo has these rows and no other; a version without it shows none
-abbrev pub ShowsCargo : Version → Database → List Cargo → Type 0
-ShowsCargo First db cargo = cargo ≡ []
-ShowsCargo Second db cargo = cargo ≡ []
-ShowsCargo Third db cargo = ShowsRows (db.trees cargo_tree) all_cargo_columns (map cargo_values cargo)
+abbrev pub ShowsCargo : Layout → Version → Database → List Cargo → Type 0
+ShowsCargo layout First db cargo = cargo ≡ []
+ShowsCargo layout Second db cargo = cargo ≡ []
+ShowsCargo layout Third db cargo = ShowsRows (db.trees (cargo_tree layout)) all_cargo_columns (map cargo_values cargo)
 
 -- The tables of requests have these rows and no other. The moves are read page by page, so that is said of moves that stand under numbers.
-pub record ShowsRequests (of : Version) (db : Database) (requests : List PlacedRequest) (moves : List Move) (tallies : List Tally) (approvals : List Approval) (cargo : List Cargo) : Type 0 where
+pub record ShowsRequests (layout : Layout) (of : Version) (db : Database) (requests : List PlacedRequest) (moves : List Move) (tallies : List Tally) (approvals : List Approval) (cargo : List Cargo) : Type 0 where
   pub requests_are : ShowsRows (db.trees request_tree) all_request_columns (map request_given requests)
   pub moves_are : AreNumbered (db.trees move_tree) → ShowsRows (db.trees move_tree) move_columns (map move_shown moves)
-  pub tallies_are : ShowsRows (db.trees tally_tree) all_tally_columns (map tally_given tallies)
-  pub approvals_are : ShowsRows (db.trees approval_tree) all_approval_columns (map approval_values approvals)
-  pub cargo_is : ShowsCargo of db cargo
+  pub tallies_are : ShowsRows (db.trees (tally_tree layout)) all_tally_columns (map tally_given tallies)
+  pub approvals_are : ShowsRows (db.trees (approval_tree layout)) all_approval_columns (map approval_values approvals)
+  pub cargo_is : ShowsCargo layout of db cargo
 
 -- so it is of those of stacks
-pub record ShowsStacks (db : Database) (stacks : List LoadedStack) (approvals : List StackApproval) : Type 0 where
-  pub stacks_are : ShowsRows (db.trees stack_tree) all_stack_columns (map stack_values stacks)
-  pub approvals_are : ShowsRows (db.trees stack_approval_tree) all_stack_approval_columns (map stack_approval_values approvals)
+pub record ShowsStacks (layout : Layout) (db : Database) (stacks : List LoadedStack) (approvals : List StackApproval) : Type 0 where
+  pub stacks_are : ShowsRows (db.trees (stack_tree layout)) all_stack_columns (map stack_values stacks)
+  pub approvals_are : ShowsRows (db.trees (stack_approval_tree layout)) all_stack_approval_columns (map stack_approval_values approvals)
 
 -- and of those of procedures
-pub record ShowsProcedures (db : Database) (procedures : List LoadedProcedure) (steps : List ProcedureStep) (executions : List BegunExecution) (records : List StepRecord) : Type 0 where
-  pub procedures_are : ShowsRows (db.trees procedure_tree) all_procedure_columns (map procedure_values procedures)
-  pub steps_are : ShowsRows (db.trees step_tree) all_step_columns (map step_values steps)
-  pub executions_are : ShowsRows (db.trees execution_tree) all_execution_columns (map execution_given executions)
-  pub records_are : ShowsRows (db.trees record_tree) all_record_columns (map record_values records)
+pub record ShowsProcedures (layout : Layout) (db : Database) (procedures : List LoadedProcedure) (steps : List ProcedureStep) (executions : List BegunExecution) (records : List StepRecord) : Type 0 where
+  pub procedures_are : ShowsRows (db.trees (procedure_tree layout)) all_procedure_columns (map procedure_values procedures)
+  pub steps_are : ShowsRows (db.trees (step_tree layout)) all_step_columns (map step_values steps)
+  pub executions_are : ShowsRows (db.trees (execution_tree layout)) all_execution_columns (map execution_given executions)
+  pub records_are : ShowsRows (db.trees (record_tree layout)) all_record_columns (map record_values records)
 
 -- values of a reply that a desk could have kept
 pub record AreOfReply (values : Row) : Type 0 where
@@ -108,16 +109,16 @@ abbrev pub IsReplyRow : Row → Type 0
 IsReplyRow row = AreOfReply (shown_of reply_columns row)
 
 -- So is each row of the table of replies, where the version has one. They are read page by page, so that is said of rows that stand under numbers.
-abbrev pub AreJudged : Version → Database → Type 0
-AreJudged of db = HasReplies of → AreNumbered (db.trees reply_tree) → AllByRecursion IsReplyRow (db.trees reply_tree)
+abbrev pub AreJudged : Layout → Version → Database → Type 0
+AreJudged layout of db = HasReplies of → AreNumbered (db.trees (reply_tree layout)) → AllByRecursion IsReplyRow (db.trees (reply_tree layout))
 
--- the one row of `meta` names this version, all rows of all tables of a book are those of the image, and those of replies are judged
-pub record ShowsAll (of : Version) (db : Database) (image : Image) : Type 0 where
+-- where tables stand so: the one row of `meta` names this version, all rows of all tables of a book are those of the image, and those of replies are judged
+pub record ShowsAll (layout : Layout) (of : Version) (db : Database) (image : Image) : Type 0 where
   pub version : ShowsRows (db.trees meta_tree) all_version_columns (version_shown of ∷ [])
-  pub requests : ShowsRequests of db image.requests image.moves image.tallies image.approvals image.cargo
-  pub stacks : ShowsStacks db image.stacks image.stack_approvals
-  pub procedures : ShowsProcedures db image.procedures image.steps image.executions image.records
-  pub replies : AreJudged of db
+  pub requests : ShowsRequests layout of db image.requests image.moves image.tallies image.approvals image.cargo
+  pub stacks : ShowsStacks layout db image.stacks image.stack_approvals
+  pub procedures : ShowsProcedures layout db image.procedures image.steps image.executions image.records
+  pub replies : AreJudged layout of db
 
 -- a row shows this number in a column
 abbrev pub ShowsNumber : Row → ℕ → ℕ → Type 0

@@ -9,11 +9,13 @@ use Rattle.sqlite_schema.specs.declared.schema.Kind.TheVariants as kind
 use Rattle.sqlite_sql.specs.Term.{Term, lit, col}
 use Rattle.tc_types.specs.declared.tables.rows.StackApproval.{StackApproval}
 use Rattle.tc_sql.specs.Forms.{Form, column_of}
+use Rattle.tc_store.specs.declared.versions.Layout.{Layout}
+use Rattle.tc_store.specs.Layouts.{past_moves}
 use Rattle.tc_store.specs.declared.stacks.TheConstants.{CREATE_APPROVAL, PUT_APPROVAL}
 
 -- behind the index of `stack`; the next one is its own index
-abbrev pub stack_approval_tree : ℕ
-stack_approval_tree = 10
+abbrev pub stack_approval_tree : Layout → ℕ
+stack_approval_tree layout = past_moves layout 9
 
 -- where a row has its key
 abbrev pub stack_approval_places : List ℕ

@@ -8,11 +8,13 @@ use Rattle.sqlite_schema.specs.declared.schema.Kind.TheVariants as kind
 use Rattle.sqlite_sql.specs.Term.{Term, lit, col}
 use Rattle.tc_types.specs.declared.tables.rows.LoadedStack.{LoadedStack}
 use Rattle.tc_sql.specs.Forms.{Form, column_of}
+use Rattle.tc_store.specs.declared.versions.Layout.{Layout}
+use Rattle.tc_store.specs.Layouts.{past_moves}
 use Rattle.tc_store.specs.declared.stacks.TheConstants.{CREATE_STACK, PUT_STACK}
 
 -- behind the index of `request_approval`; the next one is its own index
-abbrev pub stack_tree : ℕ
-stack_tree = 8
+abbrev pub stack_tree : Layout → ℕ
+stack_tree layout = past_moves layout 7
 
 -- where a row has its key
 abbrev pub stack_places : List ℕ

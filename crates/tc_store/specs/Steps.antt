@@ -27,9 +27,12 @@ use Rattle.tc_types.specs.declared.tables.cargo.Cargo.{Cargo}
 use Rattle.tc_types.specs.declared.tables.rows.Row.{Row}
 use Rattle.tc_types.specs.declared.tables.rows.Row.TheVariants.{Entered, Placed, Moved, Tallied, Approved, Loaded, StackApproved, ProcedureLoaded, StepLoaded, Begun, Recorded, Carried}
 use Rattle.tc_store.specs.declared.versions.Version.{Version}
+use Rattle.tc_store.specs.declared.versions.Layout.{Layout}
+use Rattle.tc_store.specs.declared.versions.Layout.TheVariants.{Made}
+use Rattle.tc_store.specs.Layouts.{IsLayoutOf}
 use Rattle.tc_store.specs.declared.batches.Batch.{Batch}
 use Rattle.tc_types.specs.Tables.{Image, with_row}
-use Rattle.tc_store.specs.Ledgers.{KeptAnswer, Ledger, is_same_call, with_image, from_of, kept_in, written, empty_ledger}
+use Rattle.tc_store.specs.Ledgers.{KeptAnswer, Ledger, is_same_call, with_image, newest, from_of, kept_in, written, empty_ledger}
 use Rattle.tc_sql.specs.Builds.{Builds, BuildsTo, no_schema}
 use Rattle.tc_sql.specs.Contents.{Contents, Matches}
 use Rattle.tc_store.specs.Approvals.{is_same_approval}
@@ -39,7 +42,7 @@ use Rattle.tc_store.specs.Procedures.{is_same_procedure}
 use Rattle.tc_store.specs.ProcedureSteps.{is_same_step}
 use Rattle.tc_store.specs.Records.{is_same_record}
 use Rattle.tc_store.specs.Cargo.{is_same_cargo}
-use Rattle.tc_store.specs.Schema.{newest_schema, contents, HoldsAs, Holds}
+use Rattle.tc_store.specs.Schema.{newest_schema, schema_of, layout_in, contents, HoldsAs, Holds}
 use Rattle.tc_store.specs.declared.faults.StoreFault.{StoreFault}
 use Rattle.tc_store.specs.declared.faults.StoreFault.TheVariants.{Commit}
 
@@ -94,14 +97,16 @@ blank_image = record { requests = []; moves = []; tallies = []; approvals = []; 
 abbrev pub blank_ledger : Ledger
 blank_ledger = record { image = blank_image; replies = [] }
 
--- where those of the desk stand with no row, they name their version now
+-- where those of the desk stand with no row, they name their version now, and stand as a desk makes them
 pub record Versioned {S : Type 0} (g : Ghosts S) (old new : Held S) : Type 0 where
   pub holds : BuildsTo newest_schema [] (state g old).now → Holds (state g new).now blank_ledger
+  pub order : BuildsTo newest_schema [] (state g old).now → layout_in (state g new).now ≡ Made
   pub goes : Goes g old new
 
--- where there was no table, those of the desk stand, with the version and a tally of 0 for each place
+-- where there was no table, those of the desk stand as a desk makes them, with the version and a tally of 0 for each place
 pub record Filled {S : Type 0} (g : Ghosts S) (old new : Held S) : Type 0 where
   pub holds : old.schema ≡ no_schema → Holds (state g new).now empty_ledger
+  pub order : old.schema ≡ no_schema → layout_in (state g new).now ≡ Made
   pub goes : Goes g old new
 
 -- no row with its key stands, where the row is to be a new one
@@ -124,10 +129,11 @@ abbrev pub AreNew : Image → List Row → Type 0
 AreNew image [] = ⊤
 AreNew image (row ∷ rows) = IsNewIn image row × AreNew (with_row image row) rows
 
--- each ledger that the tables held had no row with these keys, and has these rows now
+-- each ledger that the tables held had no row with these keys, and has these rows now; the tables stand in the order in which they stood
 pub record Step {S : Type 0} (g : Ghosts S) (rows : List Row) (old new : Held S) : Type 0 where
   pub fresh : (ledger : Ledger) → Holds (state g old).now ledger → AreNew ledger.image rows
   pub holds : (ledger : Ledger) → Holds (state g old).now ledger → Holds (state g new).now (with_image rows ledger)
+  pub order : (ledger : Ledger) → Holds (state g old).now ledger → layout_in (state g new).now ≡ layout_in (state g old).now
   pub goes : Goes g old new
 
 -- what a call does that writes these rows inside a transaction
@@ -143,17 +149,20 @@ IsNewCall replies (Some reply) = list_any (λ (k : KeptAnswer). is_same_call k r
 pub record Replied {S : Type 0} (g : Ghosts S) (reply : Option KeptAnswer) (old new : Held S) : Type 0 where
   pub fresh : (ledger : Ledger) → Holds (state g old).now ledger → IsNewCall ledger.replies reply
   pub holds : (ledger : Ledger) → Holds (state g old).now ledger → Holds (state g new).now (record ledger { replies = ledger.replies ++ option_to_list reply })
+  pub order : (ledger : Ledger) → Holds (state g old).now ledger → layout_in (state g new).now ≡ layout_in (state g old).now
   pub goes : Goes g old new
 
 -- each ledger that the tables held as of this version they hold as of the newest
 pub record Migrated {S : Type 0} (g : Ghosts S) (from : Version) (old new : Held S) : Type 0 where
   pub holds : (ledger : Ledger) → HoldsAs from (state g old).now ledger → Holds (state g new).now ledger
+  pub order : (ledger : Ledger) → HoldsAs from (state g old).now ledger → layout_in (state g new).now ≡ layout_in (state g old).now
   pub goes : Goes g old new
 
 -- tables of this version became those of the newest, and then the rows and the reply of a batch were written
 pub record Wrote {S : Type 0} (g : Ghosts S) (batch : Batch) (old new : Held S) : Type 0 where
   pub fresh : (ledger : Ledger) → HoldsAs (from_of batch) (state g old).now ledger → AreNew ledger.image batch.rows.now × IsNewCall ledger.replies (kept_in batch)
   pub holds : (ledger : Ledger) → HoldsAs (from_of batch) (state g old).now ledger → Holds (state g new).now (written batch ledger)
+  pub order : (ledger : Ledger) → HoldsAs (from_of batch) (state g old).now ledger → layout_in (state g new).now ≡ layout_in (state g old).now
   pub goes : Goes g old new
 
 -- a transaction in which all of it was done came to its commit, and the commit failed
@@ -167,13 +176,20 @@ abbrev pub TellsCommit : {S : Type 0} → Ghosts S → (Held S → Held S → Ty
 TellsCommit g Done old new (Commit error) = FailsAtCommit g Done old new error
 TellsCommit g Done old new _ = ⊤
 
+-- the trees of tables of the newest version, in one of its orders, which have the rows of this ledger and no other
+pub record HasRows (trees : Trees) (ledger : Ledger) : Type 0 where
+  pub layout : Layout
+  pub fits : IsLayoutOf layout newest
+  pub rows : Matches trees (contents layout ledger)
+  pub listed : IsSound (schema_of layout newest) trees
+
 -- the trees of an empty desk
 abbrev pub IsNewDesk : Trees → Type 0
-IsNewDesk trees = Matches trees (contents empty_ledger) × IsSound newest_schema trees
+IsNewDesk trees = HasRows trees empty_ledger
 
 -- the trees that a batch leaves where it was written whole
 abbrev pub HasBatch : Database → Batch → Trees → Type 0
-HasBatch old batch trees = (ledger : Ledger) → HoldsAs (from_of batch) old ledger → Matches trees (contents (written batch ledger)) × IsSound newest_schema trees
+HasBatch old batch trees = (ledger : Ledger) → HoldsAs (from_of batch) old ledger → HasRows trees (written batch ledger)
 
 -- a crash leaves no other trees than these
 abbrev pub LeavesOnly : State → Trees → Type 0

@@ -10,11 +10,13 @@ use Rattle.tc_types.specs.declared.tables.rows.Row.{Row as Entry}
 use Rattle.tc_types.specs.declared.tables.rows.Row.TheVariants.{Tallied}
 use Rattle.tc_types.specs.Lawful.{place_number}
 use Rattle.tc_sql.specs.Forms.{Form, column_of}
+use Rattle.tc_store.specs.declared.versions.Layout.{Layout}
+use Rattle.tc_store.specs.Layouts.{past_moves}
 use Rattle.tc_store.specs.declared.tallies.TheConstants.{CREATE, PUT, AMOUNTS}
 
--- behind that of the index of `move`
-abbrev pub tally_tree : ℕ
-tally_tree = 5
+-- behind that of `move`
+abbrev pub tally_tree : Layout → ℕ
+tally_tree layout = past_moves layout 4
 
 abbrev pub tally_form : Form
 tally_form = record {

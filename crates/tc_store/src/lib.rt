@@ -35,4 +35,4 @@ pub use call_numbers::CallNumber;
 pub use faults::{ReadFault, StoreFault};
 pub use shifts::ShiftPage;
 pub use tables::Tables;
-pub use versions::{NEWEST, Version};
+pub use versions::{Layout, NEWEST, Version};

@@ -6,6 +6,7 @@ ghost use Rattle.sqlite.specs.Held.{state};
 ghost use Rattle.tc_types.specs.Tables.{Image as Rows};
 ghost use Rattle.tc_types.specs.Images.{rows_in};
 ghost use Rattle.tc_store.specs.declared.versions.Version.{Version as SomeVersion};
+ghost use Rattle.tc_store.specs.declared.versions.Layout.{Layout as SomeLayout};
 ghost use Rattle.tc_store.specs.Ledgers.{Ledger};
 ghost use Rattle.tc_store.specs.Schema.{schema_of, HoldsAs};
 ghost use Rattle.tc_store.specs.Told.{IsTold, IsToldRequest, IsToldStep, IsToldRecord};
@@ -85,7 +86,7 @@ fn load_of_requests<S: Alter>(
     version: Version,
 ) -> Result<OfRequests, ReadFault>
     ensures rows { HasCleanDisk (state S.Store conn.new) → IfOk result (λ found. (of : SomeVersion) (ledger : Ledger) → of ≡ version → IsTold ledger.image → HoldsAs of (state S.Store conn.old).now ledger → (found.requests.items ≡ ledger.image.requests) × (found.moves.items ≡ ledger.image.moves) × (found.tallies.items ≡ ledger.image.tallies) × (found.approvals.items ≡ ledger.image.approvals) × (found.cargo.items ≡ ledger.image.cargo)) }
-    ensures reads { Reads S.Store (λ db found. (of : SomeVersion) → db.schema ≡ schema_of of → of ≡ version → ShowsRequests version db found.requests.items found.moves.items found.tallies.items found.approvals.items found.cargo.items) conn.old conn.new result }
+    ensures reads { Reads S.Store (λ db found. (layout : SomeLayout) (of : SomeVersion) → db.schema ≡ schema_of layout of → of ≡ version → ShowsRequests layout version db found.requests.items found.moves.items found.tallies.items found.approvals.items found.cargo.items) conn.old conn.new result }
     ensures told { IfOk result (λ found. AllByRecursion IsToldRequest found.requests.items) }
 {
     let requests = load_requests(conn, alloc)?;
@@ -105,7 +106,7 @@ fn load_of_requests<S: Alter>(
 /// Reads what they tell of stacks.
 fn load_of_stacks<S: Alter>(conn: &mut Connection<S>, alloc: Global) -> Result<OfStacks, ReadFault>
     ensures rows { HasCleanDisk (state S.Store conn.new) → IfOk result (λ found. (version : SomeVersion) (ledger : Ledger) → IsTold ledger.image → HoldsAs version (state S.Store conn.old).now ledger → (found.stacks.items ≡ ledger.image.stacks) × (found.approvals.items ≡ ledger.image.stack_approvals)) }
-    ensures reads { Reads S.Store (λ db found. (version : SomeVersion) → db.schema ≡ schema_of version → ShowsStacks db found.stacks.items found.approvals.items) conn.old conn.new result }
+    ensures reads { Reads S.Store (λ db found. (layout : SomeLayout) (version : SomeVersion) → db.schema ≡ schema_of layout version → ShowsStacks layout db found.stacks.items found.approvals.items) conn.old conn.new result }
 {
     let stacks = load_stacks(conn, alloc)?;
     let approvals = load_stack_approvals(conn, alloc)?;
@@ -118,7 +119,7 @@ fn load_of_procedures<S: Alter>(
     alloc: Global,
 ) -> Result<OfProcedures, ReadFault>
     ensures rows { HasCleanDisk (state S.Store conn.new) → IfOk result (λ found. (version : SomeVersion) (ledger : Ledger) → IsTold ledger.image → HoldsAs version (state S.Store conn.old).now ledger → (found.procedures.items ≡ ledger.image.procedures) × (found.steps.items ≡ ledger.image.steps) × (found.executions.items ≡ ledger.image.executions) × (found.records.items ≡ ledger.image.records)) }
-    ensures reads { Reads S.Store (λ db found. (version : SomeVersion) → db.schema ≡ schema_of version → ShowsProcedures db found.procedures.items found.steps.items found.executions.items found.records.items) conn.old conn.new result }
+    ensures reads { Reads S.Store (λ db found. (layout : SomeLayout) (version : SomeVersion) → db.schema ≡ schema_of layout version → ShowsProcedures layout db found.procedures.items found.steps.items found.executions.items found.records.items) conn.old conn.new result }
     ensures told { IfOk result (λ found. AllByRecursion IsToldStep found.steps.items × AllByRecursion IsToldRecord found.records.items) }
 {
     let procedures = load_procedures(conn, alloc)?;
@@ -142,7 +143,7 @@ pub(crate) fn load_tables<S: Alter>(
 ) -> Result<Image, ReadFault>
     ensures image { HasCleanDisk (state S.Store conn.new) → IfOk result (λ loaded. (of : SomeVersion) (ledger : Ledger) → IsTold ledger.image → HoldsAs of (state S.Store conn.old).now ledger → rows_in loaded ≡ ledger.image) }
     ensures told { IfOk result (λ loaded. IsTold (rows_in loaded)) }
-    ensures reads { Reads S.Store (λ db loaded. db.schema ≡ schema_of version → ShowsAll version db (rows_in loaded)) conn.old conn.new result }
+    ensures reads { Reads S.Store (λ db loaded. (layout : SomeLayout) → db.schema ≡ schema_of layout version → ShowsAll layout version db (rows_in loaded)) conn.old conn.new result }
 {
     check_version(conn, version)?;
     let book = load_of_requests(conn, alloc, version)?;

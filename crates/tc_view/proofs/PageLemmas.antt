@@ -7,18 +7,18 @@ use Rattle.tc_types.specs.declared.link.reports.Report.{Report}
 use Rattle.tc_book.specs.Book.{Book}
 use Rattle.tc_world.specs.Links.{Kind}
 use Rattle.tc_desk.specs.State.{State}
-use Rattle.tc_wall.specs.declared.boards.Board.{Board}
+use Rattle.tc_wall.specs.declared.boards.WallBoard.{WallBoard}
 use Rattle.tc_wall.specs.declared.boards.Live.{Live}
 use Rattle.tc_wall.specs.Page.{board_page}
 use Rattle.tc_view.specs.Shown.{IsDeskPage, IsFilePage, ShowsBook, ShowsLive}
 
-pub page_made : {A E : Type 0} (book : Book) (live : Option Live) (r : Result (String A) E) (board : Board) → IfOk r (λ t. string_bytes t ≡ board_page board) → ShowsBook book board → board.live ≡ live
-    → IfOk r (λ t. (x : Board) × ShowsBook book x × (x.live ≡ live) × (string_bytes t ≡ board_page x))
+pub page_made : {A E : Type 0} (book : Book) (live : Option Live) (r : Result (String A) E) (board : WallBoard) → IfOk r (λ t. string_bytes t ≡ board_page board) → ShowsBook book board → board.live ≡ live
+    → IfOk r (λ t. (x : WallBoard) × ShowsBook book x × (x.live ≡ live) × (string_bytes t ≡ board_page x))
 page_made book live (Ok t) board wrote shows is = (board, shows, is, wrote)
 page_made book live (Err e) board wrote shows is = tt
 
 pub desk_made : {U D A E : Type 0} (up : Kind U Frame) (down : Kind D Report) (desk : State U D) (book : Book) (live : Option Live) (told : Live) (r : Result (String A) E) → book ≡ desk.book → live ≡ Some told → ShowsLive up down desk told
-    → IfOk r (λ t. (x : Board) × ShowsBook book x × (x.live ≡ live) × (string_bytes t ≡ board_page x)) → IfOk r (λ t. IsDeskPage up down desk (string_bytes t))
+    → IfOk r (λ t. (x : WallBoard) × ShowsBook book x × (x.live ≡ live) × (string_bytes t ≡ board_page x)) → IfOk r (λ t. IsDeskPage up down desk (string_bytes t))
 desk_made up down desk book live told (Ok t) same is shows (board, shown, lives, wrote) = record {
   board = board;
   shows = record {
@@ -29,6 +29,6 @@ desk_made up down desk book live told (Ok t) same is shows (board, shown, lives,
 }
 desk_made up down desk book live told (Err e) same is shows made = tt
 
-pub file_made : {A E : Type 0} (book : Book) (r : Result (String A) E) → IfOk r (λ t. (x : Board) × ShowsBook book x × (x.live ≡ None) × (string_bytes t ≡ board_page x)) → IfOk r (λ t. IsFilePage book (string_bytes t))
+pub file_made : {A E : Type 0} (book : Book) (r : Result (String A) E) → IfOk r (λ t. (x : WallBoard) × ShowsBook book x × (x.live ≡ None) × (string_bytes t ≡ board_page x)) → IfOk r (λ t. IsFilePage book (string_bytes t))
 file_made book (Ok t) (board, shown, lives, wrote) = record { board = board; shows = record { shown = shown; live = lives }; bytes = wrote }
 file_made book (Err e) made = tt

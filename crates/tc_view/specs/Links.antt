@@ -9,13 +9,13 @@ use Rattle.tc_fop.specs.declared.views.FopView.{FopView}
 use Rattle.tc_board.specs.Mirror.{MirrorState}
 use Rattle.tc_board.specs.Schedule.{is_before}
 use Rattle.tc_desk.specs.declared.statuses.LinkStatus.{LinkStatus}
-use Rattle.tc_wall.specs.declared.boards.KnownSchedule.{KnownSchedule}
+use Rattle.tc_wall.specs.declared.boards.ShownSchedule.{ShownSchedule}
 use Rattle.tc_wall.specs.declared.links.FarmLine.{FarmLine}
-use Rattle.tc_wall.specs.declared.links.FarmState.{FarmState as FarmWord}
-use Rattle.tc_wall.specs.declared.links.FarmState.TheVariants as farm_word
+use Rattle.tc_wall.specs.declared.links.FarmWord.{FarmWord}
+use Rattle.tc_wall.specs.declared.links.FarmWord.TheVariants as farm_word
 use Rattle.tc_wall.specs.declared.links.FopLine.{FopLine}
-use Rattle.tc_wall.specs.declared.links.FopState.{FopState as FopWord}
-use Rattle.tc_wall.specs.declared.links.FopState.TheVariants as fop_word
+use Rattle.tc_wall.specs.declared.links.FopWord.{FopWord}
+use Rattle.tc_wall.specs.declared.links.FopWord.TheVariants as fop_word
 use Rattle.tc_wall.specs.declared.links.LinkLines.{LinkLines}
 
 abbrev pub fop_word_of : FopState → FopWord
@@ -67,7 +67,7 @@ link_of s = record {
 }
 
 -- what the question `schedule` is answered: the activities of the mirror by time, application process and count
-pub record IsScheduleOf (mirror : MirrorState) (told : KnownSchedule) : Type 0 where
+pub record IsScheduleOf (mirror : MirrorState) (told : ShownSchedule) : Type 0 where
   pub enabled : told.enabled ≡ mirror.enabled
   pub all : IsPermutation mirror.activities told.activities.now
   pub ordered : IsSortedBy (λ a b. is_before a.time a.identity b.time b.identity) told.activities.now

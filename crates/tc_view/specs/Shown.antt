@@ -8,7 +8,7 @@ use Rattle.tc_book.specs.Waiting.{waiting_of}
 use Rattle.tc_world.specs.Links.{Kind}
 use Rattle.tc_desk.specs.State.{State}
 use Rattle.tc_desk.specs.StatusLines.{status_of}
-use Rattle.tc_wall.specs.declared.boards.Board.{Board}
+use Rattle.tc_wall.specs.declared.boards.WallBoard.{WallBoard}
 use Rattle.tc_wall.specs.declared.boards.Live.{Live}
 use Rattle.tc_wall.specs.declared.boards.TheConstants.{MOST_OPEN, MOST_WAITS}
 use Rattle.tc_wall.specs.Page.{board_page}
@@ -18,7 +18,7 @@ use Rattle.tc_view.specs.Ways.{AreWaysOf, open_of}
 
 -- A board shows a book: how many requests were entered and stand at each place, the first of what waits and how much does, the ways of the first
 -- requests that are open and how many are, and all moves.
-pub record ShowsBook (book : Book) (board : Board) : Type 0 where
+pub record ShowsBook (book : Book) (board : WallBoard) : Type 0 where
   pub entered : board.entered ≡ length book.requests
   pub counts : board.counts.now ≡ counts_of book.history
   pub waits : board.waits.now ≡ map (wait_of book.log.steps) (take MOST_WAITS (waiting_of book))
@@ -34,22 +34,22 @@ pub record ShowsLive {U D : Type 0} (up : Kind U Frame) (down : Kind D Report) (
   pub schedule : IsScheduleOf desk.mirror live.schedule
 
 -- a board shows a desk that is open
-pub record ShowsDesk {U D : Type 0} (up : Kind U Frame) (down : Kind D Report) (desk : State U D) (board : Board) : Type 0 where
+pub record ShowsDesk {U D : Type 0} (up : Kind U Frame) (down : Kind D Report) (desk : State U D) (board : WallBoard) : Type 0 where
   pub shown : ShowsBook desk.book board
   pub live : IsSomeAnd board.live (ShowsLive up down desk)
 
 -- a board shows the book of a file that nobody has open
-pub record ShowsFile (book : Book) (board : Board) : Type 0 where
+pub record ShowsFile (book : Book) (board : WallBoard) : Type 0 where
   pub shown : ShowsBook book board
   pub live : board.live ≡ None
 
 -- the page of an open desk, and that of a file that nobody has open
 pub record IsDeskPage {U D : Type 0} (up : Kind U Frame) (down : Kind D Report) (desk : State U D) (page : List ℕ) : Type 0 where
-  pub board : Board
+  pub board : WallBoard
   pub shows : ShowsDesk up down desk board
   pub bytes : page ≡ board_page board
 
 pub record IsFilePage (book : Book) (page : List ℕ) : Type 0 where
-  pub board : Board
+  pub board : WallBoard
   pub shows : ShowsFile book board
   pub bytes : page ≡ board_page board

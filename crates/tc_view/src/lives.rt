@@ -6,7 +6,7 @@ use tc_desk::LinkStatus;
 use tc_farm::{FarmState, FarmView};
 use tc_fop::FopView;
 use tc_fop::signals::FopState;
-use tc_wall::{FarmLine, FarmState as FarmWord, FopLine, FopState as FopWord, LinkLines};
+use tc_wall::{FarmLine, FarmWord, FopLine, FopWord, LinkLines};
 
 /// A state of the FOP.
 fn fop_word_of(state: FopState) -> FopWord

@@ -1,7 +1,7 @@
 //! The pages.
 ghost use Rattle.std.specs.Prelude.{◌≡◌, ◌≤◌, IfOk};
 ghost use Rattle.std.specs.String.{string_bytes, string_len};
-ghost use Rattle.tc_wall.specs.declared.boards.Board.{Board as SomeBoard};
+ghost use Rattle.tc_wall.specs.declared.boards.WallBoard.{WallBoard as SomeBoard};
 ghost use Rattle.tc_wall.specs.Page.{board_page};
 ghost use Rattle.tc_view.specs.Shown.{IsDeskPage, IsFilePage, ShowsBook};
 
@@ -14,7 +14,7 @@ use std::alloc::{AllocError, Allocator};
 use tc_book::Records;
 use tc_desk::Desk;
 use tc_types::{Frame, Report};
-use tc_wall::{Board, KnownSchedule, Live, MOST_BYTES, board_text};
+use tc_wall::{Live, MOST_BYTES, ShownSchedule, WallBoard, board_text};
 use tc_world::Carrier;
 
 /// The page of a book, with what is told of a desk that has it open. Fails where memory is refused.
@@ -36,7 +36,7 @@ fn page_of<A: Allocator + Copy + Drop>(
     let ways = ways_of(alloc, &trails)?;
     let counts = records.tallies();
     let moves = records.rows();
-    let board = Board {
+    let board = WallBoard {
         entered: records.count(),
         counts: &counts,
         waits: &waits,
@@ -72,7 +72,7 @@ pub fn desk_page<U: Carrier<Frame> + Drop, D: Carrier<Report> + Drop, A: Allocat
     let schedule = desk.schedule()?;
     let live = Live {
         link: link_of(&desk.link()),
-        schedule: KnownSchedule {
+        schedule: ShownSchedule {
             enabled: schedule.enabled,
             activities: &schedule.activities,
             laid_in: schedule.activities.len(),

@@ -17,13 +17,13 @@ use Rattle.tc_waits.specs.declared.waits.Waiting.TheVariants as waiting
 use Rattle.tc_wall.specs.declared.axes.Mark.{Mark}
 use Rattle.tc_wall.specs.declared.boards.Way.{Way}
 use Rattle.tc_wall.specs.declared.boards.Live.{Live}
-use Rattle.tc_wall.specs.declared.boards.KnownSchedule.{KnownSchedule}
-use Rattle.tc_wall.specs.declared.boards.Board.{Board}
+use Rattle.tc_wall.specs.declared.boards.ShownSchedule.{ShownSchedule}
+use Rattle.tc_wall.specs.declared.boards.WallBoard.{WallBoard}
 use Rattle.tc_wall.specs.declared.boards.TheConstants.{MOST_OPEN, MOST_STAGES, MOST_WAITS, MOST_MOVES, MOST_SHOWN_ACTIVITIES}
-use Rattle.tc_wall.specs.declared.links.FopState.{FopState}
-use Rattle.tc_wall.specs.declared.links.FopState.TheVariants.{Active, RetransmitWithoutWait, RetransmitWithWait, InitialisingWithoutBc, InitialisingWithBc, Initial}
-use Rattle.tc_wall.specs.declared.links.FarmState.{FarmState}
-use Rattle.tc_wall.specs.declared.links.FarmState.TheVariants as farm
+use Rattle.tc_wall.specs.declared.links.FopWord.{FopWord}
+use Rattle.tc_wall.specs.declared.links.FopWord.TheVariants.{Active, RetransmitWithoutWait, RetransmitWithWait, InitialisingWithoutBc, InitialisingWithBc, Initial}
+use Rattle.tc_wall.specs.declared.links.FarmWord.{FarmWord}
+use Rattle.tc_wall.specs.declared.links.FarmWord.TheVariants as farm
 use Rattle.tc_wall.specs.declared.links.FopLine.{FopLine}
 use Rattle.tc_wall.specs.declared.links.FarmLine.{FarmLine}
 use Rattle.tc_wall.specs.declared.links.LinkLines.{LinkLines}
@@ -90,7 +90,7 @@ last_size : (last : Option Move) → IfSome last (λ row. row.seq < 2 ^ 32) → 
 last_size (Some row) small = moved_size row small
 last_size None h = fixed_size _ 69 (lit≤ tt)
 
-heading_size : (b : Board) → b.entered < 2 ^ 32 → IfSome (slice_get b.moves.now (length b.moves.now - 1)) (λ row. row.seq < 2 ^ 32) → size (heading_parts b) ≤ 346
+heading_size : (b : WallBoard) → b.entered < 2 ^ 32 → IfSome (slice_get b.moves.now (length b.moves.now - 1)) (λ row. row.seq < 2 ^ 32) → size (heading_parts b) ≤ 346
 unfolding heading_parts
 heading_size b entered last =
     both _ _ 336 10 (both _ _ 267 69 (both _ _ 234 33 (both _ _ 200 34 (fixed_size HEADING.now 200 (lit≤ tt)) (file_size b.live)) (entered_size b.entered entered)) (last_size _ last)) (fixed_size _ 10 (lit≤ tt))
@@ -189,7 +189,7 @@ waiting_size (waiting.Locked n lock) text h few = more _ 213 686 (omega arith) (
 waiting_size (waiting.Doubtful n) text h few = more _ 113 686 (omega arith) (doubt_size n h)
 waiting_size (waiting.Step execution procedure step is_countersigned) text h few = work_size execution procedure step is_countersigned text h.0 h.1 h.2 few
 
-waits_size : (b : Board) → AllByRecursion IsWaitInRange (take MOST_WAITS b.waits.now) → b.waiting < 2 ^ 64 → size (waits_parts b) ≤ 137719
+waits_size : (b : WallBoard) → AllByRecursion IsWaitInRange (take MOST_WAITS b.waits.now) → b.waiting < 2 ^ 64 → size (waits_parts b) ≤ 137719
 unfolding waits_parts
 waits_size b all small =
     both _ _ 137708 11 (both _ _ 137658 50 (both _ _ 137618 40 (both _ _ 137600 18 (both _ _ 400 137200 (fixed_size WAITS.now 400 (lit≤ tt))
@@ -198,7 +198,7 @@ waits_size b all small =
 
 -- ---- the link, and the schedule
 
-fop_words_size : (state : FopState) → length (fop_words state) ≤ 60
+fop_words_size : (state : FopWord) → length (fop_words state) ≤ 60
 unfolding fop_words
 fop_words_size Active = lit≤ tt
 fop_words_size RetransmitWithoutWait = lit≤ tt
@@ -207,7 +207,7 @@ fop_words_size InitialisingWithoutBc = lit≤ tt
 fop_words_size InitialisingWithBc = lit≤ tt
 fop_words_size Initial = lit≤ tt
 
-farm_words_size : (state : FarmState) → length (farm_words state) ≤ 60
+farm_words_size : (state : FarmWord) → length (farm_words state) ≤ 60
 unfolding farm_words
 farm_words_size farm.Open = lit≤ tt
 farm_words_size farm.Wait = lit≤ tt
@@ -248,7 +248,7 @@ link_size l h =
     both _ _ 967 17 (both _ _ 882 85 (both _ _ 525 357 (both _ _ 90 435 (both _ _ 45 45 (more _ 44 45 (omega arith) (section_size l.clean)) (more _ 43 45 (omega arith) (premise_size l.clean))) (fop_size l.fop h.fop)) (farm_size l.farm h.farm))
     (flies_size l.up l.down h.up h.down)) (fixed_size _ 17 (lit≤ tt))
 
-schedule_size : (s : KnownSchedule) → IsScheduleInRange s → size (known_schedule_parts s) ≤ 3414
+schedule_size : (s : ShownSchedule) → IsScheduleInRange s → size (known_schedule_parts s) ≤ 3414
 unfolding known_schedule_parts
 schedule_size s h =
     both _ _ 3403 11 (both _ _ 3353 50 (both _ _ 3347 6 (both _ _ 275 3072 (both _ _ 200 75 (fixed_size SCHEDULE.now 200 (lit≤ tt)) (enabled_size s.enabled s.laid_in h.laid_in))
@@ -321,7 +321,7 @@ table_size (way ∷ others) all few =
     both _ _ 260615 18 (both _ _ 1015 259600 (axis_size (lines_of axis) (lines_small axis (axis_small (way ∷ others))) (lines_few axis (axis_small (way ∷ others))))
     (rows_within IsWayInRange (ways.way_parts axis) (way ∷ others) 1298 200 259600 all (λ it h. way_size axis it (axis_small (way ∷ others)) h) (omega arith))) (fixed_size _ 18 (lit≤ tt))
 
-ways_size : (b : Board) → AllByRecursion IsWayInRange (take MOST_OPEN b.ways.now) → b.opened < 2 ^ 64 → size (ways.ways_parts b) ≤ 263734
+ways_size : (b : WallBoard) → AllByRecursion IsWayInRange (take MOST_OPEN b.ways.now) → b.opened < 2 ^ 64 → size (ways.ways_parts b) ≤ 263734
 unfolding ways.ways_parts
 ways_size b all small =
     both _ _ 263723 11 (both _ _ 263673 50 (both _ _ 263633 40 (both _ _ 3000 260633 (fixed_size WAYS.now 3000 (lit≤ tt)) (table_size (take MOST_OPEN b.ways.now) all (omega (arith, length-take MOST_OPEN b.ways.now))))
@@ -332,7 +332,7 @@ ways_size b all small =
 move_size : (row : Move) → IsMoveInRange row → size (move_parts row) ≤ 252
 move_size row h = both _ _ 174 78 (who_size row h) (what_size row h)
 
-moves_size : (b : Board) → AllByRecursion IsMoveInRange (last_of MOST_MOVES b.moves.now) → b.moved < 2 ^ 64 → size (moves_parts b) ≤ 13119
+moves_size : (b : WallBoard) → AllByRecursion IsMoveInRange (last_of MOST_MOVES b.moves.now) → b.moved < 2 ^ 64 → size (moves_parts b) ≤ 13119
 unfolding moves_parts
 moves_size b all small =
     let rows = last_of MOST_MOVES b.moves.now in
@@ -345,22 +345,22 @@ unfolding refresh_parts
 refresh_size None = more [] 0 100 (omega arith) of_nothing
 refresh_size (Some live) = fixed_size REFRESH.now 100 (lit≤ tt)
 
-word_size : (b : Board) → length (size_word b) ≤ 4
+word_size : (b : WallBoard) → length (size_word b) ≤ 4
 unfolding size_word
 word_size b = chosen_size (nat_le b.opened MOST_FEW && nat_le (b.waiting + laid_in b.live) MOST_FEW) (codes "few") (codes "many") 4 (lit≤ tt) (lit≤ tt)
 
-head_size : (b : Board) → size (head_parts b) ≤ 21200
+head_size : (b : WallBoard) → size (head_parts b) ≤ 21200
 unfolding head_parts
 head_size b =
     both _ _ 21197 3 (both _ _ 21193 4 (both _ _ 21159 34 (both _ _ 21059 100 (both _ _ 21000 59 (both _ _ 1000 20000 (fixed_size HEAD.now 1000 (lit≤ tt)) (fixed_size STYLE.now 20000 (lit≤ tt))) (fixed_size _ 59 (lit≤ tt)))
     (refresh_size b.live)) (fixed_size _ 34 (lit≤ tt))) (fixed_size _ 4 (word_size b))) (fixed_size _ 3 (lit≤ tt))
 
-whole_size : (b : Board) → IsBoardInRange b → size (page b) ≤ 442397
+whole_size : (b : WallBoard) → IsBoardInRange b → size (page b) ≤ 442397
 unfolding page
 whole_size b h =
     both _ _ 442097 300 (both _ _ 428978 13119 (both _ _ 165244 263734 (both _ _ 160846 4398 (both _ _ 23127 137719 (both _ _ 21546 1581 (both _ _ 21200 346 (head_size b) (heading_size b h.entered h.last)) (tiles_size b.counts.now h.counts))
     (waits_size b h.waits h.waits_count)) (live_size b.live h.live)) (ways_size b h.ways h.ways_count)) (moves_size b h.moves h.moves_count)) (fixed_size FOOT.now 300 (lit≤ tt))
 
-pub page_size : (b : Board) → IsBoardInRange b → length (board_page b) ≤ MOST_BYTES
+pub page_size : (b : WallBoard) → IsBoardInRange b → length (board_page b) ≤ MOST_BYTES
 unfolding board_page size
 page_size b h = more (page b) 442397 MOST_BYTES (lit≤ tt) (whole_size b h)

@@ -1,16 +1,16 @@
 -- How the link stands: the premise, and thirteen names with their values; that of a closed file is closed.
 use Rattle.std.specs.Prelude.{ℕ, Bool, ◌||◌, if◌then◌else◌, List, [], ◌∷◌, ◌++◌, codes}
-use Rattle.tc_wall.specs.declared.links.FopState.{FopState}
-use Rattle.tc_wall.specs.declared.links.FopState.TheVariants.{Active, RetransmitWithoutWait, RetransmitWithWait, InitialisingWithoutBc, InitialisingWithBc, Initial}
-use Rattle.tc_wall.specs.declared.links.FarmState.{FarmState}
-use Rattle.tc_wall.specs.declared.links.FarmState.TheVariants as farm
+use Rattle.tc_wall.specs.declared.links.FopWord.{FopWord}
+use Rattle.tc_wall.specs.declared.links.FopWord.TheVariants.{Active, RetransmitWithoutWait, RetransmitWithWait, InitialisingWithoutBc, InitialisingWithBc, Initial}
+use Rattle.tc_wall.specs.declared.links.FarmWord.{FarmWord}
+use Rattle.tc_wall.specs.declared.links.FarmWord.TheVariants as farm
 use Rattle.tc_wall.specs.declared.links.FopLine.{FopLine}
 use Rattle.tc_wall.specs.declared.links.FarmLine.{FarmLine}
 use Rattle.tc_wall.specs.declared.links.LinkLines.{LinkLines}
 use Rattle.tc_wall.specs.Parts.{Part, Fixed, Number, fixed}
 
 -- the states of the FOP, as the standard names them (CCSDS 232.1-B, 5.1.2); with these values their element begins
-unfoldable pub fop_words : FopState → List ℕ
+unfoldable pub fop_words : FopWord → List ℕ
 fop_words Active = codes "<dd>S1 active"
 fop_words RetransmitWithoutWait = codes "<dd>S2 retransmit without wait"
 fop_words RetransmitWithWait = codes "<dd>S3 retransmit with wait"
@@ -19,7 +19,7 @@ fop_words InitialisingWithBc = codes "<dd>S5 initialising with BC frame"
 fop_words Initial = codes "<dd>S6 initial: nothing is sent"
 
 -- Those of the FARM. One that is not open has its name as its class.
-unfoldable pub farm_words : FarmState → List ℕ
+unfoldable pub farm_words : FarmWord → List ℕ
 farm_words farm.Open = codes "<dd>Open"
 farm_words farm.Wait = codes "<dd class=\"Wait\">Wait"
 farm_words farm.Lockout = codes "<dd class=\"Lockout\">Lockout"

@@ -10,9 +10,9 @@ use Rattle.tc_waits.specs.declared.waits.Waiting.{Waiting}
 use Rattle.tc_waits.specs.declared.waits.Waiting.TheVariants as waiting
 use Rattle.tc_wall.specs.declared.boards.Wait.{Wait}
 use Rattle.tc_wall.specs.declared.boards.Way.{Way}
-use Rattle.tc_wall.specs.declared.boards.KnownSchedule.{KnownSchedule}
+use Rattle.tc_wall.specs.declared.boards.ShownSchedule.{ShownSchedule}
 use Rattle.tc_wall.specs.declared.boards.Live.{Live}
-use Rattle.tc_wall.specs.declared.boards.Board.{Board}
+use Rattle.tc_wall.specs.declared.boards.WallBoard.{WallBoard}
 use Rattle.tc_wall.specs.declared.boards.TheConstants.{MOST_OPEN, MOST_WAITS, MOST_MOVES, MOST_SHOWN_ACTIVITIES}
 use Rattle.tc_wall.specs.declared.links.FopLine.{FopLine}
 use Rattle.tc_wall.specs.declared.links.FarmLine.{FarmLine}
@@ -95,7 +95,7 @@ pub record IsActivityInRange (it : ListedActivity) : Type 0 where
   pub apid : it.identity.apid < 2 ^ 16
   pub count : it.identity.count < 2 ^ 16
 
-pub record IsScheduleInRange (s : KnownSchedule) : Type 0 where
+pub record IsScheduleInRange (s : ShownSchedule) : Type 0 where
   pub activities : AllByRecursion IsActivityInRange (take MOST_SHOWN_ACTIVITIES s.activities.now)
   pub laid_in : s.laid_in < 2 ^ 64
 
@@ -103,7 +103,7 @@ pub record IsLiveInRange (live : Live) : Type 0 where
   pub link : IsLinkInRange live.link
   pub schedule : IsScheduleInRange live.schedule
 
-pub record IsBoardInRange (b : Board) : Type 0 where
+pub record IsBoardInRange (b : WallBoard) : Type 0 where
   pub entered : b.entered < 2 ^ 32
   pub counts : AllByRecursion (λ n. n < 2 ^ 32) b.counts.now
   pub waits : AllByRecursion IsWaitInRange (take MOST_WAITS b.waits.now)

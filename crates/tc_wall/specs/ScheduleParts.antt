@@ -2,7 +2,7 @@
 use Rattle.std.specs.Prelude.{ℕ, Bool, if◌then◌else◌, List, [], ◌∷◌, ◌++◌, codes, take}
 use Rattle.std.specs.List.{flat_map}
 use Rattle.tc_types.specs.declared.link.activities.ListedActivity.{ListedActivity}
-use Rattle.tc_wall.specs.declared.boards.KnownSchedule.{KnownSchedule}
+use Rattle.tc_wall.specs.declared.boards.ShownSchedule.{ShownSchedule}
 use Rattle.tc_wall.specs.declared.boards.TheConstants.{MOST_SHOWN_ACTIVITIES}
 use Rattle.tc_wall.specs.declared.fixed.TheConstants.{SCHEDULE}
 use Rattle.tc_wall.specs.Parts.{Part, Fixed, Number, Time, fixed}
@@ -22,7 +22,7 @@ activity_parts it =
     Fixed (codes "<li><b>") ∷ Number it.identity.apid ∷ Fixed (codes "/") ∷ Number it.identity.count ∷ Fixed (codes "</b> ") ∷ Time it.time
     ∷ Fixed (codes "</li>\n") ∷ []
 
-unfoldable pub known_schedule_parts : KnownSchedule → List Part
+unfoldable pub known_schedule_parts : ShownSchedule → List Part
 known_schedule_parts s =
     fixed SCHEDULE.now ++ enabled_parts s.enabled s.laid_in ++ flat_map activity_parts (take MOST_SHOWN_ACTIVITIES s.activities.now)
     ++ fixed (codes "</ul>\n") ++ left_out_parts s.laid_in MOST_SHOWN_ACTIVITIES ++ fixed (codes "</section>\n")

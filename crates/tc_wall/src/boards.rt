@@ -42,7 +42,7 @@ pub struct Way<'a> {
 
 /// The on-board schedule, as the reports that were read tell it.
 #[derive(Clone, Copy, Debug)]
-pub struct KnownSchedule<'a> {
+pub struct ShownSchedule<'a> {
     /// Whether it is enabled.
     pub enabled: bool,
     /// Its activities. At most the first `MOST_SHOWN_ACTIVITIES` are shown.
@@ -57,12 +57,12 @@ pub struct Live<'a> {
     /// How the link stands.
     pub link: LinkLines,
     /// The on-board schedule.
-    pub schedule: KnownSchedule<'a>,
+    pub schedule: ShownSchedule<'a>,
 }
 
 /// What the board shows of a desk.
 #[derive(Clone, Copy, Debug)]
-pub struct Board<'a> {
+pub struct WallBoard<'a> {
     /// How many requests were entered.
     pub entered: u32,
     /// How many stand at each place.

@@ -4,7 +4,7 @@ ghost use Rattle.std.specs.String.{string_bytes};
 ghost use Rattle.tc_wall.specs.Parts.{Adds};
 ghost use Rattle.tc_wall.specs.Heading.{file_parts, entered_parts, moved_parts, last_parts, heading_parts};
 
-use crate::boards::{Board, Live};
+use crate::boards::{Live, WallBoard};
 use crate::bounds::add_fixed;
 use crate::fixed::HEADING;
 use crate::times::time_text;
@@ -59,7 +59,7 @@ fn add_last<A: Allocator + Copy>(page: &mut String<A>, moves: &[Move]) -> Result
 #[tactic(auto, using(crate::proofs::PartLemmas::then_adds), unfolding(crate::specs::Heading::heading_parts))]
 pub(crate) fn add_heading<A: Allocator + Copy>(
     page: &mut String<A>,
-    board: &Board,
+    board: &WallBoard,
 ) -> Result<(), AllocError>
     ensures { OnOk result (Adds (heading_parts board.now) (string_bytes page.old) (string_bytes page.new)) }
 {

@@ -1,6 +1,6 @@
 //! The board: one page of HTML of what a desk holds, for a screen on the wall and for paper.
 //!
-//! The page is a function of what it shows (`Board`). It is made of parts: fixed texts, numbers, words of the desk, and texts that persons typed,
+//! The page is a function of what it shows (`WallBoard`). It is made of parts: fixed texts, numbers, words of the desk, and texts that persons typed,
 //! which are escaped. Every function takes the memory of its text from the allocator that it is given, and fails where that is refused.
 #![tactic(auto)]
 
@@ -27,8 +27,8 @@ mod way_rows;
 mod ways;
 
 pub use boards::{
-    Board, KnownSchedule, Live, MOST_MOVES, MOST_OPEN, MOST_SHOWN_ACTIVITIES, MOST_STAGES,
-    MOST_WAITS, Wait, Way,
+    Live, MOST_MOVES, MOST_OPEN, MOST_SHOWN_ACTIVITIES, MOST_STAGES, MOST_WAITS, ShownSchedule,
+    Wait, WallBoard, Way,
 };
-pub use links::{FarmLine, FarmState, FopLine, FopState, LinkLines};
+pub use links::{FarmLine, FarmWord, FopLine, FopWord, LinkLines};
 pub use pages::{MOST_BYTES, board_text};

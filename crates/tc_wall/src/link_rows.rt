@@ -5,34 +5,34 @@ ghost use Rattle.tc_wall.specs.Parts.{Adds};
 ghost use Rattle.tc_wall.specs.LinkParts.{fop_words, farm_words, flag_words, premise_word, worded_parts, number_parts, share_parts, flies_parts, queue_parts, counter_parts, fop_parts, farm_parts, section_begins, premise_parts, link_parts, closed_link_parts};
 
 use crate::bounds::add_fixed;
-use crate::links::{FarmLine, FarmState, FopLine, FopState, LinkLines};
+use crate::links::{FarmLine, FarmWord, FopLine, FopWord, LinkLines};
 use std::alloc::{AllocError, Allocator};
 use std::fmt::Write;
 
 /// The states of the FOP in words.
 #[tactic(auto, unfolding(crate::specs::LinkParts::fop_words))]
-fn fop_words(state: FopState) -> &'static str
+fn fop_words(state: FopWord) -> &'static str
     ensures { result.now ≡ fop_words state }
 {
     match state {
-        FopState::Active => "<dd>S1 active",
-        FopState::RetransmitWithoutWait => "<dd>S2 retransmit without wait",
-        FopState::RetransmitWithWait => "<dd>S3 retransmit with wait",
-        FopState::InitialisingWithoutBc => "<dd>S4 initialising without BC frame",
-        FopState::InitialisingWithBc => "<dd>S5 initialising with BC frame",
-        FopState::Initial => "<dd>S6 initial: nothing is sent",
+        FopWord::Active => "<dd>S1 active",
+        FopWord::RetransmitWithoutWait => "<dd>S2 retransmit without wait",
+        FopWord::RetransmitWithWait => "<dd>S3 retransmit with wait",
+        FopWord::InitialisingWithoutBc => "<dd>S4 initialising without BC frame",
+        FopWord::InitialisingWithBc => "<dd>S5 initialising with BC frame",
+        FopWord::Initial => "<dd>S6 initial: nothing is sent",
     }
 }
 
 /// Those of the FARM.
 #[tactic(auto, unfolding(crate::specs::LinkParts::farm_words))]
-fn farm_words(state: FarmState) -> &'static str
+fn farm_words(state: FarmWord) -> &'static str
     ensures { result.now ≡ farm_words state }
 {
     match state {
-        FarmState::Open => "<dd>Open",
-        FarmState::Wait => "<dd class=\"Wait\">Wait",
-        FarmState::Lockout => "<dd class=\"Lockout\">Lockout",
+        FarmWord::Open => "<dd>Open",
+        FarmWord::Wait => "<dd class=\"Wait\">Wait",
+        FarmWord::Lockout => "<dd class=\"Lockout\">Lockout",
     }
 }
 

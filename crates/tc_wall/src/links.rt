@@ -2,7 +2,7 @@
 
 /// The states of FOP-1 (CCSDS 232.1-B, 5.1.2).
 #[derive(Clone, Copy, Debug)]
-pub enum FopState {
+pub enum FopWord {
     /// S1 Active.
     Active,
     /// S2 Retransmit without Wait.
@@ -19,7 +19,7 @@ pub enum FopState {
 
 /// The states of FARM-1 (CCSDS 232.1-B, 6.1.2).
 #[derive(Clone, Copy, Debug)]
-pub enum FarmState {
+pub enum FarmWord {
     /// S1 Open.
     Open,
     /// S2 Wait.
@@ -32,7 +32,7 @@ pub enum FarmState {
 #[derive(Clone, Copy, Debug)]
 pub struct FopLine {
     /// The state.
-    pub state: FopState,
+    pub state: FopWord,
     /// V(S), the number of the next frame.
     pub vs: u8,
     /// NN(R), the number of the oldest frame that is not acknowledged.
@@ -57,7 +57,7 @@ pub struct FopLine {
 #[derive(Clone, Copy, Debug)]
 pub struct FarmLine {
     /// The state.
-    pub state: FarmState,
+    pub state: FarmWord,
     /// V(R), the number of the frame that is expected next.
     pub vr: u8,
     /// FARM-B, how many control commands were taken, modulo 4.

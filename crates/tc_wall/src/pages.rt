@@ -4,7 +4,7 @@ ghost use Rattle.std.specs.String.{string_bytes, string_len};
 ghost use Rattle.tc_wall.specs.Parts.{Adds};
 ghost use Rattle.tc_wall.specs.Page.{laid_in, size_word, refresh_parts, head_parts, live_parts, page, board_page};
 
-use crate::boards::{Board, Live};
+use crate::boards::{Live, WallBoard};
 use crate::bounds::add_fixed;
 use crate::fixed::{FOOT, HEAD, REFRESH, STYLE};
 use crate::headings::add_heading;
@@ -35,7 +35,7 @@ fn laid_in(live: &Option<Live>) -> usize
 
 /// Whether there are few rows, or many.
 #[tactic(auto, unfolding(crate::specs::Page::size_word))]
-fn size_word(board: &Board) -> &'static str
+fn size_word(board: &WallBoard) -> &'static str
     ensures { result.now ≡ size_word board.now }
 {
     let laid_in = laid_in(&board.live);
@@ -65,7 +65,7 @@ fn add_refresh<A: Allocator + Copy>(
 
 /// Adds the head of the page, up to where its body begins.
 #[tactic(auto, using(crate::proofs::PartLemmas::then_adds), unfolding(crate::specs::Page::head_parts))]
-fn add_head<A: Allocator + Copy>(page: &mut String<A>, board: &Board) -> Result<(), AllocError>
+fn add_head<A: Allocator + Copy>(page: &mut String<A>, board: &WallBoard) -> Result<(), AllocError>
     ensures { OnOk result (Adds (head_parts board.now) (string_bytes page.old) (string_bytes page.new)) }
 {
     add_fixed(page, HEAD)?;
@@ -102,7 +102,7 @@ fn add_live<A: Allocator + Copy>(
 fn add_page<A: Allocator + Copy>(
     alloc: A,
     text: &mut String<A>,
-    board: &Board,
+    board: &WallBoard,
 ) -> Result<(), AllocError>
     ensures { OnOk result (Adds (page board.now) (string_bytes text.old) (string_bytes text.new)) }
 {
@@ -118,7 +118,7 @@ fn add_page<A: Allocator + Copy>(
 
 /// The board as a page of HTML. Fails where memory is refused.
 #[tactic(auto, using(crate::proofs::PageSizeLemmas::page_size), unfolding(crate::specs::Page::board_page))]
-pub fn board_text<A: Allocator + Copy>(alloc: A, board: &Board) -> Result<String<A>, AllocError>
+pub fn board_text<A: Allocator + Copy>(alloc: A, board: &WallBoard) -> Result<String<A>, AllocError>
     ensures page { IfOk result (λ t. string_bytes t ≡ board_page board.now) }
     ensures few { IfOk result (λ t. string_len t ≤ MOST_BYTES) }
 {

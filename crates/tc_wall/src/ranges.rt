@@ -5,7 +5,8 @@ ghost use Rattle.tc_wall.specs.Ranges.{IsShort, IsMoveInRange, IsWantingInRange,
 ghost use Rattle.tc_wall.specs.Waits.{text_of};
 
 use crate::boards::{
-    Board, KnownSchedule, Live, MOST_MOVES, MOST_OPEN, MOST_SHOWN_ACTIVITIES, MOST_WAITS, Wait, Way,
+    Live, MOST_MOVES, MOST_OPEN, MOST_SHOWN_ACTIVITIES, MOST_WAITS, ShownSchedule, Wait, WallBoard,
+    Way,
 };
 use crate::bounds::{first_of, last_of};
 use crate::links::{FarmLine, FopLine, LinkLines};
@@ -231,7 +232,7 @@ fn keep_activities(activities: &[ListedActivity])
 }
 
 /// The on-board schedule.
-fn keep_schedule(schedule: &KnownSchedule)
+fn keep_schedule(schedule: &ShownSchedule)
     ensures { IsScheduleInRange schedule.now }
 {
     let _count = schedule.laid_in;
@@ -268,7 +269,7 @@ fn keep_last(last: Option<Move>)
 }
 
 /// A whole board.
-pub(crate) fn keep_board(board: &Board)
+pub(crate) fn keep_board(board: &WallBoard)
     ensures { IsBoardInRange board.now }
 {
     let _entered = board.entered;

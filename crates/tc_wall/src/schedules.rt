@@ -5,7 +5,7 @@ ghost use Rattle.std.specs.String.{string_bytes};
 ghost use Rattle.tc_wall.specs.Parts.{Adds};
 ghost use Rattle.tc_wall.specs.ScheduleParts.{enabled_word, enabled_parts, activity_parts, known_schedule_parts, closed_schedule_parts};
 
-use crate::boards::{KnownSchedule, MOST_SHOWN_ACTIVITIES};
+use crate::boards::{MOST_SHOWN_ACTIVITIES, ShownSchedule};
 use crate::bounds::{add_fixed, add_left_out, first_of};
 use crate::fixed::SCHEDULE;
 use crate::times::time_text;
@@ -70,7 +70,7 @@ fn add_activities<A: Allocator + Copy>(
 #[tactic(auto, using(crate::proofs::PartLemmas::then_adds), unfolding(crate::specs::ScheduleParts::known_schedule_parts))]
 pub(crate) fn add_known_schedule<A: Allocator + Copy>(
     page: &mut String<A>,
-    schedule: &KnownSchedule,
+    schedule: &ShownSchedule,
 ) -> Result<(), AllocError>
     ensures { OnOk result (Adds (known_schedule_parts schedule.now) (string_bytes page.old) (string_bytes page.new)) }
 {

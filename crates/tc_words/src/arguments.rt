@@ -166,7 +166,7 @@ pub(crate) fn lines_arg<'a>(alloc: Global) -> Argument<'a>
     flag_arg(
         alloc,
         "verbose",
-        "Say on the standard error which lines were refused, and why, also where that is no terminal, and which went back in time",
+        "Say on the standard error which lines were refused, and why, also where that is no terminal, and which act or load came before the last move",
     )
 }
 

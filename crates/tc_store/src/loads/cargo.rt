@@ -4,6 +4,7 @@ ghost use Rattle.sqlite.specs.State.{HasCleanDisk};
 ghost use Rattle.sqlite.specs.Held.{state};
 ghost use Rattle.tc_types.specs.Tables.{Image};
 ghost use Rattle.tc_store.specs.declared.versions.Version.{Version as SomeVersion};
+ghost use Rattle.tc_store.specs.declared.versions.Layout.{Layout as SomeLayout};
 ghost use Rattle.tc_store.specs.Ledgers.{Ledger};
 ghost use Rattle.tc_store.specs.Cargo.{cargo_tree, cargo_values};
 ghost use Rattle.tc_store.specs.Schema.{HasCargo, schema_of, HoldsAs};
@@ -49,7 +50,7 @@ impl Loads for Cargo {
 /// The rows of the table, in tables of a version that has it. The tables stay, also where the read fails.
 fn read_rows<S: Alter>(conn: &mut Connection<S>, alloc: Global) -> Result<Vec<Cargo>, ReadFault>
     ensures rows { HasCleanDisk (state S.Store conn.new) → IfOk result (λ found. (of : SomeVersion) (ledger : Ledger) → HasCargo of → HoldsAs of (state S.Store conn.old).now ledger → found.items ≡ ledger.image.cargo) }
-    ensures reads { Reads S.Store (λ db found. (of : SomeVersion) → db.schema ≡ schema_of of → HasCargo of → ShowsRows (db.trees cargo_tree) all_cargo_columns (map cargo_values found.items)) conn.old conn.new result }
+    ensures reads { Reads S.Store (λ db found. (layout : SomeLayout) (of : SomeVersion) → db.schema ≡ schema_of layout of → HasCargo of → ShowsRows (db.trees (cargo_tree layout)) all_cargo_columns (map cargo_values found.items)) conn.old conn.new result }
 {
     let rows = rows_of(conn, ALL, &[])?;
     read_all(alloc, rows.as_slice())
@@ -62,7 +63,7 @@ pub(crate) fn load_cargo<S: Alter>(
     version: Version,
 ) -> Result<Vec<Cargo>, ReadFault>
     ensures rows { HasCleanDisk (state S.Store conn.new) → IfOk result (λ found. (of : SomeVersion) (ledger : Ledger) → of ≡ version → HoldsAs of (state S.Store conn.old).now ledger → found.items ≡ ledger.image.cargo) }
-    ensures reads { Reads S.Store (λ db found. (of : SomeVersion) → db.schema ≡ schema_of of → of ≡ version → ShowsCargo version db found.items) conn.old conn.new result }
+    ensures reads { Reads S.Store (λ db found. (layout : SomeLayout) (of : SomeVersion) → db.schema ≡ schema_of layout of → of ≡ version → ShowsCargo layout version db found.items) conn.old conn.new result }
 {
     match version {
         Version::First | Version::Second => Ok(Vec::new(alloc)),

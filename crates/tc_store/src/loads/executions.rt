@@ -4,6 +4,7 @@ ghost use Rattle.sqlite.specs.State.{HasCleanDisk};
 ghost use Rattle.sqlite.specs.Held.{state};
 ghost use Rattle.tc_types.specs.Tables.{Image};
 ghost use Rattle.tc_store.specs.declared.versions.Version.{Version as SomeVersion};
+ghost use Rattle.tc_store.specs.declared.versions.Layout.{Layout as SomeLayout};
 ghost use Rattle.tc_store.specs.Ledgers.{Ledger};
 ghost use Rattle.tc_store.specs.Executions.{execution_tree, execution_given};
 ghost use Rattle.tc_store.specs.Schema.{schema_of, HoldsAs};
@@ -42,7 +43,7 @@ pub(crate) fn load_executions<S: Alter>(
     alloc: Global,
 ) -> Result<Vec<BegunExecution>, ReadFault>
     ensures rows { HasCleanDisk (state S.Store conn.new) → IfOk result (λ found. (version : SomeVersion) (ledger : Ledger) → HoldsAs version (state S.Store conn.old).now ledger → found.items ≡ ledger.image.executions) }
-    ensures reads { Reads S.Store (λ db found. (version : SomeVersion) → db.schema ≡ schema_of version → ShowsRows (db.trees execution_tree) all_execution_columns (map execution_given found.items)) conn.old conn.new result }
+    ensures reads { Reads S.Store (λ db found. (layout : SomeLayout) (version : SomeVersion) → db.schema ≡ schema_of layout version → ShowsRows (db.trees (execution_tree layout)) all_execution_columns (map execution_given found.items)) conn.old conn.new result }
 {
     let rows = rows_of(conn, ALL, &[])?;
     read_all(alloc, rows.as_slice())

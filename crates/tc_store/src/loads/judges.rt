@@ -3,6 +3,7 @@ ghost use Rattle.std.specs.Prelude.{◌≡◌};
 ghost use Rattle.std.specs.List.{AllByRecursion};
 ghost use Rattle.tc_types.specs.Tables.{Image as Rows};
 ghost use Rattle.tc_store.specs.declared.versions.Version.{Version as SomeVersion};
+ghost use Rattle.tc_store.specs.declared.versions.Layout.{Layout as SomeLayout};
 ghost use Rattle.tc_store.specs.Schema.{schema_of};
 ghost use Rattle.tc_store.specs.Told.{IsTold, IsToldRequest, IsToldStep, IsToldRecord};
 ghost use Rattle.tc_store.specs.Shows.{ShowsRequests, ShowsStacks, ShowsProcedures, ShowsAll};
@@ -32,7 +33,7 @@ fn judge_of_requests<S: Alter>(
     alloc: Global,
     version: Version,
 ) -> Result<(), ReadFault>
-    ensures reads { Reads S.Store (λ db _. (of : SomeVersion) → db.schema ≡ schema_of of → of ≡ version → (image : Rows) × ShowsRequests version db image.requests image.moves image.tallies image.approvals image.cargo × AllByRecursion IsToldRequest image.requests) conn.old conn.new result }
+    ensures reads { Reads S.Store (λ db _. (layout : SomeLayout) (of : SomeVersion) → db.schema ≡ schema_of layout of → of ≡ version → (image : Rows) × ShowsRequests layout version db image.requests image.moves image.tallies image.approvals image.cargo × AllByRecursion IsToldRequest image.requests) conn.old conn.new result }
 {
     let _ = load_requests(conn, alloc)?;
     judge_moves(conn, alloc)?;
@@ -44,7 +45,7 @@ fn judge_of_requests<S: Alter>(
 
 /// Reads what they tell of stacks.
 fn judge_of_stacks<S: Alter>(conn: &mut Connection<S>, alloc: Global) -> Result<(), ReadFault>
-    ensures reads { Reads S.Store (λ db _. (version : SomeVersion) → db.schema ≡ schema_of version → (image : Rows) × ShowsStacks db image.stacks image.stack_approvals) conn.old conn.new result }
+    ensures reads { Reads S.Store (λ db _. (layout : SomeLayout) (version : SomeVersion) → db.schema ≡ schema_of layout version → (image : Rows) × ShowsStacks layout db image.stacks image.stack_approvals) conn.old conn.new result }
 {
     let _ = load_stacks(conn, alloc)?;
     let _ = load_stack_approvals(conn, alloc)?;
@@ -53,7 +54,7 @@ fn judge_of_stacks<S: Alter>(conn: &mut Connection<S>, alloc: Global) -> Result<
 
 /// Reads what they tell of procedures.
 fn judge_of_procedures<S: Alter>(conn: &mut Connection<S>, alloc: Global) -> Result<(), ReadFault>
-    ensures reads { Reads S.Store (λ db _. (version : SomeVersion) → db.schema ≡ schema_of version → (image : Rows) × ShowsProcedures db image.procedures image.steps image.executions image.records × AllByRecursion IsToldStep image.steps × AllByRecursion IsToldRecord image.records) conn.old conn.new result }
+    ensures reads { Reads S.Store (λ db _. (layout : SomeLayout) (version : SomeVersion) → db.schema ≡ schema_of layout version → (image : Rows) × ShowsProcedures layout db image.procedures image.steps image.executions image.records × AllByRecursion IsToldStep image.steps × AllByRecursion IsToldRecord image.records) conn.old conn.new result }
 {
     let _ = load_procedures(conn, alloc)?;
     let _ = load_steps(conn, alloc)?;
@@ -68,7 +69,7 @@ pub(crate) fn judge_tables<S: Alter>(
     alloc: Global,
     version: Version,
 ) -> Result<(), ReadFault>
-    ensures reads { Reads S.Store (λ db _. db.schema ≡ schema_of version → (image : Rows) × ShowsAll version db image × IsTold image) conn.old conn.new result }
+    ensures reads { Reads S.Store (λ db _. (layout : SomeLayout) → db.schema ≡ schema_of layout version → (image : Rows) × ShowsAll layout version db image × IsTold image) conn.old conn.new result }
 {
     check_version(conn, version)?;
     judge_of_requests(conn, alloc, version)?;

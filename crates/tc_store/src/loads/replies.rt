@@ -4,6 +4,7 @@ ghost use Rattle.std.specs.List.{AllByRecursion};
 ghost use Rattle.sqlite_value.specs.declared.value.Value.TheVariants.{Text};
 ghost use Rattle.sqlite_value.specs.Order.{Row as Values, column};
 ghost use Rattle.tc_store.specs.declared.versions.Version.{Version as SomeVersion};
+ghost use Rattle.tc_store.specs.declared.versions.Layout.{Layout as SomeLayout};
 ghost use Rattle.tc_types.specs.Names.{IsPerson};
 ghost use Rattle.tc_store.specs.CallNumbers.{IsCallNumber};
 ghost use Rattle.tc_store.specs.Schema.{schema_of};
@@ -65,7 +66,7 @@ fn judge_all(rows: &[Row]) -> Result<(), ReadFault>
 
 /// Reads the replies page by page, and judges each. The tables stay, also where one is none that a desk keeps.
 fn judge_pages<S: Alter>(conn: &mut Connection<S>) -> Result<(), ReadFault>
-    ensures reads { Reads S.Store (λ db _. (of : SomeVersion) → db.schema ≡ schema_of of → AreJudged of db) conn.old conn.new result }
+    ensures reads { Reads S.Store (λ db _. (layout : SomeLayout) (of : SomeVersion) → db.schema ≡ schema_of layout of → AreJudged layout of db) conn.old conn.new result }
 {
     let mut first = i64::MIN;
     // each page ends on a greater number than the one before; no desk has so many replies that the pages end with the numbers
@@ -89,7 +90,7 @@ pub(crate) fn judge_replies<S: Alter>(
     conn: &mut Connection<S>,
     version: Version,
 ) -> Result<(), ReadFault>
-    ensures reads { Reads S.Store (λ db _. (of : SomeVersion) → db.schema ≡ schema_of of → of ≡ version → AreJudged version db) conn.old conn.new result }
+    ensures reads { Reads S.Store (λ db _. (layout : SomeLayout) (of : SomeVersion) → db.schema ≡ schema_of layout of → of ≡ version → AreJudged layout version db) conn.old conn.new result }
 {
     match version {
         Version::First => Ok(()),

@@ -4,6 +4,7 @@ ghost use Rattle.std.specs.List.{AllByRecursion};
 ghost use Rattle.sqlite_value.specs.declared.value.Value.TheVariants.{Int, Text};
 ghost use Rattle.sqlite_value.specs.Order.{Row as Values, column};
 ghost use Rattle.tc_store.specs.declared.versions.Version.{Version as SomeVersion};
+ghost use Rattle.tc_store.specs.declared.versions.Layout.{Layout as SomeLayout};
 ghost use Rattle.tc_store.specs.Meta.{meta_tree, version_number, version_shown};
 ghost use Rattle.tc_store.specs.Loads.{all_version_columns};
 ghost use Rattle.tc_store.specs.Schema.{schema_of};
@@ -55,7 +56,7 @@ pub(crate) fn check_version<S: Alter>(
     conn: &mut Connection<S>,
     version: Version,
 ) -> Result<(), ReadFault>
-    ensures reads { Reads S.Store (λ db _. (of : SomeVersion) → db.schema ≡ schema_of of → ShowsRows (db.trees meta_tree) all_version_columns (version_shown version ∷ [])) conn.old conn.new result }
+    ensures reads { Reads S.Store (λ db _. (layout : SomeLayout) (of : SomeVersion) → db.schema ≡ schema_of layout of → ShowsRows (db.trees meta_tree) all_version_columns (version_shown version ∷ [])) conn.old conn.new result }
 {
     let rows = rows_of(conn, ALL, &[])?;
     if are_version(rows.as_slice(), version)? {

@@ -8,7 +8,8 @@ use Rattle.tc_desk.specs.State.{IsConfig}
 use Rattle.tc_store.specs.Ledgers.{Ledger, with_image}
 use Rattle.tc_store.specs.Schema.{HoldsAs}
 use Rattle.tc_room.specs.Crash.{HasRows}
-use Rattle.tc_room.proofs.OpeningLemmas.{left_read, why_unopened}
+use Rattle.tc_room.proofs.OpeningLemmas.{left_read, shows_desk, why_unopened}
+use Rattle.tc_room.proofs.RoomLemmas.{kept_book}
 use Rattle.tc_room.proofs.TableLemmas.{leaves_more, leaves_none, leaves_over, written}
 use Rattle.tc_room.proofs.opening.open_left.Goals as goal
 
@@ -37,7 +38,7 @@ returns-clause-crash g c = rw c.into_connection-in-Err-write_rows.ensures (λ cl
     let made = c.in-Ok-reopen_desk.ensures in
     let left = left_read c.args.config c.args.moment (rows_in c.in-Ok.image) ledger.image c.in-Ok-reopen_desk.left.desk.parts c.in-Ok-reopen_desk.left.done.moves.items c.in-Ok-reopen_desk.left.done.batch.items (c.in-Ok.ensures.image before c.args.version ledger told held) (record { sound = made.choice.sound; reopened = made.desk; made = made.made.moves; writes = made.made.batch }) in
     let holds : HoldsAs c.args.version (state g.S.Store c.load.new.self).now ledger = c.in-Ok.ensures.reads.same before c.args.version ledger held in
-    (left.sound, c.in-Ok.ensures.replies before ledger held, _, left.reopened, subst (λ (rows : Image). HasRows trees (record { image = rows; replies = ledger.replies })) left.writes (rows_are ledger holds))))
+    (left.sound, c.in-Ok.ensures.replies before ledger held, _, left.reopened, kept_book _ made.made.good, subst (λ (rows : Image). HasRows trees (record { image = rows; replies = ledger.replies })) left.writes (rows_are ledger holds))))
 
 pub returns-in-Err-clause-crash : goal.returns-in-Err-clause-crash
 returns-in-Err-clause-crash g c = rw c.into_connection.ensures (λ clean ledger held. leaves_more g.S.Store c.args.tables c.load.new.self _ (c.load.ensures.reads.crash c.args.version ledger held) clean)
@@ -54,9 +55,9 @@ returns-clause-kept g c = rw c.into_connection-in-Err-write_rows.ensures (λ cle
     subst (λ now. HoldsAs of now ledger) (sym (c.in-Err-write_rows.ensures.kept clean is_open)) (c.in-Ok.ensures.reads.same before of ledger held))
 
 pub returns-in-Err-reopen_desk-clause-memory : goal.returns-in-Err-reopen_desk-clause-memory
-returns-in-Err-reopen_desk-clause-memory g c = rw c.into_connection-in-Err-reopen_desk.ensures (λ memory clean ours. (rows_in c.in-Ok.image, c.in-Ok.ensures.told, c.in-Ok.ensures.shown clean ours))
+returns-in-Err-reopen_desk-clause-memory g c = rw c.into_connection-in-Err-reopen_desk.ensures (λ memory clean ours. shows_desk c.args.version _ (rows_in c.in-Ok.image) c.in-Ok.ensures.told ours (c.in-Ok.ensures.shown clean))
 
 pub returns-in-Ok-write_rows-clause-shown : goal.returns-in-Ok-write_rows-clause-shown
 returns-in-Ok-write_rows-clause-shown g c = rw c.over.ensures (λ clean ours.
     let before : HasCleanDisk (state g.S.Store c.load.new.self) = omega (arith, clean, c.write_rows.ensures.crash.clean) in
-    (rows_in c.in-Ok.image, c.in-Ok.ensures.told, c.in-Ok.ensures.shown before ours))
+    shows_desk c.args.version _ (rows_in c.in-Ok.image) c.in-Ok.ensures.told ours (c.in-Ok.ensures.shown before))

@@ -27,7 +27,7 @@ pub returns-clause-reads : goal.returns-clause-reads
 returns-clause-reads g c =
     let all = reads_then g.S.Store (reads_then g.S.Store (reads_then g.S.Store c.in_ok-procedures.ensures.reads c.in_ok-steps.ensures.reads) c.in_ok-executions.ensures.reads) c.in_ok-records.ensures.reads in
     record {
-      finds = λ clean version has. let seen = all.finds clean version has in record { procedures_are = seen.0.0.0; steps_are = seen.0.0.1; executions_are = seen.0.1; records_are = seen.1 };
+      finds = λ clean layout version has. let seen = all.finds clean layout version has in record { procedures_are = seen.0.0.0; steps_are = seen.0.0.1; executions_are = seen.0.1; records_are = seen.1 };
       same = all.same;
       left = all.left;
     }

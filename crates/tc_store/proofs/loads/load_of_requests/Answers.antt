@@ -34,7 +34,7 @@ pub returns-clause-reads : goal.returns-clause-reads
 returns-clause-reads g c =
     let all = reads_then g.S.Store (reads_then g.S.Store (reads_then g.S.Store (reads_then g.S.Store c.in_ok-requests.ensures.reads c.in_ok-moves.ensures.reads) c.in_ok-tallies.ensures.reads) c.in_ok-approvals.ensures.reads) c.in_ok-cargo.ensures.reads in
     record {
-      finds = λ clean of has same. let seen = all.finds clean of has in record { requests_are = seen.0.0.0.0; moves_are = seen.0.0.0.1; tallies_are = seen.0.0.1; approvals_are = seen.0.1; cargo_is = seen.1 same };
+      finds = λ clean layout of has same. let seen = all.finds clean layout of has in record { requests_are = seen.0.0.0.0; moves_are = seen.0.0.0.1; tallies_are = seen.0.0.1; approvals_are = seen.0.1; cargo_is = seen.1 same };
       same = all.same;
       left = all.left;
     }

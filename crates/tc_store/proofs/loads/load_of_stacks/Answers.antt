@@ -13,7 +13,7 @@ pub returns-clause-reads : goal.returns-clause-reads
 returns-clause-reads g c =
     let all = reads_then g.S.Store c.in_ok-stacks.ensures.reads c.in_ok-approvals.ensures.reads in
     record {
-      finds = λ clean version has. let seen = all.finds clean version has in record { stacks_are = seen.0; approvals_are = seen.1 };
+      finds = λ clean layout version has. let seen = all.finds clean layout version has in record { stacks_are = seen.0; approvals_are = seen.1 };
       same = all.same;
       left = all.left;
     }

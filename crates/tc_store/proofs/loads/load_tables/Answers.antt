@@ -36,7 +36,7 @@ pub returns-clause-reads : goal.returns-clause-reads
 returns-clause-reads g c =
     let all = reads_then g.S.Store (reads_then g.S.Store (reads_then g.S.Store (reads_then g.S.Store c.in_ok-check_version.ensures.reads c.in_ok-book.ensures.reads) c.in_ok-room.ensures.reads) c.in_ok-log.ensures.reads) c.in_ok-judge_replies.ensures.reads in
     record {
-      finds = λ clean has. let seen = all.finds clean c.args.version has in record { version = seen.0.0.0.0; requests = seen.0.0.0.1 refl; stacks = seen.0.0.1; procedures = seen.0.1; replies = seen.1 refl };
+      finds = λ clean layout has. let seen = all.finds clean layout c.args.version has in record { version = seen.0.0.0.0; requests = seen.0.0.0.1 refl; stacks = seen.0.0.1; procedures = seen.0.1; replies = seen.1 refl };
       same = all.same;
       left = all.left;
     }
@@ -47,7 +47,7 @@ returns-clause-image g c clean of ledger told held =
     let at3 = held_then g.S.Store (reads_then g.S.Store (reads_then g.S.Store c.in_ok-check_version.ensures.reads c.in_ok-book.ensures.reads) c.in_ok-room.ensures.reads) c.in_ok-log.ensures.reads at4.0 of ledger held in
     let at2 = held_then g.S.Store (reads_then g.S.Store c.in_ok-check_version.ensures.reads c.in_ok-book.ensures.reads) c.in_ok-room.ensures.reads at3.0 of ledger held in
     let at1 = held_then g.S.Store c.in_ok-check_version.ensures.reads c.in_ok-book.ensures.reads at2.0 of ledger held in
-    let named : of ≡ c.args.version = version_named of c.args.version (state g.S.Store c.args.conn.now).now ledger held (c.in_ok-check_version.ensures.reads.finds at1.0 of held.schema) in
+    let named : of ≡ c.args.version = version_named of c.args.version (state g.S.Store c.args.conn.now).now ledger held (c.in_ok-check_version.ensures.reads.finds at1.0 _ of held.schema) in
     let book = c.in_ok-book.ensures.rows at2.0 of ledger named told at1.1 in
     let room = c.in_ok-room.ensures.rows at3.0 of ledger told at2.1 in
     let log = c.in_ok-log.ensures.rows at4.0 of ledger told at3.1 in

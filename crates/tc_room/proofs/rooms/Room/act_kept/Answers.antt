@@ -5,7 +5,7 @@ use Rattle.tc_room.specs.Crash.{ledger_of}
 use Rattle.tc_room.specs.Joined.{HasLedger, Standing}
 use Rattle.tc_room.proofs.OnceLemmas.{kept_done, leaves_done, makes_done, makes_failed, makes_refused}
 use Rattle.tc_room.proofs.ReplyLemmas.{act_grants}
-use Rattle.tc_room.proofs.RoomLemmas.{carried, refused}
+use Rattle.tc_room.proofs.RoomLemmas.{carried, kept_book, refused}
 use Rattle.tc_room.proofs.TableLemmas.{not_written}
 use Rattle.tc_room.proofs.StopLemmas.{act_told, stops_failed, stops_ok, stops_refused}
 use Rattle.tc_room.proofs.rooms.Room.act_kept.Goals as goal
@@ -39,7 +39,7 @@ returns-clause-answered g c =
     (makes_failed g.S.Store _ _ c.args.caller _ _ done.answers.0 refl
     (λ replies held clean. not_written g.S.Store c.self.inside.tables c.write_done.new.tables (ledger_of c.self.inside.desk.parts.book replies) c.write_done.ensures.crash clean (λ was. (held going was).holds) (λ is_open. c.in-None.ensures.kept clean is_open refl))
     (λ replies held clean. leaves_done g.S.Store c.self.inside.tables c.write_done.new.tables c.self.inside.desk.parts.book _ replies c.args.caller (reply_to c.in_ok-done.done) c.in_ok-done.done.batch.items granted done.made.batch c.write_done.ensures.crash clean (held going) _ (inl refl)
-    (inr (_, _, carried _ _ _ _ _ _ _ c.requires.acts done.answers.0 done.answers.1 done.made.moves, refl)))
+    (inr (_, _, carried _ _ _ _ _ _ _ c.requires.acts done.answers.0 done.answers.1 done.made.moves, kept_book _ done.stays.good, refl)))
     done.stays.opened)
 
 pub returns-in-Some-clause-opened : goal.returns-in-Some-clause-opened

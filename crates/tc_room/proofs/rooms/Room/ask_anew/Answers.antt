@@ -25,9 +25,14 @@ returns-in-Ok-clause-acted g c =
 pub returns-in-Err-clause-acted : goal.returns-in-Err-clause-acted
 returns-in-Err-clause-acted g c = says_refused c.in-Err.refusal c.refused.result.answer _ c.refused.ensures.says
 
-pub returns-in-Ok-clause-stops : goal.returns-in-Ok-clause-stops
-returns-in-Ok-clause-stops g c = c.ask_once.ensures.stops
+pub returns-in-Ok-clause-keeps : goal.returns-in-Ok-clause-keeps
+returns-in-Ok-clause-keeps g c = c.ask_once.ensures.keeps
 
-pub returns-in-Err-clause-stops : goal.returns-in-Err-clause-stops
-returns-in-Err-clause-stops g c = λ acts.
-    stops_refused _ _ _ c.in-Err.refusal c.refused.ensures.told c.requires.going c.requires.going (act_text_low c.args.caller.by c.args.text.now c.args.moment c.in-Err.refusal c.in-Err.ensures.judged)
+pub returns-in-Err-clause-keeps : goal.returns-in-Err-clause-keeps
+returns-in-Err-clause-keeps g c = record {
+  stops = (λ acts.
+      stops_refused _ _ _ c.in-Err.refusal c.refused.ensures.told c.requires.going c.requires.going (act_text_low c.args.caller.by c.args.text.now c.args.moment c.in-Err.refusal c.in-Err.ensures.judged));
+  told = c.opened-opened.ensures.told;
+  good = c.opened-opened.ensures.good;
+  clean = λ clean. clean;
+}

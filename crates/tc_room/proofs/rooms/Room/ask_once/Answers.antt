@@ -33,8 +33,8 @@ returns-in_default-clause-called g c =
 pub returns-in_default-clause-acted : goal.returns-in_default-clause-acted
 returns-in_default-clause-acted g c = says_more c.do_once.result.answer _ _ inr c.do_once.ensures.acted
 
-pub returns-in-Ask-clause-stops : goal.returns-in-Ask-clause-stops
-returns-in-Ask-clause-stops g c = λ acts. absurd cc
+pub returns-in-Ask-clause-keeps : goal.returns-in-Ask-clause-keeps
+returns-in-Ask-clause-keeps g c = record { stops = (λ acts. absurd cc); told = c.opened-opened.ensures.told; good = c.opened-opened.ensures.good; clean = c.answer_asked-answer.ensures.clean }
 
-pub returns-in_default-clause-stops : goal.returns-in_default-clause-stops
-returns-in_default-clause-stops g c = c.do_once.ensures.stops
+pub returns-in_default-clause-keeps : goal.returns-in_default-clause-keeps
+returns-in_default-clause-keeps g c = c.do_once.ensures.keeps

@@ -28,8 +28,8 @@ returns-in-Ok-clause-acted g c = says_same c.granted.result.answer _ c.in-Ok.ens
 pub returns-in-Err-clause-acted : goal.returns-in-Err-clause-acted
 returns-in-Err-clause-acted g c = says_refused c.in-Err.refusal c.refused.result.answer _ c.refused.ensures.says
 
-pub returns-in-Ok-clause-stops : goal.returns-in-Ok-clause-stops
-returns-in-Ok-clause-stops g c = λ acts. stops_granted _ _ _ _ c.granted.ensures.told c.in-Ok.ensures.stops
+pub returns-in-Ok-clause-keeps : goal.returns-in-Ok-clause-keeps
+returns-in-Ok-clause-keeps g c = record { stops = (λ acts. stops_granted _ _ _ _ c.granted.ensures.told c.in-Ok.ensures.stops); told = c.act_kept.ensures.told; good = c.act_kept.ensures.good; clean = c.act_kept.ensures.clean }
 
-pub returns-in-Err-clause-stops : goal.returns-in-Err-clause-stops
-returns-in-Err-clause-stops g c = λ acts. stops_told _ _ _ _ c.refused.ensures.told c.in-Err.ensures.stops
+pub returns-in-Err-clause-keeps : goal.returns-in-Err-clause-keeps
+returns-in-Err-clause-keeps g c = record { stops = (λ acts. stops_told _ _ _ _ c.refused.ensures.told c.in-Err.ensures.stops); told = c.act_kept.ensures.told; good = c.act_kept.ensures.good; clean = c.act_kept.ensures.clean }

@@ -27,9 +27,14 @@ returns-in-None-clause-called g c =
       opened = refl;
     }
 
-pub returns-in-Some-clause-stops : goal.returns-in-Some-clause-stops
-returns-in-Some-clause-stops g c = c.load_text.ensures.stops
+pub returns-in-Some-clause-keeps : goal.returns-in-Some-clause-keeps
+returns-in-Some-clause-keeps g c = c.load_text.ensures.keeps
 
-pub returns-in-None-clause-stops : goal.returns-in-None-clause-stops
-returns-in-None-clause-stops g c = λ acts.
-    stops_refused _ _ _ c.unfit.result c.refused.ensures.told c.requires.going c.requires.going (unfit_low c.args.kind c.args.csv.now c.unfit.result c.unfit.ensures)
+pub returns-in-None-clause-keeps : goal.returns-in-None-clause-keeps
+returns-in-None-clause-keeps g c = record {
+  stops = (λ acts.
+      stops_refused _ _ _ c.unfit.result c.refused.ensures.told c.requires.going c.requires.going (unfit_low c.args.kind c.args.csv.now c.unfit.result c.unfit.ensures));
+  told = c.opened-opened.ensures.told;
+  good = c.opened-opened.ensures.good;
+  clean = λ clean. clean;
+}

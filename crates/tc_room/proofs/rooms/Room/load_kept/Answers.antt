@@ -5,6 +5,7 @@ use Rattle.tc_room.specs.Joined.{HasLedger, LinkState, Standing}
 use Rattle.tc_room.proofs.LoadLemmas.{load_carried, load_refused}
 use Rattle.tc_room.proofs.OnceLemmas.{kept_done, leaves_done, makes_done, makes_failed, makes_refused}
 use Rattle.tc_room.proofs.ReplyLemmas.{act_grants}
+use Rattle.tc_room.proofs.RoomLemmas.{kept_book}
 use Rattle.tc_room.proofs.TableLemmas.{not_written}
 use Rattle.tc_room.proofs.StopLemmas.{load_told, stops_failed, stops_ok, stops_refused}
 use Rattle.tc_room.specs.Loads.{loading_of}
@@ -39,7 +40,7 @@ returns-clause-answered g c =
     (makes_failed g.S.Store _ _ c.args.caller _ _ loads.answers.free refl
     (λ replies held clean. not_written g.S.Store c.self.inside.tables c.write_done.new.tables (ledger_of c.self.inside.desk.parts.book replies) c.write_done.ensures.crash clean (λ was. (held going was).holds) (λ is_open. c.in-None.ensures.kept clean is_open refl))
     (λ replies held clean. leaves_done g.S.Store c.self.inside.tables c.write_done.new.tables c.self.inside.desk.parts.book _ replies c.args.caller (reply_to c.in_ok-done.done) c.in_ok-done.done.batch.items granted loads.made.batch c.write_done.ensures.crash clean (held going) _ (inl refl)
-    (inr (_, _, load_carried _ _ _ _ _ _ _ loads.answers loads.made.moves, refl)))
+    (inr (_, _, load_carried _ _ _ _ _ _ _ loads.answers loads.made.moves, kept_book _ c.in_ok-done.ensures.stays.good, refl)))
     c.in_ok-done.ensures.stays.opened)
 
 pub returns-in_err-done-clause-stops : goal.returns-in_err-done-clause-stops

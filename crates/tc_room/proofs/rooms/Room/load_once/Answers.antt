@@ -13,11 +13,11 @@ returns-in-Ok-Some-clause-called g c =
 
 pub returns-in-Ok-None-clause-called : goal.returns-in-Ok-None-clause-called
 returns-in-Ok-None-clause-called g c =
-    call_anew g.S.Store c.args.caller _ _ _ c.load_anew.result (λ old replies acts reply new. LoadsAnew g.S.Store c.args.kind c.args.moment c.args.name.now c.args.csv.now replies c.args.caller old acts reply new) (rw c.in-Ok-None.field-0-is at c.in-Ok-None.ensures.answered) c.in-Ok-None.ensures.going.0 c.kept_reply.ensures.keeps.opened c.load_anew.ensures.clean
+    call_anew g.S.Store c.args.caller _ _ _ c.load_anew.result (λ old replies acts reply new. LoadsAnew g.S.Store c.args.kind c.args.moment c.args.name.now c.args.csv.now replies c.args.caller old acts reply new) (rw c.in-Ok-None.field-0-is at c.in-Ok-None.ensures.answered) c.in-Ok-None.ensures.going.0 c.kept_reply.ensures.keeps.opened c.load_anew.ensures.keeps.clean
     (λ replies acts reply. loads_over g.S.Store replies c.args.caller _ _ _ c.kept_reply.ensures.desk c.args.kind c.args.moment c.args.name.now c.args.csv.now acts reply) c.load_anew.ensures.called
 
 pub returns-in-Ok-None-clause-kept : goal.returns-in-Ok-None-clause-kept
-returns-in-Ok-None-clause-kept g c = kept_good _ c.nobody_is_lost.ensures c.a_good_book_is_sound.ensures c.load_anew.ensures.good
+returns-in-Ok-None-clause-kept g c = kept_good _ c.nobody_is_lost.ensures c.a_good_book_is_sound.ensures c.load_anew.ensures.keeps.good
 
 pub returns-in-Err-clause-stops : goal.returns-in-Err-clause-stops
 returns-in-Err-clause-stops g c = λ acts. stops_told _ _ _ _ c.refused.ensures.told (rw c.in-Err.is at c.kept_reply.ensures.keeps.stops)
@@ -26,4 +26,4 @@ pub returns-in-Ok-Some-clause-stops : goal.returns-in-Ok-Some-clause-stops
 returns-in-Ok-Some-clause-stops g c = λ acts. stops_granted _ _ _ _ c.granted.ensures.told (rw c.in-Ok-Some.is at c.kept_reply.ensures.keeps.stops)
 
 pub returns-in-Ok-None-clause-stops : goal.returns-in-Ok-None-clause-stops
-returns-in-Ok-None-clause-stops g c = λ acts. stops_over _ _ _ _ _ (rw c.in-Ok-None.is at c.kept_reply.ensures.keeps.stops) c.in-Ok-None.ensures.going.1 (c.load_anew.ensures.stops acts)
+returns-in-Ok-None-clause-stops g c = λ acts. stops_over _ _ _ _ _ (rw c.in-Ok-None.is at c.kept_reply.ensures.keeps.stops) c.in-Ok-None.ensures.going.1 (c.load_anew.ensures.keeps.stops acts)

@@ -4,6 +4,7 @@ use Rattle.tc_room.specs.Crash.{ledger_of}
 use Rattle.tc_room.specs.Joined.{HasLedger, LinkState, Standing}
 use Rattle.tc_room.specs.Loads.{loading_of}
 use Rattle.tc_room.proofs.LoadLemmas.{load_carried, load_refused}
+use Rattle.tc_room.proofs.RoomLemmas.{kept_book}
 use Rattle.tc_room.proofs.StopLemmas.{load_told, stops_ok, stops_refused}
 use Rattle.tc_room.proofs.TableLemmas.{leaves_acts, not_written, written}
 use Rattle.tc_room.proofs.rooms.Room.load_spelled.Goals as goal
@@ -38,7 +39,7 @@ returns-in-Err-clause-answered g c =
       stopped = refl;
       tables = not_written g.S.Store c.self.inside.tables c.write_rows.new.tables (ledger_of c.self.inside.desk.parts.book replies) c.write_rows.ensures.crash clean (λ was. (held going was).holds) (c.in-Err.ensures.kept clean);
       crash = leaves_acts g.S.Store c.self.inside.tables c.write_rows.new.tables c.self.inside.desk.parts.book _ replies c.in_ok-loaded.loaded.batch.items _ (rw c.deref.ensures.value at c.write_rows.ensures.crash) clean (held going) c.in_ok-loaded.ensures.loads.made.batch
-          (_, _, load_carried _ _ _ _ _ _ _ c.in_ok-loaded.ensures.loads.answers c.in_ok-loaded.ensures.loads.made.moves, refl);
+          (_, _, load_carried _ _ _ _ _ _ _ c.in_ok-loaded.ensures.loads.answers c.in_ok-loaded.ensures.loads.made.moves, refl, kept_book _ c.in_ok-loaded.ensures.stays.good);
       opened = c.in_ok-loaded.ensures.stays.opened;
       whole = c.in_ok-loaded.ensures.whole;
     }))

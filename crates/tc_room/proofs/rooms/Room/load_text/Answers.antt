@@ -36,12 +36,17 @@ returns-clause-called g c =
       opened = c.load_kept.ensures.opened;
     }
 
-pub returns-in-Err-clause-stops : goal.returns-in-Err-clause-stops
-returns-in-Err-clause-stops g c = λ acts.
-    stops_refused _ _ _ c.in-Err.refusal c.refused.ensures.told c.requires.going c.requires.going (unread_low c.args.kind c.args.csv.now c.in-Err.refusal c.in-Err.ensures.refused)
+pub returns-in-Err-clause-keeps : goal.returns-in-Err-clause-keeps
+returns-in-Err-clause-keeps g c = record {
+  stops = (λ acts.
+      stops_refused _ _ _ c.in-Err.refusal c.refused.ensures.told c.requires.going c.requires.going (unread_low c.args.kind c.args.csv.now c.in-Err.refusal c.in-Err.ensures.refused));
+  told = c.opened-opened.ensures.told;
+  good = c.opened-opened.ensures.good;
+  clean = λ clean. clean;
+}
 
-pub returns-in-Ok-load_kept-clause-stops : goal.returns-in-Ok-load_kept-clause-stops
-returns-in-Ok-load_kept-clause-stops g c = λ acts. stops_granted _ _ _ _ c.granted.ensures.told c.in-Ok-load_kept.ensures.stops
+pub returns-in-Ok-load_kept-clause-keeps : goal.returns-in-Ok-load_kept-clause-keeps
+returns-in-Ok-load_kept-clause-keeps g c = record { stops = (λ acts. stops_granted _ _ _ _ c.granted.ensures.told c.in-Ok-load_kept.ensures.stops); told = c.load_kept.ensures.told; good = c.load_kept.ensures.good; clean = c.load_kept.ensures.clean }
 
-pub returns-clause-stops : goal.returns-clause-stops
-returns-clause-stops g c = λ acts. stops_told _ _ _ _ c.refused-in-Err-load_kept.ensures.told c.in-Err-load_kept.ensures.stops
+pub returns-clause-keeps : goal.returns-clause-keeps
+returns-clause-keeps g c = record { stops = (λ acts. stops_told _ _ _ _ c.refused-in-Err-load_kept.ensures.told c.in-Err-load_kept.ensures.stops); told = c.load_kept.ensures.told; good = c.load_kept.ensures.good; clean = c.load_kept.ensures.clean }

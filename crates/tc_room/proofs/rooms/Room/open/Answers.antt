@@ -5,13 +5,13 @@ use Rattle.tc_store.specs.Ledgers.{empty_ledger}
 use Rattle.tc_store.specs.Schema.{HoldsAs}
 use Rattle.tc_room.specs.Crash.{HasRows}
 use Rattle.tc_room.specs.Opening.{OpensTo}
-use Rattle.tc_room.proofs.OpeningLemmas.{found_held, found_shown, keeps_same, not_empty}
+use Rattle.tc_room.proofs.OpeningLemmas.{found_held, found_shown, keeps_same, not_empty, schema_held}
 use Rattle.tc_room.proofs.rooms.Room.open.Goals as goal
 
 pub returns-in-Ok-clause-opened : goal.returns-in-Ok-clause-opened
 returns-in-Ok-clause-opened g c = IfOk-weaker c.open_left.result _ _
     (λ opened left. record {
-      anew = λ none. absurd (not_empty c.in-Ok.version (sym c.in-Ok.ensures.ours ∙ none));
+      anew = λ none. absurd (not_empty c.in-Ok.version _ c.in-Ok.ensures.ours none);
       left = λ clean version ledger told held.
           left clean ledger told (found_held g.S.Store c.in-Ok.tables c.args.store c.in-Ok.version c.in-Ok.ensures.same c.in-Ok.ensures.ours version ledger held);
     })
@@ -20,7 +20,7 @@ returns-in-Ok-clause-opened g c = IfOk-weaker c.open_left.result _ _
 pub returns-in-Ok-clause-kept : goal.returns-in-Ok-clause-kept
 returns-in-Ok-clause-kept g c = IfErr-weaker c.open_left.result _ _
     (λ e kept clean is_open. record {
-      empty = λ none. absurd (not_empty c.in-Ok.version (sym c.in-Ok.ensures.ours ∙ none));
+      empty = λ none. absurd (not_empty c.in-Ok.version _ c.in-Ok.ensures.ours none);
       held = λ version ledger held. kept clean is_open version ledger (subst (λ (t : Held _). HoldsAs version (state g.S.Store t).now ledger) (sym c.in-Ok.ensures.same) held);
     })
     c.open_left.ensures.kept
@@ -39,7 +39,7 @@ returns-in-Err-Foreign-default-clause-foreign g c = IfErr-weaker c.open_new.resu
 pub returns-in-Ok-clause-crash : goal.returns-in-Ok-clause-crash
 returns-in-Ok-clause-crash g c = IfErr-weaker c.open_left.result _ _
     (λ e crash clean. record {
-      anew = λ none. absurd (not_empty c.in-Ok.version (sym c.in-Ok.ensures.ours ∙ none));
+      anew = λ none. absurd (not_empty c.in-Ok.version _ c.in-Ok.ensures.ours none);
       held = λ version ledger held trees may.
           subst (λ (t : Held _). (state g.S.Store t).may_leave trees ⊎ OpensTo c.args.config c.args.moment ledger trees) c.in-Ok.ensures.same
           (crash clean ledger (found_held g.S.Store c.in-Ok.tables c.args.store c.in-Ok.version c.in-Ok.ensures.same c.in-Ok.ensures.ours version ledger held) trees may);
@@ -51,7 +51,7 @@ returns-in-Err-Foreign-default-clause-crash g c = IfErr-weaker c.open_new.result
     (λ e crash clean. record {
       anew = λ none trees may.
           subst (λ (t : Held _). (state g.S.Store t).may_leave trees ⊎ HasRows trees empty_ledger) c.in-Err-Foreign-default.ensures.kept (crash clean trees may);
-      held = λ version ledger held. absurd (c.in-Err-Foreign-default.ensures.foreign c.in-Err-Foreign-default.field-0-0-is version held.schema);
+      held = λ version ledger held. absurd (c.in-Err-Foreign-default.ensures.foreign c.in-Err-Foreign-default.field-0-0-is version (schema_held version _ ledger held));
     })
     c.open_new.ensures.crash
 

@@ -19,7 +19,7 @@ pub returns-clause-reads : goal.returns-clause-reads
 returns-clause-reads g c = record {
   finds = λ clean.
       if_ok c.read_all.result _ _ c.read_all.ensures.reads
-      (λ found reads of schema has. table_shown_in cargo_tree all_cargo_columns cargo_values (λ x. refl) all_cargo_text of (all_cargo_is of has) (state g.S.Store c.args.conn.now) (state g.S.Store c.rows_of.new.conn) c.in_ok-rows.rows.items _ found.items c.as_slice.ensures.value reads (c.in_ok-rows.ensures.rows clean) schema);
+      (λ found reads layout of schema has. table_shown_in (cargo_tree layout) all_cargo_columns cargo_values (λ x. refl) all_cargo_text layout of (all_cargo_is layout of has) (state g.S.Store c.args.conn.now) (state g.S.Store c.rows_of.new.conn) c.in_ok-rows.rows.items _ found.items c.as_slice.ensures.value reads (c.in_ok-rows.ensures.rows clean) schema);
   same = search rules;
   left = search rules;
 }

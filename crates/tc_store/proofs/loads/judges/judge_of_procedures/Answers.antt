@@ -6,6 +6,24 @@ use Rattle.tc_store.specs.Steps.{blank_image}
 use Rattle.tc_store.proofs.LoadLemmas.{reads_then}
 use Rattle.tc_store.proofs.loads.judges.judge_of_procedures.Goals as goal
 
+pub returns-in_err-load_steps : goal.returns-in_err-load_steps
+returns-in_err-load_steps g c = record {
+  reads = (record {
+    finds = search rules;
+    same = search rules;
+    left = (reads_then g.S.Store c.in_ok-load_procedures.ensures.reads c.load_steps.ensures.reads).left;
+  });
+}
+
+pub returns-in_err-load_executions : goal.returns-in_err-load_executions
+returns-in_err-load_executions g c = record {
+  reads = (record {
+    finds = search rules;
+    same = search rules;
+    left = (reads_then g.S.Store (reads_then g.S.Store c.in_ok-load_procedures.ensures.reads c.in_ok-load_steps.ensures.reads) c.load_executions.ensures.reads).left;
+  });
+}
+
 pub returns-in_err-load_records : goal.returns-in_err-load_records
 returns-in_err-load_records g c = record {
   reads = (record {
@@ -20,10 +38,10 @@ returns g c =
     let all = reads_then g.S.Store (reads_then g.S.Store (reads_then g.S.Store c.in_ok-load_procedures.ensures.reads c.in_ok-load_steps.ensures.reads) c.in_ok-load_executions.ensures.reads) c.in_ok-load_records.ensures.reads in
     record {
       reads = (record {
-        finds = λ clean version has.
-            let seen = all.finds clean version has in
+        finds = λ clean layout version has.
+            let seen = all.finds clean layout version has in
             let image : Image = record blank_image { procedures = c.in_ok-load_procedures.field-0.items; steps = c.in_ok-load_steps.field-0.items; executions = c.in_ok-load_executions.field-0.items; records = c.in_ok-load_records.field-0.items } in
-            let shows : ShowsProcedures (state g.S.Store c.args.conn.now).now image.procedures image.steps image.executions image.records = record { procedures_are = seen.0.0.0; steps_are = seen.0.0.1; executions_are = seen.0.1; records_are = seen.1 } in
+            let shows : ShowsProcedures layout (state g.S.Store c.args.conn.now).now image.procedures image.steps image.executions image.records = record { procedures_are = seen.0.0.0; steps_are = seen.0.0.1; executions_are = seen.0.1; records_are = seen.1 } in
             (image, shows, c.in_ok-load_steps.ensures.told, c.in_ok-load_records.ensures.told);
         same = all.same;
         left = all.left;

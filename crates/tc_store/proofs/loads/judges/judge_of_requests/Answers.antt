@@ -6,6 +6,24 @@ use Rattle.tc_store.specs.Steps.{blank_image}
 use Rattle.tc_store.proofs.LoadLemmas.{reads_then}
 use Rattle.tc_store.proofs.loads.judges.judge_of_requests.Goals as goal
 
+pub returns-in_err-judge_moves : goal.returns-in_err-judge_moves
+returns-in_err-judge_moves g c = record {
+  reads = (record {
+    finds = search rules;
+    same = search rules;
+    left = (reads_then g.S.Store c.in_ok-load_requests.ensures.reads c.judge_moves.ensures.reads).left;
+  });
+}
+
+pub returns-in_err-load_tallies : goal.returns-in_err-load_tallies
+returns-in_err-load_tallies g c = record {
+  reads = (record {
+    finds = search rules;
+    same = search rules;
+    left = (reads_then g.S.Store (reads_then g.S.Store c.in_ok-load_requests.ensures.reads c.in_ok-judge_moves.ensures.reads) c.load_tallies.ensures.reads).left;
+  });
+}
+
 pub returns-in_err-load_approvals : goal.returns-in_err-load_approvals
 returns-in_err-load_approvals g c = record {
   reads = (record {
@@ -29,8 +47,8 @@ returns g c =
     let all = reads_then g.S.Store (reads_then g.S.Store (reads_then g.S.Store (reads_then g.S.Store c.in_ok-load_requests.ensures.reads c.in_ok-judge_moves.ensures.reads) c.in_ok-load_tallies.ensures.reads) c.in_ok-load_approvals.ensures.reads) c.in_ok-load_cargo.ensures.reads in
     record {
       reads = (record {
-        finds = λ clean of has same.
-            let seen = all.finds clean of has in
+        finds = λ clean layout of has same.
+            let seen = all.finds clean layout of has in
             let image : Image = record blank_image {
               requests = c.in_ok-load_requests.field-0.items;
               moves = seen.0.0.0.1.0;
@@ -38,7 +56,7 @@ returns g c =
               approvals = c.in_ok-load_approvals.field-0.items;
               cargo = c.in_ok-load_cargo.field-0.items;
             } in
-            let shows : ShowsRequests c.args.version (state g.S.Store c.args.conn.now).now image.requests image.moves image.tallies image.approvals image.cargo = record {
+            let shows : ShowsRequests layout c.args.version (state g.S.Store c.args.conn.now).now image.requests image.moves image.tallies image.approvals image.cargo = record {
               requests_are = seen.0.0.0.0;
               moves_are = seen.0.0.0.1.1;
               tallies_are = seen.0.0.1;

@@ -19,7 +19,7 @@ pub pages-init : goal.pages-init
 pages-init g c = (
   λ clean. stays_same g.S.Store c.args.conn.now,
   spares_same g.S.Store c.args.conn.now,
-  λ clean of replies has numbered. none_judged _ numbered,
+  λ clean layout of replies has numbered. none_judged _ numbered,
 )
 
 pub pages-preserved : goal.pages-preserved
@@ -43,9 +43,9 @@ pages-preserved g c =
     let earlier : HasCleanDisk (state g.S.Store last) → HasCleanDisk (state g.S.Store mid) = λ clean. omega (arith, clean, c.rows_of.ensures.left.crash.clean) in (
       λ clean. stays_then g.S.Store first mid last (was.0 (earlier clean)) (c.in_ok-rows.ensures.same clean),
       spares_then g.S.Store first mid last was.0 was.1 c.rows_of.ensures.left,
-      λ clean of replies has numbered.
-          subst (AreJudgedTo ((state g.S.Store first).now.trees reply_tree)) (sym next) (
-          judged_on of replies (to_z w64 c.pages.first-bits) (state g.S.Store first).now (state g.S.Store mid) (state g.S.Store last) page seen ((was.0 (earlier clean)).same of has) has numbered (was.2 (earlier clean) of replies has numbered)
+      λ clean layout of replies has numbered.
+          subst (AreJudgedTo ((state g.S.Store first).now.trees (reply_tree layout))) (sym next) (
+          judged_on layout of replies (to_z w64 c.pages.first-bits) (state g.S.Store first).now (state g.S.Store mid) (state g.S.Store last) page seen ((was.0 (earlier clean)).same layout of has) has numbered (was.2 (earlier clean) layout of replies has numbered)
           (rw (c.params-to_sql.ensures) at (c.in_ok-rows.ensures.rows clean)) c.as_slice.ensures.value c.in_ok-judge_all.ensures 99 c.in-Some.last.now number many ends c.in_ok-number-in-Some.ensures.reads),
     )
 
@@ -65,11 +65,11 @@ short g c =
 pub returns-in_default : goal.returns-in_default
 returns-in_default g c = record {
   reads = (record {
-    finds = λ clean of has replies numbered.
+    finds = λ clean layout of has replies numbered.
         let was = c.pages.invariant in
         let earlier : HasCleanDisk (state g.S.Store c.pages.conn) = omega (arith, clean, c.rows_of.ensures.left.crash.clean) in
-        judged_out of replies (to_z w64 c.pages.first-bits) (state g.S.Store c.args.conn.now).now (state g.S.Store c.pages.conn) (state g.S.Store c.rows_of.new.conn) c.in_ok-rows.rows.items c.as_slice.result.now ((was.0 earlier).same of has) has numbered
-        (was.2 earlier of replies has numbered) (rw (c.params-to_sql.ensures) at (c.in_ok-rows.ensures.rows clean)) c.as_slice.ensures.value c.in_ok-judge_all.ensures (short g c);
+        judged_out layout of replies (to_z w64 c.pages.first-bits) (state g.S.Store c.args.conn.now).now (state g.S.Store c.pages.conn) (state g.S.Store c.rows_of.new.conn) c.in_ok-rows.rows.items c.as_slice.result.now ((was.0 earlier).same layout of has) has numbered
+        (was.2 earlier layout of replies has numbered) (rw (c.params-to_sql.ensures) at (c.in_ok-rows.ensures.rows clean)) c.as_slice.ensures.value c.in_ok-judge_all.ensures (short g c);
     same = λ clean. stays_then g.S.Store c.args.conn.now c.pages.conn c.rows_of.new.conn (c.pages.invariant.0 (omega (arith, clean, c.rows_of.ensures.left.crash.clean))) (c.in_ok-rows.ensures.same clean);
     left = spares_then g.S.Store c.args.conn.now c.pages.conn c.rows_of.new.conn c.pages.invariant.0 c.pages.invariant.1 c.rows_of.ensures.left;
   });

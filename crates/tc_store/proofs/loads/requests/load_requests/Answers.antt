@@ -8,7 +8,7 @@ use Rattle.tc_store.proofs.TextLemmas.{all_request_is, all_request_shown}
 use Rattle.tc_store.proofs.loads.requests.load_requests.Goals as goal
 
 pub rows_of-requires : goal.rows_of-requires
-rows_of-requires g c = record { quiet = λ version. quiet_of _ (all_request_is version).plain }
+rows_of-requires g c = record { quiet = λ layout version. quiet_of _ (all_request_is layout version).plain }
 
 pub returns-clause-rows : goal.returns-clause-rows
 returns-clause-rows g c clean =
@@ -18,7 +18,7 @@ pub returns-clause-reads : goal.returns-clause-reads
 returns-clause-reads g c = record {
   finds = λ clean.
       if_ok c.read_all.result _ _ c.read_all.ensures.reads
-      (λ found reads. table_shown request_tree all_request_columns request_given (λ x. refl) all_request_text all_request_is (state g.S.Store c.args.conn.now) (state g.S.Store c.rows_of.new.conn) c.in_ok-rows.rows.items _ found.items c.as_slice.ensures.value reads (c.in_ok-rows.ensures.rows clean));
+      (λ found reads. table_shown (λ _. request_tree) all_request_columns request_given (λ x. refl) all_request_text all_request_is (state g.S.Store c.args.conn.now) (state g.S.Store c.rows_of.new.conn) c.in_ok-rows.rows.items _ found.items c.as_slice.ensures.value reads (c.in_ok-rows.ensures.rows clean));
   same = search rules;
   left = search rules;
 }

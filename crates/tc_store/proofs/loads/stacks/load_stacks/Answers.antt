@@ -9,7 +9,7 @@ use Rattle.tc_store.proofs.TextLemmas.{all_stack_is, all_stack_shown}
 use Rattle.tc_store.proofs.loads.stacks.load_stacks.Goals as goal
 
 pub rows_of-requires : goal.rows_of-requires
-rows_of-requires g c = record { quiet = λ version. quiet_of _ (all_stack_is version).plain }
+rows_of-requires g c = record { quiet = λ layout version. quiet_of _ (all_stack_is layout version).plain }
 
 pub returns-clause-rows : goal.returns-clause-rows
 returns-clause-rows g c clean =

@@ -9,7 +9,7 @@ use Rattle.tc_store.proofs.TextLemmas.{all_tally_is, all_tally_shown}
 use Rattle.tc_store.proofs.loads.tallies.load_tallies.Goals as goal
 
 pub rows_of-requires : goal.rows_of-requires
-rows_of-requires g c = record { quiet = λ version. quiet_of _ (all_tally_is version).plain }
+rows_of-requires g c = record { quiet = λ layout version. quiet_of _ (all_tally_is layout version).plain }
 
 pub returns-clause-rows : goal.returns-clause-rows
 returns-clause-rows g c clean =
