@@ -93,8 +93,10 @@ NO_CARGO_TABLES = [
     CARGO_TABLE.replace("cargo", "cargoes"),
 ]
 INDEX = "CREATE INDEX move_by_request ON move (request, seq)"
-# It is made anew, so that it stands behind the tables that are there then, as where SQLite's own tools copied them.
+# It is made anew: it is listed behind all tables then, and lies where it lay.
 INDEX_AGAIN = ("DROP INDEX move_by_request", INDEX)
+# As SQLite's own tools copy it: it is listed behind the tables that are there then, and lies behind them.
+INDEX_BEHIND = (*INDEX_AGAIN, "VACUUM")
 RECORD_TABLE = ("CREATE TABLE record (execution INTEGER NOT NULL, step INTEGER NOT NULL, verdict INTEGER NOT NULL, person TEXT NOT NULL, second TEXT NOT NULL,"
                 " moment INTEGER NOT NULL, PRIMARY KEY (execution, step)) STRICT")
 # Indexes that are nearly that of the moves.
@@ -109,14 +111,15 @@ NO_INDEXES = [
     INDEX.replace("move_by_request", "moves_by_request"),
     f"{INDEX} WHERE seq > 0",
 ]
-# Orders in which no tool copies: the index between tables of the first version, or before a table that had been there; and what ANALYZE leaves, till it is taken away.
+# Orders in which no tool copies: the index listed behind tables that lie behind it, between tables of the first version, or before a table that had been there; and what ANALYZE leaves, till it is taken away.
 NO_ORDERS: list[tuple[str, ...]] = [
-    ("DROP TABLE record", *INDEX_AGAIN, RECORD_TABLE),
-    (*INDEX_AGAIN, "DROP TABLE record", RECORD_TABLE),
-    (*INDEX_AGAIN, "CREATE INDEX more ON move (person)"),
+    INDEX_AGAIN,
+    ("DROP TABLE record", *INDEX_BEHIND, RECORD_TABLE),
+    (*INDEX_BEHIND, "DROP TABLE record", RECORD_TABLE),
+    (*INDEX_BEHIND, "CREATE INDEX more ON move (person)"),
     *(("DROP INDEX move_by_request", it) for it in NO_INDEXES),
     ("ANALYZE",),
-    (*INDEX_AGAIN, "ANALYZE"),
+    (*INDEX_BEHIND, "ANALYZE"),
 ]
 Changes = list[tuple[tuple[str, ...], bool]]
 # Of files of any earlier version.
@@ -138,7 +141,7 @@ OF_OLDER: Changes = [
     (("CREATE TABLE other (a INTEGER) STRICT", CARGO_TABLE, THIRD), False),
     (("CREATE VIEW counts AS SELECT amount FROM tally",), False),
     (("DROP INDEX move_by_request",), False),
-    (INDEX_AGAIN, True),
+    (INDEX_BEHIND, True),
     *((it, False) for it in NO_ORDERS),
     (("ANALYZE", "DROP TABLE sqlite_stat1"), True),
     (("DROP TABLE record",), False),
@@ -167,14 +170,14 @@ OF_FIRST: Changes = OF_OLDER + [
     ((CARGO_TABLE, REPLY_TABLE, THIRD), False),
     ((REPLY_TABLE, CARGO_TABLE, "DROP TABLE cargo", SECOND), True),
     ((REPLY_TABLE, CARGO_TABLE, "DROP TABLE reply", THIRD), False),
-    ((*INDEX_AGAIN, REPLY_TABLE, SECOND), True),
-    ((REPLY_TABLE, *INDEX_AGAIN, SECOND), True),
-    ((*INDEX_AGAIN, REPLY_TABLE, CARGO_TABLE, THIRD), True),
-    ((REPLY_TABLE, *INDEX_AGAIN, CARGO_TABLE, THIRD), True),
-    ((REPLY_TABLE, CARGO_TABLE, *INDEX_AGAIN, THIRD), True),
-    ((*INDEX_AGAIN, REPLY_TABLE), False),
-    ((REPLY_TABLE, *INDEX_AGAIN, THIRD), False),
-    ((*INDEX_AGAIN, CARGO_TABLE, REPLY_TABLE, THIRD), False),
+    ((*INDEX_BEHIND, REPLY_TABLE, SECOND), True),
+    ((REPLY_TABLE, *INDEX_BEHIND, SECOND), True),
+    ((*INDEX_BEHIND, REPLY_TABLE, CARGO_TABLE, THIRD), True),
+    ((REPLY_TABLE, *INDEX_BEHIND, CARGO_TABLE, THIRD), True),
+    ((REPLY_TABLE, CARGO_TABLE, *INDEX_BEHIND, THIRD), True),
+    ((*INDEX_BEHIND, REPLY_TABLE), False),
+    ((REPLY_TABLE, *INDEX_BEHIND, THIRD), False),
+    ((*INDEX_BEHIND, CARGO_TABLE, REPLY_TABLE, THIRD), False),
     *(((REPLY_TABLE, it, THIRD), False) for it in NO_CARGO_TABLES),
     *(((it, CARGO_TABLE, THIRD), False) for it in NO_REPLY_TABLES),
 ]
@@ -193,10 +196,10 @@ OF_SECOND: Changes = OF_OLDER + [
     (("DROP TABLE reply", THIRD), False),
     (("DROP TABLE reply", REPLY_TABLE), True),
     *((("DROP TABLE reply", it), False) for it in NO_REPLY_TABLES),
-    (("DROP TABLE reply", *INDEX_AGAIN, REPLY_TABLE), True),
-    ((*INDEX_AGAIN, CARGO_TABLE, THIRD), True),
-    ((CARGO_TABLE, *INDEX_AGAIN, THIRD), True),
-    ((CARGO_TABLE, *INDEX_AGAIN), False),
+    (("DROP TABLE reply", *INDEX_BEHIND, REPLY_TABLE), True),
+    ((*INDEX_BEHIND, CARGO_TABLE, THIRD), True),
+    ((CARGO_TABLE, *INDEX_BEHIND, THIRD), True),
+    ((CARGO_TABLE, *INDEX_BEHIND), False),
     ((CARGO_TABLE, THIRD), True),
     *(((it, THIRD), False) for it in NO_CARGO_TABLES),
     ((CARGO_TABLE, "CREATE INDEX more ON cargo (target)", THIRD), False),
@@ -248,19 +251,19 @@ OF_NEWEST: Changes = [
     ((REPLY_TABLE.replace("reply", "another"),), False),
     ((CARGO_TABLE.replace("cargo", "another"),), False),
     (("INSERT INTO meta VALUES ('more', 3)",), False),
-    (INDEX_AGAIN, True),
-    (("DROP TABLE cargo", *INDEX_AGAIN, CARGO_TABLE), True),
-    (("DROP TABLE cargo", "DROP TABLE reply", *INDEX_AGAIN, REPLY_TABLE, CARGO_TABLE), True),
-    (("DROP TABLE cargo", *INDEX_AGAIN, SECOND), True),
-    (("DROP TABLE cargo", "DROP TABLE reply", *INDEX_AGAIN, FIRST), True),
-    (("DROP TABLE cargo", "DROP TABLE reply", "DROP TABLE record", RECORD_TABLE, REPLY_TABLE, CARGO_TABLE, *INDEX_AGAIN), True),
-    (("DROP TABLE cargo", "DROP TABLE reply", "DROP TABLE record", *INDEX_AGAIN, RECORD_TABLE, REPLY_TABLE, CARGO_TABLE), False),
-    (("DROP TABLE cargo", "DROP TABLE reply", CARGO_TABLE, REPLY_TABLE, *INDEX_AGAIN), False),
-    (("DROP TABLE cargo", "DROP TABLE reply", *INDEX_AGAIN, CARGO_TABLE, REPLY_TABLE), False),
-    ((*INDEX_AGAIN, SECOND), False),
+    (INDEX_BEHIND, True),
+    (("DROP TABLE cargo", *INDEX_BEHIND, CARGO_TABLE), True),
+    (("DROP TABLE cargo", "DROP TABLE reply", *INDEX_BEHIND, REPLY_TABLE, CARGO_TABLE), True),
+    (("DROP TABLE cargo", *INDEX_BEHIND, SECOND), True),
+    (("DROP TABLE cargo", "DROP TABLE reply", *INDEX_BEHIND, FIRST), True),
+    (("DROP TABLE cargo", "DROP TABLE reply", "DROP TABLE record", RECORD_TABLE, REPLY_TABLE, CARGO_TABLE, *INDEX_BEHIND), True),
+    (("DROP TABLE cargo", "DROP TABLE reply", "DROP TABLE record", *INDEX_BEHIND, RECORD_TABLE, REPLY_TABLE, CARGO_TABLE), False),
+    (("DROP TABLE cargo", "DROP TABLE reply", CARGO_TABLE, REPLY_TABLE, *INDEX_BEHIND), False),
+    (("DROP TABLE cargo", "DROP TABLE reply", *INDEX_BEHIND, CARGO_TABLE, REPLY_TABLE), False),
+    ((*INDEX_BEHIND, SECOND), False),
     *((it, False) for it in NO_ORDERS),
     (("ANALYZE", "DROP TABLE sqlite_stat1"), True),
-    (("ANALYZE", "DROP TABLE sqlite_stat1", *INDEX_AGAIN), True),
+    (("ANALYZE", "DROP TABLE sqlite_stat1", *INDEX_BEHIND), True),
 ]
 
 

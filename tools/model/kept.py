@@ -30,9 +30,12 @@ def statements_of(connection: sqlite3.Connection) -> list[str]:
     return [it for it, in connection.execute("SELECT sql FROM sqlite_schema WHERE sql IS NOT NULL ORDER BY rowid")]
 
 
-def are_desks(statements: list[str]) -> bool:
-    """Whether these make the tables and the index of a version, in one of the orders in which they may stand, and nothing more."""
-    return any(statements in orders for orders in ORDERS.values())
+def are_desks(connection: sqlite3.Connection) -> bool:
+    """Whether a file has the tables and the index of a version, in one of the orders in which they may stand, and nothing more; and whether they lie in it in the
+    order in which they are listed."""
+    roots = [it for it, in connection.execute("SELECT rootpage FROM sqlite_schema ORDER BY rowid")]
+    made = statements_of(connection)
+    return roots == sorted(roots) and any(made in orders for orders in ORDERS.values())
 
 
 def version_of(connection: sqlite3.Connection) -> int:

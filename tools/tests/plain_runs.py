@@ -4,7 +4,7 @@ import tempfile
 from typing import Iterable, Optional, Sequence
 
 from model.desk import Desk, desk_by
-from model.kept import connect, are_desks, sqlite3, statements_of, tables_of
+from model.kept import are_desks, connect, sqlite3, statements_of, tables_of
 from model.lines import script_lines
 from model.rows import ROWS, Tables
 from tests.asked import TOOLS
@@ -72,7 +72,7 @@ def kept_tables(path: str, words: str = "mode=ro") -> Optional[Tables]:
     try:
         made = statements_of(connection)
         sound = connection.execute("PRAGMA integrity_check").fetchall()
-        if sound != [("ok",)] or made and not are_desks(made):
+        if sound != [("ok",)] or made and not are_desks(connection):
             raise sqlite3.DatabaseError(f"no desk's: {sound}, {made}")
         return tables_of(connection) if made else None
     finally:

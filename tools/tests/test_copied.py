@@ -14,18 +14,26 @@ from typing import Callable, NamedTuple
 from model.facts import SCHEMA, SCHEMA_VERSION, SCHEMAS, copied
 from model.kept import connect, sqlite3, statements_of
 from model.lines import script_lines
-from model.rows import Tables
-from model.tables import opened_tables
+from model.rows import Tables, move_line, places_line
+from model.tables import opened_moves, opened_tables
 from tests.asked import ASKED
 from tests.changes import change_file, changed_by, why_not_opened
 from tests.made_files import FULL_OLDER, OLD_DAY, OLDER, as_version, make_file, two_days
 from tests.plain_runs import Plain
 from tests.report_cases import changed, digests
 from tests.runs import bytes_of, run_kept
-from tests.worked_desks import Worked, stored
+from tests.worked_desks import AGAIN, Worked, stored
 
 SHELL = shutil.which("sqlite3")
-FOREIGN = "tcdesk: cannot use desk.db\ntcdesk: because its tables are not a desk's\n"
+UNUSABLE = "tcdesk: cannot use desk.db\n"
+FOREIGN = "tcdesk: because its tables are not a desk's\n"
+# How a command refuses a file whose tables are no desk's. Of one that cannot be copied nothing is opened to tell why.
+REFUSED = (
+    (["run", "--db", "desk.db", "/dev/null"], UNUSABLE + FOREIGN),
+    (["report", "desk.db", "0", "1"], UNUSABLE + FOREIGN),
+    (["board", "desk.db"], UNUSABLE + FOREIGN),
+    (["backup", "desk.db", "none.db"], UNUSABLE),
+)
 
 
 # ---- how a file is copied
@@ -134,6 +142,12 @@ class Copied(Worked):
         self.tell(name, *self.again(folder, plain.states[-1]))
         return folder
 
+    def again(self, folder: str, tables: Tables) -> list[str]:
+        """In what an opening of a copy with these tables is not right; one behind it moves nothing then, and changes no byte."""
+        ran, opened = run_kept(ASKED.program, folder, "desk.db", AGAIN, "/dev/null"), opened_tables(tables, AGAIN)
+        is_right = (ran.status, ran.lines, ran.errors) == (0, [*map(move_line, opened_moves(tables, AGAIN)), places_line(opened)], "")
+        return ["" if is_right else f"opened: {ran}", *super().again(folder, opened)]
+
     def copied_again(self, name: str, folder: str, way: Way, tables: Tables) -> None:
         """A copy of a copy, by SQLite and by the program, which is a desk with the same tables."""
         ran = self.cases.call(folder, ["backup", "desk.db", "backup.db"])
@@ -153,7 +167,7 @@ class Copied(Worked):
             self.tell(left.name, *self.day(left.lines, left.printed, beside))
             for at, way in enumerate(WAYS):
                 copy = self.worked(left, way, f"{folder}/desk.db", beside)
-                self.copied_again(f"{left.name}, by {way.name}", copy, WAYS[(at + 1) % len(WAYS)], left.plain().states[-1])
+                self.copied_again(f"{left.name}, by {way.name}", copy, WAYS[(at + 1) % len(WAYS)], opened_tables(left.plain().states[-1], AGAIN))
         self.settle(f"{len(lefts)} files in {len(WAYS)} ways")
         if not SHELL:
             print("not tried: copies by the stock shell, which is not installed (Debian: sqlite3)")
@@ -173,10 +187,10 @@ class Copied(Worked):
     def refused(self, folder: str) -> list[str]:
         """In what a file is not refused as one whose tables are no desk's, and left as it is, by each command."""
         faults = []
-        for words in (["run", "--db", "desk.db", "/dev/null"], ["report", "desk.db", "0", "1"], ["board", "desk.db"], ["backup", "desk.db", "none.db"]):
+        for words, told in REFUSED:
             before = bytes_of(f"{folder}/desk.db")
             ran = subprocess.run([ASKED.program, *words], cwd=folder, capture_output=True, text=True, check=False)
-            is_right = (ran.returncode, ran.stdout, ran.stderr) == (2, "", FOREIGN) and bytes_of(f"{folder}/desk.db") == before and not os.path.exists(f"{folder}/none.db")
+            is_right = (ran.returncode, ran.stdout, ran.stderr) == (2, "", told) and bytes_of(f"{folder}/desk.db") == before and not os.path.exists(f"{folder}/none.db")
             faults.append("" if is_right else f"{words[0]}: {ran}")
         return faults
 

@@ -12,7 +12,7 @@ from generate.left_changes import (OF_CARGO, OF_FIRST, OF_FIRST_ROWS, OF_FIVE, O
 from generate.left_desks import EVERYWHERE, FILES, FIVE, FULL, GOING, LISTS, OTHERS, RIDERS, WHOLE, Left
 from model.desk import Desk
 from model.facts import MOST_HISTORY, Cause, Place
-from model.kept import connect, are_desks, read_tables, statements_of
+from model.kept import are_desks, connect, read_tables
 from model.rows import ROWS, Move, Tables
 from model.sound import why_unsound
 from tests.changes import change_file, changed_by
@@ -49,7 +49,7 @@ def has_tables(path: str) -> bool:
     """Whether a file has the tables and the index of a version, in one of the orders, and no other."""
     connection = connect(path)
     try:
-        return are_desks(statements_of(connection))
+        return are_desks(connection)
     finally:
         connection.close()
 

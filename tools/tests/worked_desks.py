@@ -57,10 +57,11 @@ class Worked(Tried):
         return folder, read_tables(f"{folder}/desk.db")
 
     def day(self, lines: str, printed: str, folder: str) -> list[str]:
-        """The day of a desk, by these lines: what of that is not as it has to be printed."""
+        """The day of a desk, by these lines: what of that is not as it has to be printed. A run in which a line is refused ends with 1."""
         write_files(folder, {"day.tc": lines.encode()})
         ran = self.cases.call(folder, ["run", "--db", "desk.db", "--at", str(OLD_DAY), "day.tc"])
-        return [difference(printed, ran.out), "" if (ran.status, ran.err) == (0, "") else f"status {ran.status}, {ran.err!r}"]
+        status = int("\nrefused " in f"\n{printed}")
+        return [difference(printed, ran.out), "" if (ran.status, ran.err) == (status, "") else f"status {ran.status}, {ran.err!r}"]
 
     def newest(self, folder: str, wanted: Tables) -> list[str]:
         """In what the file of a desk has other tables than these, or is not alone."""
