@@ -1,5 +1,6 @@
 //! Memory refused: an event that has no memory does not happen, and those before it stand.
-use super::{Act, START, Scenario, acts, add, add_offers, all_happen, flies, lists, over_lists};
+use super::rounds::{check_all, round};
+use super::{AMPLE, Act, Scenario, acts, add, all_happen, flies, lists, over_lists};
 use crate::links::{Link, Written};
 use linked_list_allocator::LocalHeap;
 use std::alloc::Global;
@@ -9,17 +10,37 @@ use tc_fop::FopView;
 use tc_types::Refusal;
 use tc_world::Event;
 
-/// The first 300 events of 300 requests: a start, 256 offers, and 43 frames that come up.
-fn first_events(rt: &impl Abort, events: &mut Vec<Event, Global>) -> Result<(), Fail> {
-    add(rt, events, START, 1)?;
-    add_offers(rt, events, 1, 256)?;
-    add(rt, events, Act::Up, 43)?;
-    assert_eq!(rt; events.len(), 300);
+/// All 605 events of 300 requests: those up to the last offer, 45 frames, and the last control word.
+fn all_events(rt: &impl Abort, events: &mut Vec<Event, Global>) -> Result<(), Fail> {
+    round(rt, events)?;
+    add(rt, events, Act::Up, 45)?;
+    add(rt, events, Act::Clcw, 1)?;
+    add(rt, events, Act::Downlink, 1)?;
+    assert_eq!(rt; events.len(), 605);
     Ok(())
 }
 
-/// Events that want no memory while nothing is on the downlink.
-const SPARED: &[Act] = &[Act::Release, Act::LoseUp(usize::MAX), Act::Downlink];
+/// How many bytes are left in one block, and how many of the events are refused memory then, at least: each offer and
+/// each word that comes down, where the room for all that an event may tell is refused; the first, where that is there.
+const LEFT: &[(usize, usize)] = &[
+    (0, 302),
+    (16, 302),
+    (64, 302),
+    (256, 302),
+    (1_024, 302),
+    (4_096, 302),
+    (65_536, 302),
+    (262_144, 302),
+    (327_680, 1),
+    (393_216, 1),
+    (524_288, 1),
+];
+
+/// Events that want no memory and change nothing.
+const SPARED: &[Act] = &[Act::Release, Act::LoseUp(usize::MAX)];
+
+/// More blocks of memory than a heap has holes.
+const MOST_BLOCKS: usize = 4_096;
 
 /// More control words than fit into the memory of any test.
 const TOO_MANY: usize = 1_000_000;
@@ -66,67 +87,140 @@ fn is_alike<L: Link, M: Link>(link: &L, ample: &M) -> bool {
     seen(link) == seen(ample)
 }
 
-/// Makes the events happen on a link that may be refused memory, and those that happened on one that is not: the two
-/// then stand alike. What wants no memory happens even then. Answers whether one was refused.
-fn is_refused<L: Link, M: Link>(
+/// What holds all memory of a heap that is free.
+type Ballast<'a> = Vec<Vec<u8, &'a LocalHeap>, Global>;
+
+/// Takes all memory of a heap, but one block of so many bytes.
+fn take_all_but<'a>(alloc: Global, heap: &'a LocalHeap, left: usize) -> Result<Ballast<'a>, Fail> {
+    let _spared: Vec<u8, &LocalHeap> = Vec::with_capacity(heap, left)?;
+    let mut ballast = Vec::new(alloc);
+    let mut bytes = AMPLE;
+    for _ in 0..MOST_BLOCKS {
+        if bytes == 0 {
+            break;
+        }
+        match Vec::with_capacity(heap, bytes) {
+            Ok(block) => ballast.push(block)?,
+            Err(_) => bytes /= 2,
+        }
+    }
+    Ok(ballast)
+}
+
+/// What wants no memory happens where memory is refused: a release, a loss of nothing, a downlink of nothing.
+fn spares<L: Link>(rt: &impl Abort, link: &mut L) {
+    acts(rt, link, SPARED);
+    let (_, down) = link.in_flight();
+    if down == 0 {
+        acts(rt, link, &[Act::Downlink]);
+    }
+}
+
+/// Makes the events happen up to the first that is refused memory, and the same on a link with ample memory: the two
+/// then stand alike. Then there is memory, and that event happens too. Answers how many have happened then, and one
+/// more where none is left.
+fn goes_on<L: Link, M: Link>(
     rt: &impl Abort,
+    ballast: Ballast<'_>,
     link: &mut L,
     ample: &mut M,
     events: &[Event],
-) -> bool {
+) -> usize {
     let end = link.does_all(events);
-    let happened = events.get(..end.done).expect(rt, "no more than there are");
+    let (happened, left) = events
+        .split_at_checked(end.done)
+        .expect(rt, "no more than there are");
     all_happen(rt, ample, happened);
     assert!(rt; is_alike(link, ample), "after {} events", end.done);
-    match end.refusal {
-        Some(refusal) => {
-            assert!(rt; refusal == Refusal::Memory, "after {} events", end.done);
-            acts(rt, link, SPARED);
-            true
-        }
-        None => {
-            assert_eq!(rt; end.done, events.len());
-            false
-        }
-    }
+    let is_memory = end.refusal.is_none() || end.refusal == Some(Refusal::Memory);
+    assert!(rt; is_memory, "after {} events", end.done);
+    assert!(rt; end.refusal.is_none() == left.is_empty());
+    spares(rt, link);
+    drop(ballast);
+    let next = left.get(..1).unwrap_or(&[]);
+    all_happen(rt, link, next);
+    all_happen(rt, ample, next);
+    assert!(rt; is_alike(link, ample), "one behind {} events", end.done);
+    end.done.saturating_add(1)
 }
 
-/// Whether the memory of so many bytes is refused to the events, or to the world itself.
-fn is_refused_beside<M: Link>(
-    rt: &impl Abort,
-    heap: &LocalHeap,
-    ample: &mut M,
-    events: &[Event],
-) -> bool {
-    match lists(heap, 255, 254, 0) {
-        Ok(mut link) => is_refused(rt, &mut link, ample, events),
-        Err(refusal) => {
-            assert!(rt; refusal == Refusal::Memory);
-            true
-        }
-    }
-}
-
-/// Whether the memory of a heap of so many bytes is refused, beside a world with ample memory.
-fn is_refused_in(
+/// Makes the events happen, where each that wants memory is refused it first. Answers how many were refused.
+fn refuses_in_turn<L: Link, M: Link>(
     rt: &impl Abort,
     alloc: Global,
-    size: usize,
+    heap: &LocalHeap,
+    left: usize,
+    link: &mut L,
+    ample: &mut M,
     events: &[Event],
-) -> Result<bool, Fail> {
-    let heap = LocalHeap::new(alloc, size)?;
+) -> Result<usize, Fail> {
+    let mut done = 0usize;
+    let mut refused = 0;
+    for turn in 0..=events.len() {
+        let Some(others) = events.get(done..) else {
+            break;
+        };
+        refused = turn;
+        let ballast = take_all_but(alloc, heap, left)?;
+        done = done.saturating_add(goes_on(rt, ballast, link, ample, others));
+    }
+    check_all(rt, link);
+    Ok(refused)
+}
+
+/// How many of the events are refused memory where a block of so many bytes is left, on a heap of its own, beside a
+/// world with ample memory.
+fn refused_beside<M: Link>(
+    rt: &impl Abort,
+    alloc: Global,
+    left: usize,
+    ample: &mut M,
+    events: &[Event],
+) -> Result<usize, Fail> {
+    let heap = LocalHeap::new(alloc, AMPLE)?;
+    let mut link = lists(&heap, 255, 254, 0)?;
+    refuses_in_turn(rt, alloc, &heap, left, &mut link, ample, events)
+}
+
+/// How many of the events are refused memory where a block of so many bytes is left.
+fn refused_in(
+    rt: &impl Abort,
+    alloc: Global,
+    left: usize,
+    events: &[Event],
+) -> Result<usize, Fail> {
     let mut ample = lists(alloc, 255, 254, 0)?;
-    Ok(is_refused_beside(rt, &heap, &mut ample, events))
+    refused_beside(rt, alloc, left, &mut ample, events)
 }
 
 #[test]
 fn is_refused_memory_and_stands(rt: HostRuntime) -> Result<(), Fail> {
     let mut events = Vec::new(rt.alloc());
-    first_events(&rt, &mut events)?;
+    all_events(&rt, &mut events)?;
+    for &(left, least) in LEFT {
+        let refused = refused_in(&rt, rt.alloc(), left, &events)?;
+        assert!(rt; refused >= least, "{refused} with {left} bytes");
+    }
+    Ok(())
+}
+
+/// Whether a world is refused memory where a block of so many bytes is left. None of it is kept then.
+fn is_world_refused(rt: &impl Abort, alloc: Global, left: usize) -> Result<bool, Fail> {
+    let heap = LocalHeap::new(alloc, AMPLE)?;
+    let _ballast = take_all_but(alloc, &heap, left)?;
+    let before = heap.used();
+    let refusal = lists(&heap, 255, 254, 0).err();
+    assert_eq!(rt; heap.used(), before);
+    assert!(rt; refusal.is_none() || refusal == Some(Refusal::Memory));
+    Ok(refusal.is_some())
+}
+
+#[test]
+fn is_made_or_refused_memory(rt: HostRuntime) -> Result<(), Fail> {
     let mut refused = 0u32;
     let mut is_last_refused = true;
-    for size in (8_192..2_097_152).step_by(8_192) {
-        is_last_refused = is_refused_in(&rt, rt.alloc(), size, &events)?;
+    for left in (0..1_048_576).step_by(4_096) {
+        is_last_refused = is_world_refused(&rt, rt.alloc(), left)?;
         if is_last_refused {
             refused = refused.saturating_add(1);
         }

@@ -65,7 +65,7 @@ fn goes_on<L: Link>(rt: &impl Abort, link: &mut L) {
 }
 
 /// Each of the 300 was sent, accepted and confirmed once, in order, in one session.
-fn check_all<L: Link>(rt: &impl Abort, link: &L) {
+pub fn check_all<L: Link>(rt: &impl Abort, link: &L) {
     assert!(rt; link.is_clean());
     assert_eq!(rt; link.sessions(), 1);
     check_session(rt, link, 0, 1, [300, 300, 300]);
@@ -94,7 +94,7 @@ fn confirms_300_requests_over_rings_that_never_fill(rt: HostRuntime) -> Result<(
 }
 
 /// Puts all events up to the last offer into one list.
-fn round(rt: &impl Abort, events: &mut Vec<Event, Global>) -> Result<(), Fail> {
+pub fn round(rt: &impl Abort, events: &mut Vec<Event, Global>) -> Result<(), Fail> {
     add(rt, events, START, 1)?;
     add_offers(rt, events, 1, 256)?;
     add(rt, events, Act::Up, 255)?;
