@@ -1,12 +1,11 @@
 //! The board of a desk that is kept in a file, and that nobody has open.
-ghost use Rattle.std.specs.Prelude.{◌≡◌, ◌⊎◌, IfErr, OnErr, OnOk};
+ghost use Rattle.std.specs.Prelude.{OnErr, OnOk};
 ghost use Rattle.std.specs.Io.KnownBytes.{Appends};
 ghost use Rattle.sqlite.specs.Held.{state};
 ghost use Rattle.sqlite.specs.State.{HasCleanDisk};
-ghost use Rattle.tc_types.specs.Counts.{counts_of, inner_of, no_counts};
-ghost use Rattle.tc_room.specs.Closed.{LeavesTables, OnlyReads};
+ghost use Rattle.tc_types.specs.Counts.{counts_of, inner_of};
 ghost use Rattle.tc_cli.specs.Boards.{CutsBoard, TellsBoard};
-ghost use Rattle.tc_cli.specs.Script.{written_counts};
+ghost use Rattle.tc_cli.specs.Closed.{PrintsTables};
 
 use crate::reporting::{find, forget_log, open_kept, tables_in};
 use crate::run::put;
@@ -30,10 +29,7 @@ pub fn write_board<S: Alter + Drop, W: Write>(
 ) -> Result<(), ScriptFault>
     ensures told { HasCleanDisk (state S.Store tables.new) → OnOk result (TellsBoard S.Store tables.old (W.contents (inner_of writer.old)) (W.contents (inner_of writer.new))) }
     ensures cut { HasCleanDisk (state S.Store tables.new) → OnErr result (CutsBoard S.Store tables.old (W.contents (inner_of writer.old)) (W.contents (inner_of writer.new))) }
-    ensures reads { OnOk result (OnlyReads S.Store tables.old tables.new) }
-    ensures left { LeavesTables S.Store tables.old tables.new }
-    ensures fault { IfErr result (λ fault. (fault ≡ ScriptFault.Output) ⊎ (fault ≡ ScriptFault.Memory) ⊎ (fault ≡ ScriptFault.Tables)) }
-    ensures counted { counts_of writer.old ≡ no_counts → counts_of writer.new ≡ written_counts result }
+    ensures prints { PrintsTables S.Store tables.old tables.new (counts_of writer.old) (counts_of writer.new) result }
 {
     let page = closed_board(alloc, tables, version)?;
     put(writer, page.as_bytes())

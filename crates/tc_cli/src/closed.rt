@@ -1,17 +1,16 @@
 //! The shift report of a desk that nobody has open, written from its tables.
-ghost use Rattle.std.specs.Prelude.{◌≡◌, ◌⊎◌, ℕ, List, [], IfErr, OnErr, OnOk};
+ghost use Rattle.std.specs.Prelude.{ℕ, List, [], OnErr, OnOk};
 ghost use Rattle.std.specs.Io.KnownBytes.{Appends};
 ghost use Rattle.sqlite.specs.Held.{state};
 ghost use Rattle.sqlite.specs.State.{HasCleanDisk};
-ghost use Rattle.tc_types.specs.Counts.{counts_of, inner_of, no_counts};
+ghost use Rattle.tc_types.specs.Counts.{counts_of, inner_of};
 ghost use Rattle.tc_types.specs.History.{shift_rows};
 ghost use Rattle.tc_report.specs.ShiftReport.{AreAdded};
 ghost use Rattle.tc_store.specs.declared.versions.Version.{Version as SomeVersion};
 ghost use Rattle.tc_store.specs.Ledgers.{Ledger};
 ghost use Rattle.tc_store.specs.Schema.{HoldsAs};
-ghost use Rattle.tc_room.specs.Closed.{AreJudged, IsClosedReport, LeavesTables, OnlyReads};
-ghost use Rattle.tc_cli.specs.Closed.{CutsReport, CutsRows};
-ghost use Rattle.tc_cli.specs.Script.{written_counts};
+ghost use Rattle.tc_room.specs.Closed.{AreJudged, IsClosedReport};
+ghost use Rattle.tc_cli.specs.Closed.{CutsReport, CutsRows, PrintsTables};
 
 use crate::run::put;
 use crate::script::ScriptFault;
@@ -35,10 +34,7 @@ fn write_pages<S: Alter + Drop, W: Write>(
         → (text : List ℕ) × AreAdded (shift_rows from to ledger.image.moves) [] text × Appends (W.contents (inner_of writer.old)) (W.contents (inner_of writer.new)) text) }
     ensures cut { HasCleanDisk (state S.Store tables.new) → OnErr result ((of : SomeVersion) (ledger : Ledger) → HoldsAs of (state S.Store tables.old).now ledger
         → (part : List ℕ) × CutsRows ledger.image from to part × Appends (W.contents (inner_of writer.old)) (W.contents (inner_of writer.new)) part) }
-    ensures reads { OnOk result (OnlyReads S.Store tables.old tables.new) }
-    ensures left { LeavesTables S.Store tables.old tables.new }
-    ensures fault { IfErr result (λ fault. (fault ≡ ScriptFault.Output) ⊎ (fault ≡ ScriptFault.Memory) ⊎ (fault ≡ ScriptFault.Tables)) }
-    ensures counted { counts_of writer.old ≡ no_counts → counts_of writer.new ≡ written_counts result }
+    ensures prints { PrintsTables S.Store tables.old tables.new (counts_of writer.old) (counts_of writer.new) result }
 {
     let mut after = None;
     // each page ends on a greater number than the one before, so there are fewer pages than numbers
@@ -72,10 +68,7 @@ pub fn closed_report<S: Alter + Drop, W: Write>(
     // what one that fails has written does not look whole
     ensures cut { HasCleanDisk (state S.Store tables.new) → OnErr result ((of : SomeVersion) (ledger : Ledger) → HoldsAs of (state S.Store tables.old).now ledger
         → (part : List ℕ) × CutsReport ledger.image from to part × Appends (W.contents (inner_of writer.old)) (W.contents (inner_of writer.new)) part) }
-    ensures reads { OnOk result (OnlyReads S.Store tables.old tables.new) }
-    ensures left { LeavesTables S.Store tables.old tables.new }
-    ensures fault { IfErr result (λ fault. (fault ≡ ScriptFault.Output) ⊎ (fault ≡ ScriptFault.Memory) ⊎ (fault ≡ ScriptFault.Tables)) }
-    ensures counted { counts_of writer.old ≡ no_counts → counts_of writer.new ≡ written_counts result }
+    ensures prints { PrintsTables S.Store tables.old tables.new (counts_of writer.old) (counts_of writer.new) result }
 {
     let head = closed_head(alloc, tables, version, from, to)?;
     put(writer, head.as_bytes())?;

@@ -1,5 +1,5 @@
 -- The page was written, or a front of it.
-use Rattle.std.proofs.Common.{[], inl, inr, refl, subst}
+use Rattle.std.proofs.Common.{[], inl, inr, refl, rules, subst}
 use Rattle.std.proofs.lemmas.Result.{IfOk-weaker}
 use Rattle.std.specs.Io.KnownBytes.{Appends}
 use Rattle.std.specs.String.{string_bytes}
@@ -24,5 +24,5 @@ returns-clause-cut g c clean = on_err_then c.put.result _ _ c.put.ensures.writes
     let told = c.in_ok-page.ensures.page.told clean version ledger is_told held in
     (cut.0, inr (string_bytes c.in_ok-page.page, told.1, subst (λ bytes. IsCutShort bytes cut.0) c.as_bytes.ensures.value cut.1), cut.2))
 
-pub returns-clause-reads : goal.returns-clause-reads
-returns-clause-reads g c = on_ok c.put.result _ c.in_ok-page.ensures.page.reads
+pub returns-clause-prints : goal.returns-clause-prints
+returns-clause-prints g c = record { reads = on_ok c.put.result _ c.in_ok-page.ensures.page.reads; left = c.in_ok-page.ensures.page.left; fault = search rules; counted = search rules }

@@ -1,5 +1,5 @@
 -- The head, the rows and the last line were written.
-use Rattle.std.proofs.Common.{◌++◌, [], inl, refl, subst}
+use Rattle.std.proofs.Common.{◌++◌, [], inl, refl, rules, subst}
 use Rattle.std.proofs.lemmas.Result.{IfOk-weaker}
 use Rattle.std.specs.Prelude.{codes}
 use Rattle.std.specs.Io.KnownBytes.{Appends}
@@ -14,7 +14,7 @@ use Rattle.tc_cli.proofs.closed.closed_report.Goals as goal
 pub returns-clause-told : goal.returns-clause-told
 returns-clause-told g c clean =
     IfOk-weaker c.put-2.result _ _ (λ done wrote version ledger held.
-    let mid = c.in_ok-write_pages.ensures.reads.clean clean in
+    let mid = c.in_ok-write_pages.ensures.prints.reads.clean clean in
     let head = c.in_ok-head.ensures.head.told mid version ledger held in
     let rows = c.in_ok-write_pages.ensures.told clean version ledger (c.in_ok-head.ensures.head.reads.holds mid version ledger held) in
     let first = subst (λ bytes. Appends (g.W.Write.contents (inner_of c.args.writer.now)) (g.W.Write.contents (inner_of c.put.new.writer)) bytes) c.as_bytes.ensures.value c.in_ok-put.ensures.writes.written in
@@ -36,7 +36,7 @@ returns-in_err-put-clause-cut g c clean = on_err c.from_residual-in_err-put.resu
 
 pub returns-in_err-write_pages-clause-cut : goal.returns-in_err-write_pages-clause-cut
 returns-in_err-write_pages-clause-cut g c clean = on_err c.from_residual-in_err-write_pages.result _ (λ version ledger held.
-    let mid = c.in_err-write_pages.ensures.left.clean clean in
+    let mid = c.in_err-write_pages.ensures.prints.left.clean clean in
     let head = string_bytes c.in_ok-head.head in
     let rows = c.in_err-write_pages.ensures.cut clean version ledger (c.in_ok-head.ensures.head.reads.holds mid version ledger held) in
     let first = subst (λ bytes. Appends (g.W.Write.contents (inner_of c.args.writer.now)) (g.W.Write.contents (inner_of c.put.new.writer)) bytes) c.as_bytes.ensures.value c.in_ok-put.ensures.writes.written in
@@ -44,7 +44,7 @@ returns-in_err-write_pages-clause-cut g c clean = on_err c.from_residual-in_err-
 
 pub returns-clause-cut : goal.returns-clause-cut
 returns-clause-cut g c clean = on_err_then c.put-2.result _ _ c.put-2.ensures.writes.cut (λ last version ledger held.
-    let mid = c.in_ok-write_pages.ensures.reads.clean clean in
+    let mid = c.in_ok-write_pages.ensures.prints.reads.clean clean in
     let head = string_bytes c.in_ok-head.head in
     let rows = c.in_ok-write_pages.ensures.told clean version ledger (c.in_ok-head.ensures.head.reads.holds mid version ledger held) in
     let first = subst (λ bytes. Appends (g.W.Write.contents (inner_of c.args.writer.now)) (g.W.Write.contents (inner_of c.put.new.writer)) bytes) c.as_bytes.ensures.value c.in_ok-put.ensures.writes.written in (
@@ -55,14 +55,21 @@ returns-clause-cut g c clean = on_err_then c.put-2.result _ _ c.put-2.ensures.wr
 
 -- ---- what it leaves, and what it tells of
 
-pub returns-clause-reads : goal.returns-clause-reads
-returns-clause-reads g c = on_ok c.put-2.result _ (reads_then g.S.Store c.args.tables.now c.closed_head.new.tables c.write_pages.new.tables c.in_ok-head.ensures.head.reads c.in_ok-write_pages.ensures.reads)
-
-pub returns-in_err-write_pages-clause-left : goal.returns-in_err-write_pages-clause-left
-returns-in_err-write_pages-clause-left g c = leaves_then g.S.Store c.args.tables.now c.closed_head.new.tables c.write_pages.new.tables c.in_ok-head.ensures.head.reads c.in_ok-head.ensures.head.left c.in_err-write_pages.ensures.left
-
-pub returns-clause-left : goal.returns-clause-left
-returns-clause-left g c = leaves_then g.S.Store c.args.tables.now c.closed_head.new.tables c.write_pages.new.tables c.in_ok-head.ensures.head.reads c.in_ok-head.ensures.head.left c.in_ok-write_pages.ensures.left
-
 pub returns-clause-judged : goal.returns-clause-judged
-returns-clause-judged g c clean = on_ok c.put-2.result _ (c.in_ok-head.ensures.judged (c.in_ok-write_pages.ensures.reads.clean clean))
+returns-clause-judged g c clean = on_ok c.put-2.result _ (c.in_ok-head.ensures.judged (c.in_ok-write_pages.ensures.prints.reads.clean clean))
+
+pub returns-in_err-write_pages-clause-prints : goal.returns-in_err-write_pages-clause-prints
+returns-in_err-write_pages-clause-prints g c = record {
+  reads = search rules;
+  left = leaves_then g.S.Store c.args.tables.now c.closed_head.new.tables c.write_pages.new.tables c.in_ok-head.ensures.head.reads c.in_ok-head.ensures.head.left c.in_err-write_pages.ensures.prints.left;
+  fault = search rules;
+  counted = search rules;
+}
+
+pub returns-clause-prints : goal.returns-clause-prints
+returns-clause-prints g c = record {
+  reads = on_ok c.put-2.result _ (reads_then g.S.Store c.args.tables.now c.closed_head.new.tables c.write_pages.new.tables c.in_ok-head.ensures.head.reads c.in_ok-write_pages.ensures.prints.reads);
+  left = leaves_then g.S.Store c.args.tables.now c.closed_head.new.tables c.write_pages.new.tables c.in_ok-head.ensures.head.reads c.in_ok-head.ensures.head.left c.in_ok-write_pages.ensures.prints.left;
+  fault = search rules;
+  counted = search rules;
+}

@@ -1,5 +1,5 @@
 -- A page more was written, and the last one is the end of the rows.
-use Rattle.std.proofs.Common.{◌≡◌, ◌∙◌, ◌++◌, ℕ, List, [], refl, sym, ap, subst, append-nil}
+use Rattle.std.proofs.Common.{◌≡◌, ◌∙◌, ◌++◌, ℕ, List, [], refl, rules, sym, ap, subst, append-nil}
 use Rattle.std.specs.Io.KnownBytes.{Appends}
 use Rattle.std.specs.String.{string_bytes}
 use Rattle.std.proofs.KnownBytes.{Appends-nil, Appends-trans}
@@ -51,27 +51,12 @@ returns-then-is_none-clause-told g c clean version ledger held =
       Appends-trans _ _ _ was.1 text was.4 put,
     )
 
-pub returns-in_err-page-clause-fault : goal.returns-in_err-page-clause-fault
-returns-in_err-page-clause-fault g c = ends_unread _ _ c.in_err-page.ensures.kind c.from_residual.ensures.1
-
 -- ---- where it fails
 
 pub returns-in_err-page-clause-cut : goal.returns-in_err-page-clause-cut
 returns-in_err-page-clause-cut g c clean = on_err c.from_residual.result _ (λ version ledger held.
     let was = c.pages.invariant.2 (c.in_err-page.ensures.page.left.clean clean) version ledger held in
     (was.1, rows_written ledger.image c.args.from c.args.to was.0 _ was.1 was.2 was.3, was.4))
-
-pub returns-in_err-page-clause-left : goal.returns-in_err-page-clause-left
-returns-in_err-page-clause-left g c = leaves_then g.S.Store c.args.tables.now c.pages.tables c.closed_page.new.tables c.pages.invariant.0 c.pages.invariant.1 c.in_err-page.ensures.page.left
-
-pub returns-in_err-put-clause-left : goal.returns-in_err-put-clause-left
-returns-in_err-put-clause-left g c = leaves_then g.S.Store c.args.tables.now c.pages.tables c.closed_page.new.tables c.pages.invariant.0 c.pages.invariant.1 c.in_ok-page.ensures.page.left
-
-pub returns-then-is_none-clause-reads : goal.returns-then-is_none-clause-reads
-returns-then-is_none-clause-reads g c = reads_then g.S.Store c.args.tables.now c.pages.tables c.closed_page.new.tables c.pages.invariant.0 c.in_ok-page.ensures.page.reads
-
-pub returns-then-is_none-clause-left : goal.returns-then-is_none-clause-left
-returns-then-is_none-clause-left g c = leaves_then g.S.Store c.args.tables.now c.pages.tables c.closed_page.new.tables c.pages.invariant.0 c.pages.invariant.1 c.in_ok-page.ensures.page.left
 
 pub returns-in_err-put-clause-cut : goal.returns-in_err-put-clause-cut
 returns-in_err-put-clause-cut g c clean = on_err c.from_residual-in_err-put.result _ (λ version ledger held.
@@ -89,3 +74,27 @@ pub returns-clause-cut : goal.returns-clause-cut
 returns-clause-cut g c clean version ledger held =
     let was = c.pages.invariant.2 clean version ledger held in
     (was.1, rows_written ledger.image c.args.from c.args.to was.0 _ was.1 was.2 was.3, was.4)
+
+pub returns-in_err-page-clause-prints : goal.returns-in_err-page-clause-prints
+returns-in_err-page-clause-prints g c = record {
+  reads = search rules;
+  left = leaves_then g.S.Store c.args.tables.now c.pages.tables c.closed_page.new.tables c.pages.invariant.0 c.pages.invariant.1 c.in_err-page.ensures.page.left;
+  fault = ends_unread _ _ c.in_err-page.ensures.kind c.from_residual.ensures.1;
+  counted = search rules;
+}
+
+pub returns-in_err-put-clause-prints : goal.returns-in_err-put-clause-prints
+returns-in_err-put-clause-prints g c = record {
+  reads = search rules;
+  left = leaves_then g.S.Store c.args.tables.now c.pages.tables c.closed_page.new.tables c.pages.invariant.0 c.pages.invariant.1 c.in_ok-page.ensures.page.left;
+  fault = search rules;
+  counted = search rules;
+}
+
+pub returns-then-is_none-clause-prints : goal.returns-then-is_none-clause-prints
+returns-then-is_none-clause-prints g c = record {
+  reads = reads_then g.S.Store c.args.tables.now c.pages.tables c.closed_page.new.tables c.pages.invariant.0 c.in_ok-page.ensures.page.reads;
+  left = leaves_then g.S.Store c.args.tables.now c.pages.tables c.closed_page.new.tables c.pages.invariant.0 c.pages.invariant.1 c.in_ok-page.ensures.page.left;
+  fault = search rules;
+  counted = search rules;
+}
