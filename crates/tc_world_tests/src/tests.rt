@@ -31,6 +31,9 @@ mod windows;
 /// More than any world on a heap takes here.
 const AMPLE: usize = 4_194_304;
 
+/// More blocks of memory than a heap has holes.
+const MOST_BLOCKS: usize = 4_096;
+
 /// The service starts without check.
 const START: Act = Act::Directive(Directive::InitiateNone);
 
@@ -219,6 +222,26 @@ fn skips<A: Allocator + Copy + Drop>(alloc: A, k: u8, window: u16) -> Result<Ski
         window,
         0,
     )
+}
+
+/// What holds all memory of a heap that is free.
+type Ballast<'a> = Vec<Vec<u8, &'a LocalHeap>, Global>;
+
+/// Takes all memory of a heap, but one block of so many bytes.
+fn take_all_but<'a>(alloc: Global, heap: &'a LocalHeap, left: usize) -> Result<Ballast<'a>, Fail> {
+    let _spared: Vec<u8, &LocalHeap> = Vec::with_capacity(heap, left)?;
+    let mut ballast = Vec::new(alloc);
+    let mut bytes = AMPLE;
+    for _ in 0..MOST_BLOCKS {
+        if bytes == 0 {
+            break;
+        }
+        match Vec::with_capacity(heap, bytes) {
+            Ok(block) => ballast.push(block)?,
+            Err(_) => bytes /= 2,
+        }
+    }
+    Ok(ballast)
 }
 
 /// Plays a scenario on a link.

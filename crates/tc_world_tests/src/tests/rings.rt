@@ -1,5 +1,5 @@
 //! Rings beside a plain ring, and worlds over rings: random events, after each of which both have the same in flight.
-use super::{AMPLE, Act, START, acts, courses, event, flies, number, world};
+use super::{AMPLE, Act, START, acts, courses, event, flies, number, take_all_but, world};
 use crate::links::Link;
 use linked_list_allocator::LocalHeap;
 use std::alloc::{Allocator, Global};
@@ -223,27 +223,21 @@ fn lists_chosen<A: Allocator + Copy + Drop>(alloc: A, k: u8) -> Result<Chosen<A>
     world(alloc, up, down, k, 3, 4, 0)
 }
 
-/// Takes what is left of the heap, but for less than 64 bytes.
-fn fill<'a>(heap: &'a LocalHeap) -> Vec<u8, &'a LocalHeap> {
-    for place in 1..65_536usize {
-        let size = AMPLE.saturating_sub(place.saturating_mul(64));
-        if let Ok(taken) = Vec::with_capacity(heap, size) {
-            return taken;
-        }
-    }
-    Vec::new(heap)
-}
-
 /// Where the window is full and no memory is left, an offer waits; a control word of P5 stays in flight until there is
 /// memory, since it is not known before what comes down.
-fn waits_without_memory<L: Link>(rt: &impl Abort, heap: &LocalHeap, link: &mut L) {
+fn waits_without_memory<L: Link>(
+    rt: &impl Abort,
+    alloc: Global,
+    heap: &LocalHeap,
+    link: &mut L,
+) -> Result<(), Fail> {
     acts(rt, link, &[START, Act::Offer(1), Act::Clcw]);
-    let taken = fill(heap);
+    let ballast = take_all_but(alloc, heap, 0)?;
     let waits = link.does(event(rt, &Act::Offer(2))).is_ok();
     assert!(rt; waits && link.fop().waiting == 1 && link.in_flight() == (1, 1));
     let heard = link.does(event(rt, &Act::Downlink)).err();
     assert!(rt; heard == Some(Refusal::Memory) && link.in_flight() == (1, 1));
-    drop(taken);
+    drop(ballast);
     acts(rt, link, &[Act::Downlink]);
     assert!(rt; link.in_flight() == (1, 0) && link.fop().sent == 1);
     let known = link.does(event(rt, &Act::Offer(2))).err();
@@ -252,12 +246,12 @@ fn waits_without_memory<L: Link>(rt: &impl Abort, heap: &LocalHeap, link: &mut L
         "{}",
         number(rt, 2).get()
     );
+    Ok(())
 }
 
 #[test]
 fn an_offer_that_waits_wants_no_memory(rt: HostRuntime) -> Result<(), Fail> {
     let heap = LocalHeap::new(rt.alloc(), AMPLE)?;
     let mut link = lists_chosen(&heap, 1)?;
-    waits_without_memory(&rt, &heap, &mut link);
-    Ok(())
+    waits_without_memory(&rt, rt.alloc(), &heap, &mut link)
 }

@@ -1,6 +1,8 @@
 //! Memory refused: an event that has no memory does not happen, and those before it stand.
 use super::rounds::{check_all, round};
-use super::{AMPLE, Act, Scenario, acts, add, all_happen, flies, lists, over_lists};
+use super::{
+    AMPLE, Act, Ballast, Scenario, acts, add, all_happen, flies, lists, over_lists, take_all_but,
+};
 use crate::links::{Link, Written};
 use linked_list_allocator::LocalHeap;
 use std::alloc::Global;
@@ -20,8 +22,9 @@ fn all_events(rt: &impl Abort, events: &mut Vec<Event, Global>) -> Result<(), Fa
     Ok(())
 }
 
-/// How many bytes are left in one block, and how many of the events are refused memory then, at least: each offer and
-/// each word that comes down, where the room for all that an event may tell is refused; the first, where that is there.
+/// How many bytes are left in one block, and how many of the events are refused memory then, at least: the start, the
+/// 299 offers that are sent at once, and the two words that come down, where the room for all that an event may tell
+/// is refused; and the start alone, where that is there.
 const LEFT: &[(usize, usize)] = &[
     (0, 302),
     (16, 302),
@@ -38,9 +41,6 @@ const LEFT: &[(usize, usize)] = &[
 
 /// Events that want no memory and change nothing.
 const SPARED: &[Act] = &[Act::Release, Act::LoseUp(usize::MAX)];
-
-/// More blocks of memory than a heap has holes.
-const MOST_BLOCKS: usize = 4_096;
 
 /// More control words than fit into the memory of any test.
 const TOO_MANY: usize = 1_000_000;
@@ -87,26 +87,6 @@ fn is_alike<L: Link, M: Link>(link: &L, ample: &M) -> bool {
     seen(link) == seen(ample)
 }
 
-/// What holds all memory of a heap that is free.
-type Ballast<'a> = Vec<Vec<u8, &'a LocalHeap>, Global>;
-
-/// Takes all memory of a heap, but one block of so many bytes.
-fn take_all_but<'a>(alloc: Global, heap: &'a LocalHeap, left: usize) -> Result<Ballast<'a>, Fail> {
-    let _spared: Vec<u8, &LocalHeap> = Vec::with_capacity(heap, left)?;
-    let mut ballast = Vec::new(alloc);
-    let mut bytes = AMPLE;
-    for _ in 0..MOST_BLOCKS {
-        if bytes == 0 {
-            break;
-        }
-        match Vec::with_capacity(heap, bytes) {
-            Ok(block) => ballast.push(block)?,
-            Err(_) => bytes /= 2,
-        }
-    }
-    Ok(ballast)
-}
-
 /// What wants no memory happens where memory is refused: a release, a loss of nothing, a downlink of nothing.
 fn spares<L: Link>(rt: &impl Abort, link: &mut L) {
     acts(rt, link, SPARED);
@@ -119,7 +99,7 @@ fn spares<L: Link>(rt: &impl Abort, link: &mut L) {
 /// Makes the events happen up to the first that is refused memory, and the same on a link with ample memory: the two
 /// then stand alike. Then there is memory, and that event happens too. Answers how many have happened then, and one
 /// more where none is left.
-fn goes_on<L: Link, M: Link>(
+fn refuses_one<L: Link, M: Link>(
     rt: &impl Abort,
     ballast: Ballast<'_>,
     link: &mut L,
@@ -162,7 +142,7 @@ fn refuses_in_turn<L: Link, M: Link>(
         };
         refused = turn;
         let ballast = take_all_but(alloc, heap, left)?;
-        done = done.saturating_add(goes_on(rt, ballast, link, ample, others));
+        done = done.saturating_add(refuses_one(rt, ballast, link, ample, others));
     }
     check_all(rt, link);
     Ok(refused)
