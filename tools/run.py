@@ -5,6 +5,7 @@
     tools/run.py                                         all of it, as the gate does behind `rt ci`
     tools/run.py --only report                           one entry; --only may stand several times
     tools/run.py --only plain-book --seed 7 --count 1    one seed of one entry
+    tools/run.py --beside 4                              four entries beside each other, each in a process of its own
     tools/run.py --planted                               faults planted into the plain desk: how many are found
 
 The program is the one that was built here (crates/tc_cli/out/tc_cli), or else the one that dist/ keeps. An entry is a unittest.TestCase of
@@ -14,11 +15,14 @@ tools/tests or tools/faults, or a script of the shell. What could not be tried i
 import argparse
 import io
 import os
+import re
 import subprocess
 import sys
+import tempfile
 import time
 import unittest
-from typing import Any, NamedTuple, Optional
+from concurrent.futures import ThreadPoolExecutor
+from typing import Any, Callable, NamedTuple, Optional
 
 from entries import ENTRIES, Entry
 from tests.asked import ASKED, BUILT, KEPT, TOOLS
@@ -117,10 +121,47 @@ def run_entry(entry: Entry, told: Told, more: list[str]) -> Took:
     return took
 
 
-def table(rows: list[Took]) -> None:
-    """Prints what each entry took."""
+class Apart(NamedTuple):
+    """What became of an entry that ran in a process of its own."""
+    took: Took
+    passed: int
+    failed: int
+    said: str
+
+
+def run_apart(entry: Entry, words: list[str]) -> Apart:
+    """Runs the tests of an entry in a process of its own."""
+    began = time.monotonic()
+    with tempfile.TemporaryFile("w+", encoding="utf-8", errors="replace") as output:
+        command = [sys.executable, os.path.abspath(__file__), "--only", entry.name, *words]
+        child = subprocess.Popen(command, stdin=subprocess.DEVNULL, stdout=output, stderr=subprocess.STDOUT)
+        _, status, used = os.wait4(child.pid, 0)
+        child.returncode = os.waitstatus_to_exitcode(status)
+        output.seek(0)
+        text = output.read()
+    told = re.search(rf"^{entry.name}: (.*), in .* of processors\n", text, re.M)
+    counts = re.search(r"^(\d+) passed, (\d+) failed\n\Z", text, re.M)
+    passed, failed = (int(counts[1]), int(counts[2])) if counts else (0, 1)
+    took = Took(entry.name, (time.monotonic() - began) / 60, (used.ru_utime + used.ru_stime) / 60, told[1] if told else f"ended with status {child.returncode}")
+    return Apart(took, passed, failed, text[max(text.find("== "), 0):told.end()] if told else text)
+
+
+def run_beside(entries: list[Entry], most: int, told: Told, words: Callable[[Entry], list[str]]) -> list[Took]:
+    """Runs so many entries beside each other, each with its words, and prints what each said in their order."""
+    rows = []
+    with ThreadPoolExecutor(most) as pool:
+        for it in pool.map(lambda entry: run_apart(entry, words(entry)), entries):
+            print(it.said, end="")
+            told.passed += it.passed
+            told.failed += it.failed
+            rows.append(it.took)
+    return rows
+
+
+def table(rows: list[Took], minutes: float) -> None:
+    """Prints what each entry took, and all of them by the clock."""
     print(f"\n{f'entry, on {os.cpu_count()} cores':24} minutes  processor")
-    for it in [*rows, Took("all", sum(it.minutes for it in rows), sum(it.processor for it in rows), "")]:
+    for it in [*rows, Took("all", minutes, sum(it.processor for it in rows), "")]:
         print(f"{it.name:24} {it.minutes:7.1f} {it.processor:10.1f}  {it.told}".rstrip())
 
 
@@ -143,6 +184,7 @@ def parsed(words: list[str]) -> argparse.Namespace:
     parser.add_argument("--count", type=int, metavar="N",
                         help="of the entries that take one, and of --planted: so many seeds, scripts, texts or faults")
     parser.add_argument("--program", metavar="PATH", help="the program that is run")
+    parser.add_argument("--beside", type=int, metavar="N", default=1, help="run so many entries beside each other (1)")
     parser.add_argument("--planted", action="store_true", help="plant faults into the plain desk, and print how many are found")
     parser.add_argument("--cells", action="store_true", help="plain-link: print how often each cell of FOP-1 and FARM-1 was met")
     parser.add_argument("--all", action="store_true", help="edits: try also those that are on record")
@@ -173,14 +215,18 @@ def main() -> int:
         print_list()
         return 0
     ASKED.program, ASKED.seed, ASKED.count, ASKED.cells = program_of(asked.program), asked.seed, asked.count, asked.cells
+    of_seeds = [f"--{name}={value}" for name, value in (("seed", asked.seed), ("count", asked.count)) if value is not None]
     if asked.planted:
-        words = [f"--{name}={value}" for name, value in (("seed", asked.seed), ("count", asked.count)) if value is not None]
-        return subprocess.run([sys.executable, f"{TOOLS}/planted/plant.py", "--program", ASKED.program, *words], check=False).returncode
+        words = [sys.executable, f"{TOOLS}/planted/plant.py", "--program", ASKED.program, *of_seeds]
+        return subprocess.run(words, check=False).returncode
     print(f"the program is {ASKED.program}")
-    told = Told()
+    told, began = Told(), time.monotonic()
     of_edits = ["--all"] * asked.all + ["--record"] * asked.record
-    rows = [run_entry(it, told, of_edits if it.name == "edits" else []) for it in asked.chosen]
-    table(rows)
+    if asked.beside > 1:
+        rows = run_beside(asked.chosen, asked.beside, told, lambda it: ["--program", ASKED.program, *of_edits, *(of_seeds if it.takes_seed else [])])
+    else:
+        rows = [run_entry(it, told, of_edits if it.name == "edits" else []) for it in asked.chosen]
+    table(rows, (time.monotonic() - began) / 60)
     print(f"{told.passed} passed, {told.failed} failed")
     return int(told.failed > 0 or told.passed == 0)
 

@@ -17,6 +17,11 @@ use Rattle.tc_api.specs.declared.endings.Ending.{Ending}
 use Rattle.tc_api.specs.Responses.{page_bytes, response_bytes, text_lines}
 use Rattle.tc_api.specs.Serving.{Outcome, Serves}
 
+-- nothing was read of this reader yet, and nothing written to this writer
+pub record AreFresh (reader writer : Counts) : Type 0 where
+  pub unread : reader ≡ no_counts
+  pub unwritten : writer ≡ no_counts
+
 -- A request was read: what was taken of the reader decides what is asked, and so does all that the reader had.
 pub record IsRead (had left : Option (List ℕ)) (asked : Asked) : Type 0 where
   pub text : List ℕ

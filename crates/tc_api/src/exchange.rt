@@ -1,12 +1,12 @@
 //! One exchange: a request is read, served, and answered.
 ghost use Rattle.std.specs.Prelude.{◌≡◌, IfErr, IfOk, Option};
 ghost use Rattle.std.specs.String.{string_bytes};
-ghost use Rattle.tc_types.specs.Counts.{counts_of, no_counts};
+ghost use Rattle.tc_types.specs.Counts.{counts_of};
 ghost use Rattle.tc_desk.specs.Headline.{TellsTrue};
 ghost use Rattle.tc_desk.specs.Replies.{Reply};
 ghost use Rattle.tc_front.specs.Front.{Asked};
 ghost use Rattle.tc_front.specs.Write.{seen};
-ghost use Rattle.tc_api.specs.Exchange.{Exchanges, IsUntold, Responds, TellsEnd, response_by};
+ghost use Rattle.tc_api.specs.Exchange.{AreFresh, Exchanges, IsUntold, Responds, TellsEnd, response_by};
 ghost use Rattle.tc_api.specs.Kept.{KeepsTables, ServesOne};
 ghost use Rattle.tc_api.specs.Serving.{HasText, Tells, outcome_of, page_of};
 
@@ -62,8 +62,7 @@ fn exchange<R: Read, W: Write, S: Alter + Drop>(
     writer: &mut Counted<W>,
     room: &mut Room<S>,
 ) -> Result<(), Refusal>
-    requires unread { counts_of reader.old ≡ no_counts }
-    requires unwritten { counts_of writer.old ≡ no_counts }
+    requires fresh { AreFresh (counts_of reader.old) (counts_of writer.old) }
     ensures { Exchanges S.Store result (seen R.remaining reader.old) (seen R.remaining reader.new) room.old room.new (seen W.contents writer.old) (seen W.contents writer.new) }
 {
     let routes = Routes::new(alloc)?;
@@ -94,8 +93,7 @@ pub fn serve_one<R: Read, W: Write, S: Alter + Drop>(
     writer: &mut Counted<W>,
     room: &mut Room<S>,
 ) -> Result<(), Refusal>
-    requires unread { counts_of reader.old ≡ no_counts }
-    requires unwritten { counts_of writer.old ≡ no_counts }
+    requires fresh { AreFresh (counts_of reader.old) (counts_of writer.old) }
     ensures exchange { Exchanges S.Store result (seen R.remaining reader.old) (seen R.remaining reader.new) room.old room.new (seen W.contents writer.old) (seen W.contents writer.new) }
     // no other refusal is told
     ensures only { IfErr result TellsEnd }

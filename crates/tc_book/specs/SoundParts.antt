@@ -1,6 +1,6 @@
 -- Which tables a desk could have written, in three parts: the history and the requests with what is read from them, the approvals and the
 -- persons, and the log.
-use Rattle.std.specs.Prelude.{◌≡◌, ◌≤◌, true, IfSome, [], length, map, count_by}
+use Rattle.std.specs.Prelude.{◌≡◌, ◌≤◌, true, IfSome, List, [], length, map, count_by}
 use Rattle.std.specs.List.{AllByRecursion, flat_map}
 use Rattle.tc_types.specs.declared.history.causes.Cause.TheVariants.{Approve}
 use Rattle.tc_types.specs.declared.history.moves.Move.{Move}
@@ -18,6 +18,11 @@ use Rattle.tc_book.specs.Persons.{NamesPersons}
 use Rattle.tc_book.specs.Sound.{book_of}
 use Rattle.tc_book.specs.Stacks.{has_stack, stack_approval_at, is_fully_approved, stacks_of, begins_stack}
 use Rattle.tc_book.specs.Tables.{placed}
+
+-- these are the requests that the tables tell of, and each may follow those before it
+pub record AreToldRequests (image : Image) (requests : List Request) : Type 0 where
+  pub told : requests ≡ (book_of image).requests
+  pub good : AllAfter IsGoodRequest [] requests
 
 -- the history is good; the requests' places and the tallies are as it leaves them; and the rows of an opening still find numbers
 pub record IsSoundPast (image : Image) : Type 0 where

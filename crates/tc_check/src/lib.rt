@@ -19,5 +19,5 @@ mod words;
 
 pub use checks::{Checked, check_text};
 pub use findings::Findings;
-pub use scripts::{check_script, load_line, script_line};
+pub use scripts::{check_script, is_skipped, load_line, script_line};
 pub use sources::Texts;

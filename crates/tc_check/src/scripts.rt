@@ -20,7 +20,7 @@ use tc_types::read::load_reader::read_load;
 use tc_types::{Load, LoadKind};
 
 /// Whether a line is empty or begins with `#`.
-fn is_skipped(line: &[u8]) -> bool
+pub fn is_skipped(line: &[u8]) -> bool
     ensures { result ≡ is_skipped line.now }
 {
     match line {

@@ -5,8 +5,6 @@ use crate::copying::{Beside, CopyFault, Parts, copy_files, forget};
 use crate::looking::folder_of;
 use crate::marking::stamp_of;
 use crate::reporting::{Kept, find, log_path};
-use crate::run::put;
-use crate::script::ScriptFault;
 use jiff::Timestamp;
 use sqlite::{Alter, Connection, Error, ErrorCode};
 use sqlite_disk::Wary;
@@ -20,6 +18,7 @@ use std::{fs, io};
 use tc_copy::is_same_file;
 use tc_desk::Config;
 use tc_room::reopen_desk;
+use tc_run::{ScriptFault, put};
 use tc_store::{ReadFault, StoreFault, Tables, Version};
 use tc_types::{Counted, Image, Moment};
 

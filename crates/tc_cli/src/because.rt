@@ -1,9 +1,9 @@
 //! Why something cannot be used, as far as the system and the database tell it, and the words for it.
 
-use crate::script::ScriptFault;
 use sqlite::{Error, ErrorCode};
 use std::alloc::AllocError;
 use std::io;
+use tc_run::ScriptFault;
 
 /// Why something cannot be used.
 #[derive(Clone, Copy, Debug, PartialEq, Eq)]

@@ -1,9 +1,7 @@
 //! The copying of a desk's two files while the desk may run: again and again, until what was read of them is of one state.
 
 use crate::marking::{opened, read_marks};
-use crate::paths::PathFault;
 use crate::reporting::Kept;
-use crate::script::ScriptFault;
 use std::alloc::AllocError;
 use std::fs::OpenOptions;
 use std::io::{self, Seek, SeekFrom};
@@ -11,6 +9,7 @@ use std::os::unix::fs::OpenOptionsExt;
 use std::time::Duration;
 use std::{fs, thread};
 use tc_copy::is_one_state;
+use tc_run::{PathFault, ScriptFault};
 use tc_types::Counted;
 
 /// A file by its name: that of a database, or what stands beside it.

@@ -5,8 +5,8 @@ use crate::copying::{CopyFault, MOST_COPIES};
 use crate::looking::{
     why_no_desk, why_no_opening, why_no_script, why_uncopied, why_unread, why_unwritable,
 };
-use crate::script::ScriptFault;
 use crate::serving::ServiceFault;
+use tc_run::ScriptFault;
 
 /// The exit status of a fault: of usage, of a file or of memory.
 pub(crate) const UNUSABLE: u8 = 2;

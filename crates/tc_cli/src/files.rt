@@ -6,13 +6,13 @@ ghost use Rattle.sqlite.specs.Start.{FindsIn};
 ghost use Rattle.sqlite.specs.Files.{file_state, IsOpened};
 
 use crate::because::{Because, Unusable};
-use crate::script::{ScriptFault, read_script};
 use sqlite::Connection;
 use sqlite_disk::{Start, Wary};
 use sqlite_std_file::FileFrom;
 use sqlite_store::FileStore;
 use std::rt::Files;
 use std::{fs, io};
+use tc_run::{ScriptFault, read_script};
 use tc_store::{StoreFault, Tables};
 use tc_types::Counted;
 

@@ -2,7 +2,6 @@
 
 use crate::because::Because;
 use crate::reporting::{find, forget_log};
-use crate::script::LARGEST_SCRIPT;
 use sqlite::{Alter, Connection};
 use sqlite_disk::Wary;
 use std::alloc::Global;
@@ -11,6 +10,7 @@ use std::os::unix::fs::MetadataExt;
 use std::{fs, io};
 use tc_desk::Config;
 use tc_room::reopen_desk;
+use tc_run::LARGEST_SCRIPT;
 use tc_store::{NEWEST, ReadFault, StoreFault, Tables, Version};
 use tc_types::{Image, Moment};
 

@@ -3,13 +3,8 @@
 //! at most 201 bytes of an act.
 
 use crate::files::{open_desk, text_at};
-use crate::numbered::{NumberedLine, numbered_lines};
-use crate::opened::{Opening, open_told};
-use crate::run::{exchange, put, status_of};
-use crate::script::ScriptFault;
 use crate::serving::{ServiceFault, closed};
 use crate::telling::{HostWatch, refusal_of};
-use crate::watching::{Answered, Watch, last_moment, latest_moment};
 use sqlite::Alter;
 use std::alloc::{AllocError, Global};
 use std::io::{self, Read, Write};
@@ -17,6 +12,10 @@ use std::net::{Ipv4Addr, TcpListener, TcpStream};
 use tc_api::serve_one;
 use tc_posts::{Told, Untellable, places_request, post_request, read_told};
 use tc_room::Room;
+use tc_run::{
+    Answered, NumberedLine, Opening, ScriptFault, Watch, exchange, last_moment, latest_moment,
+    numbered_lines, open_told, put, status_of,
+};
 use tc_types::{Counted, Refusal};
 use tc_words::Telling;
 

@@ -20,51 +20,38 @@
 
 mod backup;
 mod because;
-mod boards;
-mod checking;
-mod closed;
 mod copying;
 mod faults;
 mod files;
-mod kept;
-mod laws;
 mod looking;
 mod looping;
 mod marking;
-mod numbered;
-mod opened;
 mod paths;
 mod patience;
 mod reporting;
-mod run;
-mod script;
 mod serving;
 mod telling;
 mod unserved;
-mod watching;
 
 use backup::backup;
 use because::Unusable;
-use boards::print_board;
-use checking::{text_of, write_check, write_script_check};
 use faults::{
     UNUSABLE, cannot_read, cannot_read_script, cannot_use, copy_status, kept_status, report_status,
     run_status, service_status,
 };
 use files::{of_tables, open_desk, open_script, text_at};
-use kept::run_kept;
 use looping::send_to_file;
-use opened::Opening;
-use paths::{HostPaths, HostTexts, PathFault};
-use reporting::print_report;
-use run::run_script;
-use script::ScriptFault;
+use paths::{HostPaths, HostTexts, text_of};
+use reporting::{print_board, print_report};
 use serving::{ServiceTerms, serve};
 use std::alloc::{AllocError, Global};
 use std::io::IsTerminal;
 use std::process::ExitCode;
 use std::{env, io};
 use tc_desk::Config;
+use tc_run::{
+    Opening, PathFault, ScriptFault, run_kept, run_script, write_check, write_script_check,
+};
 use tc_types::{Counted, LoadKind};
 use tc_words::{CommandLine, Telling, UsageFault, read_words};
 use telling::HostWatch;

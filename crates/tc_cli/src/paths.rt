@@ -1,49 +1,12 @@
-//! Where the texts come from that a script loads.
-ghost use Rattle.std.specs.Prelude.{◌∷◌, [], IfErr, IfOk, List, None, Option};
-ghost use Rattle.tc_cli.specs.Files.{FileAnswer, Gives, file_at, none_at};
+//! The files of the machine, as a source of the texts that a script loads, and of those that are checked.
+ghost use Rattle.std.specs.Prelude.{None};
 
-use crate::run::MOST_FILE_BYTES;
 use std::alloc::{AllocError, Global};
 use std::fs;
-use std::io::{self, Read};
+use std::io::Read;
 use std::rt::Files;
 use tc_check::Texts;
-
-/// Why there is no text at a path.
-#[derive(Clone, Copy, Debug, PartialEq, Eq)]
-pub enum PathFault {
-    /// It names no file that can be read.
-    Unreadable,
-    /// There was no memory for it.
-    Memory,
-}
-
-impl From<io::Error> for PathFault {
-    fn from(error: io::Error) -> PathFault {
-        if error.kind() == io::ErrorKind::OutOfMemory {
-            PathFault::Memory
-        } else {
-            PathFault::Unreadable
-        }
-    }
-}
-
-impl From<AllocError> for PathFault {
-    fn from(_error: AllocError) -> PathFault {
-        PathFault::Memory
-    }
-}
-
-/// A source of files. Its content is the list of the answers that it gave.
-pub trait Paths {
-    /// The answers that it gave, each with its path: a text, or why there was none; in order, where a contract can name them.
-    ghost given: { Self → Option (List FileAnswer) };
-
-    /// The text at a path, of which no more than `limit` bytes are wanted.
-    fn load(&mut self, alloc: Global, path: &str, limit: usize) -> Result<Vec<u8>, PathFault>
-        ensures gave { IfOk result (λ text. Gives (given self.old) (given self.new) (file_at path.now text.items ∷ [])) }
-        ensures none { IfErr result (λ why. Gives (given self.old) (given self.new) (none_at path.now why ∷ [])) };
-}
+use tc_run::{MOST_FILE_BYTES, PathFault, Paths};
 
 /// The files of the machine, by their paths. Its content is not told.
 #[derive(Drop)]
@@ -123,4 +86,12 @@ impl<R: Files> Paths for HostPaths<'_, R> {
         }
         read
     }
+}
+
+/// The text of the file at a path, or of the standard input where it is `-`, of which no more is read than shows that it is too long.
+pub fn text_of<R: Files + Input + AllocGlobal>(rt: &R, file: &str) -> Result<Vec<u8>, PathFault> {
+    if file == "-" {
+        return read_most(rt.alloc(), rt.reader(), MOST_FILE_BYTES);
+    }
+    HostPaths::new(rt.alloc(), rt).load(rt.alloc(), file, MOST_FILE_BYTES)
 }

@@ -1,7 +1,5 @@
-//! The shift report of a desk that is kept in a file: what is done with its two files.
+//! The shift report and the board of a desk that is kept in a file: what is done with its two files.
 
-use crate::closed::closed_report;
-use crate::script::ScriptFault;
 use sqlite::Connection;
 use sqlite_disk::Wary;
 use sqlite_std_file::FileFrom;
@@ -9,6 +7,7 @@ use sqlite_store::FileStore;
 use std::alloc::Global;
 use std::rt::Files;
 use std::{fs, io};
+use tc_run::{ScriptFault, closed_report, write_board};
 use tc_store::{StoreFault, Tables, Version};
 use tc_types::{Counted, Moment};
 
@@ -98,6 +97,18 @@ pub fn print_report(
     let (mut tables, version) = tables_in(rt, &kept, store)?;
     let mut writer = Counted::new(io::writer(rt));
     let printed = closed_report(rt.alloc(), &mut tables, version, from, to, &mut writer);
+    forget_log(rt, &kept);
+    printed
+}
+
+/// Prints the board of the desk that a file keeps. The file stays as it is, byte for byte, and so does its log where that holds a batch; one that holds none may
+/// have other bytes afterwards.
+pub fn print_board(rt: &HostRuntime, file: &str) -> Result<(), ScriptFault> {
+    let kept = find(rt, file)?;
+    let store = open_kept(rt, &kept)?;
+    let (mut tables, version) = tables_in(rt, &kept, store)?;
+    let mut writer = Counted::new(io::writer(rt));
+    let printed = write_board(rt.alloc(), &mut tables, version, &mut writer);
     forget_log(rt, &kept);
     printed
 }

@@ -1,12 +1,9 @@
 //! A desk that is kept in a file, served over HTTP (RFC 9112) on this machine alone.
 use crate::because::Unusable;
 use crate::files::{of_tables, open_desk};
-use crate::opened::{Opening, open_told};
 use crate::patience::{Limits, Patient};
-use crate::script::ScriptFault;
 use crate::telling::tell_opening;
 use crate::unserved::opening_fault;
-use crate::watching::latest_moment;
 use sqlite::{Alter, Connection};
 use sqlite_disk::Wary;
 use sqlite_std_file::FileFrom;
@@ -17,6 +14,7 @@ use std::thread;
 use std::time::Duration;
 use tc_api::serve_one;
 use tc_room::Room;
+use tc_run::{Opening, ScriptFault, latest_moment, open_told};
 use tc_types::{Counted, Refusal};
 
 /// Why a desk is not served, or no longer.

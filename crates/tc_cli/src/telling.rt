@@ -1,9 +1,9 @@
 //! What is told on the standard error of a run: the lines that were refused, and moments that go back.
 
-use crate::watching::{Answered, Watch};
 use std::alloc::{AllocError, Global};
 use std::io::IsTerminal;
 use tc_check::script_line;
+use tc_run::{Answered, Watch};
 use tc_script::Verb;
 use tc_types::read::load_reader::read_load;
 use tc_types::read::readers::moment;

@@ -1,15 +1,14 @@
 //! What the opening of a desk that is kept in a file would be refused for, where nothing is to be written: its port is in use.
 
 use crate::files::open_database;
-use crate::opened::Opening;
 use crate::reporting::{find, forget_log, log_path, open_kept};
-use crate::script::ScriptFault;
 use sqlite::{Alter, Connection};
 use sqlite_disk::Wary;
 use sqlite_schema::schema::Schema;
 use std::alloc::Global;
 use std::fs;
 use tc_room::reopen_desk;
+use tc_run::{Opening, ScriptFault};
 use tc_store::{StoreFault, Tables, Version};
 
 /// Whether a database holds no table, no index and no view.

@@ -6,6 +6,7 @@ pub mod LoadLemmas
 mod ReplyLemmas
 mod LogLemmas
 mod StopLemmas
+mod LookLemmas
 pub mod ReportLemmas
 pub mod CallLemmas
 mod OnceLemmas

@@ -184,6 +184,10 @@ stops_refused {X} old new result refusal gone was is low =
     keeps_going old new result was is (λ told. not_late refusal Store low refl (err_same {X = X} refusal Store (sym gone ∙ told)))
     (λ told. not_late refusal Stopped low refl (err_same {X = X} refusal Stopped (sym gone ∙ told)))
 
+-- a room that has stopped says so, and stays as it is
+pub stops_stopped : {X S : Type 0} (at : Standing S) (result : Result X Refusal) → result ≡ Err Stopped → at.stopped ≡ true → Stops at result at
+stops_stopped at result is stopped = record { stopped = ((λ new. inl stopped), (λ why. stopped)); same = λ told. (stopped, refl) }
+
 -- a room stops with an answer 31
 pub stops_failed : {X S : Type 0} (old new : Standing S) (result : Result X Refusal) → result ≡ Err Store → new.stopped ≡ true → Stops old result new
 stops_failed {X} old new result gone now = record { stopped = ((λ is. inr gone), (λ cause. now)); same = λ told. absurd (not_stopped (err_same {X = X} Store Stopped (sym gone ∙ told))) }

@@ -1,10 +1,13 @@
 -- The board of a room, and that of tables over which no desk is opened.
-use Rattle.std.specs.Prelude.{◌≡◌, ℕ, false, IfOk, MatchBool, OnOk, List, Result}
+use Rattle.std.specs.Prelude.{◌≡◌, ◌≤◌, ◌⊎◌, ℕ, false, IfErr, IfOk, MatchBool, OnOk, List, Result}
+use Rattle.std.specs.declared.alloc.Global.{Global}
+use Rattle.std.specs.declared.string.String.{String}
+use Rattle.std.specs.String.{string_len}
 use Rattle.sqlite_trees.specs.declared.store.Store.{Ghosts}
 use Rattle.sqlite.specs.Held.{Held, state}
 use Rattle.sqlite.specs.State.{HasCleanDisk}
 use Rattle.tc_types.specs.declared.refusals.Refusal.{Refusal}
-use Rattle.tc_types.specs.declared.refusals.Refusal.TheVariants.{Memory, Stopped}
+use Rattle.tc_types.specs.declared.refusals.Refusal.TheVariants.{Memory, Stopped, Store}
 use Rattle.tc_world.specs.EitherLink.{either}
 use Rattle.tc_book.specs.Sound.{IsSound, book_of}
 use Rattle.tc_store.specs.declared.versions.Version.{Version}
@@ -31,3 +34,8 @@ pub record ReadsBoard {S T E : Type 0} (g : Ghosts S) (page_of : T → List ℕ)
       → IsSound ledger.image × IsFilePage (book_of ledger.image) (page_of page))
   pub reads : OnOk result (OnlyReads g old new)
   pub left : LeavesTables g old new
+
+-- How the making of a page ends: it has so many bytes at most; or memory was refused, or the tables are no desk's or cannot be read.
+pub record EndsPage (most : ℕ) (result : Result (String Global) Refusal) : Type 0 where
+  pub few : IfOk result (λ page. string_len page ≤ most)
+  pub kind : IfErr result (λ refusal. (refusal ≡ Memory) ⊎ (refusal ≡ Store))

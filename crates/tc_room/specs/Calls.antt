@@ -22,7 +22,6 @@ use Rattle.tc_board.specs.Mirror.{mirror_of}
 use Rattle.tc_book.specs.declared.stamps.Stamp.{Stamp}
 use Rattle.tc_book.specs.Acts.{first_refusal}
 use Rattle.tc_book.specs.Book.{Book}
-use Rattle.tc_book.specs.Good.{IsGoodBook}
 use Rattle.std.specs.declared.alloc.Global.{Global}
 use Rattle.tc_desk.specs.declared.dones.Done.{Done}
 use Rattle.tc_desk.specs.Acts.{is_question, refusal_of}
@@ -248,10 +247,10 @@ outcome_in (Err untold) = outcome_of untold.refusal
 abbrev pub StopsCalled : {S : Type 0} → Standing S → Called → Standing S → Type 0
 StopsCalled old called new = called.acts ≡ true → Stops old (outcome_in called.answer) new
 
--- What every call that is made anew keeps to, whatever the tables hold: it stops the room with an answer 31 alone; what the rows tell of the link is true; the book
--- stays a good one; and of a disk that gives back what was written now, so it was before.
-pub record KeepsAnew {S : Type 0} (g : Ghosts S) (old : Standing S) (called : Called) (new : Standing S) : Type 0 where
+-- What every call keeps to, whatever the tables hold: it stops the room with an answer 31 alone; what the rows tell of the link is true; the book is one that a
+-- room keeps; and of a disk that gives back what was written now, so it was before.
+pub record KeepsCall {S : Type 0} (g : Ghosts S) (old : Standing S) (called : Called) (new : Standing S) : Type 0 where
   pub stops : StopsCalled old called new
   pub told : TellsTrue new.opened new.desk
-  pub good : IsGoodBook new.desk.book
+  pub kept : IsKept new.desk.book
   pub clean : HasCleanDisk (state g new.tables) → HasCleanDisk (state g old.tables)

@@ -20,7 +20,7 @@ use Rattle.tc_desk.specs.Replies.{Reply, refusal_reply}
 use Rattle.tc_store.specs.Ledgers.{KeptAnswer}
 use Rattle.tc_store.specs.Schema.{Holds}
 use Rattle.tc_room.specs.Crash.{LeavesActs, ledger_of}
-use Rattle.tc_room.specs.Joined.{HasLedger, HoldsBook, IsKept, Link, LinkState, Standing}
+use Rattle.tc_room.specs.Joined.{HasLedger, HoldsBook, IsKept, Link, LinkState, Standing, desk_in}
 
 -- a desk where nothing happened yet, over links of the kind that was chosen, with nothing in flight
 abbrev pub IsNewDesk : Config → LinkState → Type 0
@@ -81,9 +81,20 @@ pub record AsksDesk {X S : Type 0} (lines : X → Reply) (g : Ghosts S) (room : 
   pub answered : (stamp : Stamp) → AnswersStep lines g room stamp given room result
   pub stops : Stops room result room
 
--- What every call of a room keeps to: it stops with an answer 31 alone; as many rows of the history stood once it was opened; and what the rows since
--- then tell of the link is true, and while every start was good the FARM is not in Lockout.
+-- What every call of a room keeps to: it stops with an answer 31 alone; as many rows of the history stood once it was opened; what the rows since
+-- then tell of the link is true, and while every start was good the FARM is not in Lockout; and its book is one that a room keeps.
 pub record Keeps {X S : Type 0} (old : Standing S) (result : Result X Refusal) (new : Standing S) : Type 0 where
   pub stops : Stops old result new
   pub opened : new.opened ≡ old.opened
   pub told : TellsTrue new.opened new.desk
+  pub kept : IsKept new.desk.book
+
+-- What a question leaves, also where the tables failed: the desk as it was, and a disk that gives back what was written now gave it back before.
+pub record LeavesDesk {S : Type 0} (g : Ghosts S) (old new : Standing S) : Type 0 where
+  pub desk : desk_in new ≡ desk_in old
+  pub clean : HasCleanDisk (state g new.tables) → HasCleanDisk (state g old.tables)
+
+-- what a call keeps to that only looks into the tables
+pub record LooksOnly {X S : Type 0} (g : Ghosts S) (old : Standing S) (result : Result X Refusal) (new : Standing S) : Type 0 where
+  pub keeps : Keeps old result new
+  pub leaves : LeavesDesk g old new

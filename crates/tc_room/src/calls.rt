@@ -11,12 +11,11 @@ ghost use Rattle.tc_types.specs.Names.{IsName};
 ghost use Rattle.tc_world.specs.declared.events.LinkIndication.{LinkIndication};
 ghost use Rattle.tc_world.specs.EitherLink.{either};
 ghost use Rattle.tc_desk.specs.Acts.{is_question, refusal_of};
-ghost use Rattle.tc_desk.specs.Headline.{TellsTrue};
 ghost use Rattle.tc_desk.specs.Machine.{DeskStep};
 ghost use Rattle.tc_desk.specs.Replies.{Reply, refusal_reply};
 ghost use Rattle.tc_room.specs.Answers.{Says};
-ghost use Rattle.tc_room.specs.Calls.{ActsAnew, ActsTrue, AnswersActCall, AnswersLoadCall, AsksOnce, CallsTrue, IsAnew, IsCalled, IsUnfit, JudgesActText, KeepsAnew, LoadsAnew, LoadsTextOnce, MakesOnce, StopsCalled, outcome_in};
-ghost use Rattle.tc_room.specs.Joined.{FollowsBoard, IsKept};
+ghost use Rattle.tc_room.specs.Calls.{ActsAnew, ActsTrue, AnswersActCall, AnswersLoadCall, AsksOnce, CallsTrue, IsAnew, IsCalled, IsUnfit, JudgesActText, KeepsCall, LoadsAnew, LoadsTextOnce, MakesOnce, outcome_in};
+ghost use Rattle.tc_room.specs.Joined.{FollowsBoard};
 ghost use Rattle.tc_room.specs.Replies.{AreLines, ended, is_refused};
 
 use crate::answers::{Answer, Untold, answer_asked, refusal_answer};
@@ -26,7 +25,6 @@ use crate::rooms::Room;
 use sqlite::Alter;
 use std::alloc::Global;
 use tc_book::Stamp;
-use tc_book::laws::{a_good_book_is_sound, nobody_is_lost};
 use tc_types::limits::LONGEST_ACT;
 use tc_types::{Act, Line, LoadKind, Moment, Name, Person, Refusal, read_act};
 
@@ -110,9 +108,8 @@ impl<S: Alter + Drop> Room<S> {
         requires going { self.old.stopped ≡ false }
         requires acts { is_question act ≡ false }
         ensures called { IsCalled (IsAnew S.Store (λ replies acts reply new. (acts ≡ true) × MakesOnce S.Store replies caller (DeskStep either either self.old.desk stamp act) (refusal_of stamp self.old.desk act ≡ None) self.old reply new) self.old) self.old result self.new }
-        ensures keeps { KeepsAnew S.Store self.old result self.new }
+        ensures keeps { KeepsCall S.Store self.old result self.new }
         ensures acted { IfOk result.answer (λ answer. answer.refusal ≡ None → (said : List LinkIndication) × ActsTrue act said self.old self.new) }
-        ensures mirror { FollowsBoard self.new }
     {
         match self.act_kept(alloc, caller, stamp, act) {
             Ok(text) => granted(text),
@@ -124,16 +121,14 @@ impl<S: Alter + Drop> Room<S> {
     fn ask_once(&mut self, alloc: Global, caller: Caller, line: Line) -> Called
         requires going { self.old.stopped ≡ false }
         ensures called { IsCalled (IsAnew S.Store (λ replies acts reply new. AsksOnce S.Store replies caller self.old line acts reply new) self.old) self.old result self.new }
-        ensures keeps { KeepsAnew S.Store self.old result self.new }
+        ensures keeps { KeepsCall S.Store self.old result self.new }
         ensures acted { IfOk result.answer (λ answer. answer.refusal ≡ None → (self.new.desk ≡ self.old.desk) ⊎ ((said : List LinkIndication) × ActsTrue line.act said self.old self.new)) }
-        ensures mirror { FollowsBoard self.new }
     {
         match line.act {
             Act::Ask(query) => {
                 let answer = answer_asked(alloc, self, query);
-                // read for the proof alone: what the rows tell is true, and the mirror follows the spacecraft
+                // read for the proof alone: what the rows tell is true
                 let _opened = self.opened();
-                let _whole = self.whole();
                 Called {
                     answer,
                     acts: false,
@@ -159,15 +154,32 @@ impl<S: Alter + Drop> Room<S> {
     ) -> Called
         requires going { self.old.stopped ≡ false }
         ensures called { IsCalled (IsAnew S.Store (λ replies acts reply new. ActsAnew S.Store moment text.now replies caller self.old acts reply new) self.old) self.old result self.new }
-        ensures keeps { KeepsAnew S.Store self.old result self.new }
+        ensures keeps { KeepsCall S.Store self.old result self.new }
         ensures acted { CallsTrue text.now self.old result self.new }
-        ensures mirror { FollowsBoard self.new }
     {
-        // read for the proof alone: what the rows tell is true, and the mirror follows the spacecraft
+        // read for the proof alone: what the rows tell is true
         let _opened = self.opened();
-        let _whole = self.whole();
         match judge_act(caller.by, moment, text) {
             Ok(line) => self.ask_once(alloc, caller, line),
+            Err(refusal) => refused(alloc, refusal),
+        }
+    }
+
+    /// The reply that is kept for a caller under its number, or else what is asked anew by a text, at a moment, where that is one.
+    fn act_called(
+        &mut self,
+        alloc: Global,
+        caller: Caller,
+        moment: Option<Moment>,
+        text: &[u8],
+    ) -> Called
+        ensures called { IsCalled (AnswersActCall S.Store caller moment text.now self.old) self.old result self.new }
+        ensures keeps { KeepsCall S.Store self.old result self.new }
+        ensures acted { CallsTrue text.now self.old result self.new }
+    {
+        match self.kept_reply(caller.by, caller.number) {
+            Ok(Some(text)) => granted(text),
+            Ok(None) => self.ask_anew(alloc, caller, moment, text),
             Err(refusal) => refused(alloc, refusal),
         }
     }
@@ -182,21 +194,15 @@ impl<S: Alter + Drop> Room<S> {
         text: &[u8],
     ) -> Called
         ensures called { IsCalled (AnswersActCall S.Store caller moment text.now self.old) self.old result self.new }
-        ensures stops { StopsCalled self.old result self.new }
-        ensures told { TellsTrue self.new.opened self.new.desk }
-        ensures kept { IsKept self.new.desk.book }
+        ensures keeps { KeepsCall S.Store self.old result self.new }
         // of an act that was carried out it is true what is true of each
         ensures acted { CallsTrue text.now self.old result self.new }
         ensures mirror { FollowsBoard self.new }
     {
-        // for the proof alone: no request of the book is lost, and its tables are sound
-        nobody_is_lost();
-        a_good_book_is_sound();
-        match self.kept_reply(caller.by, caller.number) {
-            Ok(Some(text)) => granted(text),
-            Ok(None) => self.ask_anew(alloc, caller, moment, text),
-            Err(refusal) => refused(alloc, refusal),
-        }
+        let called = self.act_called(alloc, caller, moment, text);
+        // read for the proof alone: the mirror follows the spacecraft
+        let _whole = self.whole();
+        called
     }
 
     /// Loads what a text spells under a name, anew.
@@ -211,7 +217,7 @@ impl<S: Alter + Drop> Room<S> {
     ) -> Called
         requires going { self.old.stopped ≡ false }
         ensures called { IsCalled (IsAnew S.Store (λ replies acts reply new. (acts ≡ true) × LoadsTextOnce S.Store kind stamp name csv.now replies caller self.old reply new) self.old) self.old result self.new }
-        ensures keeps { KeepsAnew S.Store self.old result self.new }
+        ensures keeps { KeepsCall S.Store self.old result self.new }
     {
         // read for the proof alone: what the rows tell is true
         let _opened = self.opened();
@@ -237,7 +243,7 @@ impl<S: Alter + Drop> Room<S> {
     ) -> Called
         requires going { self.old.stopped ≡ false }
         ensures called { IsCalled (IsAnew S.Store (λ replies acts reply new. LoadsAnew S.Store kind moment name.now csv.now replies caller self.old acts reply new) self.old) self.old result self.new }
-        ensures keeps { KeepsAnew S.Store self.old result self.new }
+        ensures keeps { KeepsCall S.Store self.old result self.new }
     {
         // read for the proof alone: what the rows tell is true
         let _opened = self.opened();
@@ -266,13 +272,8 @@ impl<S: Alter + Drop> Room<S> {
         csv: &[u8],
     ) -> Called
         ensures called { IsCalled (AnswersLoadCall S.Store caller kind moment name.now csv.now self.old) self.old result self.new }
-        ensures stops { StopsCalled self.old result self.new }
-        ensures told { TellsTrue self.new.opened self.new.desk }
-        ensures kept { IsKept self.new.desk.book }
+        ensures keeps { KeepsCall S.Store self.old result self.new }
     {
-        // for the proof alone: no request of the book is lost, and its tables are sound
-        nobody_is_lost();
-        a_good_book_is_sound();
         match self.kept_reply(caller.by, caller.number) {
             Ok(Some(text)) => granted(text),
             Ok(None) => self.load_anew(alloc, caller, moment, kind, name, csv),

@@ -1,7 +1,7 @@
 //! The board of tables alone, over which no desk is opened: it is of the book that they tell of, with no move of an opening.
 ghost use Rattle.std.specs.Prelude.{◌≡◌, ◌≤◌, ◌⊎◌, IfErr, IfOk, OnOk};
 ghost use Rattle.std.specs.String.{string_bytes, string_len};
-ghost use Rattle.tc_room.specs.Boards.{ReadsBoard};
+ghost use Rattle.tc_room.specs.Boards.{EndsPage, ReadsBoard};
 ghost use Rattle.tc_types.specs.Images.{rows_in};
 ghost use Rattle.tc_book.specs.Sound.{IsSound, book_of};
 ghost use Rattle.tc_view.specs.Shown.{IsFilePage};
@@ -32,8 +32,7 @@ fn records_of(alloc: Global, image: &Image) -> Result<Records<Global>, Refusal>
 /// The page of the book that these tables tell of. `Store` where no desk could have written them, and `Memory` where that is refused.
 fn page_of(alloc: Global, image: &Image) -> Result<String, Refusal>
     ensures told { IfOk result (λ page. IsSound (rows_in image.now) × IsFilePage (book_of (rows_in image.now)) (string_bytes page)) }
-    ensures few { IfOk result (λ page. string_len page ≤ MOST_BYTES) }
-    ensures kind { IfErr result (λ refusal. (refusal ≡ Refusal.Memory) ⊎ (refusal ≡ Refusal.Store)) }
+    ensures ends { EndsPage MOST_BYTES result }
 {
     let records = records_of(alloc, image)?;
     Ok(file_page(alloc, &records)?)
@@ -47,8 +46,7 @@ pub fn closed_board<S: Alter + Drop>(
     version: Version,
 ) -> Result<String, Refusal>
     ensures page { ReadsBoard S.Store (λ page. string_bytes page) result tables.old tables.new }
-    ensures few { IfOk result (λ page. string_len page ≤ MOST_BYTES) }
-    ensures kind { IfErr result (λ refusal. (refusal ≡ Refusal.Memory) ⊎ (refusal ≡ Refusal.Store)) }
+    ensures ends { EndsPage MOST_BYTES result }
 {
     match tables.load(version) {
         Ok(image) => page_of(alloc, &image),

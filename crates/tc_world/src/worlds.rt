@@ -2,20 +2,20 @@
 ghost use Rattle.std.specs.Prelude.{◌≡◌, ◌+◌, ◌/◌, ◌≤◌, ◌<◌, ◌↔◌, ℕ, Bool, Some, None, Err, length, true, false, slice_get, IfErr, IfOk, IfSome, IfNone, IsOk, OnOk, [], ◌∷◌};
 ghost use Rattle.std.specs.List.{list_any, list_all};
 ghost use Rattle.tc_types.specs.declared.refusals.Refusal.TheVariants.{BadDirective};
-ghost use Rattle.tc_farm.specs.Farm.{new_farm, is_locked_out};
+ghost use Rattle.tc_farm.specs.Farm.{new_farm};
 ghost use Rattle.tc_fop.specs.declared.signals.FopState.TheVariants.{Initial};
 ghost use Rattle.tc_fop.specs.Views.{view_of};
 ghost use Rattle.tc_world.specs.Links.{AreEmpty};
 ghost use Rattle.tc_world.specs.Logs.{blank};
 ghost use Rattle.tc_world.specs.Abstraction.{seen};
-ghost use Rattle.tc_world.specs.Window.{Follows, IsClaimed};
+ghost use Rattle.tc_world.specs.Window.{Follows};
 ghost use Rattle.tc_world.specs.Kept.{IsKept};
 ghost use Rattle.tc_world.specs.Fitting.{IsFit, IsNarrow};
 ghost use Rattle.tc_world.specs.Fair.{IsFairOn, is_fair};
 ghost use Rattle.tc_world.specs.World.{Whole, Happens, IsRefused, IsAsBefore, IsSpared, IsQuietAboard, sessions_of, is_fitting, clean_by, fits_by, sets_fitting, level_by, puts_down, may_move, tells_move};
 ghost use Rattle.tc_world.specs.Runs.{IsRun};
 ghost use Rattle.tc_world.specs.Telling.{TellsRequests};
-ghost use Rattle.tc_world.specs.Flight.{FliesInOrder};
+ghost use Rattle.tc_world.specs.Flight.{KeepsClaims};
 
 use crate::carriers::Carrier;
 use crate::events::Event;
@@ -94,16 +94,14 @@ impl<U: Carrier<Frame>, D: Carrier<Report>, A: Allocator + Copy + Drop> World<U,
         ensures fits { IfOk result (λ answer. self.new.fits ≡ fits_by event self.old self.new) }
         ensures fitting { self.new.fits ≡ true → self.new.fop.k ≤ self.new.farm.window / 2 }
         ensures level { IfOk result (λ answer. self.new.level ≡ level_by U.kind D.kind event self.old) }
-        // while every start was good and K fitted, the FARM is not in Lockout, and no other alert comes than those that may
-        ensures never_locked_out { self.new.clean ≡ true → self.new.fits ≡ true → is_locked_out self.new.farm.state ≡ false }
+        // while every start was good and K fitted, no other alert comes than those that may
         ensures fair { IfOk result (λ answer. self.new.clean ≡ true → self.new.fits ≡ true → list_all (is_fair self.old.level self.old.fop.state) answer ≡ true) }
         ensures was_fitting { self.new.fits ≡ true → self.old.fits ≡ true }
         // K moves where it is set alone
         ensures keeps_fitting { IfOk result (λ answer. self.old.fits ≡ true → sets_fitting event self.old.farm ≡ true → self.new.fits ≡ true) }
         // while every start was good, an event is a run of the session that is on, or another begins
         ensures window { IfOk result (λ answer. self.new.clean ≡ true → Follows (seen U.kind D.kind self.old) (seen U.kind D.kind self.new)) }
-        ensures flight { self.new.clean ≡ true → FliesInOrder (seen U.kind D.kind self.new) }
-        ensures claims { self.new.clean ≡ true → IsClaimed self.new }
+        ensures claims { KeepsClaims U.kind D.kind self.new }
         ensures was_clean { self.new.clean ≡ true → self.old.clean ≡ true }
     {
         // what the FOP's table says of requests, and of K
@@ -118,9 +116,7 @@ impl<U: Carrier<Frame>, D: Carrier<Report>, A: Allocator + Copy + Drop> World<U,
     /// of it.
     pub fn run(&mut self, events: &[Event]) -> RunEnd
         ensures run { IsRun U.kind D.kind D.covered events.now result.done result.refusal self.old self.new }
-        ensures never_locked_out { self.new.clean ≡ true → self.new.fits ≡ true → is_locked_out self.new.farm.state ≡ false }
-        ensures flight { self.new.clean ≡ true → FliesInOrder (seen U.kind D.kind self.new) }
-        ensures claims { self.new.clean ≡ true → IsClaimed self.new }
+        ensures claims { KeepsClaims U.kind D.kind self.new }
     {
         // read for the proof alone: the claims of the start, where no event happens
         let _clean = self.clean();
@@ -152,9 +148,7 @@ impl<U: Carrier<Frame>, D: Carrier<Report>, A: Allocator + Copy + Drop> World<U,
     /// check also V(S) was V(R) and the FARM had no flag.
     pub fn clean(&self) -> bool
         ensures value { result ≡ self.now.clean }
-        ensures never_locked_out { self.now.clean ≡ true → self.now.fits ≡ true → is_locked_out self.now.farm.state ≡ false }
-        ensures flight { self.now.clean ≡ true → FliesInOrder (seen U.kind D.kind self.now) }
-        ensures claims { self.now.clean ≡ true → IsClaimed self.now }
+        ensures claims { KeepsClaims U.kind D.kind self.now }
     {
         // what stands between events carries the claims
         window_is_kept();

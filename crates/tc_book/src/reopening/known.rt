@@ -1,6 +1,6 @@
 //! The requests of the tables that were left.
-ghost use Rattle.std.specs.Prelude.{◌≡◌, ◌↔◌, ℕ, List, ◌≤◌, ◌<◌, ◌++◌, ◌∷◌, [], length, vec_capacity, IfSome, IsSomeAnd, IsTrue, IfOk, IfErr, OnOk, false};
-ghost use Rattle.std.specs.List.{list_any, flat_map};
+ghost use Rattle.std.specs.Prelude.{◌≡◌, ◌↔◌, List, ◌≤◌, ◌<◌, ◌++◌, ◌∷◌, [], length, vec_capacity, IfSome, IsSomeAnd, IsTrue, IfOk, IfErr, OnOk, false};
+ghost use Rattle.std.specs.List.{flat_map};
 ghost use Rattle.tc_proc.specs.declared.faults.ReopenFault.TheVariants.{Unsound};
 ghost use Rattle.tc_types.specs.declared.requests.Request.{Request as SomeRequest};
 ghost use Rattle.tc_types.specs.Names.{is_same_name};
@@ -10,9 +10,8 @@ ghost use Rattle.tc_stack.specs.Stacks.{IsEarlier};
 ghost use Rattle.tc_book.specs.Book.{form_of, next_identity, request_in};
 ghost use Rattle.tc_book.specs.Good.{IsNextRow, IsGoodOrigin, IsGoodRequest};
 ghost use Rattle.tc_book.specs.Cargoes.{cargo_of};
-ghost use Rattle.tc_book.specs.Known.{told_requests, AreTakenRows, AreKnown, KnowsRequests};
+ghost use Rattle.tc_book.specs.Known.{told_requests, AreTakenRows, AreKnown, HasStackNames, KnowsRequests};
 ghost use Rattle.tc_book.specs.Places.{AreCounted};
-ghost use Rattle.tc_book.specs.Stacks.{has_stack};
 ghost use Rattle.tc_book.specs.Targets.{IsGoodTarget, HasGoodTargets};
 
 use crate::acts::enter::is_bad_activity;
@@ -119,8 +118,7 @@ fn is_earlier(after: Option<u32>, line: u32) -> bool
 
 /// Whether the next request may be this row of a stack, where the stacks so far have these names.
 fn is_good_origin(requests: &[Request], stacks: &[Name], author: &Name, origin: &Origin) -> bool
-    requires few { length requests.now ≤ most_requests }
-    requires stacks { (name : List ℕ) → has_stack name requests.now ≡ list_any (λ known. is_same_name known name) stacks.now }
+    requires stacks { HasStackNames requests.now stacks.now }
     ensures { IsTrue result ↔ IsGoodOrigin requests.now author.now origin.now }
 {
     origin.stack.keeps_form(); // read for the proof alone
@@ -131,8 +129,7 @@ fn is_good_origin(requests: &[Request], stacks: &[Name], author: &Name, origin: 
 
 /// Whether the next request may have come from here.
 fn may_come_from(requests: &[Request], stacks: &[Name], request: &Request) -> bool
-    requires few { length requests.now ≤ most_requests }
-    requires stacks { (name : List ℕ) → has_stack name requests.now ≡ list_any (λ known. is_same_name known name) stacks.now }
+    requires stacks { HasStackNames requests.now stacks.now }
     ensures { IsTrue result ↔ IfSome request.now.origin (IsGoodOrigin requests.now request.now.author) }
 {
     match &request.origin {

@@ -42,12 +42,6 @@ returns-clause-answered g c =
     (inr (_, _, carried _ _ _ _ _ _ _ c.requires.acts done.answers.0 done.answers.1 done.made.moves, kept_book _ done.stays.good, refl)))
     done.stays.opened)
 
-pub returns-in-Some-clause-opened : goal.returns-in-Some-clause-opened
-returns-in-Some-clause-opened g c = rw (← c.self.view_is) c.in_ok-done.ensures.stays.opened
-
-pub returns-clause-opened : goal.returns-clause-opened
-returns-clause-opened g c = rw (← c.self.view_is) c.in_ok-done.ensures.stays.opened
-
 pub returns-in-Some-clause-acted : goal.returns-in-Some-clause-acted
 returns-in-Some-clause-acted g c =
     let done = c.in_ok-done.ensures in
@@ -59,16 +53,17 @@ returns-in-Some-clause-clean g c = rw (← c.self.view_is) (λ clean. omega (ari
 pub returns-clause-clean : goal.returns-clause-clean
 returns-clause-clean g c = rw (← c.self.view_is) (λ clean. omega (arith, clean, c.write_done.ensures.crash.clean))
 
-pub returns-in_err-done-clause-stops : goal.returns-in_err-done-clause-stops
-returns-in_err-done-clause-stops g c =
+pub returns-in_err-done-clause-keeps : goal.returns-in_err-done-clause-keeps
+returns-in_err-done-clause-keeps g c =
     let gone : c.from_residual.result ≡ Err c.in_err-done.field-0.0 = grind arith in
     let going : c.self.inside.stopped ≡ false = ap (λ (s : Standing _). s.stopped) c.self.view_is ∙ c.requires.going in
-    rw (← c.self.view_is) (stops_refused _ _ _ _ gone going going (act_told _ c.self.inside.desk.parts c.args.act _ c.in_err-done.ensures.answers.why))
+    rw (← c.self.view_is)
+    (record { stops = stops_refused _ _ _ _ gone going going (act_told _ c.self.inside.desk.parts c.args.act _ c.in_err-done.ensures.answers.why); opened = c.in_err-done.ensures.stays.opened; told = c.in_err-done.ensures.stays.told; kept = kept_book _ c.in_err-done.ensures.stays.good })
 
-pub returns-in-Some-clause-stops : goal.returns-in-Some-clause-stops
-returns-in-Some-clause-stops g c =
+pub returns-in-Some-clause-keeps : goal.returns-in-Some-clause-keeps
+returns-in-Some-clause-keeps g c =
     let going : c.self.inside.stopped ≡ false = ap (λ (s : Standing _). s.stopped) c.self.view_is ∙ c.requires.going in
-    rw (← c.self.view_is) (stops_ok _ _ _ going going)
+    rw (← c.self.view_is) (record { stops = stops_ok _ _ _ going going; opened = c.in_ok-done.ensures.stays.opened; told = c.in_ok-done.ensures.stays.told; kept = kept_book _ c.in_ok-done.ensures.stays.good })
 
-pub returns-clause-stops : goal.returns-clause-stops
-returns-clause-stops g c = rw (← c.self.view_is) (stops_failed _ _ _ refl refl)
+pub returns-clause-keeps : goal.returns-clause-keeps
+returns-clause-keeps g c = rw (← c.self.view_is) (record { stops = stops_failed _ _ _ refl refl; opened = c.in_ok-done.ensures.stays.opened; told = c.in_ok-done.ensures.stays.told; kept = kept_book _ c.in_ok-done.ensures.stays.good })

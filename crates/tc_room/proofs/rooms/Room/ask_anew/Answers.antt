@@ -2,6 +2,7 @@ use Rattle.std.proofs.Common.{inl, inr, refl}
 use Rattle.tc_desk.specs.Replies.{refusal_reply}
 use Rattle.tc_room.proofs.OnceLemmas.{calls_true, judged_spells, says_refused, stays_so}
 use Rattle.tc_room.proofs.StopLemmas.{act_text_low, stops_refused}
+use Rattle.tc_room.proofs.RoomLemmas.{kept_book}
 use Rattle.tc_room.proofs.rooms.Room.ask_anew.Goals as goal
 
 pub returns-in-Ok-clause-called : goal.returns-in-Ok-clause-called
@@ -33,6 +34,6 @@ returns-in-Err-clause-keeps g c = record {
   stops = (λ acts.
       stops_refused _ _ _ c.in-Err.refusal c.refused.ensures.told c.requires.going c.requires.going (act_text_low c.args.caller.by c.args.text.now c.args.moment c.in-Err.refusal c.in-Err.ensures.judged));
   told = c.opened-opened.ensures.told;
-  good = c.opened-opened.ensures.good;
+  kept = kept_book _ c.opened-opened.ensures.good;
   clean = λ clean. clean;
 }

@@ -1,6 +1,7 @@
 use Rattle.std.proofs.Common.{◌≡◌, false, inl, inr, ap}
 use Rattle.tc_desk.specs.Acts.{is_question}
 use Rattle.tc_room.proofs.OnceLemmas.{acts_done, asks_told, no_question, says_more, says_same}
+use Rattle.tc_room.proofs.RoomLemmas.{kept_book}
 use Rattle.tc_room.proofs.rooms.Room.ask_once.Goals as goal
 
 pub do_once-requires-clause-acts : goal.do_once-requires-clause-acts
@@ -17,7 +18,7 @@ returns-in-Ask-clause-called g c =
     }
 
 pub returns-in-Ask-clause-acted : goal.returns-in-Ask-clause-acted
-returns-in-Ask-clause-acted g c = says_same c.answer_asked-answer.result _ (inl (ap (λ desk. desk.parts) c.answer_asked-answer.ensures.desk))
+returns-in-Ask-clause-acted g c = says_same c.answer_asked-answer.result _ (inl (ap (λ desk. desk.parts) c.answer_asked-answer.ensures.leaves.desk))
 
 pub returns-in_default-clause-called : goal.returns-in_default-clause-called
 returns-in_default-clause-called g c =
@@ -34,7 +35,7 @@ pub returns-in_default-clause-acted : goal.returns-in_default-clause-acted
 returns-in_default-clause-acted g c = says_more c.do_once.result.answer _ _ inr c.do_once.ensures.acted
 
 pub returns-in-Ask-clause-keeps : goal.returns-in-Ask-clause-keeps
-returns-in-Ask-clause-keeps g c = record { stops = (λ acts. absurd cc); told = c.opened-opened.ensures.told; good = c.opened-opened.ensures.good; clean = c.answer_asked-answer.ensures.clean }
+returns-in-Ask-clause-keeps g c = record { stops = (λ acts. absurd cc); told = c.opened-opened.ensures.told; kept = kept_book _ c.opened-opened.ensures.good; clean = c.answer_asked-answer.ensures.leaves.clean }
 
 pub returns-in_default-clause-keeps : goal.returns-in_default-clause-keeps
 returns-in_default-clause-keeps g c = c.do_once.ensures.keeps

@@ -10,7 +10,7 @@ returns-in-Ok-clause-called g c =
       reply = made.0;
       made = λ replies held clean. (c.granted.ensures.acts, made.4 replies held clean);
       says = c.granted.ensures.says made.0 made.1 made.2 made.3;
-      opened = c.act_kept.ensures.opened;
+      opened = c.act_kept.ensures.keeps.opened;
     }
 
 pub returns-in-Err-clause-called : goal.returns-in-Err-clause-called
@@ -19,7 +19,7 @@ returns-in-Err-clause-called g c =
       reply = refusal_reply c.in-Err.refusal;
       made = λ replies held clean. (c.refused.ensures.acts, c.in-Err.ensures.answered replies held clean);
       says = c.refused.ensures.says;
-      opened = c.act_kept.ensures.opened;
+      opened = c.act_kept.ensures.keeps.opened;
     }
 
 pub returns-in-Ok-clause-acted : goal.returns-in-Ok-clause-acted
@@ -29,7 +29,7 @@ pub returns-in-Err-clause-acted : goal.returns-in-Err-clause-acted
 returns-in-Err-clause-acted g c = says_refused c.in-Err.refusal c.refused.result.answer _ c.refused.ensures.says
 
 pub returns-in-Ok-clause-keeps : goal.returns-in-Ok-clause-keeps
-returns-in-Ok-clause-keeps g c = record { stops = (λ acts. stops_granted _ _ _ _ c.granted.ensures.told c.in-Ok.ensures.stops); told = c.act_kept.ensures.told; good = c.act_kept.ensures.good; clean = c.act_kept.ensures.clean }
+returns-in-Ok-clause-keeps g c = record { stops = (λ acts. stops_granted _ _ _ _ c.granted.ensures.told c.in-Ok.ensures.keeps.stops); told = c.act_kept.ensures.keeps.told; kept = c.act_kept.ensures.keeps.kept; clean = c.act_kept.ensures.clean }
 
 pub returns-in-Err-clause-keeps : goal.returns-in-Err-clause-keeps
-returns-in-Err-clause-keeps g c = record { stops = (λ acts. stops_told _ _ _ _ c.refused.ensures.told c.in-Err.ensures.stops); told = c.act_kept.ensures.told; good = c.act_kept.ensures.good; clean = c.act_kept.ensures.clean }
+returns-in-Err-clause-keeps g c = record { stops = (λ acts. stops_told _ _ _ _ c.refused.ensures.told c.in-Err.ensures.keeps.stops); told = c.act_kept.ensures.keeps.told; kept = c.act_kept.ensures.keeps.kept; clean = c.act_kept.ensures.clean }

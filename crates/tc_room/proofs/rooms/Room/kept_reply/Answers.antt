@@ -1,7 +1,9 @@
-use Rattle.std.proofs.Common.{◌≡◌, false, inl, refl}
+use Rattle.std.proofs.Common.{◌≡◌, false, inl, refl, sym, ◌∙◌}
 use Rattle.tc_store.specs.Ledgers.{newest}
 use Rattle.tc_room.proofs.OnceLemmas.{leaves_some}
-use Rattle.tc_room.proofs.RoomLemmas.{goes_on, kept_good}
+use Rattle.tc_room.proofs.RoomLemmas.{goes_on}
+use Rattle.tc_room.proofs.LookLemmas.{looks_by}
+use Rattle.tc_room.proofs.StopLemmas.{stops_failed, stops_ok, stops_stopped}
 use Rattle.tc_room.proofs.TableLemmas.{read_kept, read_left}
 use Rattle.tc_room.proofs.rooms.Room.kept_reply.Goals as goal
 
@@ -35,11 +37,15 @@ returns-in-Err-clause-answered g c =
       opened = refl;
     }))
 
-pub returns-then-stopped-clause-kept : goal.returns-then-stopped-clause-kept
-returns-then-stopped-clause-kept g c = kept_good _ c.nobody_is_lost.ensures c.a_good_book_is_sound.ensures c.opened-opened.ensures.good
+pub returns-then-stopped-clause-looks : goal.returns-then-stopped-clause-looks
+returns-then-stopped-clause-looks g c =
+    looks_by g.S.Store _ _ _ (stops_stopped _ _ refl (sym c.stopped.ensures ∙ c.if-stopped.true)) refl (λ clean. clean) c.opened-opened.ensures.told c.opened-opened.ensures.good
 
-pub returns-in-Ok-clause-kept : goal.returns-in-Ok-clause-kept
-returns-in-Ok-clause-kept g c = kept_good _ c.nobody_is_lost.ensures c.a_good_book_is_sound.ensures c.self.invariant
+pub returns-in-Ok-clause-looks : goal.returns-in-Ok-clause-looks
+returns-in-Ok-clause-looks g c =
+    let going : c.self.inside.stopped ≡ false = goes_on _ _ _ c.self.view_is c.stopped.ensures c.if-stopped.false in
+    rw (← c.self.view_is) (looks_by g.S.Store _ _ _ (stops_ok _ _ _ going going) refl c.reply_of.ensures.reads.clean (rw (← c.self.view_is) at c.opened-opened.ensures.told) c.self.invariant)
 
-pub returns-in-Err-clause-kept : goal.returns-in-Err-clause-kept
-returns-in-Err-clause-kept g c = kept_good _ c.nobody_is_lost.ensures c.a_good_book_is_sound.ensures c.self.invariant
+pub returns-in-Err-clause-looks : goal.returns-in-Err-clause-looks
+returns-in-Err-clause-looks g c =
+    rw (← c.self.view_is) (looks_by g.S.Store _ _ _ (stops_failed _ _ _ refl refl) refl c.reply_of.ensures.reads.clean (rw (← c.self.view_is) at c.opened-opened.ensures.told) c.self.invariant)

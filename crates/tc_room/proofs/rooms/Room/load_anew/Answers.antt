@@ -2,6 +2,7 @@ use Rattle.std.proofs.Common.{inl, inr, refl}
 use Rattle.tc_desk.specs.Replies.{refusal_reply}
 use Rattle.tc_room.proofs.OnceLemmas.{stays_so}
 use Rattle.tc_room.proofs.StopLemmas.{stops_refused, unfit_low}
+use Rattle.tc_room.proofs.RoomLemmas.{kept_book}
 use Rattle.tc_room.proofs.rooms.Room.load_anew.Goals as goal
 
 pub returns-in-Some-clause-called : goal.returns-in-Some-clause-called
@@ -35,6 +36,6 @@ returns-in-None-clause-keeps g c = record {
   stops = (λ acts.
       stops_refused _ _ _ c.unfit.result c.refused.ensures.told c.requires.going c.requires.going (unfit_low c.args.kind c.args.csv.now c.unfit.result c.unfit.ensures));
   told = c.opened-opened.ensures.told;
-  good = c.opened-opened.ensures.good;
+  kept = kept_book _ c.opened-opened.ensures.good;
   clean = λ clean. clean;
 }

@@ -1,29 +1,30 @@
 use Rattle.tc_room.specs.Calls.{LoadsAnew}
 use Rattle.tc_room.proofs.OnceLemmas.{call_again, call_anew, call_failed, loads_over}
-use Rattle.tc_room.proofs.RoomLemmas.{kept_good}
+use Rattle.tc_room.proofs.LookLemmas.{keeps_anew, keeps_told}
 use Rattle.tc_room.proofs.StopLemmas.{stops_granted, stops_over, stops_told}
 use Rattle.tc_room.proofs.rooms.Room.load_once.Goals as goal
 
 pub returns-in-Err-clause-called : goal.returns-in-Err-clause-called
-returns-in-Err-clause-called g c = call_failed g.S.Store c.args.caller _ _ c.refused.result _ c.in-Err.refusal c.in-Err.ensures.answered c.refused.ensures.says c.kept_reply.ensures.keeps.opened
+returns-in-Err-clause-called g c = call_failed g.S.Store c.args.caller _ _ c.refused.result _ c.in-Err.refusal c.in-Err.ensures.answered c.refused.ensures.says c.kept_reply.ensures.looks.keeps.opened
 
 pub returns-in-Ok-Some-clause-called : goal.returns-in-Ok-Some-clause-called
 returns-in-Ok-Some-clause-called g c =
-    call_again g.S.Store c.args.caller _ _ c.granted.result _ c.in-Ok-Some.text (rw c.in-Ok-Some.field-0-is at c.in-Ok-Some.ensures.answered) c.in-Ok-Some.ensures.going.0 (rw c.in-Ok-Some.field-0-is at c.in-Ok-Some.ensures.text) c.granted.ensures.acts c.granted.ensures.says c.kept_reply.ensures.keeps.opened
+    call_again g.S.Store c.args.caller _ _ c.granted.result _ c.in-Ok-Some.text (rw c.in-Ok-Some.field-0-is at c.in-Ok-Some.ensures.answered) c.in-Ok-Some.ensures.going.0 (rw c.in-Ok-Some.field-0-is at c.in-Ok-Some.ensures.text) c.granted.ensures.acts c.granted.ensures.says c.kept_reply.ensures.looks.keeps.opened
 
 pub returns-in-Ok-None-clause-called : goal.returns-in-Ok-None-clause-called
 returns-in-Ok-None-clause-called g c =
-    call_anew g.S.Store c.args.caller _ _ _ c.load_anew.result (λ old replies acts reply new. LoadsAnew g.S.Store c.args.kind c.args.moment c.args.name.now c.args.csv.now replies c.args.caller old acts reply new) (rw c.in-Ok-None.field-0-is at c.in-Ok-None.ensures.answered) c.in-Ok-None.ensures.going.0 c.kept_reply.ensures.keeps.opened c.load_anew.ensures.keeps.clean
-    (λ replies acts reply. loads_over g.S.Store replies c.args.caller _ _ _ c.kept_reply.ensures.desk c.args.kind c.args.moment c.args.name.now c.args.csv.now acts reply) c.load_anew.ensures.called
+    call_anew g.S.Store c.args.caller _ _ _ c.load_anew.result (λ old replies acts reply new. LoadsAnew g.S.Store c.args.kind c.args.moment c.args.name.now c.args.csv.now replies c.args.caller old acts reply new) (rw c.in-Ok-None.field-0-is at c.in-Ok-None.ensures.answered) c.in-Ok-None.ensures.going.0 c.kept_reply.ensures.looks.keeps.opened c.load_anew.ensures.keeps.clean
+    (λ replies acts reply. loads_over g.S.Store replies c.args.caller _ _ _ c.kept_reply.ensures.looks.leaves.desk c.args.kind c.args.moment c.args.name.now c.args.csv.now acts reply) c.load_anew.ensures.called
 
-pub returns-in-Ok-None-clause-kept : goal.returns-in-Ok-None-clause-kept
-returns-in-Ok-None-clause-kept g c = kept_good _ c.nobody_is_lost.ensures c.a_good_book_is_sound.ensures c.load_anew.ensures.keeps.good
+pub returns-in-Err-clause-keeps : goal.returns-in-Err-clause-keeps
+returns-in-Err-clause-keeps g c =
+    keeps_told g.S.Store _ _ c.refused.result _ c.kept_reply.ensures.looks (λ acts. stops_told _ _ _ _ c.refused.ensures.told (rw c.in-Err.is at c.kept_reply.ensures.looks.keeps.stops))
 
-pub returns-in-Err-clause-stops : goal.returns-in-Err-clause-stops
-returns-in-Err-clause-stops g c = λ acts. stops_told _ _ _ _ c.refused.ensures.told (rw c.in-Err.is at c.kept_reply.ensures.keeps.stops)
+pub returns-in-Ok-Some-clause-keeps : goal.returns-in-Ok-Some-clause-keeps
+returns-in-Ok-Some-clause-keeps g c =
+    keeps_told g.S.Store _ _ c.granted.result _ c.kept_reply.ensures.looks (λ acts. stops_granted _ _ _ _ c.granted.ensures.told (rw c.in-Ok-Some.is at c.kept_reply.ensures.looks.keeps.stops))
 
-pub returns-in-Ok-Some-clause-stops : goal.returns-in-Ok-Some-clause-stops
-returns-in-Ok-Some-clause-stops g c = λ acts. stops_granted _ _ _ _ c.granted.ensures.told (rw c.in-Ok-Some.is at c.kept_reply.ensures.keeps.stops)
-
-pub returns-in-Ok-None-clause-stops : goal.returns-in-Ok-None-clause-stops
-returns-in-Ok-None-clause-stops g c = λ acts. stops_over _ _ _ _ _ (rw c.in-Ok-None.is at c.kept_reply.ensures.keeps.stops) c.in-Ok-None.ensures.going.1 (c.load_anew.ensures.keeps.stops acts)
+pub returns-in-Ok-None-clause-keeps : goal.returns-in-Ok-None-clause-keeps
+returns-in-Ok-None-clause-keeps g c =
+    keeps_anew g.S.Store _ _ _ c.load_anew.result _ c.kept_reply.ensures.looks
+    (λ acts. stops_over _ _ _ _ _ (rw c.in-Ok-None.is at c.kept_reply.ensures.looks.keeps.stops) c.in-Ok-None.ensures.going.1 (c.load_anew.ensures.keeps.stops acts)) c.load_anew.ensures.keeps

@@ -5,7 +5,7 @@ use Rattle.tc_room.specs.Joined.{HasLedger, LinkState, Standing}
 use Rattle.tc_room.specs.Loads.{loading_of}
 use Rattle.tc_room.proofs.LoadLemmas.{load_carried, load_refused}
 use Rattle.tc_room.proofs.RoomLemmas.{kept_book}
-use Rattle.tc_room.proofs.StopLemmas.{load_told, stops_ok, stops_refused}
+use Rattle.tc_room.proofs.StopLemmas.{load_told, stops_failed, stops_ok, stops_refused}
 use Rattle.tc_room.proofs.TableLemmas.{leaves_acts, not_written, written}
 use Rattle.tc_room.proofs.rooms.Room.load_spelled.Goals as goal
 
@@ -44,14 +44,17 @@ returns-in-Err-clause-answered g c =
       whole = c.in_ok-loaded.ensures.whole;
     }))
 
-pub returns-in-Ok-clause-stops : goal.returns-in-Ok-clause-stops
-returns-in-Ok-clause-stops g c =
-    let going : c.self.inside.stopped ≡ false = ap (λ (s : Standing _). s.stopped) c.self.view_is ∙ c.requires.going in
-    rw (← c.self.view_is) (stops_ok _ _ _ going going)
-
-pub returns-in_err-loaded-clause-stops : goal.returns-in_err-loaded-clause-stops
-returns-in_err-loaded-clause-stops g c =
+pub returns-in_err-loaded-clause-keeps : goal.returns-in_err-loaded-clause-keeps
+returns-in_err-loaded-clause-keeps g c =
     let gone : c.from_residual.result ≡ Err c.in_err-loaded.field-0.0 = grind arith in
     let going : c.self.inside.stopped ≡ false = ap (λ (s : Standing _). s.stopped) c.self.view_is ∙ c.requires.going in
     rw (← c.self.view_is)
-    (stops_refused _ _ _ _ gone going going (load_told c.args.stamp c.self.inside.desk.parts.book (loading_of c.args.name c.args.spelled.now) _ c.in_err-loaded.ensures.loads.answers.why))
+    (record { stops = stops_refused _ _ _ _ gone going going (load_told c.args.stamp c.self.inside.desk.parts.book (loading_of c.args.name c.args.spelled.now) _ c.in_err-loaded.ensures.loads.answers.why); opened = c.in_err-loaded.ensures.stays.opened; told = c.in_err-loaded.ensures.stays.told; kept = kept_book _ c.in_err-loaded.ensures.stays.good })
+
+pub returns-in-Ok-clause-keeps : goal.returns-in-Ok-clause-keeps
+returns-in-Ok-clause-keeps g c =
+    let going : c.self.inside.stopped ≡ false = ap (λ (s : Standing _). s.stopped) c.self.view_is ∙ c.requires.going in
+    rw (← c.self.view_is) (record { stops = stops_ok _ _ _ going going; opened = c.in_ok-loaded.ensures.stays.opened; told = c.in_ok-loaded.ensures.stays.told; kept = kept_book _ c.in_ok-loaded.ensures.stays.good })
+
+pub returns-in-Err-clause-keeps : goal.returns-in-Err-clause-keeps
+returns-in-Err-clause-keeps g c = rw (← c.self.view_is) (record { stops = stops_failed _ _ _ refl refl; opened = c.in_ok-loaded.ensures.stays.opened; told = c.in_ok-loaded.ensures.stays.told; kept = kept_book _ c.in_ok-loaded.ensures.stays.good })

@@ -3,6 +3,7 @@ use Rattle.tc_desk.specs.Replies.{refusal_reply}
 use Rattle.tc_room.specs.Loads.{loading_of}
 use Rattle.tc_room.proofs.OnceLemmas.{stays_so}
 use Rattle.tc_room.proofs.StopLemmas.{stops_granted, stops_refused, stops_told, unread_low}
+use Rattle.tc_room.proofs.RoomLemmas.{kept_book}
 use Rattle.tc_room.proofs.rooms.Room.load_text.Goals as goal
 
 pub returns-in-Err-clause-called : goal.returns-in-Err-clause-called
@@ -21,7 +22,7 @@ returns-in-Ok-load_kept-clause-called g c =
       reply = made.0;
       made = λ replies held clean. (c.granted.ensures.acts, inr (loading_of c.args.name c.in-Ok.spelled, c.in-Ok.ensures.read c.args.name, made.4 replies held clean));
       says = c.granted.ensures.says made.0 made.1 made.2 made.3;
-      opened = c.load_kept.ensures.opened;
+      opened = c.load_kept.ensures.keeps.opened;
     }
 
 pub returns-clause-called : goal.returns-clause-called
@@ -33,7 +34,7 @@ returns-clause-called g c =
         inr (loading_of c.args.name c.in-Ok.spelled, c.in-Ok.ensures.read c.args.name, c.in-Err-load_kept.ensures.answered replies held clean),
       );
       says = c.refused-in-Err-load_kept.ensures.says;
-      opened = c.load_kept.ensures.opened;
+      opened = c.load_kept.ensures.keeps.opened;
     }
 
 pub returns-in-Err-clause-keeps : goal.returns-in-Err-clause-keeps
@@ -41,12 +42,12 @@ returns-in-Err-clause-keeps g c = record {
   stops = (λ acts.
       stops_refused _ _ _ c.in-Err.refusal c.refused.ensures.told c.requires.going c.requires.going (unread_low c.args.kind c.args.csv.now c.in-Err.refusal c.in-Err.ensures.refused));
   told = c.opened-opened.ensures.told;
-  good = c.opened-opened.ensures.good;
+  kept = kept_book _ c.opened-opened.ensures.good;
   clean = λ clean. clean;
 }
 
 pub returns-in-Ok-load_kept-clause-keeps : goal.returns-in-Ok-load_kept-clause-keeps
-returns-in-Ok-load_kept-clause-keeps g c = record { stops = (λ acts. stops_granted _ _ _ _ c.granted.ensures.told c.in-Ok-load_kept.ensures.stops); told = c.load_kept.ensures.told; good = c.load_kept.ensures.good; clean = c.load_kept.ensures.clean }
+returns-in-Ok-load_kept-clause-keeps g c = record { stops = (λ acts. stops_granted _ _ _ _ c.granted.ensures.told c.in-Ok-load_kept.ensures.keeps.stops); told = c.load_kept.ensures.keeps.told; kept = c.load_kept.ensures.keeps.kept; clean = c.load_kept.ensures.clean }
 
 pub returns-clause-keeps : goal.returns-clause-keeps
-returns-clause-keeps g c = record { stops = (λ acts. stops_told _ _ _ _ c.refused-in-Err-load_kept.ensures.told c.in-Err-load_kept.ensures.stops); told = c.load_kept.ensures.told; good = c.load_kept.ensures.good; clean = c.load_kept.ensures.clean }
+returns-clause-keeps g c = record { stops = (λ acts. stops_told _ _ _ _ c.refused-in-Err-load_kept.ensures.told c.in-Err-load_kept.ensures.keeps.stops); told = c.load_kept.ensures.keeps.told; kept = c.load_kept.ensures.keeps.kept; clean = c.load_kept.ensures.clean }

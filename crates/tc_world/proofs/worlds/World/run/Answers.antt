@@ -5,7 +5,7 @@ use Rattle.tc_world.proofs.RunLemmas.{runs_none, runs_more}
 use Rattle.tc_world.proofs.worlds.World.run.Goals as goal
 
 pub loop-done-init : goal.loop-done-init
-loop-done-init g c = (runs_none _ _ _, c.clean-clean.ensures.claims, c.clean-clean.ensures.flight, c.clean-clean.ensures.never_locked_out)
+loop-done-init g c = (runs_none _ _ _, c.clean-clean.ensures.claims)
 
 pub loop-done-preserved : goal.loop-done-preserved
 loop-done-preserved g c = (
@@ -13,8 +13,6 @@ loop-done-preserved g c = (
       (rw c.index-events-done.is at c.in_default.ensures.happens) c.in_default.ensures.was_clean c.in_default.ensures.window
       c.in_default.ensures.was_fitting c.in_default.ensures.fair,
   c.in_default.ensures.claims,
-  c.in_default.ensures.flight,
-  c.in_default.ensures.never_locked_out,
 )
 
 pub returns-in-Err : goal.returns-in-Err
@@ -30,8 +28,6 @@ returns-in-Err g c = record {
     );
     stands = c.in-Err.ensures.refused.1;
   };
-  flight = c.in-Err.ensures.flight;
-  never_locked_out = c.in-Err.ensures.never_locked_out;
   claims = c.in-Err.ensures.claims;
 }
 
@@ -44,7 +40,5 @@ returns g c =
         ends = refl;
         stands = record { up = refl; down = refl; rest = refl };
       };
-      flight = c.loop-done.invariant.2;
-      never_locked_out = c.loop-done.invariant.3;
       claims = c.loop-done.invariant.1;
     }

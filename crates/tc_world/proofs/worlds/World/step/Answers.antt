@@ -77,24 +77,12 @@ returns-clause-level g c =
     (λ answer h. level_is g.U.Carrier.kind g.D.Carrier.kind c.args.event c.self.inside.parts c.step.new.self answer h)
     c.step.ensures.happens)
 
-pub returns-clause-never_locked_out : goal.returns-clause-never_locked_out
-returns-clause-never_locked_out g c = λ clean fits.
-    c.window_is_kept.ensures.never_locked_out _ (invariant_of-self g c).0 (invariant_of-self g c).1 clean fits
-
 pub returns-clause-window : goal.returns-clause-window
 returns-clause-window g c =
     rw (← c.self.view_is)
     (follows g.U.Carrier.kind g.D.Carrier.kind (uplink_loses g) (downlink_loses g) c.window_is_kept.ensures.follows c.args.event
     c.self.inside.parts c.step.new.self (λ answer. answer) c.step.result c.step.ensures.happens
     c.step.ensures.limits.sound.0 c.step.ensures.limits.sound.1 c.self.invariant.0)
-
-pub returns-clause-claims : goal.returns-clause-claims
-returns-clause-claims g c = λ clean.
-    claimed g.U.Carrier.kind g.D.Carrier.kind c.step.new.self
-    (c.window_is_kept.ensures.claims _ (invariant_of-self g c).0 clean)
-
-pub returns-clause-flight : goal.returns-clause-flight
-returns-clause-flight g c = λ clean. c.window_is_kept.ensures.flight _ (invariant_of-self g c).0 clean
 
 pub returns-clause-requests : goal.returns-clause-requests
 returns-clause-requests g c =
@@ -134,3 +122,13 @@ returns-clause-was_clean g c =
     rw (← c.self.view_is)
     (was_clean g.U.Carrier.kind g.D.Carrier.kind c.args.event c.self.inside.parts c.step.new.self c.step.result
     c.step.ensures.happens c.step.ensures.limits.refused)
+
+pub returns-clause-claims : goal.returns-clause-claims
+returns-clause-claims g c =
+    let kept = c.window_is_kept.ensures in
+    let stands = invariant_of-self g c in
+    record {
+      claims = λ clean. claimed g.U.Carrier.kind g.D.Carrier.kind c.step.new.self (kept.claims _ stands.0 clean);
+      flight = λ clean. kept.flight _ stands.0 clean;
+      never_locked_out = λ clean fits. kept.never_locked_out _ stands.0 stands.1 clean fits;
+    }

@@ -1,0 +1,43 @@
+-- The run of a script on a desk that is kept.
+use Rattle.std.proofs.Common.{◌≡◌, ℕ, List, Result, Ok, Err, subst}
+use Rattle.std.specs.Io.KnownBytes.{Appends}
+use Rattle.std.specs.Prelude.{◌≢◌, IfErr, IsTrue}
+use Rattle.sqlite_trees.specs.declared.store.Store.{Ghosts}
+use Rattle.sqlite.specs.Held.{Held, state}
+use Rattle.sqlite.specs.State.{HasCleanDisk}
+use Rattle.tc_sql.specs.Builds.{no_schema}
+use Rattle.tc_types.specs.Counts.{no_counts}
+use Rattle.tc_types.specs.declared.history.moves.Move.{Move}
+use Rattle.tc_desk.specs.declared.configs.Config as configs
+use Rattle.tc_store.specs.declared.versions.Version.{Version}
+use Rattle.tc_store.specs.Schema.{IsSchemaOf}
+use Rattle.tc_front.specs.Write.{Stream, Writes}
+use Rattle.tc_room.specs.Opening.{KeepsTables, LeavesOpening}
+use Rattle.tc_run.specs.declared.script.ScriptFault.{ScriptFault}
+use Rattle.tc_run.specs.declared.script.ScriptFault.TheVariants.{Output}
+use Rattle.tc_run.specs.Kept.{CutsOpening, StaysUnopened, opening_text}
+use Rattle.tc_run.specs.Script.{Ends, written_counts}
+use Rattle.tc_run.specs.Stops.{IsCutShort}
+use Rattle.tc_run.proofs.StopLemmas.{output_is_other}
+
+-- the moves of an opening were written, or cut short where a write failed
+pub opening_told : {X : Type 0} (moves : List Move) (bytes : List ℕ) (old new : Stream) (result : Result X ScriptFault) → bytes ≡ opening_text moves
+    → Writes {X = X} {E = ScriptFault} bytes old new result → IfErr result (λ fault. fault ≡ Output) → (old.counts ≡ no_counts → new.counts ≡ written_counts result)
+    → Ends {X = X} (λ _. Appends old.bytes new.bytes (opening_text moves)) (λ fault. (part : List ℕ) × CutsOpening fault moves part × Appends old.bytes new.bytes part) old.counts new.counts result
+opening_told moves bytes old new (Ok x) are writes is counted =
+    record { done = subst (Appends old.bytes new.bytes) are writes.written; stopped = tt; fault = tt; counted = counted }
+opening_told moves bytes old new (Err fault) are writes is counted =
+    let cut = writes.cut in
+    record {
+      done = tt;
+      stopped = (cut.0, rw is (subst (λ (given : List ℕ). IsCutShort given cut.0) are cut.1), cut.2);
+      fault = output_is_other fault is;
+      counted = counted;
+    }
+
+-- what a refused opening says of the database that it hands back
+pub stays : {S : Type 0} (g : Ghosts S) (config : configs.Config) (moment : ℕ) (store left : Held S)
+    → (HasCleanDisk (state g left) → IsTrue (state g left).is_open → KeepsTables (state g store).now (state g left).now)
+    → (HasCleanDisk (state g left) → LeavesOpening g config moment store left)
+    → ((state g store).now.schema ≢ no_schema → ((version : Version) → ¬ IsSchemaOf version (state g store).now.schema) → left ≡ store) → StaysUnopened g config moment store left
+stays g config moment store left kept crash foreign = record { kept = kept; crash = crash; foreign = foreign }

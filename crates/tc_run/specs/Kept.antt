@@ -1,0 +1,70 @@
+-- The run of a script on a desk that is kept in a database.
+use Rattle.std.specs.Prelude.{◌≡◌, ◌≢◌, ◌⊎◌, ℕ, Bool, IsTrue, Option, List, [], map}
+use Rattle.std.specs.Io.KnownBytes.{Appends}
+use Rattle.sqlite_trees.specs.declared.store.Store.{Ghosts}
+use Rattle.sqlite.specs.Held.{Held, state}
+use Rattle.sqlite.specs.State.{HasCleanDisk}
+use Rattle.tc_sql.specs.Builds.{no_schema}
+use Rattle.tc_types.specs.Lines.{move_line}
+use Rattle.tc_types.specs.declared.history.moves.Move.{Move}
+use Rattle.tc_desk.specs.declared.configs.Config as configs
+use Rattle.tc_store.specs.declared.versions.Version.{Version}
+use Rattle.tc_store.specs.Schema.{IsSchemaOf}
+use Rattle.tc_room.specs.Joined.{Standing}
+use Rattle.tc_room.specs.Opening.{KeepsTables, LeavesOpening, OpensAs}
+use Rattle.tc_room.specs.Replies.{ended}
+use Rattle.tc_run.specs.Files.{FileAnswer, Gives}
+use Rattle.tc_run.specs.Run.{RunsLines}
+use Rattle.tc_run.specs.Stops.{IsCutShort, IsUnopened, IsUntouched, StopsAfter}
+use Rattle.tc_run.specs.declared.script.ScriptFault.{ScriptFault}
+use Rattle.tc_run.specs.declared.script.ScriptFault.TheVariants.{Output, Memory}
+
+-- the lines of the moves that an opening made
+abbrev pub opening_text : List Move → List ℕ
+opening_text moves = ended (map move_line moves)
+
+-- what a fault leaves of them: where a write failed a front, and where memory was refused nothing
+abbrev pub CutsOpening : ScriptFault → List Move → List ℕ → Type 0
+CutsOpening Output moves part = IsCutShort (opening_text moves) part
+CutsOpening Memory moves part = part ≡ []
+CutsOpening _ moves part = ⊥
+
+-- What an opening that was refused leaves of a database: the tables that stood, where it is still open; after a crash these, or the whole of the
+-- opening; and where they are no desk's, the connection as it was.
+pub record StaysUnopened {S : Type 0} (g : Ghosts S) (config : configs.Config) (moment : ℕ) (store left : Held S) : Type 0 where
+  pub kept : HasCleanDisk (state g left) → IsTrue (state g left).is_open → KeepsTables (state g store).now (state g left).now
+  pub crash : HasCleanDisk (state g left) → LeavesOpening g config moment store left
+  pub foreign : (state g store).now.schema ≢ no_schema → ((version : Version) → ¬ IsSchemaOf version (state g store).now.schema) → left ≡ store
+
+module _ {S : Type 0} (g : Ghosts S) where
+  -- In a room that was opened, the moves of the opening are written, and then what the lines are answered.
+  abbrev pub RunsOpened : Bool → Standing S → List Move → List ℕ → ℕ → Option (List FileAnswer) → Option (List FileAnswer) → Option (List ℕ) → Option (List ℕ) → Standing S → Type 0
+  RunsOpened echo room moves input status gave gives old new after = (mid : Option (List ℕ)) × Appends old mid (opening_text moves) × RunsLines g echo room input status gave gives mid new after
+
+  -- it stopped at the moves of the opening, and the room is as it was opened; or after some of the lines
+  abbrev pub StopsOpened : Bool → Standing S → List Move → ScriptFault → List (List ℕ) → Option (List FileAnswer) → Option (List FileAnswer) → Option (List ℕ) → Option (List ℕ) → Standing S → Type 0
+  StopsOpened echo room moves fault lines gave gives old new after =
+      ((part : List ℕ) × CutsOpening fault moves part × Gives gave gives [] × Appends old new part × (after ≡ room))
+      ⊎ ((mid : Option (List ℕ)) × Appends old mid (opening_text moves) × StopsAfter g echo fault room lines gave gives mid new after)
+
+  -- The lines were run in a room that was opened at a moment over a database, and the connection is the one that this room has in the end.
+  abbrev pub RunsKept : Bool → configs.Config → ℕ → Held S → List ℕ → ℕ → Option (List FileAnswer) → Option (List FileAnswer) → Option (List ℕ) → Option (List ℕ) → Held S → Type 0
+  RunsKept echo config moment store input status gave gives old new left =
+      (room : Standing S) × (moves : List Move) × (after : Standing S) × OpensAs g config moment store moves room
+      × RunsOpened echo room moves input status gave gives old new after × (left ≡ after.tables)
+
+  -- The desk was not opened, nothing was written, and the database is as that leaves it; or the run stopped in a room that was opened so, and the
+  -- connection is the one that this room has in the end.
+  abbrev pub StopsKept : Bool → configs.Config → ℕ → Held S → ScriptFault → List (List ℕ) → Option (List FileAnswer) → Option (List FileAnswer) → Option (List ℕ) → Option (List ℕ) → Held S → Type 0
+  StopsKept echo config moment store fault lines gave gives old new left =
+      (IsUnopened config fault × IsUntouched gave gives old new × StaysUnopened g config moment store left)
+      ⊎ ((room : Standing S) × (moves : List Move) × (after : Standing S) × OpensAs g config moment store moves room
+      × StopsOpened echo room moves fault lines gave gives old new after × (left ≡ after.tables))
+
+  -- The desk was not opened, nothing was written, and the database is as that leaves it; or the moves of its opening could not be written, and the
+  -- connection is the one of the room that was opened.
+  abbrev pub StopsTold : configs.Config → ℕ → Held S → ScriptFault → Option (List ℕ) → Option (List ℕ) → Held S → Type 0
+  StopsTold config moment store fault old new left =
+      (IsUnopened config fault × Appends old new [] × StaysUnopened g config moment store left)
+      ⊎ ((room : Standing S) × (moves : List Move) × (part : List ℕ) × OpensAs g config moment store moves room
+      × CutsOpening fault moves part × Appends old new part × (left ≡ room.tables))

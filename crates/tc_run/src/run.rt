@@ -1,0 +1,246 @@
+//! The run of a script.
+ghost use Rattle.std.specs.Prelude.{◌≡◌, ◌≢◌, ◌⊎◌, ℕ, if◌then◌else◌, List, [], ◌∷◌, Err, IfErr, IfOk, IfSome, false};
+ghost use Rattle.std.specs.Io.KnownBytes.{Appends};
+ghost use Rattle.std.specs.String.{string_bytes};
+ghost use Rattle.tc_types.specs.Counts.{counts_of, inner_of, no_counts};
+ghost use Rattle.tc_types.specs.Loads.{line_of};
+ghost use Rattle.tc_desk.specs.Replies.{Reply};
+ghost use Rattle.tc_front.specs.Write.{Writes, seen};
+ghost use Rattle.tc_room.specs.Answers.{RefusesWith};
+ghost use Rattle.tc_room.specs.Loads.{RoomLoad, loader_of};
+ghost use Rattle.tc_room.specs.Replies.{ended};
+ghost use Rattle.tc_run.specs.Files.{Gives, file_at, none_at};
+ghost use Rattle.tc_check.specs.Scripts.{is_skipped, script_lines};
+ghost use Rattle.tc_run.specs.Run.{Came, CameLast, IsAnswered, RepliesTo, RunsLines, TakesLine, TakesLines, exchange};
+ghost use Rattle.tc_run.specs.Script.{Ends, IsUnreadable, written_counts};
+ghost use Rattle.tc_run.specs.Stops.{LeavesPart, Stops, StopsAfter, StopsNext, Unanswered};
+ghost use Rattle.tc_run.specs.declared.paths.PathFault.TheVariants as path_fault;
+
+use crate::paths::{PathFault, Paths};
+use crate::script::{ScriptFault, read_script};
+use crate::watching::{Answered, Watch, last_moment};
+use bstr::ByteSlice;
+use sqlite::Alter;
+use std::alloc::{AllocError, Global};
+use std::io::{Read, Write};
+use tc_check::is_skipped;
+use tc_desk::Config;
+use tc_front::write_whole;
+use tc_room::{Answer, Room, answer_line, answer_load, answer_places};
+use tc_types::read::load_reader::read_load;
+use tc_types::{Counted, Load};
+
+/// How many bytes of a file are read: one more than a stack or a procedure may have, so that a longer one is refused as too long.
+pub const MOST_FILE_BYTES: usize = 65_537;
+
+/// Runs the lines of a script on a desk where nothing happened yet, and writes what they are answered, and at the end
+/// what `places` is answered. Gives the exit status: 1 where any line or that question was refused, else 0. A line that loads
+/// a stack or a procedure takes its text from this source of files; a path that gives none ends the run. Where it is watched with an echo, each line that is
+/// answered is written before its answer, behind `> `.
+///
+/// The script is read whole before a line is run: where that fails, the writer is as it was. The reader and the writer
+/// begin to count here, so that a caller sees which of them failed. What the writer holds back is the caller's to flush.
+///
+/// Before its first line a run ends with `Script` or `Memory`, where the script is not read, or with `Config`, `Memory` or `Tables`, where
+/// the desk is not opened; behind it with `Output` where a write fails, `Path` where the path of the next line gives no text, and `Memory` where
+/// that text or that of a reply finds none.
+pub fn run_script<R: Read, P: Paths, T: Watch, W: Write>(
+    alloc: Global,
+    config: Config,
+    reader: &mut Counted<R>,
+    paths: &mut P,
+    watch: &T,
+    writer: &mut Counted<W>,
+) -> Result<u8, ScriptFault>
+    requires unread { counts_of reader.old ≡ no_counts }
+    ensures answered { IfOk result (λ status. IfSome (R.remaining (inner_of reader.old)) (λ input.
+        IsAnswered (T.echoes watch.now) config input status (P.given paths.old) (P.given paths.new) (W.contents (inner_of writer.old)) (W.contents (inner_of writer.new)))) }
+    ensures stopped { IfErr result (λ fault. IfSome (R.remaining (inner_of reader.old)) (λ input.
+        Stops (T.echoes watch.now) config fault (script_lines input) (P.given paths.old) (P.given paths.new) (W.contents (inner_of writer.old)) (W.contents (inner_of writer.new)))) }
+    ensures script { result ≡ Err ScriptFault.Script →
+        IsUnreadable (counts_of reader.new) (R.remaining (inner_of reader.old)) (R.remaining (inner_of reader.new))
+        × (writer.new ≡ writer.old) }
+    ensures failed { (counts_of reader.new).faults ≢ 0 → result ≡ Err ScriptFault.Script }
+    ensures written { counts_of writer.old ≡ no_counts → counts_of writer.new ≡ written_counts result }
+{
+    let text = read_script(alloc, reader)?;
+    run_text(alloc, config, &text, paths, watch, writer)
+}
+
+/// Runs the lines of a script that was read.
+fn run_text<P: Paths, T: Watch, W: Write>(
+    alloc: Global,
+    config: Config,
+    text: &[u8],
+    paths: &mut P,
+    watch: &T,
+    writer: &mut Counted<W>,
+) -> Result<u8, ScriptFault>
+    ensures { Ends (λ status. IsAnswered (T.echoes watch.now) config text.now status (P.given paths.old) (P.given paths.new) (W.contents (inner_of writer.old)) (W.contents (inner_of writer.new)))
+        (λ fault. Stops (T.echoes watch.now) config fault (script_lines text.now) (P.given paths.old) (P.given paths.new) (W.contents (inner_of writer.old)) (W.contents (inner_of writer.new))) (counts_of writer.old) (counts_of writer.new) result }
+{
+    let mut room = Room::open_in_memory(alloc, config)?;
+    run_room(alloc, &mut room, text, paths, watch, writer)
+}
+
+/// Runs the lines of a script in a room, and asks the question `places`.
+pub(crate) fn run_room<S: Alter + Drop, P: Paths, T: Watch, W: Write>(
+    alloc: Global,
+    room: &mut Room<S>,
+    text: &[u8],
+    paths: &mut P,
+    watch: &T,
+    writer: &mut Counted<W>,
+) -> Result<u8, ScriptFault>
+    ensures { Ends (λ status. RunsLines S.Store (T.echoes watch.now) room.old text.now status (P.given paths.old) (P.given paths.new) (W.contents (inner_of writer.old)) (W.contents (inner_of writer.new)) room.new)
+        (λ fault. StopsAfter S.Store (T.echoes watch.now) fault room.old (script_lines text.now) (P.given paths.old) (P.given paths.new) (W.contents (inner_of writer.old)) (W.contents (inner_of writer.new)) room.new) (counts_of writer.old) (counts_of writer.new) result }
+{
+    let refused = run_lines(alloc, room, text, paths, watch, writer)?;
+    // read for the proof alone: what the rows tell is true
+    let _opened = room.opened();
+    let last = run_places(alloc, room, writer)?;
+    Ok(status_of(refused | last))
+}
+
+/// The exit status, where some line was refused or none was.
+pub fn status_of(refused: bool) -> u8
+    ensures { result ≡ (if refused then 1 else 0) }
+{
+    if refused { 1 } else { 0 }
+}
+
+/// Writes all bytes, until a write fails.
+pub fn put<W: Write>(writer: &mut Counted<W>, bytes: &[u8]) -> Result<(), ScriptFault>
+    ensures writes { Writes bytes.now (seen W.contents writer.old) (seen W.contents writer.new) result }
+    ensures fault { IfErr result (λ fault. fault ≡ ScriptFault.Output) }
+    ensures counted { counts_of writer.old ≡ no_counts → counts_of writer.new ≡ written_counts result }
+{
+    Ok(write_whole(writer, bytes)?)
+}
+
+/// What a line that loads a stack or a procedure is answered, once the text at its path is there.
+fn answer_file<S: Alter + Drop, P: Paths>(
+    alloc: Global,
+    room: &mut Room<S>,
+    load: &Load<'_>,
+    paths: &mut P,
+) -> Result<Answer, ScriptFault>
+    ensures answered { IfOk result (λ answer. (reply : Reply) × (text : List ℕ) × RoomLoad S.Store room.old (loader_of (line_of load.now)) load.now.kind load.now.name text reply room.new
+        × Gives (P.given paths.old) (P.given paths.new) (file_at load.now.path.now text ∷ [])
+        × (string_bytes answer.text ≡ ended reply) × RefusesWith reply answer.refusal × (room.new.opened ≡ room.old.opened)) }
+    ensures fault { IfErr result (λ fault. (fault ≡ ScriptFault.Memory) ⊎ (fault ≡ ScriptFault.Path)) }
+    // its path gave no text, and nothing happened
+    ensures unread { result ≡ Err ScriptFault.Path → Gives (P.given paths.old) (P.given paths.new) (none_at load.now.path.now path_fault.Unreadable ∷ []) × (room.new ≡ room.old) }
+    // it was answered, and there was no memory for the text of its reply; or there was none for the text at its path, and nothing happened
+    ensures memory { result ≡ Err ScriptFault.Memory →
+        ((reply : Reply) × (text : List ℕ) × RoomLoad S.Store room.old (loader_of (line_of load.now)) load.now.kind load.now.name text reply room.new
+        × Gives (P.given paths.old) (P.given paths.new) (file_at load.now.path.now text ∷ []))
+        ⊎ (Gives (P.given paths.old) (P.given paths.new) (none_at load.now.path.now path_fault.Memory ∷ []) × (room.new ≡ room.old)) }
+{
+    match paths.load(alloc, load.path, MOST_FILE_BYTES) {
+        Ok(text) => Ok(answer_load(alloc, room, load, &text)?),
+        Err(PathFault::Unreadable) => Err(ScriptFault::Path),
+        Err(PathFault::Memory) => Err(ScriptFault::Memory),
+    }
+}
+
+/// What a line that is not skipped is answered.
+fn answer<S: Alter + Drop, P: Paths>(
+    alloc: Global,
+    room: &mut Room<S>,
+    line: &[u8],
+    paths: &mut P,
+) -> Result<Answer, ScriptFault>
+    ensures answered { IfOk result (λ answer. RepliesTo S.Store room.old line.now (P.given paths.old) (P.given paths.new) (string_bytes answer.text) answer.refusal room.new) }
+    ensures unanswered { IfErr result (Unanswered S.Store room.old line.now (P.given paths.old) (P.given paths.new) room.new) }
+{
+    match read_load(line) {
+        Ok(load) => answer_file(alloc, room, &load, paths),
+        Err(_) => Ok(answer_line(alloc, room, line)?),
+    }
+}
+
+/// What is written where a line is answered by this text.
+pub fn exchange(
+    alloc: Global,
+    echoes: bool,
+    line: &[u8],
+    answer: String,
+) -> Result<Vec<u8>, AllocError>
+    ensures { IfOk result (λ bytes. bytes.items ≡ exchange echoes line.now (string_bytes answer)) }
+{
+    if !echoes {
+        return Ok(answer.into_bytes());
+    }
+    let mut bytes = Vec::from_slice(alloc, b"> ")?;
+    bytes.extend_from_slice(line)?;
+    bytes.push(b'\n')?;
+    bytes.extend_from_slice(answer.as_bytes())?;
+    Ok(bytes)
+}
+
+/// Takes the line with this number in the script, and says whether it was refused.
+fn run_line<S: Alter + Drop, P: Paths, T: Watch, W: Write>(
+    alloc: Global,
+    room: &mut Room<S>,
+    number: usize,
+    line: &[u8],
+    paths: &mut P,
+    watch: &T,
+    writer: &mut Counted<W>,
+) -> Result<bool, ScriptFault>
+    ensures { Ends (λ refused. Came S.Store (T.echoes watch.now) (line.now ∷ []) (TakesLine S.Store room.old line.now) room.old (P.given paths.old) (P.given paths.new) (W.contents (inner_of writer.old)) (W.contents (inner_of writer.new)) room.new refused)
+        (λ fault. StopsNext S.Store (T.echoes watch.now) fault room.old (line.now ∷ []) (P.given paths.old) (P.given paths.new) (W.contents (inner_of writer.old)) (W.contents (inner_of writer.new)) room.new) (counts_of writer.old) (counts_of writer.new) result }
+{
+    if is_skipped(line) {
+        return Ok(false);
+    }
+    let last = last_moment(room);
+    let answer = answer(alloc, room, line, paths)?;
+    let refused = answer.refused();
+    let refusal = answer.refusal;
+    let shown = exchange(alloc, watch.echoes(), line, answer.text)?;
+    put(writer, &shown)?;
+    watch.answered(&Answered {
+        number,
+        line,
+        refusal,
+        last,
+    });
+    Ok(refused)
+}
+
+/// Takes each line in turn, and says whether any was refused.
+fn run_lines<S: Alter + Drop, P: Paths, T: Watch, W: Write>(
+    alloc: Global,
+    room: &mut Room<S>,
+    text: &[u8],
+    paths: &mut P,
+    watch: &T,
+    writer: &mut Counted<W>,
+) -> Result<bool, ScriptFault>
+    ensures { Ends (λ refused. Came S.Store (T.echoes watch.now) (script_lines text.now) (TakesLines S.Store room.old (script_lines text.now)) room.old (P.given paths.old) (P.given paths.new) (W.contents (inner_of writer.old)) (W.contents (inner_of writer.new)) room.new refused)
+        (λ fault. StopsAfter S.Store (T.echoes watch.now) fault room.old (script_lines text.now) (P.given paths.old) (P.given paths.new) (W.contents (inner_of writer.old)) (W.contents (inner_of writer.new)) room.new) (counts_of writer.old) (counts_of writer.new) result }
+{
+    let mut refused = false;
+    let mut number: usize = 0;
+    for line in text.lines() {
+        number = number.saturating_add(1);
+        refused |= run_line(alloc, room, number, line, paths, watch, writer)?;
+    }
+    Ok(refused)
+}
+
+/// Asks the question `places`, and says whether it was refused.
+fn run_places<S: Alter + Drop, W: Write>(
+    alloc: Global,
+    room: &mut Room<S>,
+    writer: &mut Counted<W>,
+) -> Result<bool, ScriptFault>
+    ensures { Ends (λ refused. CameLast S.Store room.old (W.contents (inner_of writer.old)) (W.contents (inner_of writer.new)) room.new refused)
+        (λ fault. (part : List ℕ) × LeavesPart S.Store false fault room.old [] [] part room.new × Appends (W.contents (inner_of writer.old)) (W.contents (inner_of writer.new)) part) (counts_of writer.old) (counts_of writer.new) result }
+{
+    let last = answer_places(alloc, room)?;
+    put(writer, last.text.as_bytes())?;
+    Ok(last.refused())
+}
