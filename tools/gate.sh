@@ -4,8 +4,8 @@
 # built program's words, files, statuses, every line of long random scripts beside a plain desk in Python, what lies in its tables, desks that are
 # kept in a file, faulty streams, each of its requests for memory refused in turn, a stop at each of its calls on the files of a desk, and the
 # desk over HTTP, by real sockets.
-# It stops at the first of its own parts that fails; of the tests all are run, as many beside each other as there are processors. At its end it prints what each part took: docs/GATE.md has that table
-# as it was seen last. A test that does without something says so in a line `not tried: ..`; these are told again at the end, and counted. The
+# It stops at the first of its own parts that fails; of the tests all are run, as many beside each other as there are processors. At its end it
+# prints what each part took: docs/GATE.md has that table as it was seen last. A test that does without something says so in a line `not tried: ..`; these are told again at the end, and counted. The
 # last line is `N passed, N failed`, of its own parts and of the tests.
 #
 # tools/gate.sh [--all] [--record] [--keep]: --all tries every edit, also those that tools/edits.tried has as they stand;
@@ -82,7 +82,8 @@ trap 'rm -f "$times" "$said"' EXIT
 rm -rf crates/*/out
 
 part "the layout of files" layout
-part "rt ci" rt ci
+# as many proofs as there are processors, each by one job: else rt ci lets a crate wait for more memory than its proof takes
+part "rt ci" env RT_JOBS="${RT_JOBS:-$(nproc)}" rt ci
 part "the program that is kept" tools/kept_program.sh "${keep[@]}"
 part "the tests, by tools/run.py" tools/run.py --beside "$(nproc)" --program crates/tc_cli/out/tc_cli "${asked[@]}"
 end "all parts passed" 0
