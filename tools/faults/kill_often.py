@@ -3,7 +3,8 @@
 A random script is run on a desk that is kept in a file, and the program is killed while it runs, 10,000 times or so many as --count says. Each time
 the file is opened again: its tables have to be what the plain desk's opening makes of the plain desk's, after the lines that were answered, or after
 these and the one in progress. The next script goes on from there; after ten of them a new desk is made. Of that the program says so first, unless it is
-killed before; where it said so the desk's tables stand.
+killed before; where it said so the desk's tables stand. A reply is written by one call, behind its act; a kill ends a call of several pages between
+two pages of the file, so of a long reply a front may be there, which ends at a page.
 """
 import os
 import random
@@ -24,6 +25,7 @@ from tests.plain_runs import Plain, kept_tables, text_of, unlike
 from tests.runs import Tried, bytes_of, run_kept, write_files
 
 KILLS, SHARES, DAYS, SPAN, MOST_LINES = 10_000, 4, 10, 1000, 200
+PAGE = 4096  # bytes of a file that the system writes at a time
 
 
 class Desk:
@@ -67,6 +69,9 @@ class Desk:
         elif out in plain.fronts:
             at = plain.fronts.index(out)
             states, how = plain.states[at:at + 2], "at a line"
+        elif plain.whole.startswith(out) and (len(first) + len(out)) % PAGE == 0:
+            done = sum(out.startswith(it) for it in plain.fronts)
+            states, how = plain.states[done:][:1] or plain.states[-1:], "in a reply"
         else:
             return f"what it printed is no front of what is right: {out[-300:]!r}"
         self.counts[how] += 1

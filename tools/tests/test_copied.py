@@ -126,10 +126,10 @@ class Copied(Worked):
         return "" if (made, sound) == (wanted, [("ok",)]) else f"it is made by {made}, and {sound}"
 
     def board_of(self, folder: str) -> str:
-        """The page of a file, which stays as it is."""
+        """The page of a file, which stays as it is; of one that is not shown a text that no other folder has."""
         before = digests(folder)
         ran = self.cases.call(folder, ["board", "desk.db"])
-        return ran.out if (ran.status, ran.err, changed(before, folder)) == (0, "", "") else f"{ran}"
+        return ran.out if (ran.status, ran.err, changed(before, folder)) == (0, "", "") else f"{folder}: {ran}"
 
     def worked(self, left: Left, way: Way, source: str, beside: str) -> str:
         """A folder with a copy of a file, which is reported, shown, worked, and opened again, as the file itself that was worked beside it."""
