@@ -3,8 +3,9 @@
 # out/ of the repository where none is named, and prints its path.
 #
 # VERSION is the second word of what the program says of itself (`tcdesk --version`, the constant VERSION in crates/tc_words/src/commands.rt); no file of
-# deploy/ says it again. The same commit gives the same bytes, with the same dpkg-deb and gzip: all times are those of the last commit, or SOURCE_DATE_EPOCH
-# where that is set; all belongs to root, and lies in order. What is not as the commit has it is packed as it stands.
+# deploy/ says it again. The folder dist/ is installed as /usr/lib/tcdesk, and its start script is the command /usr/bin/tcdesk.
+# The same commit gives the same bytes, with the same dpkg-deb and gzip: all times are those of the last commit, or SOURCE_DATE_EPOCH if that is set; all
+# belongs to root, and lies in order. What is not as the commit has it is packed as it stands.
 # The program has to be the very one that dist/ has the digest of. Where the sources that stand here are not those that it was made of, standard error
 # says so; a landing has none such. The status is 2 where there is no package.
 set -u
@@ -41,9 +42,11 @@ paged() {
     packed "$work/page" "$2"
 }
 
-# filled FILE: prints a file of deploy/debian with the version, the maintainers and the size in their places.
+# filled FILE: prints a file of deploy/debian with the version, the maintainers, the size and the lines of NOTICE in their places.
 filled() {
-    sed "s/@VERSION@/$version/; s/@MAINTAINER@/$maintainer/; s/@SIZE@/${size:-}/" "$from/$1" || exit 2
+    sed "s/@VERSION@/$version/; s/@MAINTAINER@/$maintainer/; s/@SIZE@/${size:-}/
+        /^@NOTICE@$/ { r $work/notice
+            d }" "$from/$1" || exit 2
 }
 
 # The log of the package: its one version, with the head of each landing.
@@ -79,7 +82,10 @@ trap 'rm -rf "$work"' EXIT
 root=$work/root
 doc=usr/share/doc/tcdesk
 
-put 755 "$kept/tcdesk" usr/bin/tcdesk
+put 755 "$top/dist/tcdesk" usr/lib/tcdesk/tcdesk
+put 755 "$kept/tcdesk" "usr/lib/tcdesk/${kept##*/}/tcdesk"
+put 644 "$kept/tcdesk.built" "usr/lib/tcdesk/${kept##*/}/tcdesk.built"
+mkdir -p "$root/usr/bin" && ln -s ../lib/tcdesk/tcdesk "$root/usr/bin/tcdesk" || exit 2
 put 755 "$from/serve" usr/libexec/tcdesk/serve
 put 644 "$from/tcdesk@.service" usr/lib/systemd/system/tcdesk@.service
 put 755 "$top/deploy/backup/tcdesk-backup" usr/libexec/tcdesk/tcdesk-backup
@@ -87,7 +93,7 @@ for file in "$top"/deploy/backup/*.{service,timer} "$top"/deploy/replica/systemd
 put 644 "$from/sysusers" usr/lib/sysusers.d/tcdesk.conf
 put 644 "$from/completion" usr/share/bash-completion/completions/tcdesk
 for file in "$top"/examples/*; do put 644 "$file" "$doc/examples/${file##*/}"; done
-for file in "$top"/deploy/nginx/{authority.cnf,conf.d/*,njs/*,sites-available/*,snippets/*}; do put 644 "$file" "usr/share/tcdesk/${file#"$top/deploy/"}"; done
+for file in "$top"/deploy/nginx/{authority.cnf,conf.d/*,html/*,njs/*,sites-available/*,snippets/*}; do put 644 "$file" "usr/share/tcdesk/${file#"$top/deploy/"}"; done
 for file in "$top"/deploy/postgres/*.sql; do put 644 "$file" "usr/share/tcdesk/postgres/${file##*/}"; done
 put 755 "$top/deploy/postgres/load.sh" usr/share/tcdesk/postgres/load.sh
 for file in compare desk entrance etcd log machine replica tables; do put 644 "$top/deploy/replica/$file.py" "usr/share/tcdesk/replica/$file.py"; done
@@ -98,6 +104,7 @@ paged "$top/docs/OPERATORS.md" "$doc/OPERATORS.md.gz"
 paged "$top/docs/SCALE.md" "$doc/SCALE.md.gz"
 paged "$top/deploy/README.md" "$doc/README.Debian.gz"
 for file in nginx postgres backup replica; do paged "$top/deploy/$file/README.md" "$doc/$file.md.gz"; done
+sed 's/^$/./; s/^/ /' "$top/NOTICE" >"$work/notice" || exit 2
 filled copyright >"$work/copyright" && put 644 "$work/copyright" "$doc/copyright"
 
 # what it takes on a disk: each file in whole kilobytes, and one for each folder

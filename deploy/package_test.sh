@@ -81,11 +81,13 @@ bytes_cases() {
     dpkg-deb -c "$package" >"$work/list"
     [[ $(awk '{ print $2 }' "$work/list" | sort -u) == root/root && $(awk '{ print $4, $5 }' "$work/list" | sort -u | wc -l) == 1 ]]
     tell "all of it is of root, and of one time"
-    awk '{ print $6 }' "$work/list" | sort -c
+    # dpkg-deb puts links behind the files
+    awk '!/^l/ { print $6 }' "$work/list" | sort -c
     tell "it lies in order"
     same "its version" "$version" "$(dpkg-deb -f "$package" Version)"
-    dpkg-deb -x "$package" "$work/files" && cmp "$work/files/usr/bin/tcdesk" "$kept/tcdesk"
-    tell "its program is that of dist/"
+    dpkg-deb -x "$package" "$work/files" && diff -r "$top/dist" "$work/files/usr/lib/tcdesk" >"$work/out" 2>"$work/err"
+    tell "it has dist/"
+    same "its command" ../lib/tcdesk/tcdesk "$(readlink "$work/files/usr/bin/tcdesk")"
     if command -v objdump >/dev/null; then
         need=$(objdump -T "$kept/tcdesk" | grep -o 'GLIBC_[0-9.]*' | sort -Vu | tail -n 1)
         grep -qF "libc6 (>= ${need#GLIBC_})," <(dpkg-deb -f "$package" Depends)
@@ -130,7 +132,10 @@ file_cases() {
     local doc=$work/files/usr/share/doc/tcdesk from page name
     diff -r "$top/examples" "$doc/examples" >"$work/out" 2>"$work/err"
     tell "each example"
-    for name in nginx/{conf.d,njs,sites-available,snippets,authority.cnf} postgres/{load.sh,load.sql,tables.sql}; do
+    same "its licence" "License: Apache-2.0" "$(grep '^License:' "$doc/copyright")"
+    sed -n '/^ \.$/,/^Files:/p' "$doc/copyright" | sed -n 's/^ //p' | sed '1d; s/^\.$//' | diff - "$top/NOTICE" >"$work/out" 2>"$work/err"
+    tell "its copyright has NOTICE"
+    for name in nginx/{conf.d,html,njs,sites-available,snippets,authority.cnf} postgres/{load.sh,load.sql,tables.sql}; do
         diff -r "$top/deploy/$name" "$work/files/usr/share/tcdesk/$name" >"$work/out" 2>"$work/err"
         tell "deploy/$name"
     done
@@ -154,7 +159,7 @@ file_cases() {
         while IFS= read -r name; do
             [[ -e $work/files$name ]]
             tell "the page $from names $name"
-        done < <(grep -oE '/usr/(bin|libexec|share)/[A-Za-z/._-]*tcdesk[A-Za-z/._-]*' "$work/page.md" | sed 's/\.$//' | sort -u)
+        done < <(grep -oE '/usr/(bin|lib|libexec|share)/[A-Za-z/._-]*tcdesk[A-Za-z0-9/._-]*' "$work/page.md" | sed 's/\.$//' | sort -u)
     done
     for page in tcdesk@ tcdesk-backup@ tcdesk-desk tcdesk-replica; do
         for name in User=tcdesk Group=tcdesk UMask=0077 NoNewPrivileges=yes CapabilityBoundingSet= ProtectSystem=strict ProtectHome=yes PrivateTmp=yes \
@@ -257,6 +262,8 @@ user_cases() {
     tell "it is installed where systemd is not, and makes its user"
     in_root "dpkg --verify tcdesk" && [[ ! -s $work/out ]]
     tell "each file is as its sum says"
+    by_user nobody "tcdesk --version"
+    same "it names the commit of its sources" "$(version_of "$kept/tcdesk") (commit $(sed -n 's/^commit //p' "$kept/tcdesk.built"))" "$(<"$work/out")"
     in_root "stat -c '%a %U:%G' /var/lib/tcdesk /var/backups/tcdesk; ls -A /var/lib/tcdesk /var/backups/tcdesk | grep db"
     same "whose the folders of desks and of copies are, which are empty" $'700 tcdesk:tcdesk\n700 tcdesk:tcdesk' "$(<"$work/out")"
     by_user nobody "cp -r /usr/share/doc/tcdesk/examples ."

@@ -117,6 +117,6 @@ fi
 say "tcdesk: the desk is proved and built, in $(took) ($proved of its ${#place[@]} crates proved in this run)"
 if [ "${1:-}" = --run ]; then
     shift
-    exec -a tcdesk "$own/tcdesk" "$@"
+    start "$own" "$@"
 fi
 exit $status

@@ -1,27 +1,28 @@
 #!/bin/bash
-# The gate, from nothing: the layout of files, every proof, all tests and the program as two compilers build it, with the few edits of
-# must-fail/ (`rt ci`); the program that is kept in dist/; and then all tests of tools/run.py: the edits of wrong/, many in a check, and the
-# built program's words, files, statuses, every line of long random scripts beside a plain desk in Python, what lies in its tables, desks that are
-# kept in a file, faulty streams, each of its requests for memory refused in turn, a stop at each of its calls on the files of a desk, and the
-# desk over HTTP, by real sockets.
-# It stops at the first of its own parts that fails; of the tests all are run, as many beside each other as there are processors. At its end it
-# prints what each part took: docs/GATE.md has that table as it was seen last. A test that does without something says so in a line `not tried: ..`; these are told again at the end, and counted. The
-# last line is `N passed, N failed`, of its own parts and of the tests.
+# The gate. `rt ci` checks every proof, runs the tests of the crates, builds the program by two compilers, and tries the few edits of must-fail/. Then come
+# the program that is kept in dist/, and all tests of tools/run.py, as many beside each other as there are processors. docs/GATE.md has a line for each.
+# It takes no file that an earlier run left in the clone. But `rt ci` takes proofs of the same texts, over the same crates, from the toolchain's store on
+# this machine; --anew proves all, too.
+# It stops at the first of its own parts that fails, and runs all tests. At its end it prints what each part took. A test that does without something
+# prints a line `not tried: ..`; these come again at the end, and are counted. The last line is `N passed, N failed`, of its own parts and of the tests.
 #
-# tools/gate.sh [--all] [--record] [--keep]: --all tries every edit, also those that tools/edits.tried has as they stand;
-# --record writes down there what was refused, and --keep puts the program that rt ci built into dist/, for the landing's commit.
+# tools/gate.sh [--anew] [--all] [--record] [--keep]: --anew proves all and tries all edits of must-fail/, whatever the store holds. --all tries every edit
+# of wrong/, also those on record in tools/edits.tried; --record writes down there what was refused. --keep puts the program that rt ci built into dist/,
+# for the landing's commit.
 set -uo pipefail
 # the parts' output is piped, and is to come all the same while they run
 export PYTHONUNBUFFERED=1
 cd "$(dirname "$(readlink -f "$0")")/.." || exit 1
 
+anew=()
 asked=()
 keep=()
 for word in "$@"; do
     case $word in
+    --anew) anew=("$word") ;;
     --all | --record) asked+=("$word") ;;
     --keep) keep=("$word") ;;
-    *) echo "gate: no word $word: --all, --record, --keep" >&2; exit 2 ;;
+    *) echo "gate: no word $word: --anew, --all, --record, --keep" >&2; exit 2 ;;
     esac
 done
 parts=()
@@ -77,13 +78,34 @@ layout() {
     find crates \( -name '*.rt' -o -name '*.antt' \) -print0 | xargs -0 "$rattle" fmt --check
 }
 
+# The crates that stand neither on the room nor on what is done where no desk is open: more than half of the work, and none of the end of the chain.
+low() {
+    awk -F '[: ]+' '$1 ~ /^tc_/ {
+        high = $1 == "tc_room" || $1 == "tc_closed"
+        for (i = 2; i <= NF; i++) if ($i in above) high = 1
+        if (high) above[$1]; else print $1
+    }' crates.txt
+}
+
+# The proofs. Crates wait for each other in one long chain, from tc_types to the program. At its two ends few others are left to prove, and rt ci gives a
+# proof more jobs than one. Between them it is told how many places there are, and each proof is one job: else it lets a crate wait for more memory
+# than its proof takes. What each call proves the next one takes from the toolchain's store; so with --anew there is one call.
+prove() {
+    local names places="${RT_JOBS:-$(nproc)}"
+    if ((${#anew[@]})); then
+        RT_JOBS=$places rt ci "${anew[@]}"
+        return
+    fi
+    mapfile -t names < <(low)
+    env -u RT_JOBS rt ci tc_types && RT_JOBS=$places rt ci "${names[@]}" && env -u RT_JOBS rt ci
+}
+
 times=$(mktemp) && said=$(mktemp) || exit 1
 trap 'rm -f "$times" "$said"' EXIT
 rm -rf crates/*/out
 
 part "the layout of files" layout
-# as many proofs as there are processors, each by one job: else rt ci lets a crate wait for more memory than its proof takes
-part "rt ci" env RT_JOBS="${RT_JOBS:-$(nproc)}" rt ci
+part "rt ci" prove
 part "the program that is kept" tools/kept_program.sh "${keep[@]}"
 part "the tests, by tools/run.py" tools/run.py --beside "$(nproc)" --program crates/tc_cli/out/tc_cli "${asked[@]}"
 end "all parts passed" 0

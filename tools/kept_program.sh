@@ -1,9 +1,8 @@
 #!/bin/bash
-# Whether the program that is kept in dist/ is the one that these sources make: the digest beside it is that of the sources and of this
-# toolchain, and the program that rt ci has just built is, stripped, the same byte for byte. tools/kept_program.sh [--keep]: --keep puts that
-# program into dist/ first. The commit that the version names has to have these sources, but for the line that names it. Then ./tcdesk is timed, from its start to
-# the program's.
-# The status is 1 where they are not the same.
+# Checks that the program in dist/ is the one that these sources make. The digest beside it has to be that of the sources and of this toolchain, and
+# the program that rt ci has just built has to be, stripped, the same byte for byte. The commit that tcdesk.built names has to have these sources.
+# tools/kept_program.sh [--keep]: --keep first puts the program that rt ci built into dist/. At the end it times ./tcdesk, from its start to the
+# program's. The status is 1 if something differs.
 set -u
 top=$(cd "$(dirname "$(readlink -f "$0")")/.." && pwd) || exit 1
 . "$top/tools/program.sh" || exit 1
@@ -26,19 +25,18 @@ milliseconds() {
     done | sort -n | awk 'NR == 11 { printf "%.1f", $1 / 1000 }'
 }
 
-# same_commit: whether the commit that the version names has the sources that stand here, but for the line that names it. Lines that differ are printed. Where this clone
-# has no such commit, that is said, and nothing is wrong.
+# same_commit: whether tcdesk.built names a commit, and that has the sources that stand here. It prints the paths that differ. If this clone lacks
+# the commit, it says that this was not tried.
 same_commit() {
-    local commit file=crates/tc_words/src/commands.rt
-    local -a paths
-    commit=$(sed -nE 's/^const VERSION: .* \(commit ([0-9a-f]{12})\)";$/\1/p' "$top/$file")
+    local commit differ
+    commit=$(sed -nE 's/^commit ([0-9a-f]{12})$/\1/p' "$kept/tcdesk.built")
     [ -n "$commit" ] || return
     if ! git -C "$top" cat-file -e "$commit^{commit}" 2>/dev/null; then
-        echo "not tried: this clone has no commit $commit, which the version names"
+        echo "not tried: this clone has no commit $commit, which tcdesk.built names"
         return 0
     fi
-    mapfile -t paths < <(program_crates | sed 's,.*,crates/&/src,')
-    ! git -C "$top" diff --unified=0 "$commit" -- crates.txt HANDLES "${paths[@]}" | grep '^[-+]' | grep -vE '^(---|\+\+\+) |^[-+]const VERSION: '
+    differ=$(differ_from "$commit")
+    [ -z "$differ" ] || { echo "$differ" >&2; false; }
 }
 
 [ -x "$built" ] || { echo "kept_program: rt ci has built no program" >&2; exit 1; }
@@ -53,6 +51,6 @@ work=$(mktemp -d) || exit 1
 trap 'rm -rf "$work"' EXIT
 strip -o "$work/tcdesk" "$built" || exit 1
 cmp "$work/tcdesk" "$kept/tcdesk" >&2 || fail "what rt ci built is not, byte for byte, the program in dist/"
-same_commit || fail "the version does not name the commit of these sources: commit them, put its first 12 digits into VERSION of tc_words, and build the program again"
+same_commit || fail "tcdesk.built does not name the commit of these sources: commit them, and put the program into dist/ again"
 echo "kept program: $(stat -c %s "$kept/tcdesk") bytes, SHA-256 $(sum_of "$kept/tcdesk"), of the sources $sources"
 echo "kept program: ./tcdesk --version in $(milliseconds "$top/tcdesk" --version) ms, the program alone in $(milliseconds "$kept/tcdesk" --version) ms"

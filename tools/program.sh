@@ -1,8 +1,8 @@
 # What the program is made of, and whether a program is the one that these sources make. ./tcdesk, tools/build.sh and the gate read this file:
 # $top is the folder of the repository.
 #
-# A folder that holds a program holds two files: tcdesk, and tcdesk.built, four lines that say of what sources, by which toolchain and with
-# which SHA-256 it was made, and its version.
+# A folder that holds a program holds two files: tcdesk, and tcdesk.built. The lines of that one are the digest of the sources, the toolchain, the
+# SHA-256 of the program, its version, and the commit that has these sources, if one has.
 
 # The program of this repository, kept for machines that have no toolchain; and the one that tools/build.sh last made here.
 kept=$top/dist/x86_64-linux-gnu
@@ -42,6 +42,32 @@ source_sums() (
     done
     sha256sum -- "${files[@]}"
 )
+
+# source_paths: sets $paths to the files and folders of these texts.
+source_paths() {
+    mapfile -t paths < <(program_crates)
+    paths=("${paths[@]/#/crates/}")
+    paths=(crates.txt HANDLES "${paths[@]/%//src}")
+}
+
+# differ_from COMMIT: prints the paths whose text here is not the one that a commit of this clone has.
+differ_from() {
+    local -a paths
+    source_paths
+    git -C "$top" diff --name-only "$1" -- "${paths[@]}"
+    git -C "$top" ls-files --others --exclude-standard -- "${paths[@]}"
+}
+
+# commit_of_sources: prints 12 digits of the last commit that changed one of these texts. It prints nothing if a text here is not as committed,
+# or if this is no clone.
+commit_of_sources() {
+    local -a paths
+    local commit
+    source_paths
+    commit=$(git -C "$top" log -1 --format=%H -- "${paths[@]}" 2>/dev/null)
+    [ -n "$commit" ] || return 0
+    [ -n "$(differ_from "$commit")" ] || echo "${commit::12}"
+}
 
 # sources_digest TOOLCHAIN: the digest of all that decides the program's bytes: these sources, and the toolchain by the name that it gives
 # itself (rt version).
@@ -90,13 +116,21 @@ is_program() {
     [ "$(version_of "$1/tcdesk")" = "$version" ]
 }
 
+# start FOLDER WORD..: runs the program of a folder with these words, and ends with its status.
+start() {
+    local folder=$1
+    shift
+    . "$top/dist/tcdesk"
+}
+
 # put_program FILE FOLDER TOOLCHAIN SOURCES: puts a program that was just built, stripped, into a folder, with what it was made of.
 put_program() {
-    local new=$2/tcdesk.$BASHPID
+    local new=$2/tcdesk.$BASHPID commit
     mkdir -p "$2" && strip -o "$new" "$1" && chmod 755 "$new" || return
     rm -f "$2/tcdesk.built"
     mv -f "$new" "$2/tcdesk" || return
-    printf '%s\n' "sources $4" "toolchain $3" "sha256 $(sum_of "$2/tcdesk")" "version $(version_of "$2/tcdesk")" >"$2/tcdesk.built"
+    commit=$(commit_of_sources)
+    printf '%s\n' "sources $4" "toolchain $3" "sha256 $(sum_of "$2/tcdesk")" "version $(version_of "$2/tcdesk")" ${commit:+"commit $commit"} >"$2/tcdesk.built"
 }
 
 # is_other FOLDER OTHER: whether two folders hold programs that were made of the same sources by the same toolchain, and are not the same.

@@ -18,11 +18,11 @@ from tests.http_peer import HERE, Fault, free_port
 FOLDER = os.path.dirname(os.path.realpath(__file__))
 MODULE = "/usr/lib/nginx/modules/ngx_http_js_module.so"
 SITE = "desk.example.org"
-FILES = ("conf.d/tcdesk.conf", "snippets/tcdesk.conf", "njs/tcdesk.js", "sites-available/tcdesk-password", "sites-available/tcdesk-certificate")
+FILES = [f"{at}/{it}" for at in ("conf.d", "html", "njs", "sites-available", "snippets") for it in sorted(os.listdir(f"{FOLDER}/{at}"))]
 MAIN = """{user}load_module {module};
 daemon off;
 pid {folder}/nginx.pid;
-error_log {folder}/error.log;
+error_log {folder}/error.log warn;
 worker_processes 2;
 events {{ worker_connections 1024; }}
 http {{
@@ -30,7 +30,7 @@ http {{
     client_body_temp_path {folder}/bodies;
     proxy_temp_path {folder}/answers;
     fastcgi_temp_path {folder}/unused; scgi_temp_path {folder}/unused; uwsgi_temp_path {folder}/unused;
-    include {folder}/conf.d/tcdesk.conf;
+    include {folder}/conf.d/*.conf;
     include {folder}/sites-available/{site};
 }}
 """
@@ -54,7 +54,9 @@ class Proxy:
     def __init__(self, folder: str, site: str, desk: int, changes: Optional[dict[str, str]] = None) -> None:
         """Writes its files, with its own port and folders in place of those that they name, and starts it."""
         self.folder, self.port = folder, free_port()
-        own = {"/etc/nginx/": f"{folder}/", "/etc/ssl/certs/": f"{folder}/", "/etc/ssl/private/": f"{folder}/", "127.0.0.1:8080": f"{HERE}:{desk}",
+        self.wrong = f"{folder}/wrong"
+        os.makedirs(self.wrong, exist_ok=True)
+        own = {"/etc/nginx/": f"{folder}/", "/var/lib/nginx/tcdesk": self.wrong, "/var/log/nginx/": f"{folder}/", "/etc/ssl/certs/": f"{folder}/", "/etc/ssl/private/": f"{folder}/", "127.0.0.1:8080": f"{HERE}:{desk}",
                "listen 443 ssl;": f"listen {HERE}:{self.port} ssl;", **(changes or {})}
         texts = replaced("\0".join(text_of(f"{FOLDER}/{it}") for it in FILES), own).split("\0")
         for name, text in zip(FILES, texts):
@@ -81,6 +83,15 @@ class Proxy:
     def said(self) -> str:
         """Its log of errors."""
         return text_of(f"{self.folder}/error.log")
+
+    def noted(self) -> list[str]:
+        """The lines of its log of requests."""
+        return text_of(f"{self.folder}/access.log").splitlines()
+
+    def forget(self) -> None:
+        """Takes away what it knows of wrong passwords: who gave one is slowed for a minute."""
+        for name in os.listdir(self.wrong):
+            os.remove(f"{self.wrong}/{name}")
 
     @property
     def origin(self) -> str:
@@ -122,6 +133,13 @@ def password_files(folder: str) -> None:
         name, password = login.split(":")
         lines.append(f"{name}:{openssl(folder, 'passwd', kind, password)}")
     write(f"{folder}/tcdesk.users", "".join(lines))
+    right_files(folder)
+
+
+def right_files(folder: str, roles: str = "ann enter,approve,release;\nbob enter,approve,release;\ncid enter,approve,release;\n") -> None:
+    """The roles of the logins, and the secret of the countersign."""
+    write(f"{folder}/tcdesk.roles", roles)
+    write(f"{folder}/tcdesk.secret", openssl(folder, "rand", "-hex", "32"))
 
 
 AUTHORITY = ("ca", "-config", f"{FOLDER}/authority.cnf")
@@ -149,6 +167,7 @@ def certificate_files(folder: str) -> None:
     openssl(folder, *AUTHORITY, "-revoke", "gone.pem")
     openssl(folder, *AUTHORITY, "-gencrl", "-out", "tcdesk.revoked.pem")
     own_certificate(folder, "stranger", "/CN=ann")
+    right_files(folder)
 
 
 # ---- who asks

@@ -20,7 +20,7 @@ How another function is proved does not matter, nor which lemmas such proofs cit
 type or a question beside those that are reached, and a new crate below that is not. An item of theirs can be reached only where an item that is
 reached already names it, and then that one's text is another, or gets its name in scope, and then the item is found there.
 
-That the crate as it stands is proved is no part of a digest: the gate's `rt ci` proves these very texts, and from nothing, before it looks at
+That the crate as it stands is proved is no part of a digest: the gate's `rt ci` checks that these very texts are proved before it looks at
 the record.
 
 What stays is the prover's search. It may look through what stands in scope of a library though nothing imports it, and has limits. A lemma

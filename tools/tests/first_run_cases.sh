@@ -2,7 +2,7 @@
 # Runs a copy of ./tcdesk and of tools/build.sh in a folder of its own, over four crates of a line each, with a stand-in for rt that prints what
 # rt prints, and with a shell in the place of the program. Looked for is which program is run: the kept one only where it is that of the sources
 # that stand there, byte for byte; what is said while it is proved, on a terminal (which `script` gives) and off it; what becomes of a proof
-# that fails or is interrupted, and of two first runs at a time; and that words, input and status are the program's.
+# that fails or is interrupted, and of two first runs at a time; that words, input and status are the program's; and which commit a program names.
 # tools/tests/first_run_cases.sh: ends with how many passed; status 1 where one failed.
 set -u
 export LC_ALL=C SHELL=/bin/bash
@@ -64,6 +64,7 @@ echo "what the program prints as rt runs it"
 RT
 chmod +x "$work/bin/rt"
 cp "$top/tcdesk" "$desk/"
+mkdir "$desk/dist" && cp "$top/dist/tcdesk" "$desk/dist/"
 cp "$top/tools/program.sh" "$top/tools/build.sh" "$desk/tools/"
 ln -s ../desk/tcdesk "$work/bin/linked"
 # a path on which there is no rt
@@ -85,7 +86,7 @@ done
 
 # A desk that nobody built or proved yet; with the word built one that is; with the word kept one whose program is kept in dist/ alone.
 anew() {
-    rm -rf "$desk"/crates/*/out "$desk/out" "$desk/dist" "$work/at" "$work/stop" "$work/go" "$work/fail"
+    rm -rf "$desk"/crates/*/out "$desk/out" "$desk"/dist/x86_64-linux-gnu "$work/at" "$work/stop" "$work/go" "$work/fail"
     : >"$work/seen"
     case ${1:-} in
     built) "$desk/tools/build.sh" 2>/dev/null ;;
@@ -237,6 +238,53 @@ changed_cases() {
     runs "another program was kept of these sources" "0 $changed
 tcdesk: what was built is not, byte for byte, the program that dist/ keeps of these sources"$'\nworked'
     same "other words for tools/build.sh" "tcdesk: tools/build.sh takes --keep, or --run and words for the program"$'\n'2 "$("$desk/tools/build.sh" keep 2>&1; echo $?)"
+}
+
+# ---- which commit a program names
+
+# commit_of FOLDER: prints the commit that the file beside the program there names.
+commit_of() {
+    sed -n 's/^commit //p' "$desk/$1/tcdesk.built"
+}
+
+# said_commit: prints the commit that `--version` names.
+said_commit() {
+    "$desk/tcdesk" --version 2>&1 | sed -nE 's/.* \(commit (.*)\)$/\1/p'
+}
+
+# commit FILE..: commits these files of the desk, and prints 12 digits of that.
+commit() {
+    git -C "$desk" add -- "$@" && git -C "$desk" -c user.name=ann -c user.email=ann@desk.example commit -qm "$*" && git -C "$desk" rev-parse --short=12 HEAD
+}
+
+# A program names the last commit of the sources that it was built of, and none if they were not committed.
+commit_cases() {
+    local kept=dist/x86_64-linux-gnu first second
+    anew kept
+    same "no clone: no commit is named" "" "$(commit_of $kept)$(said_commit)"
+    git init -q "$desk"
+    first=$(commit crates.txt HANDLES crates/{low,side,mid,tc_cli}/src tcdesk tools)
+    anew kept
+    same "a clone: the commit of the sources" "$first $first" "$(commit_of $kept) $(said_commit)"
+    edit docs/page.md
+    commit docs/page.md dist >/dev/null
+    anew kept
+    same "a later commit of other files" "$first $first" "$(commit_of $kept) $(said_commit)"
+    edit docs/page.md
+    edit crates/tests/src/lib.rt
+    anew built
+    same "files that decide no byte were edited" "$first $first" "$(commit_of out) $(said_commit)"
+    edit crates/low/src/lib.rt
+    anew built
+    same "a source was edited: no commit is named" "" "$(commit_of out)$(said_commit)"
+    second=$(commit crates/low)
+    anew kept
+    same "it was committed" "$second $second" "$(commit_of $kept) $(said_commit)"
+    edit crates/mid/src/new.rt
+    anew built
+    same "a source that was never committed: no commit is named" "" "$(commit_of out)$(said_commit)"
+    rm -rf "$desk/.git" "$desk/docs"
+    restore
 }
 
 # ---- on a terminal
@@ -432,6 +480,7 @@ tcdesk: the toolchain's command rt is not on the path" "$status $(cat "$work/out
 
 edited_cases
 changed_cases
+commit_cases
 terminal_cases
 plain_cases
 failing_cases

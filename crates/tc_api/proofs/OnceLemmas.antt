@@ -7,7 +7,7 @@ use Rattle.tc_types.specs.declared.loads.LoadKind.{LoadKind}
 use Rattle.tc_types.specs.declared.loads.LoadKind.TheVariants as load_kind
 use Rattle.tc_types.specs.declared.refusals.Refusal.{Refusal}
 use Rattle.tc_types.specs.declared.refusals.Refusal.TheVariants.{Stopped}
-use Rattle.tc_routes.specs.declared.paths.Post.TheVariants as paths
+use Rattle.tc_front.specs.declared.paths.Post.TheVariants as paths
 use Rattle.tc_store.specs.Ledgers.{KeptAnswer}
 use Rattle.tc_front.specs.Front.{Asked, asks, posts, refuses, shows}
 use Rattle.tc_desk.specs.Replies.{Reply, refusal_reply}

@@ -14,8 +14,8 @@ use Rattle.tc_types.specs.declared.loads.LoadKind.TheVariants as load_kind
 use Rattle.tc_front.specs.declared.front.Decision.{Decision}
 use Rattle.tc_front.specs.declared.front.Decision.TheVariants as decision
 use Rattle.tc_front.specs.declared.judge.Refused.{Refused}
-use Rattle.tc_routes.specs.declared.paths.Post.{Post}
-use Rattle.tc_routes.specs.declared.paths.Post.TheVariants as paths
+use Rattle.tc_front.specs.declared.paths.Post.{Post}
+use Rattle.tc_front.specs.declared.paths.Post.TheVariants as paths
 use Rattle.tc_front.specs.Front.{asked_of}
 use Rattle.tc_desk.specs.Replies.{Reply}
 use Rattle.tc_room.specs.Calls.{AnswersActCall, AnswersLoadCall}

@@ -11,12 +11,12 @@ use Rattle.tc_types.specs.declared.refusals.Refusal.{Refusal}
 use Rattle.tc_types.specs.declared.refusals.Refusal.TheVariants.{BadText, Memory, TooLong}
 use Rattle.tc_front.specs.declared.judge.Refused.{Refused}
 use Rattle.tc_front.specs.declared.judge.Refused.TheVariants as front
-use Rattle.tc_routes.specs.declared.paths.Post.{Post}
-use Rattle.tc_routes.specs.declared.paths.Post.TheVariants as paths
+use Rattle.tc_front.specs.declared.paths.Post.{Post}
+use Rattle.tc_front.specs.declared.paths.Post.TheVariants as paths
 use Rattle.tc_front.specs.Front.{Asked, asks, posts, refuses, shows}
 use Rattle.tc_book.specs.declared.stamps.Stamp.{Stamp}
 use Rattle.tc_desk.specs.Replies.{Reply, refusal_reply}
-use Rattle.tc_room.specs.Boards.{RefusesBoard, TellsBoard}
+use Rattle.tc_api.specs.Boards.{RefusesBoard, TellsBoard}
 use Rattle.tc_room.specs.Calls.{AnswersActCall, AnswersLoadCall}
 use Rattle.tc_room.specs.Joined.{Standing}
 use Rattle.tc_room.specs.Replies.{AreLines, ended, is_refused}

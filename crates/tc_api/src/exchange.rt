@@ -16,9 +16,8 @@ use crate::serving::{Served, Told, serve_decision};
 use sqlite::Alter;
 use std::alloc::{AllocError, Global};
 use std::io::{Read, Write};
-use tc_front::{decide, read_front, write_whole};
+use tc_front::{Routes, decide, read_front, write_whole};
 use tc_room::Room;
-use tc_routes::Routes;
 use tc_types::{Counted, Refusal};
 
 /// What is told where the response to what was served found no memory.

@@ -2,6 +2,7 @@
 #![tactic(auto)]
 
 mod acts;
+mod boards;
 mod bodies;
 mod endings;
 mod exchange;

@@ -2,7 +2,7 @@
 ghost use Rattle.std.specs.Prelude.{◌≡◌, ◌&&◌};
 ghost use Rattle.serde_json.specs.View.{view};
 ghost use Rattle.tc_desk.specs.Replies.{Reply, refusal_reply};
-ghost use Rattle.tc_routes.specs.declared.paths.Post.TheVariants as paths;
+ghost use Rattle.tc_front.specs.declared.paths.Post.TheVariants as paths;
 ghost use Rattle.tc_front.specs.Front.{asked_of};
 ghost use Rattle.tc_room.specs.Answers.{RefusesWith, Says};
 ghost use Rattle.tc_api.specs.Endings.{is_done};
@@ -10,16 +10,16 @@ ghost use Rattle.tc_api.specs.Loads.{load_keys};
 ghost use Rattle.tc_api.specs.Serving.{EndsWith, HasText, IsOutcome, IsServedBy, Serves, ServesBoard, ServesKeys, ServesPost, ServesQuery, ServesValue, front_ending, front_refusal, outcome_of, refused_front, refused_so};
 
 use crate::acts::judge_act;
+use crate::boards::board_page;
 use crate::bodies::value_of;
 use crate::endings::Ending;
 use crate::loads::judge_load;
 use serde_json::Value;
 use sqlite::Alter;
 use std::alloc::Global;
-use tc_front::{Decision, Refused};
-use tc_room::{Answer, Room, Untold, answer_query, refusal_answer};
-use tc_routes::Post;
-use tc_types::{LoadKind, Query, Refusal};
+use tc_front::{Decision, Post, Refused};
+use tc_room::{Answer, Room, answer_query, refusal_answer};
+use tc_types::{LoadKind, Query, Refusal, Untold};
 
 /// What is told.
 #[derive(Drop)]
@@ -101,7 +101,7 @@ fn serve_query<S: Alter + Drop>(alloc: Global, room: &mut Room<S>, query: Query)
 fn serve_board<S: Alter + Drop>(alloc: Global, room: &Room<S>) -> Served
     ensures { IsServedBy (ServesBoard room.now) room.now result room.now }
 {
-    match room.board(alloc) {
+    match board_page(alloc, room) {
         Ok(page) => Served {
             ending: Ending::Done,
             stands: false,

@@ -1,9 +1,9 @@
 //! What is entered, and the rows that the desk writes for it: those of the batches of `tc_book`, in their order.
 use std::alloc::Global;
+use tc_lines::entered_text;
 use tc_types::{
     Ack, Apid, Body, Cause, Command, Form, Identity, Moment, Move, Name, Outcome, Person, Place,
     PlacedRequest, Request, RequestNumber, Row, SequenceCount, Service, Subtype, Tally,
-    entered_text,
 };
 
 /// How many application processes there are, in turn.

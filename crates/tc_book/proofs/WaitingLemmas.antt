@@ -21,9 +21,9 @@ use Rattle.tc_stack.specs.Approvals.{ApprovalState}
 use Rattle.tc_stack.specs.Stacks.{is_completed}
 use Rattle.tc_proc.specs.Executions.{next_step, is_next_countersigned}
 use Rattle.tc_proc.specs.Logs.{LogState, state_of}
-use Rattle.tc_waits.specs.declared.waits.Lock.{Lock}
-use Rattle.tc_waits.specs.declared.waits.Waiting.{Waiting}
-use Rattle.tc_waits.specs.declared.waits.Waiting.TheVariants as waiting
+use Rattle.tc_types.specs.declared.waits.Lock.{Lock}
+use Rattle.tc_types.specs.declared.waits.Waiting.{Waiting}
+use Rattle.tc_types.specs.declared.waits.Waiting.TheVariants as waiting
 use Rattle.tc_book.specs.Book.{Book, approval_of, place_in, request_in, request_at, stands}
 use Rattle.tc_book.specs.Good.{IsGoodBook, IsGoodRequest}
 use Rattle.tc_book.specs.Stacks.{is_held_back, is_interlocked, stack_approval_at, waits_for}

@@ -11,10 +11,10 @@ use Rattle.tc_types.specs.Schedule.{inserted}
 use Rattle.tc_stack.specs.Approvals.{ApprovalState}
 use Rattle.tc_proc.specs.Logs.{LogState, state_of}
 use Rattle.tc_proc.specs.Executions.{next_step, is_next_countersigned}
-use Rattle.tc_waits.specs.declared.waits.Wanting.{Wanting}
-use Rattle.tc_waits.specs.declared.waits.Waiting.{Waiting}
-use Rattle.tc_waits.specs.declared.waits.Waiting.TheVariants as waiting
-use Rattle.tc_waits.specs.declared.waits.Lock.{Lock}
+use Rattle.tc_types.specs.declared.waits.Wanting.{Wanting}
+use Rattle.tc_types.specs.declared.waits.Waiting.{Waiting}
+use Rattle.tc_types.specs.declared.waits.Waiting.TheVariants as waiting
+use Rattle.tc_types.specs.declared.waits.Lock.{Lock}
 use Rattle.tc_book.specs.Book.{Book, place_in, request_at, stands, approval_of}
 use Rattle.tc_book.specs.Stacks.{is_in_stack, stack_approval_at, is_interlocked}
 

@@ -6,8 +6,8 @@ use Rattle.tc_types.specs.declared.loads.LoadKind.{LoadKind}
 use Rattle.tc_types.specs.declared.loads.LoadKind.TheVariants as kind
 use Rattle.tc_csv.specs.declared.faults.Fault.{Fault}
 use Rattle.tc_csv.specs.FaultLists.{first_fault}
-use Rattle.tc_stack.proofs.FaultLemmas as stack
-use Rattle.tc_proc.proofs.FaultLemmas as procedure
+use Rattle.tc_csv.proofs.StackFaultLemmas as stack
+use Rattle.tc_csv.proofs.ProcedureFaultLemmas as procedure
 use Rattle.tc_check.specs.declared.checks.Checked.{Checked}
 use Rattle.tc_check.specs.Findings.{first_line}
 use Rattle.tc_check.specs.Checks.{AreFaults, Says, Tells, is_ok_told, lines_told, told_text}

@@ -4,10 +4,10 @@ use Rattle.tc_types.specs.declared.loads.LoadKind.{LoadKind}
 use Rattle.tc_types.specs.declared.loads.LoadKind.TheVariants as kind
 use Rattle.tc_csv.specs.declared.faults.Fault.{Fault}
 use Rattle.tc_csv.specs.FaultLists.{first_fault}
-use Rattle.tc_stack.specs.StackFaults.{AreStackFaults}
-use Rattle.tc_stack.specs.StackTexts as stack
-use Rattle.tc_proc.specs.ProcedureFaults.{AreProcedureFaults}
-use Rattle.tc_proc.specs.Procedures as procedure
+use Rattle.tc_csv.specs.StackFaults.{AreStackFaults}
+use Rattle.tc_csv.specs.StackTexts as stack
+use Rattle.tc_csv.specs.ProcedureFaults.{AreProcedureFaults}
+use Rattle.tc_csv.specs.ProcedureTexts as procedure
 use Rattle.tc_check.specs.Findings.{first_line, is_none_found, shown_lines}
 use Rattle.tc_check.specs.Notes.{notes_of}
 use Rattle.tc_check.specs.Told.{fault_line}

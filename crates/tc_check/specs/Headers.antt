@@ -6,8 +6,8 @@ use Rattle.tc_types.specs.declared.loads.LoadKind.{LoadKind}
 use Rattle.tc_types.specs.declared.loads.LoadKind.TheVariants as kind
 use Rattle.tc_csv.specs.declared.columns.Column.{Column}
 use Rattle.tc_csv.specs.Tables.{column_name}
-use Rattle.tc_stack.specs.StackTexts.{stack_columns}
-use Rattle.tc_proc.specs.Procedures.{procedure_columns}
+use Rattle.tc_csv.specs.StackTexts.{stack_columns}
+use Rattle.tc_csv.specs.ProcedureTexts.{procedure_columns}
 use Rattle.tc_check.specs.declared.looks.Look.{Look}
 use Rattle.tc_check.specs.declared.looks.Look.TheVariants as look
 use Rattle.tc_check.specs.Looks.{look_of}

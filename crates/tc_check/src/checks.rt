@@ -11,9 +11,7 @@ use crate::findings::Findings;
 use crate::notes::notes_of;
 use crate::told::Sheet;
 use std::alloc::{AllocError, Global};
-use tc_csv::Fault;
-use tc_proc::procedure_faults;
-use tc_stack::stack_faults;
+use tc_csv::{Fault, procedure_faults, stack_faults};
 use tc_types::LoadKind;
 
 /// What is said of a text.

@@ -8,9 +8,7 @@ use crate::looks::{Look, look_of};
 use crate::shown::quoted;
 use csv::ByteRecord;
 use std::alloc::{AllocError, Global};
-use tc_csv::Column;
-use tc_proc::procedure_columns;
-use tc_stack::stack_columns;
+use tc_csv::{Column, procedure_columns, stack_columns};
 use tc_types::LoadKind;
 
 /// The columns of a text of this kind.

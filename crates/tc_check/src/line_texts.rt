@@ -9,8 +9,8 @@ ghost use Rattle.tc_check.specs.LineTexts.{extra_text, fault_text, in_word, is_p
 use crate::looks::has_in;
 use crate::shown::quoted;
 use std::alloc::{AllocError, Global};
+use tc_lines::cut;
 use tc_script::{LineFault, Slot};
-use tc_types::cut;
 
 /// Whether a byte is of no word but a path.
 fn is_strange(byte: u8) -> bool

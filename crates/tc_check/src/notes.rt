@@ -16,7 +16,8 @@ use crate::told::Sheet;
 use csv::ByteRecord;
 use std::alloc::{AllocError, Global};
 use tc_csv::field;
-use tc_types::{LoadKind, cut};
+use tc_lines::cut;
+use tc_types::LoadKind;
 
 /// Whether the seconds of a time are 60, with colons or without.
 fn is_60(time: &[u8]) -> bool

@@ -15,8 +15,8 @@ use crate::shown::quoted;
 use crate::sources::Texts;
 use bstr::ByteSlice;
 use std::alloc::{AllocError, Global};
+use tc_lines::read::load_reader::read_load;
 use tc_script::line_fault;
-use tc_types::read::load_reader::read_load;
 use tc_types::{Load, LoadKind};
 
 /// Whether a line is empty or begins with `#`.

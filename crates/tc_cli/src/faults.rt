@@ -1,12 +1,11 @@
 //! What is said where the program could not begin or go on, and its exit status then.
 
-use crate::because::{Because, Unusable};
-use crate::copying::{CopyFault, MOST_COPIES};
-use crate::looking::{
-    why_no_desk, why_no_opening, why_no_script, why_uncopied, why_unread, why_unwritable,
-};
 use crate::serving::ServiceFault;
-use tc_run::ScriptFault;
+use tc_closed::ScriptFault;
+use tc_host::{
+    Because, CopyFault, MOST_COPIES, Unusable, why_no_desk, why_no_opening, why_no_script,
+    why_uncopied, why_unread, why_unwritable,
+};
 
 /// The exit status of a fault: of usage, of a file or of memory.
 pub(crate) const UNUSABLE: u8 = 2;

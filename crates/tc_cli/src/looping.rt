@@ -2,19 +2,18 @@
 //! and its response read. All that is by one thread, so a request has to fit what the system holds for a connection that is not read yet: it has
 //! at most 201 bytes of an act.
 
-use crate::files::{open_desk, text_at};
 use crate::serving::{ServiceFault, closed};
-use crate::telling::{HostWatch, refusal_of};
 use sqlite::Alter;
 use std::alloc::{AllocError, Global};
 use std::io::{self, Read, Write};
 use std::net::{Ipv4Addr, TcpListener, TcpStream};
 use tc_api::serve_one;
+use tc_closed::{Answered, ScriptFault, Watch, put, status_of};
+use tc_host::{HostWatch, open_desk, refusal_of, text_at};
 use tc_posts::{Told, Untellable, places_request, post_request, read_told};
 use tc_room::Room;
 use tc_run::{
-    Answered, NumberedLine, Opening, ScriptFault, Watch, exchange, last_moment, latest_moment,
-    numbered_lines, open_told, put, status_of,
+    NumberedLine, Opening, exchange, last_moment, latest_moment, numbered_lines, open_told,
 };
 use tc_types::{Counted, Refusal};
 use tc_words::Telling;

@@ -18,43 +18,30 @@
 //! `tcdesk loop DB SCRIPT` sends the lines of a script over HTTP to a desk that it serves itself, and prints what is answered.
 #![tactic(auto)]
 
-mod backup;
-mod because;
-mod copying;
 mod faults;
-mod files;
-mod looking;
 mod looping;
-mod marking;
-mod paths;
 mod patience;
-mod reporting;
 mod serving;
-mod telling;
-mod unserved;
 
-use backup::backup;
-use because::Unusable;
 use faults::{
     UNUSABLE, cannot_read, cannot_read_script, cannot_use, copy_status, kept_status, report_status,
     run_status, service_status,
 };
-use files::{of_tables, open_desk, open_script, text_at};
 use looping::send_to_file;
-use paths::{HostPaths, HostTexts, text_of};
-use reporting::{print_board, print_report};
 use serving::{ServiceTerms, serve};
 use std::alloc::{AllocError, Global};
 use std::io::IsTerminal;
 use std::process::ExitCode;
 use std::{env, io};
-use tc_desk::Config;
-use tc_run::{
-    Opening, PathFault, ScriptFault, run_kept, run_script, write_check, write_script_check,
+use tc_closed::{PathFault, ScriptFault, write_check, write_script_check};
+use tc_host::{
+    HostPaths, HostTexts, HostWatch, Unusable, backup, of_tables, open_desk, open_script,
+    print_board, print_report, text_at, text_of,
 };
+use tc_run::{Opening, run_kept, run_script};
 use tc_types::{Counted, LoadKind};
 use tc_words::{CommandLine, Telling, UsageFault, read_words};
-use telling::HostWatch;
+use tc_world::Config;
 
 /// The words where none are given.
 const NO_WORDS: [&str; 3] = ["tcdesk", "run", "-"];

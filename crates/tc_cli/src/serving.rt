@@ -1,9 +1,5 @@
 //! A desk that is kept in a file, served over HTTP (RFC 9112) on this machine alone.
-use crate::because::Unusable;
-use crate::files::{of_tables, open_desk};
 use crate::patience::{Limits, Patient};
-use crate::telling::tell_opening;
-use crate::unserved::opening_fault;
 use sqlite::{Alter, Connection};
 use sqlite_disk::Wary;
 use sqlite_std_file::FileFrom;
@@ -13,8 +9,10 @@ use std::net::{Ipv4Addr, Shutdown, TcpListener, TcpStream};
 use std::thread;
 use std::time::Duration;
 use tc_api::serve_one;
+use tc_closed::ScriptFault;
+use tc_host::{Unusable, of_tables, open_desk, opening_fault, tell_opening};
 use tc_room::Room;
-use tc_run::{Opening, ScriptFault, latest_moment, open_told};
+use tc_run::{Opening, latest_moment, open_told};
 use tc_types::{Counted, Refusal};
 
 /// Why a desk is not served, or no longer.
@@ -200,7 +198,7 @@ pub fn serve(
     match TcpListener::bind(rt, (Ipv4Addr::LOCALHOST, service.port)) {
         Ok(listener) => serve_at(rt, &listener, file, opening, service),
         Err(_) => {
-            opening_fault(rt, file, opening)?;
+            opening_fault(rt, file)?;
             Err(ServiceFault::Port(service.port))
         }
     }

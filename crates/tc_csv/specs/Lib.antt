@@ -2,3 +2,9 @@ pub mod Faults
 pub mod Rows
 pub mod Tables
 pub mod FaultLists
+pub mod ProcedureTexts
+pub mod CommandTexts
+pub mod RowTexts
+pub mod StackFaults
+pub mod StackTexts
+pub mod ProcedureFaults

@@ -6,7 +6,7 @@ ghost use Rattle.tc_types.specs.Grammar.{Reads};
 ghost use Rattle.tc_csv.specs.Tables.{number_field};
 
 use csv::ByteRecord;
-use tc_types::read::readers::number;
+use tc_lines::read::readers::number;
 
 /// The field at a place of a record; empty where it has none there.
 pub fn field(fields: &ByteRecord, place: usize) -> &[u8]

@@ -1,4 +1,4 @@
-//! The tests of `tc_csv` and `tc_proc`, in a crate of their own.
+//! The tests of `tc_csv`, `tc_stack` and `tc_proc`, in a crate of their own.
 #![tactic(auto)]
 
 #[cfg(test)]

@@ -89,6 +89,7 @@ told_comes book sent (said.Farm verdict.Discarded ∷ others) good apart told = 
 told_comes book sent (said.Farm verdict.Control ∷ others) good apart told = tt
 told_comes book sent (said.Received item ∷ others) good apart told = tt
 told_comes book sent (said.Lost ∷ others) good apart told = tt
+told_comes book sent (said.Transmitted frame ∷ others) good apart told = tt
 
 -- ---- acts
 

@@ -51,11 +51,28 @@ PutBy event.Clcw w items = (clcw : Clcw) × IsWordOf w.farm w.vc clcw × (items 
 PutBy (event.Put telemetry) w items = items ≡ report.Telemetry telemetry ∷ []
 PutBy event.Downlink w items = items ≡ []
 PutBy (event.LoseDown place) w items = items ≡ []
+PutBy event.Transmit w items = items ≡ []
+PutBy (event.Hear item) w items = items ≡ []
+
+-- what an event hears that was not in flight
+abbrev pub outside : Event → List Report
+outside (event.Offer request body) = []
+outside (event.Directive given) = []
+outside event.Tick = []
+outside (event.Uplink free_buffer) = []
+outside (event.LoseUp place) = []
+outside event.Release = []
+outside event.Clcw = []
+outside (event.Put telemetry) = []
+outside event.Downlink = []
+outside (event.LoseDown place) = []
+outside event.Transmit = []
+outside (event.Hear item) = item ∷ []
 
 pub record EventMoves (given : Event) (w v : Bare) (all : List LinkIndication) : Type 0 where
   pub put : List Report
   pub are : PutBy given w put
-  pub rest : IsSublist (came_down all ++ v.down) (w.down ++ put)
+  pub rest : IsSublist (came_down all ++ v.down) (outside given ++ (w.down ++ put))
 
 -- nothing came down, and nothing was put
 stays_down : (w v : Bare) (all : List LinkIndication) → came_down all ≡ [] → IsSublist v.down w.down → IsSublist (came_down all ++ v.down) (w.down ++ [])
@@ -94,6 +111,15 @@ lands_down item w v lost left all taken came rest =
     (subst (λ l. IsSublist (item ∷ l) (w.down ++ [])) (sym rest)
     (subst (IsSublist (item ∷ left)) (sym (append-nil w.down ∙ taken)) (IsSublist-behind lost (item ∷ left))))
 
+-- what was heard from outside comes down before all that flies
+outside_down : (item : Report) (w v : Bare) (all : List LinkIndication) → Hears lossy item (record w { clean = false }) v all → IsSublist (came_down all ++ v.down) (item ∷ (w.down ++ []))
+outside_down (report.Word word) w v all (heard, actions, rest, reads, gives, h, answered) =
+    subst (λ l. IsSublist (l ++ v.down) (report.Word word ∷ (w.down ++ []))) (sym (ap came_down answered))
+    (inr (v.down, refl, stays_down w v [] refl (same_down w v (ap (λ (x : Bare). x.down) h.whole))))
+outside_down (report.Telemetry telemetry) w v all (readied, whole, answered) =
+    subst (λ l. IsSublist (l ++ v.down) (report.Telemetry telemetry ∷ (w.down ++ []))) (sym (ap came_down answered))
+    (inr (v.down, refl, stays_down w v [] refl (same_down w v (ap (λ (x : Bare). x.down) whole))))
+
 pub event_down : (given : Event) (w v : Bare) (all : List LinkIndication) → Happens lossy lossy given w v all → EventMoves given w v all
 event_down (event.Offer request body) w v all (actions, unknown, gives, h) = record { put = []; are = refl; rest = carries_down w v actions all h }
 event_down (event.Directive given) w v all (actions, gives, h, fits, level) = record { put = []; are = refl; rest = directs_down given w (unjudged w v) actions all (is_initiation given) h }
@@ -117,6 +143,9 @@ event_down event.Downlink w v all (inr h) =
     let heard = hears_down h.item w v h.left all h.heard in
     record { put = []; are = refl; rest = lands_down h.item w v h.taken.0 h.left all h.taken.1 heard.0 heard.1 }
 event_down (event.LoseDown place) w v all h = record { put = []; are = refl; rest = stays_down w v all (ap came_down h.answered ∙ loss_silent h.found) h.lost }
+event_down event.Transmit w v all (inl (nothing, h)) = record { put = []; are = refl; rest = stays_down w v all (ap came_down h.answered) (same_down w v h.same.down) }
+event_down event.Transmit w v all (inr h) = record { put = []; are = refl; rest = stays_down w v all (ap came_down h.answered) (same_down w v (ap (λ (x : Bare). x.down) h.whole)) }
+event_down (event.Hear item) w v all h = record { put = []; are = refl; rest = outside_down item w v all h }
 
 -- ---- acts
 
@@ -153,15 +182,16 @@ none_down {U} {D} down w v all same =
 
 -- of an event that puts nothing
 quiet_down : {U D : Type 0} (up : Kind U Frame) (down : Kind D Report) → OnlyLoses up → OnlyLoses down → (given : Event) (w v : Whole U D) (all : List LinkIndication)
-    → ((items : List Report) → PutBy given (seen up down w) items → items ≡ []) → Happened up down given w v all → IsSublist (came_down all ++ down.content v.down) (down.content w.down ++ [])
-quiet_down up down ul dl given w v all none h =
+    → outside given ≡ [] → ((items : List Report) → PutBy given (seen up down w) items → items ≡ []) → Happened up down given w v all → IsSublist (came_down all ++ down.content v.down) (down.content w.down ++ [])
+quiet_down up down ul dl given w v all own none h =
     let moves = happened_down up down ul dl given w v all h in
-    subst (λ l. IsSublist (came_down all ++ down.content v.down) (down.content w.down ++ l)) (none moves.put moves.are) moves.rest
+    subst (λ l. IsSublist (came_down all ++ down.content v.down) (l ++ (down.content w.down ++ []))) own
+    (subst (λ l. IsSublist (came_down all ++ down.content v.down) (outside given ++ (down.content w.down ++ l))) (none moves.put moves.are) moves.rest)
 
 offer_down : {U D : Type 0} (up : Kind U Frame) (down : Kind D Report) → OnlyLoses up → OnlyLoses down → (n : ℕ) (old new : State U D) (all : List LinkIndication) (asked : Option Request)
     → Passes up down (offer_at old.book n asked) old.world new.world all → IsSublist (came_down all ++ down.content new.world.down) (down.content old.world.down ++ [])
 offer_down up down ul dl n old new all None passes = none_down down old.world new.world all passes
-offer_down up down ul dl n old new all (Some request) passes = quiet_down up down ul dl _ old.world new.world all (λ items e. e) passes
+offer_down up down ul dl n old new all (Some request) passes = quiet_down up down ul dl _ old.world new.world all refl (λ items e. e) passes
 
 -- a frame comes on board, and its report is put
 boards_down : {U D : Type 0} (up : Kind U Frame) (down : Kind D Report) → OnlyLoses up → OnlyLoses down → (old new : State U D) (all : List LinkIndication)
@@ -169,7 +199,7 @@ boards_down : {U D : Type 0} (up : Kind U Frame) (down : Kind D Report) → Only
 boards_down up down ul dl old new all boards =
     let items : List Report = flying (reports_after (taken_in all)) in
     let came : List Report = came_down all in
-    let here = quiet_down up down ul dl (event.Uplink (has_buffer old.board)) boards.ready boards.carried all (λ items e. e) boards.frame in
+    let here = quiet_down up down ul dl (event.Uplink (has_buffer old.board)) boards.ready boards.carried all refl (λ items e. e) boards.frame in
     let flew : IsSublist (came ++ down.content boards.carried.down) (down.content old.world.down) = subst (IsSublist (came ++ down.content boards.carried.down)) (append-nil (down.content boards.ready.down) ∙ readied_content down dl old.world.down boards.ready.down boards.readied.down) here in
     let puts = puts_down up down ul dl (reports_after (taken_in all)) boards.carried new.world boards.reports in
     let front = sublist_front came (down.content new.world.down) (down.content boards.carried.down ++ items) puts in
@@ -180,15 +210,15 @@ boards_down up down ul dl old new all boards =
 flight_down : {U D : Type 0} (up : Kind U Frame) (down : Kind D Report) → OnlyLoses up → OnlyLoses down → (given : LinkAct) (old new : State U D) (all : List LinkIndication)
     → Flies up down given old new all → MovesDown down (act.Link given) old new all
 flight_down up down ul dl (link_act.Release n) old new all flies = record { put = []; are = refl; rest = offer_down up down ul dl n old new all (request_at old.book n) flies.0 }
-flight_down up down ul dl (link_act.Direct given) old new all flies = record { put = []; are = refl; rest = quiet_down up down ul dl (event.Directive given) old.world new.world all (λ items e. e) flies.0 }
-flight_down up down ul dl link_act.Tick old new all flies = record { put = []; are = refl; rest = quiet_down up down ul dl event.Tick old.world new.world all (λ items e. e) flies.0 }
+flight_down up down ul dl (link_act.Direct given) old new all flies = record { put = []; are = refl; rest = quiet_down up down ul dl (event.Directive given) old.world new.world all refl (λ items e. e) flies.0 }
+flight_down up down ul dl link_act.Tick old new all flies = record { put = []; are = refl; rest = quiet_down up down ul dl event.Tick old.world new.world all refl (λ items e. e) flies.0 }
 flight_down up down ul dl link_act.Up old new all flies = record { put = flying (reports_after (taken_in all)); are = refl; rest = boards_down up down ul dl old new all flies }
-flight_down up down ul dl (link_act.LoseUp place) old new all flies = record { put = []; are = refl; rest = quiet_down up down ul dl (event.LoseUp place) old.world new.world all (λ items e. e) flies.0 }
-flight_down up down ul dl (link_act.LoseDown place) old new all flies = record { put = []; are = refl; rest = quiet_down up down ul dl (event.LoseDown place) old.world new.world all (λ items e. e) flies.0 }
+flight_down up down ul dl (link_act.LoseUp place) old new all flies = record { put = []; are = refl; rest = quiet_down up down ul dl (event.LoseUp place) old.world new.world all refl (λ items e. e) flies.0 }
+flight_down up down ul dl (link_act.LoseDown place) old new all flies = record { put = []; are = refl; rest = quiet_down up down ul dl (event.LoseDown place) old.world new.world all refl (λ items e. e) flies.0 }
 flight_down up down ul dl link_act.Clcw old new all flies =
     let moves = happened_down up down ul dl event.Clcw old.world new.world all flies.0 in
     record { put = moves.put; are = moves.are; rest = moves.rest }
-flight_down up down ul dl link_act.Down old new all flies = record { put = []; are = refl; rest = quiet_down up down ul dl event.Downlink old.world new.world all (λ items e. e) flies.0 }
+flight_down up down ul dl link_act.Down old new all flies = record { put = []; are = refl; rest = quiet_down up down ul dl event.Downlink old.world new.world all refl (λ items e. e) flies.0 }
 flight_down {U} {D} up down ul dl link_act.Work old new all flies =
     let items : List Report = flying (work_reports old.board old.board.buffer) in
     let puts = reports_down up down ul dl (work_reports old.board old.board.buffer) old.world flies.reported flies.reports in

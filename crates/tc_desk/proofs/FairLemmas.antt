@@ -28,7 +28,7 @@ use Rattle.tc_book.specs.Book.{Book, request_at}
 use Rattle.tc_book.specs.Logs.{released_with}
 use Rattle.tc_book.proofs.PassingLemmas.{none_holds}
 use Rattle.tc_desk.specs.declared.firsts.FirstLine.{FirstLine}
-use Rattle.tc_desk.specs.declared.configs.Config.{Config}
+use Rattle.tc_world.specs.declared.configs.Config.{Config}
 use Rattle.tc_desk.specs.Acts.{is_bad_directive, link_tests, refusal_of}
 use Rattle.tc_desk.specs.Asks.{event_of, offer_at, has_buffer, taken_in, reports_after}
 use Rattle.tc_desk.specs.Fair.{IsFairlyTold}

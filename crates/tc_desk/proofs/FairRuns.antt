@@ -13,7 +13,7 @@ use Rattle.tc_fop.specs.Fair.{may_alert}
 use Rattle.tc_world.specs.Links.{Kind}
 use Rattle.tc_book.specs.declared.stamps.Stamp.{Stamp}
 use Rattle.tc_book.specs.Book.{Book}
-use Rattle.tc_desk.specs.declared.configs.Config.{Config}
+use Rattle.tc_world.specs.declared.configs.Config.{Config}
 use Rattle.tc_desk.specs.State.{State, new_desk}
 use Rattle.tc_desk.specs.Fair.{RepliesFairly}
 use Rattle.tc_desk.specs.Machine.{DeskStep, Serves, Carries, rows_new}

@@ -124,6 +124,7 @@ heard-goes_on stamp mirror book (said.Fop signal.Started) = same-goes_on book
 heard-goes_on stamp mirror book (said.Farm v) = same-goes_on book
 heard-goes_on stamp mirror book (said.Received item) = received-goes_on stamp mirror book item
 heard-goes_on stamp mirror book said.Lost = same-goes_on book
+heard-goes_on stamp mirror book (said.Transmitted frame) = same-goes_on book
 
 pub heard_all-goes_on : (stamp : Stamp) (mirror : MirrorState) (all : List LinkIndication) (book : Book) → GoesOn book (heard_all stamp mirror all book)
 heard_all-goes_on stamp mirror [] book = same-goes_on book

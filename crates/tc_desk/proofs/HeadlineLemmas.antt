@@ -57,6 +57,8 @@ is_coming_up event.Clcw = false
 is_coming_up (event.Put telemetry) = false
 is_coming_up event.Downlink = false
 is_coming_up (event.LoseDown place) = false
+is_coming_up event.Transmit = false
+is_coming_up (event.Hear item) = false
 
 abbrev pub taken_said : List LinkIndication → List ℕ
 taken_said all = flat_map accepted_said all
@@ -95,6 +97,9 @@ takes_nothing up down (event.Put telemetry) w v all other h = ap taken_said h.an
 takes_nothing up down event.Downlink w v all other (inl (nothing, h)) = ap taken_said h.answered
 takes_nothing up down event.Downlink w v all other (inr h) = hears_takes up h.item (record w { down = h.left }) v all h.heard
 takes_nothing up down (event.LoseDown place) w v all other h = ap taken_said h.answered ∙ loss_takes h.found
+takes_nothing up down event.Transmit w v all other (inl (nothing, h)) = ap taken_said h.answered
+takes_nothing up down event.Transmit w v all other (inr h) = ap taken_said h.answered
+takes_nothing up down (event.Hear item) w v all other h = hears_takes up item (record w { clean = false }) v all h
 
 verdict_takes : (given : FrameVerdict) → taken_said (said.Farm given ∷ []) ≡ map (λ (t : Telecommand). t.request) (option_list (taken_in (said.Farm given ∷ [])))
 verdict_takes (verdict.Accepted n body) = refl

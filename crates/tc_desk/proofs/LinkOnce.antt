@@ -24,7 +24,7 @@ use Rattle.tc_world.specs.InFlight.{InFlight, listed}
 use Rattle.tc_world.specs.Kept.{AreOwnWords}
 use Rattle.tc_world.specs.Links.{lossy, PutsAll, IsReadied}
 use Rattle.tc_world.specs.Logs.{noted, blank, boarded}
-use Rattle.tc_world.specs.World.{Whole, Happens, Carries, Begins, IsIdle, IsAsBefore, Boards, Reads, Hears, Lands, IsWordOf, Descends, LosesUp, LosesDown, unjudged, is_fitting, level_after, clean_after, told_by_fop, told_of_loss}
+use Rattle.tc_world.specs.World.{Whole, Happens, Carries, Begins, IsIdle, IsAsBefore, Boards, Reads, Hears, Lands, IsWordOf, Descends, LosesUp, LosesDown, Transmits, unjudged, is_fitting, level_after, clean_after, told_by_fop, told_of_loss}
 
 -- a link over lists, and what is seen of it
 abbrev pub Listed : Type 0
@@ -149,6 +149,17 @@ boards_once free w1 w2 v1 v2 a1 a2 same h1 h2 =
       told = h1.answered ∙ ap₂ (λ (f : Frame) (b : Bare). said.Farm (verdict_of b.farm f free) ∷ []) frame same ∙ sym h2.answered;
     }
 
+transmits_once : (w1 w2 v1 v2 : Listed) (a1 a2 : List LinkIndication) → bare w1 ≡ bare w2 → Transmits listed w1 v1 a1 → Transmits listed w2 v2 a2 → IsOnce v1 v2 a1 a2
+transmits_once w1 w2 v1 v2 a1 a2 same h1 h2 =
+    let both : h1.frame ∷ v1.up.content ≡ h2.frame ∷ v2.up.content = sym h1.taken ∙ ap (λ (b : Bare). b.up) same ∙ h2.taken in
+    let on : List Frame → Bare → Bare = λ l b. record b { up = l } in
+    record {
+      world = ap (λ (x : Listed). bare x) h1.whole
+          ∙ ap (λ (l : List Frame). on l (bare w1)) (rest_same _ _ _ _ both) ∙ ap (λ (b : Bare). on v2.up.content b) same
+          ∙ sym (ap (λ (x : Listed). bare x) h2.whole);
+      told = h1.answered ∙ ap (λ (f : Frame). said.Transmitted f ∷ []) (first_same _ _ _ _ both) ∙ sym h2.answered;
+    }
+
 loses_up_once : (place : ℕ) (w1 w2 v1 v2 : Listed) (a1 a2 : List LinkIndication) → bare w1 ≡ bare w2 → LosesUp listed place w1 v1 a1 → LosesUp listed place w2 v2 a2 → IsOnce v1 v2 a1 a2
 loses_up_once place w1 w2 v1 v2 a1 a2 same h1 h2 =
     let on : List Frame → Bare → Bare = λ l b. record b { up = l } in
@@ -227,18 +238,37 @@ OwnFor event.Clcw w = Unit {0}
 OwnFor (event.Put telemetry) w = Unit {0}
 OwnFor event.Downlink w = AreOwnWords w.vc w.down.content
 OwnFor (event.LoseDown place) w = Unit {0}
+OwnFor event.Transmit w = Unit {0}
+OwnFor (event.Hear item) w = AreOwnWords w.vc (item ∷ [])
 
-pub own_for : (given : Event) (w : Listed) → AreOwnWords w.vc w.down.content → OwnFor given w
-own_for (event.Offer request body) w own = tt
-own_for (event.Directive given) w own = tt
-own_for event.Tick w own = tt
-own_for (event.Uplink free) w own = tt
-own_for (event.LoseUp place) w own = tt
-own_for event.Release w own = tt
-own_for event.Clcw w own = tt
-own_for (event.Put telemetry) w own = tt
-own_for event.Downlink w own = own
-own_for (event.LoseDown place) w own = tt
+-- an event that hears what was not in flight
+abbrev pub hears_outside : Event → Bool
+hears_outside (event.Offer request body) = false
+hears_outside (event.Directive given) = false
+hears_outside event.Tick = false
+hears_outside (event.Uplink free) = false
+hears_outside (event.LoseUp place) = false
+hears_outside event.Release = false
+hears_outside event.Clcw = false
+hears_outside (event.Put telemetry) = false
+hears_outside event.Downlink = false
+hears_outside (event.LoseDown place) = false
+hears_outside event.Transmit = false
+hears_outside (event.Hear item) = true
+
+pub own_for : (given : Event) (w : Listed) → hears_outside given ≡ false → AreOwnWords w.vc w.down.content → OwnFor given w
+own_for (event.Offer request body) w inside own = tt
+own_for (event.Directive given) w inside own = tt
+own_for event.Tick w inside own = tt
+own_for (event.Uplink free) w inside own = tt
+own_for (event.LoseUp place) w inside own = tt
+own_for event.Release w inside own = tt
+own_for event.Clcw w inside own = tt
+own_for (event.Put telemetry) w inside own = tt
+own_for event.Downlink w inside own = own
+own_for (event.LoseDown place) w inside own = tt
+own_for event.Transmit w inside own = tt
+own_for (event.Hear item) w inside own = absurd (let not : true ≡ false = inside in cc)
 
 pub happens_once : (given : Event) (w1 w2 v1 v2 : Listed) (a1 a2 : List LinkIndication) → bare w1 ≡ bare w2 → OwnFor given w1 → Happens listed listed given w1 v1 a1 → Happens listed listed given w2 v2 a2
     → IsOnce v1 v2 a1 a2
@@ -270,6 +300,12 @@ happens_once event.Downlink w1 w2 v1 v2 a1 a2 same own (inl (nothing1, h1)) (inr
 happens_once event.Downlink w1 w2 v1 v2 a1 a2 same own (inr h1) (inl (nothing2, h2)) = absurd (nothing_is _ _ (sym nothing2 ∙ sym (ap (λ (b : Bare). b.down) same) ∙ h1.taken))
 happens_once event.Downlink w1 w2 v1 v2 a1 a2 same own (inr h1) (inr h2) = lands_once w1 w2 v1 v2 a1 a2 same own h1 h2
 happens_once (event.LoseDown place) w1 w2 v1 v2 a1 a2 same own h1 h2 = loses_down_once place w1 w2 v1 v2 a1 a2 same h1 h2
+happens_once event.Transmit w1 w2 v1 v2 a1 a2 same own (inl (nothing1, h1)) (inl (nothing2, h2)) = idles_once w1 w2 v1 v2 a1 a2 same h1 h2
+happens_once event.Transmit w1 w2 v1 v2 a1 a2 same own (inl (nothing1, h1)) (inr h2) = absurd (nothing_is _ _ (sym nothing1 ∙ ap (λ (b : Bare). b.up) same ∙ h2.taken))
+happens_once event.Transmit w1 w2 v1 v2 a1 a2 same own (inr h1) (inl (nothing2, h2)) = absurd (nothing_is _ _ (sym nothing2 ∙ sym (ap (λ (b : Bare). b.up) same) ∙ h1.taken))
+happens_once event.Transmit w1 w2 v1 v2 a1 a2 same own (inr h1) (inr h2) = transmits_once w1 w2 v1 v2 a1 a2 same h1 h2
+happens_once (event.Hear item) w1 w2 v1 v2 a1 a2 same own h1 h2 =
+    hears_once item (record w1 { clean = false }) (record w2 { clean = false }) v1 v2 a1 a2 [] (ap (λ (b : Bare). record b { clean = false }) same) own h1 h2
 
 -- what is seen to be one differs in its room at most
 pub once_before : (v1 v2 : Listed) → bare v1 ≡ bare v2 → IsAsBefore listed listed v1 v2

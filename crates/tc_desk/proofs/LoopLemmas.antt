@@ -161,6 +161,7 @@ heard_alike stamp a b book (said.Farm verdict) quiet = refl
 heard_alike stamp a b book (said.Received (report.Word word)) quiet = refl
 heard_alike stamp a b book (said.Received (report.Telemetry item)) quiet = cc
 heard_alike stamp a b book said.Lost quiet = refl
+heard_alike stamp a b book (said.Transmitted frame) quiet = refl
 
 all_heard_alike : (stamp : Stamp) (a b : MirrorState) (all : List LinkIndication) (book : Book) → list_any tells_report all ≡ false → heard_all stamp a all book ≡ heard_all stamp b all book
 all_heard_alike stamp a b [] book quiet = refl

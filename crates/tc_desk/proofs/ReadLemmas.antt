@@ -15,7 +15,7 @@ use Rattle.tc_world.specs.declared.events.Event.TheVariants as event
 use Rattle.tc_world.specs.declared.events.LinkIndication.{LinkIndication}
 use Rattle.tc_world.specs.declared.events.LinkIndication.TheVariants as said
 use Rattle.tc_world.specs.Links.{Kind}
-use Rattle.tc_world.specs.World.{Whole, Happens, IsIdle, Boards, Begins, Carries, told_of_loss, unjudged}
+use Rattle.tc_world.specs.World.{Whole, Happens, IsIdle, Boards, Begins, Carries, Transmits, told_of_loss, unjudged}
 use Rattle.tc_world.proofs.AllLists.{all_made}
 use Rattle.tc_board.specs.Follows.{with_command, read_all}
 use Rattle.tc_board.specs.Mirror.{MirrorState, mirror_after}
@@ -71,6 +71,7 @@ mirror_by_through old new (said.Fop i ∷ others) m same = refl
 mirror_by_through old new (said.Farm verdict ∷ others) m same = refl
 mirror_by_through old new (said.Received item ∷ others) m same = ap (λ given. mirror_after m (item, given)) (told_alike old new item same)
 mirror_by_through old new (said.Lost ∷ others) m same = refl
+mirror_by_through old new (said.Transmitted frame ∷ others) m same = refl
 
 -- ---- nothing comes down but at a reading
 
@@ -102,3 +103,8 @@ brings_none up down event.Clcw old new all quiet h = ap came_down h.2.answered
 brings_none up down (event.Put item) old new all quiet h = ap came_down h.answered
 brings_none up down event.Downlink old new all quiet h = cc
 brings_none up down (event.LoseDown place) old new all quiet h = ap came_down h.answered ∙ loss_brings_none h.found
+brings_none up down event.Transmit old new all quiet h = ⊎_elim
+    (λ (idle : (up.content old.up ≡ []) × IsIdle up down old new all). ap came_down idle.1.answered)
+    (λ (goes : Transmits up old new all). ap came_down goes.answered)
+    h
+brings_none up down (event.Hear item) old new all quiet h = cc

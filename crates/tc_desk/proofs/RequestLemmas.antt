@@ -42,6 +42,7 @@ heard_requests stamp mirror book (said.Fop signal.Started) = refl
 heard_requests stamp mirror book (said.Farm verdict) = refl
 heard_requests stamp mirror book (said.Received item) = (received_riders stamp mirror book item).requests
 heard_requests stamp mirror book said.Lost = refl
+heard_requests stamp mirror book (said.Transmitted frame) = refl
 
 -- what the book hears leaves its requests
 pub heard_all_requests : (stamp : Stamp) (mirror : MirrorState) (all : List LinkIndication) (book : Book) → (heard_all stamp mirror all book).requests ≡ book.requests

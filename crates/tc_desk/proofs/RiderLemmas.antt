@@ -178,6 +178,7 @@ pub hears_apart : (stamp : Stamp) (mirror : MirrorState) (i : LinkIndication) (b
     → AreApart (heard stamp mirror book i) waits (sent ++ sent_said i)
 hears_apart stamp mirror (said.Farm v) book waits sent few w g apart = subst (AreApart book waits) (sym (append-nil sent)) apart
 hears_apart stamp mirror said.Lost book waits sent few w g apart = subst (AreApart book waits) (sym (append-nil sent)) apart
+hears_apart stamp mirror (said.Transmitted frame) book waits sent few w g apart = subst (AreApart book waits) (sym (append-nil sent)) apart
 hears_apart stamp mirror (said.Received item) book waits sent few w g apart =
     subst (AreApart (heard stamp mirror book (said.Received item)) waits) (sym (append-nil sent)) (kept_apart book (heard stamp mirror book (said.Received item)) waits sent (received_riders stamp mirror book item) apart)
 hears_apart stamp mirror (said.Fop (signal.Alert kind)) book waits sent few w g apart = subst (AreApart book waits) (sym (append-nil sent)) apart

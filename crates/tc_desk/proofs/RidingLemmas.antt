@@ -315,6 +315,7 @@ heard_spends stamp mirror book (said.Farm verdict) is quiet = spends_within 0 1 
 heard_spends stamp mirror book (said.Received (report.Word word)) is quiet = spends_within 0 1 book book (spends_none book is) (omega arith)
 heard_spends stamp mirror book (said.Received (report.Telemetry item)) is quiet = cc
 heard_spends stamp mirror book said.Lost is quiet = spends_within 0 1 book book (spends_none book is) (omega arith)
+heard_spends stamp mirror book (said.Transmitted frame) is quiet = spends_within 0 1 book book (spends_none book is) (omega arith)
 
 heard_all_spend : (stamp : Stamp) (mirror : MirrorState) (all : List LinkIndication) (book : Book) → IsOrderly book → list_any tells_report all ≡ false → Spends (length all) book (heard_all stamp mirror all book)
 heard_all_spend stamp mirror [] book is quiet = spends_none book is

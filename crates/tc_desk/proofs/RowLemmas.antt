@@ -220,6 +220,7 @@ pub hears_told : (o : ℕ) (stamp : Stamp) (mirror : MirrorState) (i : LinkIndic
     → Waits book (leaves_said i ++ waits) → AreTold o book sent confirmed → AreTold o (heard stamp mirror book i) (sent ++ sent_said i) (confirmed ++ confirmed_said i)
 hears_told o stamp mirror (said.Farm v) book waits sent confirmed w told = told_nothing o book sent confirmed told
 hears_told o stamp mirror said.Lost book waits sent confirmed w told = told_nothing o book sent confirmed told
+hears_told o stamp mirror (said.Transmitted frame) book waits sent confirmed w told = told_nothing o book sent confirmed told
 hears_told o stamp mirror (said.Received (report.Word word)) book waits sent confirmed w told = told_nothing o book sent confirmed told
 hears_told o stamp mirror (said.Received (report.Telemetry (telemetry.Summary summary))) book waits sent confirmed w told = told_nothing o book sent confirmed told
 hears_told o stamp mirror (said.Received (report.Telemetry (telemetry.Verification v n identity))) book waits sent confirmed w told =

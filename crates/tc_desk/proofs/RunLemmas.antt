@@ -18,7 +18,7 @@ use Rattle.tc_book.specs.declared.stamps.Stamp.{Stamp}
 use Rattle.tc_book.specs.Book.{Book, empty_book}
 use Rattle.tc_book.specs.Good.{IsGoodBook}
 use Rattle.tc_book.proofs.GoodLemmas.{empty_good}
-use Rattle.tc_desk.specs.declared.configs.Config.{Config}
+use Rattle.tc_world.specs.declared.configs.Config.{Config}
 use Rattle.tc_desk.specs.State.{State, new_desk, new_world}
 use Rattle.tc_desk.specs.Machine.{DeskStep, Serves, Carries}
 use Rattle.tc_desk.specs.Replies.{Reply}

@@ -18,7 +18,7 @@ use Rattle.tc_book.specs.Good.{IsGoodBook}
 use Rattle.tc_book.specs.Sound.{IsSound}
 use Rattle.tc_book.specs.Tables.{image_of}
 use Rattle.tc_desk.specs.declared.firsts.FirstLine.{FirstLine}
-use Rattle.tc_desk.specs.declared.configs.Config.{Config}
+use Rattle.tc_world.specs.declared.configs.Config.{Config}
 use Rattle.tc_desk.specs.Downlink.{came_down, KeepsWhole}
 use Rattle.tc_desk.specs.Followed.{mirror_through}
 use Rattle.tc_desk.specs.State.{new_desk, State, DeskState}

@@ -85,3 +85,4 @@ told_one (said.Fop signal.Started) = refl
 told_one (said.Farm verdict) = tt
 told_one (said.Received item) = tt
 told_one said.Lost = tt
+told_one (said.Transmitted frame) = tt

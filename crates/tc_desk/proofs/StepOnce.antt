@@ -1,5 +1,6 @@
 -- Over links that are lists an act comes to one end, but for refused memory.
 use Rattle.std.proofs.Common.{◌≡◌, ◌⊎◌, ℕ, inl, inr, Bool, true, false, Option, Some, None, List, [], ◌∷◌, length, drop, refl, sym, ◌∙◌, ap, subst}
+use Rattle.tc_types.specs.declared.requests.Request.{Request}
 use Rattle.tc_types.specs.declared.acts.Act.{Act}
 use Rattle.tc_types.specs.declared.acts.Act.TheVariants as act
 use Rattle.tc_types.specs.declared.acts.LinkAct.{LinkAct}
@@ -13,16 +14,16 @@ use Rattle.tc_world.specs.declared.events.LinkIndication.{LinkIndication}
 use Rattle.tc_world.specs.InFlight.{listed}
 use Rattle.tc_board.specs.Board.{work_reports}
 use Rattle.tc_book.specs.declared.stamps.Stamp.{Stamp}
-use Rattle.tc_book.specs.Book.{Book}
+use Rattle.tc_book.specs.Book.{Book, request_at}
 use Rattle.tc_book.specs.Logs.{released_with}
 use Rattle.tc_desk.specs.declared.firsts.FirstLine.{FirstLine}
 use Rattle.tc_desk.specs.Acts.{acted, first_of, is_question, refusal_of}
-use Rattle.tc_desk.specs.Asks.{board_after, event_of, has_buffer, mirror_by, reports_after, taken_in}
+use Rattle.tc_desk.specs.Asks.{board_after, event_of, offer_at, has_buffer, mirror_by, reports_after, taken_in}
 use Rattle.tc_desk.specs.Effects.{heard_all}
 use Rattle.tc_desk.specs.Machine.{Boards, Carries, DeskStep, Flies, FliesBeside, Goes, Passes, PutsDown, Reports, Serves, Stands, StaysSame, Works, rows_new}
 use Rattle.tc_desk.specs.Once.{EndsOnce, HasOwnWords, IsOneEnd, ListDesk, is_clock, is_clock_of}
 use Rattle.tc_desk.specs.Replies.{Reply, act_reply, refusal_reply}
-use Rattle.tc_desk.proofs.LinkOnce.{IsOnce, Listed, bare, before_is, happens_once, once_before, own_for}
+use Rattle.tc_desk.proofs.LinkOnce.{IsOnce, Listed, bare, before_is, happens_once, hears_outside, once_before, own_for}
 
 -- ---- the link and the spacecraft
 
@@ -33,9 +34,18 @@ record AreOnce (clock : Bool) (new1 new2 : ListDesk) (all1 all2 : List LinkIndic
   board : new1.board ≡ new2.board
   mirror : new1.mirror ≡ new2.mirror
 
-passes_once : (asked : Option Event) (w v1 v2 : Listed) (a1 a2 : List LinkIndication) → HasOwnWords w → Passes listed listed asked w v1 a1 → Passes listed listed asked w v2 a2 → IsOnce v1 v2 a1 a2
-passes_once None w v1 v2 a1 a2 own p1 p2 = record { world = ap (λ (x : Listed). bare x) (p1.0 ∙ sym p2.0); told = p1.1 ∙ sym p2.1 }
-passes_once (Some given) w v1 v2 a1 a2 own p1 p2 = happens_once given w w v1 v2 a1 a2 refl (own_for given w own) p1.happens p2.happens
+-- what is asked hears nothing from outside
+abbrev asks_inside : Option Event → Type 0
+asks_inside None = Unit {0}
+asks_inside (Some given) = hears_outside given ≡ false
+
+offer_inside : (book : Book) (n : ℕ) (request : Option Request) → asks_inside (offer_at book n request)
+offer_inside book n None = tt
+offer_inside book n (Some request) = refl
+
+passes_once : (asked : Option Event) (w v1 v2 : Listed) (a1 a2 : List LinkIndication) → asks_inside asked → HasOwnWords w → Passes listed listed asked w v1 a1 → Passes listed listed asked w v2 a2 → IsOnce v1 v2 a1 a2
+passes_once None w v1 v2 a1 a2 inside own p1 p2 = record { world = ap (λ (x : Listed). bare x) (p1.0 ∙ sym p2.0); told = p1.1 ∙ sym p2.1 }
+passes_once (Some given) w v1 v2 a1 a2 inside own p1 p2 = happens_once given w w v1 v2 a1 a2 refl (own_for given w inside own) p1.happens p2.happens
 
 puts_once : (items : List Telemetry) (w1 w2 v1 v2 : Listed) → bare w1 ≡ bare w2 → PutsDown listed listed items w1 v1 → PutsDown listed listed items w2 v2 → bare v1 ≡ bare v2
 puts_once [] w1 w2 v1 v2 same p1 p2 = ap (λ (x : Listed). bare x) p1 ∙ same ∙ sym (ap (λ (x : Listed). bare x) p2)
@@ -79,20 +89,20 @@ true_false e = cc
 flies_once : (given : LinkAct) (old new1 new2 : ListDesk) (all1 all2 : List LinkIndication) → HasOwnWords old.world → Flies listed listed given old new1 all1 → Flies listed listed given old new2 all2
     → AreOnce (is_clock_of given) new1 new2 all1 all2
 flies_once (link_act.Release n) old new1 new2 all1 all2 own f1 f2 =
-    passed false new1 new2 all1 all2 (passes_once (event_of old (link_act.Release n)) old.world new1.world new2.world all1 all2 own f1.0 f2.0) (f1.1 ∙ sym f2.1) (f1.2 ∙ sym f2.2)
+    passed false new1 new2 all1 all2 (passes_once (event_of old (link_act.Release n)) old.world new1.world new2.world all1 all2 (offer_inside old.book n (request_at old.book n)) own f1.0 f2.0) (f1.1 ∙ sym f2.1) (f1.2 ∙ sym f2.2)
 flies_once (link_act.Direct given) old new1 new2 all1 all2 own f1 f2 =
-    passed false new1 new2 all1 all2 (passes_once (event_of old (link_act.Direct given)) old.world new1.world new2.world all1 all2 own f1.0 f2.0) (f1.1 ∙ sym f2.1) (f1.2 ∙ sym f2.2)
+    passed false new1 new2 all1 all2 (passes_once (event_of old (link_act.Direct given)) old.world new1.world new2.world all1 all2 refl own f1.0 f2.0) (f1.1 ∙ sym f2.1) (f1.2 ∙ sym f2.2)
 flies_once link_act.Tick old new1 new2 all1 all2 own f1 f2 =
-    passed false new1 new2 all1 all2 (passes_once (event_of old link_act.Tick) old.world new1.world new2.world all1 all2 own f1.0 f2.0) (f1.1 ∙ sym f2.1) (f1.2 ∙ sym f2.2)
+    passed false new1 new2 all1 all2 (passes_once (event_of old link_act.Tick) old.world new1.world new2.world all1 all2 refl own f1.0 f2.0) (f1.1 ∙ sym f2.1) (f1.2 ∙ sym f2.2)
 flies_once link_act.Up old new1 new2 all1 all2 own f1 f2 = boards_once old new1 new2 all1 all2 f1 f2
 flies_once (link_act.LoseUp place) old new1 new2 all1 all2 own f1 f2 =
-    passed false new1 new2 all1 all2 (passes_once (event_of old (link_act.LoseUp place)) old.world new1.world new2.world all1 all2 own f1.0 f2.0) (f1.1 ∙ sym f2.1) (f1.2 ∙ sym f2.2)
+    passed false new1 new2 all1 all2 (passes_once (event_of old (link_act.LoseUp place)) old.world new1.world new2.world all1 all2 refl own f1.0 f2.0) (f1.1 ∙ sym f2.1) (f1.2 ∙ sym f2.2)
 flies_once (link_act.LoseDown place) old new1 new2 all1 all2 own f1 f2 =
-    passed false new1 new2 all1 all2 (passes_once (event_of old (link_act.LoseDown place)) old.world new1.world new2.world all1 all2 own f1.0 f2.0) (f1.1 ∙ sym f2.1) (f1.2 ∙ sym f2.2)
+    passed false new1 new2 all1 all2 (passes_once (event_of old (link_act.LoseDown place)) old.world new1.world new2.world all1 all2 refl own f1.0 f2.0) (f1.1 ∙ sym f2.1) (f1.2 ∙ sym f2.2)
 flies_once link_act.Clcw old new1 new2 all1 all2 own f1 f2 =
-    passed false new1 new2 all1 all2 (passes_once (event_of old link_act.Clcw) old.world new1.world new2.world all1 all2 own f1.0 f2.0) (f1.1 ∙ sym f2.1) (f1.2 ∙ sym f2.2)
+    passed false new1 new2 all1 all2 (passes_once (event_of old link_act.Clcw) old.world new1.world new2.world all1 all2 refl own f1.0 f2.0) (f1.1 ∙ sym f2.1) (f1.2 ∙ sym f2.2)
 flies_once link_act.Down old new1 new2 all1 all2 own f1 f2 =
-    let once = passes_once (event_of old link_act.Down) old.world new1.world new2.world all1 all2 own f1.0 f2.0 in
+    let once = passes_once (event_of old link_act.Down) old.world new1.world new2.world all1 all2 refl own f1.0 f2.0 in
     passed false new1 new2 all1 all2 once (f1.1 ∙ sym f2.1) (f1.2 ∙ ap (λ (all : List LinkIndication). mirror_by old.book all old.mirror) once.told ∙ sym f2.2)
 flies_once link_act.Work old new1 new2 all1 all2 own f1 f2 = works_once old new1 new2 all1 all2 f1 f2
 flies_once (link_act.Clock time) old new1 new2 all1 all2 own f1 f2 =

@@ -14,7 +14,7 @@ use Rattle.tc_world.specs.declared.events.Event.TheVariants as event
 use Rattle.tc_world.specs.declared.events.LinkIndication.{LinkIndication}
 use Rattle.tc_world.specs.declared.events.LinkIndication.TheVariants as said
 use Rattle.tc_world.specs.Links.{Kind}
-use Rattle.tc_world.specs.World.{Whole, Happens, Hears, Lands, IsIdle, Boards, Begins, Carries, told_of_loss, may_move, tells_move, unjudged}
+use Rattle.tc_world.specs.World.{Whole, Happens, Hears, Lands, IsIdle, Boards, Begins, Carries, Transmits, told_of_loss, may_move, tells_move, unjudged}
 use Rattle.tc_book.specs.declared.stamps.Stamp.{Stamp}
 use Rattle.tc_book.specs.Book.{Book}
 use Rattle.tc_board.specs.Mirror.{MirrorState}
@@ -60,6 +60,11 @@ silent up down event.Clcw old new all stamp mirror book quiet still h = ap (λ l
 silent up down (event.Put item) old new all stamp mirror book quiet still h = ap (λ l. heard_all stamp mirror l book) h.answered
 silent up down event.Downlink old new all stamp mirror book quiet still h = cc
 silent up down (event.LoseDown place) old new all stamp mirror book quiet still h = ap (λ l. heard_all stamp mirror l book) h.answered ∙ loss_still stamp mirror book h.found
+silent up down event.Transmit old new all stamp mirror book quiet still h = ⊎_elim
+    (λ (idle : (up.content old.up ≡ []) × IsIdle up down old new all). ap (λ l. heard_all stamp mirror l book) idle.1.answered)
+    (λ (goes : Transmits up old new all). ap (λ l. heard_all stamp mirror l book) goes.answered)
+    h
+silent up down (event.Hear item) old new all stamp mirror book quiet still h = cc
 
 -- ---- reports come down alone
 
@@ -94,6 +99,11 @@ no_report up down event.Clcw old new all quiet h = ap (λ l. list_any tells_repo
 no_report up down (event.Put item) old new all quiet h = ap (λ l. list_any tells_report l) h.answered
 no_report up down event.Downlink old new all quiet h = cc
 no_report up down (event.LoseDown place) old new all quiet h = ap (λ l. list_any tells_report l) h.answered ∙ loss_no_report h.found
+no_report up down event.Transmit old new all quiet h = ⊎_elim
+    (λ (idle : (up.content old.up ≡ []) × IsIdle up down old new all). ap (λ l. list_any tells_report l) idle.1.answered)
+    (λ (goes : Transmits up old new all). ap (λ l. list_any tells_report l) goes.answered)
+    h
+no_report up down (event.Hear item) old new all quiet h = cc
 
 -- what comes down
 landed_alone : {U D : Type 0} (up : Kind U Frame) (item : Report) (old new : Whole U D) (all : List LinkIndication) → Hears up item old new all → ComesAlone all
@@ -114,6 +124,8 @@ comes_alone up down given old new all h = by_event given refl
     by_event event.Clcw same = inl (no_report up down given old new all (ap brings_down same) h)
     by_event (event.Put item) same = inl (no_report up down given old new all (ap brings_down same) h)
     by_event (event.LoseDown place) same = inl (no_report up down given old new all (ap brings_down same) h)
+    by_event event.Transmit same = inl (no_report up down given old new all (ap brings_down same) h)
+    by_event (event.Hear item) same = landed_alone up item (record old { clean = false }) new all (subst (λ e. Happens up down e old new all) same h)
     by_event event.Downlink same = ⊎_elim
         (λ (idle : (down.content old.down ≡ []) × IsIdle up down old new all). inl (ap (λ l. list_any tells_report l) idle.1.answered))
         (λ (lands : Lands up down old new all). landed_alone up lands.item (record old { down = lands.left }) new all lands.heard)

@@ -301,6 +301,7 @@ pub hears_both : (stamp : Stamp) (mirror : MirrorState) (i : LinkIndication) (bo
     → BothTied book (leaves_said i ++ waits) sent → BothTied (heard stamp mirror book i) waits (sent ++ sent_said i)
 hears_both stamp mirror (said.Farm v) book waits sent few tied = kept_both book book waits sent (same_kept book) tied
 hears_both stamp mirror said.Lost book waits sent few tied = kept_both book book waits sent (same_kept book) tied
+hears_both stamp mirror (said.Transmitted frame) book waits sent few tied = kept_both book book waits sent (same_kept book) tied
 hears_both stamp mirror (said.Received (report.Word word)) book waits sent few tied = kept_both book book waits sent (same_kept book) tied
 hears_both stamp mirror (said.Received (report.Telemetry (telemetry.Summary summary))) book waits sent few tied = kept_both book book waits sent (same_kept book) tied
 hears_both stamp mirror (said.Received (report.Telemetry (telemetry.Verification v n identity))) book waits sent few tied =

@@ -35,7 +35,7 @@ use Rattle.tc_world.proofs.Stills.{clean_is}
 use Rattle.tc_world.proofs.WindowSteps.{run_keeps_window}
 use Rattle.tc_book.specs.declared.stamps.Stamp.{Stamp}
 use Rattle.tc_book.specs.Logs.{released_with}
-use Rattle.tc_desk.specs.declared.configs.Config.{Config}
+use Rattle.tc_world.specs.declared.configs.Config.{Config}
 use Rattle.tc_desk.specs.declared.firsts.FirstLine.{FirstLine}
 use Rattle.tc_desk.specs.Asks.{event_of, has_buffer, taken_in, reports_after}
 use Rattle.tc_desk.specs.Machine.{Happened, Passes, PutsDown, Reports, Flies, FliesBeside, Does}
@@ -101,6 +101,8 @@ clean_before up down event.Clcw w e = e
 clean_before up down (event.Put telemetry) w e = e
 clean_before up down event.Downlink w e = e
 clean_before up down (event.LoseDown place) w e = e
+clean_before up down event.Transmit w e = e
+clean_before up down (event.Hear item) w e = absurd (let not : false ≡ true = e in cc)
 
 -- what is told to be sent left the wait queue
 said_leave : (all : List LinkIndication) → IsSublist (flat_map sent_said all) (flat_map leaves_said all)
@@ -114,6 +116,7 @@ said_leave (said.Fop signal.Started ∷ all) = said_leave all
 said_leave (said.Farm verdict ∷ all) = said_leave all
 said_leave (said.Received item ∷ all) = said_leave all
 said_leave (said.Lost ∷ all) = said_leave all
+said_leave (said.Transmitted frame ∷ all) = said_leave all
 
 -- what is offered was not sent, and does not wait
 fresh_offered : {U D : Type 0} (up : Kind U Frame) (down : Kind D Report) (given : Event) (w v : Whole U D) (all : List LinkIndication) → Happens up down given w v all
@@ -128,6 +131,8 @@ fresh_offered up down event.Clcw w v all h distinct = subst Distinct (sym (appen
 fresh_offered up down (event.Put telemetry) w v all h distinct = subst Distinct (sym (append-nil (all_sent w ++ waiting_requests w.fop))) distinct
 fresh_offered up down event.Downlink w v all h distinct = subst Distinct (sym (append-nil (all_sent w ++ waiting_requests w.fop))) distinct
 fresh_offered up down (event.LoseDown place) w v all h distinct = subst Distinct (sym (append-nil (all_sent w ++ waiting_requests w.fop))) distinct
+fresh_offered up down event.Transmit w v all h distinct = subst Distinct (sym (append-nil (all_sent w ++ waiting_requests w.fop))) distinct
+fresh_offered up down (event.Hear item) w v all h distinct = subst Distinct (sym (append-nil (all_sent w ++ waiting_requests w.fop))) distinct
 
 -- no request is sent twice
 tells_distinct : {U D : Type 0} (given : Event) (w v : Whole U D) (all : List LinkIndication) → TellsRequests given w v all

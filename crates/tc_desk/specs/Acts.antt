@@ -141,6 +141,7 @@ first_of_up (said.Farm verdict.Discarded ∷ others) = first.Discarded
 first_of_up (said.Farm verdict.Control ∷ others) = first.Control
 first_of_up (said.Received item ∷ others) = first.Nothing
 first_of_up (said.Lost ∷ others) = first.Nothing
+first_of_up (said.Transmitted frame ∷ others) = first.Nothing
 
 abbrev pub is_there : Option ListedActivity → Bool
 is_there place = is_some place
@@ -158,6 +159,7 @@ first_of_down (said.Farm given ∷ others) = first.Nothing
 first_of_down (said.Received (report.Word word) ∷ others) = first.Word word
 first_of_down (said.Received (report.Telemetry item) ∷ others) = first_of_report item
 first_of_down (said.Lost ∷ others) = first.Nothing
+first_of_down (said.Transmitted frame ∷ others) = first.Nothing
 
 -- whether something was lost
 abbrev pub first_of_loss : List LinkIndication → FirstLine
@@ -166,6 +168,7 @@ first_of_loss (said.Fop i ∷ others) = first.Nothing
 first_of_loss (said.Farm given ∷ others) = first.Nothing
 first_of_loss (said.Received item ∷ others) = first.Nothing
 first_of_loss (said.Lost ∷ others) = first.Lost
+first_of_loss (said.Transmitted frame ∷ others) = first.Nothing
 
 -- which request was carried out
 abbrev pub first_of_work : Option Identity → FirstLine

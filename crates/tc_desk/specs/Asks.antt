@@ -55,6 +55,8 @@ brings_down event.Clcw = false
 brings_down (event.Put telemetry) = false
 brings_down event.Downlink = true
 brings_down (event.LoseDown place) = false
+brings_down event.Transmit = false
+brings_down (event.Hear item) = true
 
 -- a request as it comes on board
 abbrev pub telecommand_of : ℕ → Payload → Telecommand
@@ -69,6 +71,7 @@ taken_in (said.Farm verdict.Discarded ∷ others) = None
 taken_in (said.Farm verdict.Control ∷ others) = None
 taken_in (said.Received item ∷ others) = None
 taken_in (said.Lost ∷ others) = None
+taken_in (said.Transmitted frame ∷ others) = None
 
 -- the spacecraft after it
 abbrev pub board_after : Option Telecommand → BoardState → BoardState
@@ -93,6 +96,7 @@ command_down book (said.Fop i ∷ others) = None
 command_down book (said.Farm verdict ∷ others) = None
 command_down book (said.Received item ∷ others) = command_told book item
 command_down book (said.Lost ∷ others) = None
+command_down book (said.Transmitted frame ∷ others) = None
 
 -- a mirror after what came down was read, with this command
 abbrev pub mirror_read : Option ScheduleCommand → List LinkIndication → MirrorState → MirrorState
@@ -101,6 +105,7 @@ mirror_read given (said.Fop i ∷ others) mirror = mirror
 mirror_read given (said.Farm verdict ∷ others) mirror = mirror
 mirror_read given (said.Received item ∷ others) mirror = mirror_after mirror (item, given)
 mirror_read given (said.Lost ∷ others) mirror = mirror
+mirror_read given (said.Transmitted frame ∷ others) mirror = mirror
 
 -- with the command that flew
 abbrev pub mirror_by : Book → List LinkIndication → MirrorState → MirrorState

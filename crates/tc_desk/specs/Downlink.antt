@@ -25,6 +25,7 @@ came_down (said.Fop i ∷ others) = []
 came_down (said.Farm verdict ∷ others) = []
 came_down (said.Received item ∷ others) = item ∷ []
 came_down (said.Lost ∷ others) = []
+came_down (said.Transmitted frame ∷ others) = []
 
 -- reports of the spacecraft, as they fly
 abbrev pub flying : List Telemetry → List Report

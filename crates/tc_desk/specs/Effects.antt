@@ -134,6 +134,7 @@ heard stamp mirror book (said.Fop signal.Started) = book
 heard stamp mirror book (said.Farm verdict) = book
 heard stamp mirror book (said.Received item) = received stamp mirror book item
 heard stamp mirror book said.Lost = book
+heard stamp mirror book (said.Transmitted frame) = book
 
 -- a report of the spacecraft came down
 abbrev pub tells_report : LinkIndication → Bool
@@ -142,6 +143,7 @@ tells_report (said.Farm verdict) = false
 tells_report (said.Received (report.Word word)) = false
 tells_report (said.Received (report.Telemetry item)) = true
 tells_report said.Lost = false
+tells_report (said.Transmitted frame) = false
 
 -- a report comes down alone, and else none does
 abbrev pub ComesAlone : List LinkIndication → Type 0

@@ -10,8 +10,9 @@ use Rattle.tc_book.specs.Good.{IsGoodBook}
 use Rattle.tc_book.specs.Opening.{opened_book}
 use Rattle.tc_book.specs.Sound.{IsSound, book_of}
 use Rattle.tc_book.specs.Tables.{image_of}
-use Rattle.tc_desk.specs.declared.configs.Config.{Config}
-use Rattle.tc_desk.specs.State.{State, DeskState, IsConfig, new_desk}
+use Rattle.tc_world.specs.declared.configs.Config.{Config}
+use Rattle.tc_world.specs.Config.{IsConfig}
+use Rattle.tc_desk.specs.State.{State, DeskState, new_desk}
 
 -- the book is what the opening makes of the one that was left; the link, the spacecraft and the mirror are new
 abbrev pub reopened_parts : {U D : Type 0} → Config → ℕ → Image → U → D → State U D

@@ -18,10 +18,10 @@ use Rattle.tc_types.specs.ProcedureLines.{procedure_line, begun_line, execution_
 use Rattle.tc_types.specs.declared.tables.rows.BegunExecution.{BegunExecution}
 use Rattle.tc_types.specs.declared.tables.rows.LoadedProcedure.{LoadedProcedure}
 use Rattle.tc_types.specs.declared.tables.rows.ProcedureStep.{ProcedureStep}
-use Rattle.tc_waits.specs.declared.waits.Waiting.{Waiting}
-use Rattle.tc_waits.specs.WaitingLines.{waiting_line, waiting_count_line}
-use Rattle.tc_waits.specs.ListLines.{moves_line, standing_line, named_line}
-use Rattle.tc_waits.specs.StepLines.{procedure_head_line, step_line}
+use Rattle.tc_types.specs.declared.waits.Waiting.{Waiting}
+use Rattle.tc_types.specs.WaitingLines.{waiting_line, waiting_count_line}
+use Rattle.tc_types.specs.ListLines.{moves_line, standing_line, named_line}
+use Rattle.tc_types.specs.StepLines.{procedure_head_line, step_line}
 use Rattle.tc_proc.specs.Logs.{LogState, execution_at, next_of, procedure_at, records_of, steps_of}
 use Rattle.tc_report.specs.ShiftReport.{IsReport}
 use Rattle.tc_world.specs.declared.events.LinkIndication.{LinkIndication}

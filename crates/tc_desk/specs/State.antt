@@ -2,23 +2,15 @@
 use Rattle.std.specs.Prelude.{◌≡◌, ◌⊎◌, ℕ, ◌≤◌, ◌/◌, nat_lt, Bool, true, false, if◌then◌else◌, IfErr, OnOk, Option, Some, None, Result, []}
 use Rattle.tc_types.specs.declared.refusals.Refusal.{Refusal}
 use Rattle.tc_types.specs.declared.refusals.Refusal.TheVariants.{BadDirective, Memory}
-use Rattle.tc_farm.specs.Farm.{IsWindowWidth, new_farm}
+use Rattle.tc_farm.specs.Farm.{new_farm}
 use Rattle.tc_fop.specs.Calls.{new_machine}
+use Rattle.tc_world.specs.declared.configs.Config.{Config}
+use Rattle.tc_world.specs.Config.{IsConfig}
 use Rattle.tc_world.specs.Logs.{blank}
 use Rattle.tc_world.specs.World.{Whole, is_fitting}
 use Rattle.tc_board.specs.Board.{BoardState, new_board}
 use Rattle.tc_board.specs.Mirror.{MirrorState, no_mirror}
 use Rattle.tc_book.specs.Book.{Book, empty_book}
-use Rattle.tc_desk.specs.declared.configs.Config.{Config}
-
--- links that are lists, or rings of 1 to 4,096 items
-abbrev pub IsRing : Option ℕ → Type 0
-IsRing None = Unit {0}
-IsRing (Some size) = (1 ≤ size) × (size ≤ 4096)
-
--- what may be chosen: W even, 2 to 254, a channel of 6 bits, and the links
-abbrev pub IsConfig : Config → Type 0
-IsConfig config = IsWindowWidth config.window × (config.channel ≤ 63) × IsRing config.ring
 
 -- a desk is made of what may be chosen alone; else the answer is `BadDirective`, or else `Memory` where that is refused
 pub record MakesOf {X : Type 0} (chosen : Config) (result : Result X Refusal) : Type 0 where

@@ -94,3 +94,4 @@ told_line (said.Fop signal.Started) = Some (codes "started")
 told_line (said.Farm verdict) = None
 told_line (said.Received item) = None
 told_line said.Lost = None
+told_line (said.Transmitted frame) = None

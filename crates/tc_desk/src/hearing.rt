@@ -42,7 +42,8 @@ fn hear<A: Allocator + Copy + Drop>(records: &mut Records<A>, stamp: &Stamp, sai
         LinkIndication::Fop(signals::Indication::Alert(_) | signals::Indication::Started)
         | LinkIndication::Received(_)
         | LinkIndication::Farm(_)
-        | LinkIndication::Lost => {}
+        | LinkIndication::Lost
+        | LinkIndication::Transmitted(_) => {}
     }
 }
 

@@ -8,7 +8,7 @@ ghost use Rattle.tc_fop.specs.Fair.{may_alert};
 ghost use Rattle.tc_book.specs.declared.stamps.Stamp.{Stamp};
 ghost use Rattle.tc_book.specs.Book.{Book};
 ghost use Rattle.tc_book.specs.Good.{IsGoodBook};
-ghost use Rattle.tc_desk.specs.declared.configs.Config.{Config};
+ghost use Rattle.tc_world.specs.declared.configs.Config.{Config};
 ghost use Rattle.tc_desk.specs.State.{State, new_desk};
 ghost use Rattle.tc_desk.specs.Fair.{RepliesFairly};
 ghost use Rattle.tc_desk.specs.Headline.{Deed, DeedsRun, TellsTrue};

@@ -6,7 +6,6 @@
 
 mod acts;
 mod commands;
-mod configs;
 mod desks;
 mod dones;
 mod downlinks;
@@ -21,7 +20,6 @@ mod reporting;
 mod status_texts;
 mod statuses;
 
-pub use configs::Config;
 pub use desks::{Desk, Reopened};
 pub use dones::Done;
 pub use firsts::FirstLine;

@@ -1,10 +1,11 @@
 //! The parts of the desk: its book, its link, the rehearsal spacecraft and the mirror of its schedule, and the acts on them.
-ghost use Rattle.std.specs.Prelude.{◌≡◌, ◌↔◌, ◌+◌, ◌==◌, ◌≤◌, IsTrue, true, false, length, IfErr, IfOk, OnOk};
+ghost use Rattle.std.specs.Prelude.{◌≡◌, ◌+◌, ◌==◌, ◌≤◌, true, false, length, IfErr, IfOk, OnOk};
 ghost use Rattle.tc_types.specs.declared.refusals.Refusal.TheVariants.{BadDirective, Memory};
 ghost use Rattle.tc_types.specs.declared.acts.Act.TheVariants as act;
 ghost use Rattle.tc_book.specs.Good.{IsGoodBook};
 ghost use Rattle.tc_book.specs.Batch.{GoesOn};
-ghost use Rattle.tc_desk.specs.State.{IsConfig, IsRing, first_k, new_desk};
+ghost use Rattle.tc_world.specs.Config.{IsConfig};
+ghost use Rattle.tc_desk.specs.State.{first_k, new_desk};
 ghost use Rattle.tc_desk.specs.Acts.{is_question};
 ghost use Rattle.tc_desk.specs.Machine.{MakesRows};
 ghost use Rattle.tc_farm.specs.Farm.{new_farm};
@@ -13,7 +14,6 @@ ghost use Rattle.tc_world.specs.Window.{IsClaimed};
 ghost use Rattle.tc_desk.specs.Downlink.{came_down};
 ghost use Rattle.tc_desk.specs.Parts.{IsEven, Performs, Responds};
 
-use crate::configs::Config;
 use crate::dones::{Acted, Done};
 use crate::flights::Flight;
 use std::alloc::Allocator;
@@ -23,7 +23,7 @@ use tc_book::{Draft, Records, Stamp};
 use tc_farm::Farm;
 use tc_fop::Fop;
 use tc_types::{Act, Frame, LinkAct, Moment, Refusal, Report};
-use tc_world::{Carrier, LinkIndication, World};
+use tc_world::{Carrier, Config, LinkIndication, World, is_fit};
 
 /// K, the FOP sliding window width, as a desk is made, where the FARM's window lets it be so wide.
 const K: u8 = 10;
@@ -36,9 +36,6 @@ const LIMIT: u8 = 3;
 
 /// The spacecraft's time, as a desk is made.
 const START: u32 = 0;
-
-/// The most items that a link may hold which is a ring.
-const GREATEST_RING: u32 = 4_096;
 
 /// The book, the link, the spacecraft, and the mirror of its schedule. What ties them is the desk's.
 #[derive(Drop)]
@@ -60,17 +57,13 @@ fn count_down(said: &[LinkIndication]) -> usize
 {
     match said.first() {
         Some(LinkIndication::Received(_)) => 1,
-        None | Some(LinkIndication::Fop(_) | LinkIndication::Farm(_) | LinkIndication::Lost) => 0,
-    }
-}
-
-/// Whether the links may be so: lists, or rings of 1 to 4,096 items.
-fn is_ring(ring: Option<u32>) -> bool
-    ensures { IsTrue result ↔ IsRing ring }
-{
-    match ring {
-        None => true,
-        Some(size) => size >= 1 && size <= GREATEST_RING,
+        None
+        | Some(
+            LinkIndication::Fop(_)
+            | LinkIndication::Farm(_)
+            | LinkIndication::Lost
+            | LinkIndication::Transmitted(_),
+        ) => 0,
     }
 }
 
@@ -93,11 +86,10 @@ pub(crate) fn farm_of(config: Config) -> Result<Farm, Refusal>
     ensures config { OnOk result (IsConfig config) }
     ensures refused { IfErr result (λ refusal. (refusal ≡ BadDirective) × (¬ IsConfig config)) }
 {
-    let farm = Farm::new(config.window).ok_or(Refusal::BadDirective)?;
-    if config.channel > 63 || !is_ring(config.ring) {
+    if !is_fit(config) {
         return Err(Refusal::BadDirective);
     }
-    Ok(farm)
+    Farm::new(config.window).ok_or(Refusal::BadDirective)
 }
 
 /// Whether two counts are together as much as two others.

@@ -7,7 +7,6 @@ ghost use Rattle.tc_book.specs.Tables.{image_of};
 ghost use Rattle.tc_desk.specs.Acts.{plain};
 ghost use Rattle.tc_desk.specs.Opening.{MakesOpening, OpensOf, reopened_desk};
 
-use crate::configs::Config;
 use crate::desks::{Desk, Reopened};
 use crate::dones::answer;
 use crate::parts::{Parts, farm_of};
@@ -15,7 +14,7 @@ use std::alloc::Allocator;
 use tc_book::laws::a_good_book_is_sound;
 use tc_book::{Opened, open};
 use tc_types::{Frame, Image, Moment, Refusal, Report};
-use tc_world::Carrier;
+use tc_world::{Carrier, Config};
 
 impl<U: Carrier<Frame> + Drop, D: Carrier<Report> + Drop, A: Allocator + Copy + Drop> Desk<
     U,

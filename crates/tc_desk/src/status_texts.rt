@@ -197,6 +197,7 @@ pub fn told_text<A: Allocator + Copy>(
         )
         | LinkIndication::Farm(_)
         | LinkIndication::Received(_)
-        | LinkIndication::Lost => Ok(None),
+        | LinkIndication::Lost
+        | LinkIndication::Transmitted(_) => Ok(None),
     }
 }

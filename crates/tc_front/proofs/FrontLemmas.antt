@@ -9,12 +9,12 @@ use Rattle.httparse.specs.Spans.{name_and_value}
 use Rattle.httparse.proofs.GrammarLemmas.{request_unique}
 use Rattle.tc_types.specs.Grammar.{Reads}
 use Rattle.tc_types.specs.declared.acts.Query.TheVariants as query
-use Rattle.tc_routes.specs.declared.paths.Post.{Post}
+use Rattle.tc_front.specs.declared.paths.Post.{Post}
 use Rattle.tc_front.specs.declared.judge.Judgement.{Judgement}
 use Rattle.tc_front.specs.declared.judge.Judgement.TheVariants as judgement
 use Rattle.tc_front.specs.declared.front.Decision.{Decision}
 use Rattle.tc_front.specs.declared.judge.Refused.TheVariants.{Large}
-use Rattle.tc_routes.specs.Paths.{Texts, places_text, request_text, history_text, report_text, waiting_text, moves_text, procedure_text, Named, posts_to, asks_for, shows_board, path_of}
+use Rattle.tc_front.specs.Paths.{Texts, places_text, request_text, history_text, report_text, waiting_text, moves_text, procedure_text, Named, posts_to, asks_for, shows_board, path_of}
 use Rattle.tc_front.specs.Fields.{Held, absent, single, several}
 use Rattle.tc_front.specs.Judge.{both, AsksFor, AsksRequest, AsksHistory, AsksReport, AsksMoves, AsksProcedure, JudgesQuestion, JudgesGet, JudgesLength, JudgesPost, JudgesBody, JudgesCoding, JudgesPath, JudgesHead, Judges, asked_or_bad, without_body}
 use Rattle.tc_front.specs.Ends.{head_end, skip_ends}

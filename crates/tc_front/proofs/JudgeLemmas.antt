@@ -1,6 +1,6 @@
 -- The tests of a head, one after the other.
 use Rattle.std.proofs.Common.{◌≡◌, ◌≢◌, ◌↔◌, ℕ, Bool, true, false, IsTrue, Some, List, codes, refl, sym}
-use Rattle.tc_routes.specs.Paths.{Named, path_of}
+use Rattle.tc_front.specs.Paths.{Named, path_of}
 use Rattle.tc_front.specs.Fields.{values, Held, found_of, found_view}
 use Rattle.tc_front.specs.Judge.{JudgesParts, JudgesCoding, JudgesBody, bad, method_of}
 use Rattle.tc_front.specs.declared.fields.FieldValues.{FieldValues}

@@ -6,3 +6,9 @@ pub mod FrontLemmas
 pub mod WantedLemmas
 pub mod ReadLemmas
 pub mod WriteLemmas
+mod SeekLaws
+mod WalkLaws
+mod PathLaws
+mod RouteLaws
+mod TextLaws
+mod DeskLaws

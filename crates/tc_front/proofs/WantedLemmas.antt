@@ -5,12 +5,12 @@ use Rattle.std.proofs.lemmas.Bool.Decides.{nat_tests}
 use Rattle.std.specs.Str.Parse.{digits_value}
 use Rattle.httparse.specs.Spans.{name_and_value}
 use Rattle.tc_types.specs.declared.acts.Query.{Query}
-use Rattle.tc_routes.specs.declared.paths.Post.{Post}
+use Rattle.tc_front.specs.declared.paths.Post.{Post}
 use Rattle.tc_front.specs.declared.judge.Judgement.{Judgement}
 use Rattle.tc_front.specs.declared.judge.Judgement.TheVariants as judgement
 use Rattle.tc_front.specs.declared.judge.Refused.TheVariants.{Large}
 use Rattle.tc_front.specs.declared.watch.Watch.{Watch}
-use Rattle.tc_routes.specs.Paths.{Texts, Named, posts_to, asks_for, shows_board, path_of, same}
+use Rattle.tc_front.specs.Paths.{Texts, Named, posts_to, asks_for, shows_board, path_of, same}
 use Rattle.tc_front.specs.Fields.{Held, absent, single, several}
 use Rattle.tc_front.specs.Judge.{JudgesQuestion, JudgesGet, JudgesLength, JudgesPost, JudgesBody, JudgesCoding, JudgesPath, Judges, asked_or_bad, bad, without_body}
 use Rattle.tc_front.specs.Ends.{head_end, skip_ends, HasSearched}

@@ -2,7 +2,7 @@
 use Rattle.std.specs.Prelude.{◌≡◌, ℕ, ◌<◌, Bool, if◌then◌else◌, List, [], ◌∷◌, length, map, get_or}
 use Rattle.std.specs.Char.{to_ascii_lowercase}
 use Rattle.std.specs.Str.Parse.{AllDigits}
-use Rattle.tc_routes.specs.Paths.{same}
+use Rattle.tc_front.specs.Paths.{same}
 use Rattle.tc_front.specs.declared.fields.FieldValues.{FieldValues}
 use Rattle.tc_front.specs.declared.fields.FieldValues.TheVariants as found
 

@@ -1,7 +1,7 @@
 -- What a front of the input decides.
 use Rattle.std.specs.Prelude.{◌≡◌, ℕ, ◌+◌, ◌<◌, ◌≤◌, min, Option, Some, None, List, length, take, drop}
 use Rattle.tc_types.specs.declared.acts.Query.{Query}
-use Rattle.tc_routes.specs.declared.paths.Post.{Post}
+use Rattle.tc_front.specs.declared.paths.Post.{Post}
 use Rattle.tc_front.specs.declared.judge.Refused.{Refused}
 use Rattle.tc_front.specs.declared.judge.Refused.TheVariants.{Large}
 use Rattle.tc_front.specs.declared.judge.Judgement.{Judgement}

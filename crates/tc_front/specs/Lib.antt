@@ -6,3 +6,5 @@ pub mod Watch
 pub mod Read
 pub mod Write
 pub mod Lines
+pub mod Paths
+pub mod Routes

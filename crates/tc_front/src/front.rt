@@ -6,7 +6,8 @@ ghost use Rattle.tc_front.specs.Front.{Asked, Completes, IsDecided, IsWanted, Wa
 use crate::ends::{HeadSearch, skip_ends};
 use crate::heads::judge;
 use crate::judge::{Judgement, Refused};
-use tc_routes::{Post, Routes};
+use crate::paths::Post;
+use crate::routes::Routes;
 use tc_types::Query;
 
 /// The most bytes of a head text, with the CR and LF bytes before it. It is this desk's own limit.

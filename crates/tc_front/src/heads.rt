@@ -5,9 +5,9 @@ ghost use Rattle.httparse.specs.Spans.{IsRequestAt, IsRequestWithin, span_bytes}
 ghost use Rattle.tc_front.specs.Judge.{IsGoodHead, Judges, JudgesHead, unfit};
 
 use crate::judge::{Judgement, Refused, judge_parts};
+use crate::routes::Routes;
 use httparse::Status;
 use httparse::spans::{EMPTY_HEADER_SPAN, HeaderSpan, RequestSpans, parse_request};
-use tc_routes::Routes;
 
 /// The most header lines of a head. It is this desk's own limit.
 const MOST_HEADERS: usize = 64;

@@ -3,15 +3,16 @@
 ghost use Rattle.std.specs.Prelude.{◌≡◌, length, map, All, IsUtf8};
 ghost use Rattle.httparse.specs.Spans.{IsHeaderWithin, header_bytes};
 ghost use Rattle.tc_front.specs.Fields.{found_view};
-ghost use Rattle.tc_routes.specs.Paths.{named_by, texts_of};
+ghost use Rattle.tc_front.specs.Paths.{named_by, texts_of};
 ghost use Rattle.tc_front.specs.Judge.{JudgesBody, JudgesParts, JudgesPost, JudgesQuestion, method_of, without_body};
 
 use crate::fields::{FieldValues, body_length, find};
+use crate::paths::{Path, Post, Question};
 use crate::questions::query_of;
+use crate::routes::Routes;
 use httparse::spans::HeaderSpan;
-use tc_routes::{Path, Post, Question, Routes};
+use tc_lines::read::readers::is;
 use tc_types::Query;
-use tc_types::read::readers::is;
 
 /// The largest body, in bytes. It is this desk's own limit.
 const LARGEST_BODY: usize = 65_536;

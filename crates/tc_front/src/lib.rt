@@ -13,13 +13,17 @@ mod heads;
 mod judge;
 pub mod laws;
 mod lines;
+mod paths;
 mod questions;
 mod read;
+mod routes;
 mod watch;
 mod write;
 
 pub use front::{Decision, decide};
 pub use judge::Refused;
 pub use lines::length_line;
+pub use paths::{Path, Post, Question};
 pub use read::read_front;
+pub use routes::Routes;
 pub use write::{Unwritten, write_whole};

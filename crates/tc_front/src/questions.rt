@@ -1,9 +1,9 @@
 //! The question that a path asks, by the numbers in it.
 ghost use Rattle.tc_front.specs.Judge.{AsksFor, AsksHistory, AsksMoves, AsksProcedure, AsksReport, AsksRequest};
-ghost use Rattle.tc_routes.specs.Paths.{texts_of};
+ghost use Rattle.tc_front.specs.Paths.{texts_of};
 
-use tc_routes::Question;
-use tc_types::read::readers::{moment, number};
+use crate::paths::Question;
+use tc_lines::read::readers::{moment, number};
 use tc_types::{Name, Query};
 
 /// What a path asks: nothing where a number in it is not in form, or past its range.

@@ -5,11 +5,11 @@ ghost use Rattle.tc_types.specs.Counts.{counts_of, inner_of, no_counts};
 ghost use Rattle.tc_front.specs.Front.{Asked, IsDecided, Waits};
 ghost use Rattle.tc_front.specs.Read.{CanGoOn, HasStopped, NoFront};
 
+use crate::routes::Routes;
 use crate::watch::Watch;
 use std::alloc::AllocError;
 use std::io;
 use std::io::Read;
-use tc_routes::Routes;
 use tc_types::{Counted, Refusal};
 
 /// How many times a reader is read at most. Each read gives a byte, and a text of so many decides: a head has 8,192 at most, and a

@@ -5,7 +5,7 @@ ghost use Rattle.tc_front.specs.Watch.{Watches};
 
 use crate::ends::HeadSearch;
 use crate::front::wanted;
-use tc_routes::Routes;
+use crate::routes::Routes;
 
 /// What is known of a text that grows at its end: its head is searched from where the last search stopped, and is parsed
 /// once it has ended, and once more when its body is there. So the work is in line with the text's length, however few

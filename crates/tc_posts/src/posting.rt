@@ -9,8 +9,8 @@ ghost use Rattle.tc_posts.specs.Posting.{Posts, SendsMoment, ascii, body_of, hos
 use serde_json::{Value, json};
 use std::alloc::{AllocError, Global};
 use tc_front::length_line;
-use tc_types::cut;
-use tc_types::read::readers;
+use tc_lines::cut;
+use tc_lines::read::readers;
 
 /// How many bytes of an act are sent at most: one more than an act may have.
 const MOST_ACT: usize = 201;

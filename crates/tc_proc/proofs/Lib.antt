@@ -1,11 +1,9 @@
 pub mod ExecutionLemmas
 pub mod ListLemmas
 pub mod LogLemmas
-pub mod RowLemmas
 pub mod StateLemmas
 pub mod StepLemmas
 pub mod WorkedCases
 pub mod WorkedLogs
 pub mod AfterLemmas
 pub mod ReopenLemmas
-pub mod FaultLemmas

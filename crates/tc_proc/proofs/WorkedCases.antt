@@ -1,26 +1,16 @@
 -- The definitions carried out on a procedure of two steps, of which the second wants a second person and releases request 1.
 use Rattle.std.proofs.Common.{◌≡◌, ℕ, true, false, Option, Some, None, List, [], ◌∷◌, codes, refl}
-use Rattle.std.specs.Fmt.{digits}
-use Rattle.csv.specs.Machine.{next_record}
-use Rattle.csv.specs.Reading.{records_from, strip_bom}
 use Rattle.tc_types.specs.declared.refusals.Refusal.TheVariants.{StepOutOfOrder, Countersign}
-use Rattle.tc_csv.specs.Tables.{records_of, header}
 use Rattle.tc_proc.specs.declared.procedures.Step.{Step}
 use Rattle.tc_proc.specs.declared.records.Record.{Record}
 use Rattle.tc_types.specs.declared.verdicts.Verdict.{Verdict}
 use Rattle.tc_types.specs.declared.verdicts.Verdict.TheVariants.{Done, Failed}
-use Rattle.tc_proc.specs.Procedures.{procedure_columns, step_records}
 use Rattle.tc_proc.specs.Executions.{ExecutionState, begun, next_step, recorded, refusal_of}
 
 abbrev pub two : List Step
 two =
     record { text = codes "check power"; is_countersigned = false; request = None }
     ∷ record { text = codes "switch on"; is_countersigned = true; request = Some 1 } ∷ []
-
--- its text
-pub spelled : records_of (codes "step,text,second,request\n1,check power,no,\n2,switch on,yes,1\n") ≡ header procedure_columns ∷ step_records 1 two
-unfolding next_record records_from strip_bom digits
-spelled = refl
 
 -- ---- an execution of it
 

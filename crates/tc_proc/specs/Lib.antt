@@ -4,4 +4,3 @@ pub mod Logs
 pub mod GoodLogs
 pub mod KeptLogs
 pub mod Faults
-pub mod ProcedureFaults

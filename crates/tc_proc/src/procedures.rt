@@ -37,7 +37,7 @@ impl Model for Procedure {
 
 impl Procedure {
     /// A procedure with these steps.
-    pub(crate) fn of(steps: Vec<Step>) -> Procedure
+    pub fn of(steps: Vec<Step>) -> Procedure
         requires { IsProcedure steps.items }
         ensures { result ≡ steps.items }
     {

@@ -9,7 +9,8 @@ use crate::premises::Premise;
 use crate::texts::add_line;
 use crate::times::time_text;
 use std::alloc::{AllocError, Allocator};
-use tc_types::{Moment, PLACES, places_text};
+use tc_lines::places_text;
+use tc_types::{Moment, PLACES};
 
 /// A line: words, and what they are about.
 fn line_of<A: Allocator + Copy>(alloc: A, words: &str, about: &str) -> Result<String<A>, AllocError>

@@ -13,9 +13,11 @@ mod reports;
 mod shifts;
 mod texts;
 mod times;
+mod totals;
 
 pub use heads::head_text;
 pub use move_lines::add_rows;
 pub use premises::Premise;
 pub use reports::{END, report_text};
 pub use texts::add_line;
+pub use totals::total;

@@ -33,7 +33,7 @@ use Rattle.tc_store.specs.Ledgers.{IsKeptText, KeptAnswer, Ledger, with_image}
 use Rattle.tc_store.specs.Schema.{Holds}
 use Rattle.tc_store.specs.Steps.{LeavesOnly}
 use Rattle.tc_room.specs.declared.answers.Answer.{Answer}
-use Rattle.tc_room.specs.declared.answers.Untold.{Untold}
+use Rattle.tc_types.specs.declared.refusals.Untold.{Untold}
 use Rattle.tc_room.specs.declared.callers.Caller.{Caller}
 use Rattle.tc_room.specs.declared.calls.Called.{Called}
 use Rattle.tc_room.specs.Answers.{Asks, RefusesWith, Says}

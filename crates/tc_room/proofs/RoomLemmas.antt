@@ -30,7 +30,7 @@ use Rattle.tc_book.specs.Conserved.{IsConserved}
 use Rattle.tc_book.specs.Good.{IsGoodBook}
 use Rattle.tc_book.specs.Sound.{IsSound}
 use Rattle.tc_book.specs.Tables.{image_of}
-use Rattle.tc_desk.specs.declared.configs.Config.{Config}
+use Rattle.tc_world.specs.declared.configs.Config.{Config}
 use Rattle.tc_desk.specs.declared.firsts.FirstLine.{FirstLine}
 use Rattle.tc_desk.specs.Acts.{is_question, refusal_of}
 use Rattle.tc_desk.specs.Machine.{Carries, DeskStep, Does, Refuses, Serves, StaysSame, rows_new}

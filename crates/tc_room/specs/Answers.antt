@@ -14,7 +14,7 @@ use Rattle.tc_desk.specs.Headline.{TellsTrue}
 use Rattle.tc_desk.specs.Machine.{stamp_of}
 use Rattle.tc_desk.specs.Replies.{Reply, refusal_reply}
 use Rattle.tc_room.specs.declared.answers.Answer.{Answer}
-use Rattle.tc_room.specs.declared.answers.Untold.{Untold}
+use Rattle.tc_types.specs.declared.refusals.Untold.{Untold}
 use Rattle.tc_room.specs.Joined.{Standing}
 use Rattle.tc_room.specs.Replies.{AreLines, ended, is_refused}
 use Rattle.tc_room.specs.Room.{RoomStep}

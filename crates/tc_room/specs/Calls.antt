@@ -33,7 +33,7 @@ use Rattle.tc_desk.specs.Machine.{DeskStep, stamp_of}
 use Rattle.tc_desk.specs.Replies.{Reply, act_reply, refusal_reply}
 use Rattle.tc_store.specs.Schema.{Holds}
 use Rattle.tc_room.specs.declared.answers.Answer.{Answer}
-use Rattle.tc_room.specs.declared.answers.Untold.{Untold}
+use Rattle.tc_types.specs.declared.refusals.Untold.{Untold}
 use Rattle.tc_room.specs.declared.calls.Called.{Called}
 use Rattle.tc_room.specs.declared.callers.Caller.{Caller}
 use Rattle.tc_room.specs.Answers.{Says}

@@ -6,5 +6,3 @@ pub mod Replies
 pub mod Room
 pub mod Loads
 pub mod Calls
-pub mod Closed
-pub mod Boards

@@ -11,9 +11,9 @@ use Rattle.tc_types.specs.Loads.{LoadLine}
 use Rattle.tc_csv.specs.declared.faults.Fault.{Fault}
 use Rattle.tc_csv.specs.Faults.{rule_refusal}
 use Rattle.tc_stack.specs.declared.stacks.StackRow.{StackRow}
-use Rattle.tc_stack.specs.StackTexts.{SpellsStack, IsStackFault}
+use Rattle.tc_csv.specs.StackTexts.{SpellsStack, IsStackFault}
 use Rattle.tc_proc.specs.declared.procedures.Step.{Step}
-use Rattle.tc_proc.specs.Procedures.{SpellsProcedure, IsProcedureFault}
+use Rattle.tc_csv.specs.ProcedureTexts.{SpellsProcedure, IsProcedureFault}
 use Rattle.tc_book.specs.declared.stamps.Stamp.{Stamp}
 use Rattle.tc_book.specs.Acts.{first_refusal}
 use Rattle.tc_book.specs.Book.{Book}

@@ -15,7 +15,7 @@ use Rattle.tc_types.specs.Tables.{Image, applied}
 use Rattle.tc_world.specs.EitherLink.{IsMade}
 use Rattle.tc_book.specs.Sound.{IsSound}
 use Rattle.tc_book.specs.Tables.{image_of}
-use Rattle.tc_desk.specs.declared.configs.Config.{Config}
+use Rattle.tc_world.specs.declared.configs.Config.{Config}
 use Rattle.tc_desk.specs.Opening.{reopened_parts}
 use Rattle.tc_store.specs.declared.versions.Version.{Version}
 use Rattle.tc_store.specs.Ledgers.{Ledger, IsKeptAnswer, empty_ledger}

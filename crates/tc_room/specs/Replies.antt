@@ -7,7 +7,7 @@ use Rattle.tc_types.specs.declared.tables.rows.StepRecord.{StepRecord}
 use Rattle.tc_types.specs.declared.tables.rows.LoadedProcedure.{LoadedProcedure}
 use Rattle.tc_types.specs.declared.tables.rows.ProcedureStep.{ProcedureStep}
 use Rattle.tc_types.specs.Names.{is_same_name}
-use Rattle.tc_waits.specs.StepLines.{step_line}
+use Rattle.tc_types.specs.StepLines.{step_line}
 use Rattle.tc_desk.specs.Replies.{Reply, procedure_lines}
 pub use Rattle.tc_report.specs.Texts.{AreLines, ended}
 

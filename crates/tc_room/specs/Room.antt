@@ -11,7 +11,7 @@ use Rattle.tc_types.specs.declared.acts.Act.{Act}
 use Rattle.tc_world.specs.EitherLink.{IsMade, either}
 use Rattle.tc_book.specs.declared.stamps.Stamp.{Stamp}
 use Rattle.tc_book.specs.Book.{Book}
-use Rattle.tc_desk.specs.declared.configs.Config.{Config}
+use Rattle.tc_world.specs.declared.configs.Config.{Config}
 use Rattle.tc_desk.specs.State.{new_desk}
 use Rattle.tc_desk.specs.Acts.{refusal_of}
 use Rattle.tc_desk.specs.Headline.{TellsTrue}

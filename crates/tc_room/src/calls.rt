@@ -18,15 +18,16 @@ ghost use Rattle.tc_room.specs.Calls.{ActsAnew, ActsTrue, AnswersActCall, Answer
 ghost use Rattle.tc_room.specs.Joined.{FollowsBoard};
 ghost use Rattle.tc_room.specs.Replies.{AreLines, ended, is_refused};
 
-use crate::answers::{Answer, Untold, answer_asked, refusal_answer};
+use crate::answers::{Answer, answer_asked, refusal_answer};
 use crate::callers::Caller;
 use crate::loadings;
 use crate::rooms::Room;
 use sqlite::Alter;
 use std::alloc::Global;
 use tc_book::Stamp;
+use tc_lines::read_act;
 use tc_types::limits::LONGEST_ACT;
-use tc_types::{Act, Line, LoadKind, Moment, Name, Person, Refusal, read_act};
+use tc_types::{Act, Line, LoadKind, Moment, Name, Person, Refusal, Untold};
 
 /// What a call was answered.
 #[derive(Drop)]

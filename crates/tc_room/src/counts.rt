@@ -1,5 +1,5 @@
 //! How many requests stand at each place, as the tables say.
-ghost use Rattle.std.specs.Prelude.{◌≡◌, ◌≤◌, ◌^◌, IfSome, OnSome, IsTrue, MatchOption, map, sum};
+ghost use Rattle.std.specs.Prelude.{◌≡◌, ◌≤◌, IfSome, OnSome, IsTrue, map, sum};
 ghost use Rattle.sqlite.specs.Held.{state};
 ghost use Rattle.sqlite.specs.State.{HasCleanDisk};
 ghost use Rattle.tc_types.specs.declared.tables.rows.Tally.{Tally};
@@ -9,6 +9,7 @@ ghost use Rattle.tc_room.specs.Crash.{Leaves};
 ghost use Rattle.tc_room.specs.Joined.{HasLedger};
 
 use sqlite::Alter;
+use tc_report::total;
 use tc_store::Tables;
 use tc_types::PLACES;
 
@@ -19,17 +20,6 @@ pub struct PlaceCounts {
     pub entered: u32,
     /// How many stand at each place, in order of number.
     pub places: [u32; PLACES],
-}
-
-/// How many requests stand at all places together, if that is below 2^32.
-pub(crate) fn total(places: &[u32; PLACES]) -> Option<u32>
-    ensures { MatchOption result (2 ^ 32 ≤ sum places.now) (λ all. all ≡ sum places.now) }
-{
-    let mut all: u32 = 0;
-    for amount in places {
-        all = all.checked_add(*amount)?;
-    }
-    Some(all)
 }
 
 /// How many requests were entered and how many stand at each place: the amounts of the tallies. `None` where they cannot be read, or are

@@ -1,48 +1,25 @@
 //! The desk of a room: its links are lists or rings, as it was chosen.
-ghost use Rattle.std.specs.Prelude.{◌≡◌, ◌↔◌, [], true, IfErr, IfOk, IsTrue, length};
+ghost use Rattle.std.specs.Prelude.{◌≡◌, [], true, IfErr, IfOk, length};
 ghost use Rattle.tc_types.specs.declared.refusals.Refusal.TheVariants.{Memory};
 ghost use Rattle.tc_types.specs.Images.{rows_in};
 ghost use Rattle.tc_book.specs.Good.{IsGoodBook};
 ghost use Rattle.tc_desk.specs.Opening.{MakesOpening, OpensOf};
-ghost use Rattle.tc_desk.specs.State.{IsConfig, IsRing, MakesOf};
+ghost use Rattle.tc_world.specs.Config.{IsConfig, IsRing};
+ghost use Rattle.tc_desk.specs.State.{MakesOf};
 ghost use Rattle.tc_world.specs.EitherLink.{IsMade, content_of};
 ghost use Rattle.tc_room.specs.Opening.{IsReopened};
 ghost use Rattle.tc_room.specs.Room.{IsNewDesk};
 
 use std::alloc::Global;
-use tc_desk::{Config, Desk, Reopened};
+use tc_desk::{Desk, Reopened};
 use tc_types::{Frame, Image, Moment, Refusal, Report};
-use tc_world::LinkCarrier;
+use tc_world::{Config, LinkCarrier, is_fit};
 
 /// A desk over two lists or two rings.
 pub type LinkDesk = Desk<LinkCarrier<Frame, Global>, LinkCarrier<Report, Global>, Global>;
 
 /// Such a desk that was opened over tables that were left, and what that made.
 pub type ReopenedDesk = Reopened<LinkCarrier<Frame, Global>, LinkCarrier<Report, Global>, Global>;
-
-/// The most items that a ring holds.
-const GREATEST_RING: u32 = 4_096;
-
-/// Whether links may be made so: lists, or rings of 1 to 4,096 items.
-fn is_ring(ring: Option<u32>) -> bool
-    ensures { IsTrue result ↔ IsRing ring }
-{
-    match ring {
-        Some(size) => 1 <= size && size <= GREATEST_RING,
-        None => true,
-    }
-}
-
-/// Whether a desk may be made so: a window that is even and 2 to 254, a channel of 0 to 63, and lists, or rings of 1 to 4,096 items.
-pub(crate) fn is_fit(config: Config) -> bool
-    ensures { IsTrue result ↔ IsConfig config }
-{
-    2 <= config.window
-        && config.window <= 254
-        && config.window % 2 == 0
-        && config.channel <= 63
-        && is_ring(config.ring)
-}
 
 /// A link with nothing in flight: a ring of so many items, or a list where no size is given. `Memory` where that is refused.
 fn link_of<T: Drop>(alloc: Global, ring: Option<u32>) -> Result<LinkCarrier<T, Global>, Refusal>
@@ -78,7 +55,7 @@ fn make_links(alloc: Global, config: Config) -> Result<Links, Refusal>
 
 /// Makes a desk where nothing happened yet. Fails with `BadDirective` exactly where the window is not even and 2 to 254, the
 /// channel is above 63, or a ring is none of 1 to 4,096 items; else with `Memory` where that is refused.
-pub fn make_desk(alloc: Global, config: Config) -> Result<LinkDesk, Refusal>
+pub(crate) fn make_desk(alloc: Global, config: Config) -> Result<LinkDesk, Refusal>
     ensures made { IfOk result (λ desk. IsNewDesk config desk.parts) }
     ensures opened { IfOk result (λ desk. desk.opened ≡ 0) }
     ensures whole { IfOk result (λ desk. desk.whole ≡ true) }
@@ -92,7 +69,7 @@ pub fn make_desk(alloc: Global, config: Config) -> Result<LinkDesk, Refusal>
 /// Opens a desk over the tables that were left, at a moment. Fails with `BadDirective` where the window is not even and 2 to 254, the
 /// channel is above 63, or a ring is none of 1 to 4,096 items, with `Store` where no desk could have written the tables, and with `Memory`
 /// where that is refused.
-pub fn reopen_desk(
+pub(crate) fn reopen_desk(
     alloc: Global,
     image: &Image,
     config: Config,

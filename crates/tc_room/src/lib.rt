@@ -5,8 +5,6 @@
 mod answers;
 mod callers;
 mod calls;
-mod closed;
-mod closed_boards;
 mod counts;
 mod desks;
 mod loadings;
@@ -16,14 +14,10 @@ mod rooms;
 mod waited;
 mod writes;
 
-pub use answers::{
-    Answer, Untold, answer_line, answer_load, answer_places, answer_query, refusal_answer,
-};
+pub use answers::{Answer, answer_line, answer_load, answer_places, answer_query, refusal_answer};
 pub use callers::Caller;
 pub use calls::Called;
-pub use closed::{closed_head, closed_page};
-pub use closed_boards::closed_board;
-pub use desks::reopen_desk;
+pub use desks::LinkDesk;
 pub use opening::OpenedRoom;
 pub use replies::opening_reply;
 pub use rooms::Room;

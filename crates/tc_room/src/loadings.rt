@@ -9,10 +9,10 @@ ghost use Rattle.tc_room.specs.Loads.{IsNotRead, IsTextFault, IsTooLong, SpellsL
 use crate::desks::LinkDesk;
 use std::alloc::{AllocError, Global};
 use tc_book::Stamp;
-use tc_csv::Fault;
+use tc_csv::{Fault, read_procedure, read_stack, why_no_procedure, why_no_stack};
 use tc_desk::Done;
-use tc_proc::{Procedure, read_procedure, why_no_procedure};
-use tc_stack::{Stack, read_stack, why_no_stack};
+use tc_proc::Procedure;
+use tc_stack::Stack;
 use tc_types::{LoadKind, Name, Refusal};
 
 /// What a text spells.

@@ -6,7 +6,7 @@ ghost use Rattle.sqlite.specs.State.{HasCleanDisk};
 ghost use Rattle.sqlite.specs.Steps.{over_memory};
 ghost use Rattle.tc_sql.specs.Builds.{no_schema};
 ghost use Rattle.tc_types.specs.declared.refusals.Refusal.TheVariants.{BadDirective, Memory, Store};
-ghost use Rattle.tc_desk.specs.State.{IsConfig};
+ghost use Rattle.tc_world.specs.Config.{IsConfig};
 ghost use Rattle.tc_store.specs.declared.versions.Version.{Version as SomeVersion};
 ghost use Rattle.tc_store.specs.Ledgers.{Ledger, empty_ledger};
 ghost use Rattle.tc_store.specs.Schema.{IsSchemaOf, HoldsAs};
@@ -15,14 +15,15 @@ ghost use Rattle.tc_room.specs.Crash.{HasRows, LeavesOr};
 ghost use Rattle.tc_room.specs.Opening.{KeepsTables, LeavesOpening, OpensAs, OpensLeft, OpensTo, ShowsDesk};
 ghost use Rattle.tc_room.specs.Room.{IsJustOpened};
 
-use crate::desks::{is_fit, make_desk, reopen_desk};
+use crate::desks::{make_desk, reopen_desk};
 use crate::rooms::Room;
 use crate::writes::write_rows;
 use sqlite::{Alter, Connection, MemStore};
 use std::alloc::Global;
-use tc_desk::{Config, Reopened};
+use tc_desk::Reopened;
 use tc_store::{StoreFault, Tables, Version};
 use tc_types::{Moment, Move, Refusal};
+use tc_world::{Config, is_fit};
 
 /// A room that was opened.
 #[derive(Drop)]

@@ -2,18 +2,17 @@
 //! ended by LF, and has no other LF in it.
 ghost use Rattle.std.specs.Prelude.{◌≡◌, ◌++◌, ◌∷◌, [], IfOk, OnOk, length, map};
 ghost use Rattle.std.specs.String.{string_bytes};
-ghost use Rattle.tc_waits.specs.WaitingLines.{waiting_line};
+ghost use Rattle.tc_types.specs.WaitingLines.{waiting_line};
 ghost use Rattle.tc_desk.specs.Replies.{named_request, standing_lines, waiting_lines};
 ghost use Rattle.tc_room.specs.Replies.{AreLines, ended, procedure_told, steps_in, steps_told};
 
 use crate::replies::{MOST_SHOWN, front};
 use std::alloc::{AllocError, Global};
-use tc_report::add_line;
-use tc_types::{LoadedProcedure, Name, Place, ProcedureStep, Request, is_same_name};
-use tc_waits::{
-    Waiting, named_text, procedure_head_text, standing_text, step_text, waiting_count_text,
-    waiting_text,
+use tc_lines::{
+    named_text, procedure_head_text, standing_text, step_text, waiting_count_text, waiting_text,
 };
+use tc_report::add_line;
+use tc_types::{LoadedProcedure, Name, Place, ProcedureStep, Request, Waiting, is_same_name};
 
 /// Adds a line for each of these to a reply.
 fn add_waiting(alloc: Global, reply: &mut String, waiting: &[Waiting]) -> Result<(), AllocError>

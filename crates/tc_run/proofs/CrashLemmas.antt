@@ -17,7 +17,7 @@ use Rattle.sqlite.proofs.Theorems.{next_run}
 use Rattle.tc_types.specs.declared.history.moves.Move.{Move}
 use Rattle.tc_book.specs.Book.{Book}
 use Rattle.tc_book.specs.Tables.{image_of}
-use Rattle.tc_desk.specs.declared.configs.Config.{Config}
+use Rattle.tc_world.specs.declared.configs.Config.{Config}
 use Rattle.tc_store.specs.declared.versions.Version.{Version}
 use Rattle.tc_sql.specs.Builds.{no_schema}
 use Rattle.tc_store.specs.Ledgers.{KeptAnswer, Ledger, empty_ledger, newest}

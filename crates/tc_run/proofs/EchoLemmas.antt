@@ -5,7 +5,7 @@ use Rattle.sqlite_trees.specs.declared.store.Store.{Ghosts}
 use Rattle.tc_desk.specs.Replies.{Reply}
 use Rattle.tc_room.specs.Joined.{Standing}
 use Rattle.tc_room.specs.Replies.{ended}
-use Rattle.tc_run.specs.Files.{FileAnswer}
+use Rattle.tc_closed.specs.Files.{FileAnswer}
 use Rattle.tc_check.specs.Scripts.{is_skipped}
 use Rattle.tc_run.specs.Run.{AnswersScriptLine, TakesLine, TakesLines, answered, exchange, exchanges}
 

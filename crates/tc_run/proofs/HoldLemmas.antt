@@ -22,7 +22,7 @@ use Rattle.tc_room.specs.Joined.{HasLedger, HoldsBook, Standing}
 use Rattle.tc_room.specs.Loads.{FailsLoad, LoadsText, RoomLoad, SpellsLoading, loader_of}
 use Rattle.tc_room.specs.Replies.{is_refused}
 use Rattle.tc_room.specs.Room.{FailsStore, RoomStep, StepsDesk}
-use Rattle.tc_run.specs.Files.{FileAnswer}
+use Rattle.tc_closed.specs.Files.{FileAnswer}
 use Rattle.tc_check.specs.Scripts.{is_skipped}
 use Rattle.tc_run.specs.Run.{AnswersScriptLine, FailsLine, HasFailed, TakesFront, TakesLine, TakesLines, TellsBook}
 use Rattle.tc_run.proofs.TakeLemmas.{takes_front-start, takes_front-step}

@@ -8,17 +8,17 @@ use Rattle.sqlite.specs.State.{HasCleanDisk}
 use Rattle.tc_sql.specs.Builds.{no_schema}
 use Rattle.tc_types.specs.Counts.{no_counts}
 use Rattle.tc_types.specs.declared.history.moves.Move.{Move}
-use Rattle.tc_desk.specs.declared.configs.Config as configs
+use Rattle.tc_world.specs.declared.configs.Config as configs
 use Rattle.tc_store.specs.declared.versions.Version.{Version}
 use Rattle.tc_store.specs.Schema.{IsSchemaOf}
 use Rattle.tc_front.specs.Write.{Stream, Writes}
 use Rattle.tc_room.specs.Opening.{KeepsTables, LeavesOpening}
-use Rattle.tc_run.specs.declared.script.ScriptFault.{ScriptFault}
-use Rattle.tc_run.specs.declared.script.ScriptFault.TheVariants.{Output}
+use Rattle.tc_closed.specs.declared.scripts.ScriptFault.{ScriptFault}
+use Rattle.tc_closed.specs.declared.scripts.ScriptFault.TheVariants.{Output}
 use Rattle.tc_run.specs.Kept.{CutsOpening, StaysUnopened, opening_text}
-use Rattle.tc_run.specs.Script.{Ends, written_counts}
+use Rattle.tc_closed.specs.Scripts.{Ends, written_counts}
 use Rattle.tc_run.specs.Stops.{IsCutShort}
-use Rattle.tc_run.proofs.StopLemmas.{output_is_other}
+use Rattle.tc_closed.proofs.EndsLemmas.{output_is_other}
 
 -- the moves of an opening were written, or cut short where a write failed
 pub opening_told : {X : Type 0} (moves : List Move) (bytes : List ℕ) (old new : Stream) (result : Result X ScriptFault) → bytes ≡ opening_text moves

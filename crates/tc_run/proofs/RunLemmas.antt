@@ -17,12 +17,12 @@ use Rattle.tc_types.specs.declared.refusals.Refusal.{Refusal}
 use Rattle.tc_types.specs.declared.refusals.Refusal.TheVariants.{TooLong}
 use Rattle.tc_desk.specs.Headline.{TellsTrue}
 use Rattle.tc_desk.specs.Replies.{Reply}
-use Rattle.tc_desk.specs.declared.configs.Config as configs
+use Rattle.tc_world.specs.declared.configs.Config as configs
 use Rattle.tc_room.specs.Answers.{RefusesWith}
 use Rattle.tc_room.specs.Joined.{Standing}
 use Rattle.tc_room.specs.Replies.{ended, is_refused}
 use Rattle.tc_room.specs.Room.{IsJustOpened}
-use Rattle.tc_run.specs.Files.{FileAnswer, Gives}
+use Rattle.tc_closed.specs.Files.{FileAnswer, Gives}
 use Rattle.tc_check.specs.Scripts.{IsLoadLine, is_skipped, script_lines}
 use Rattle.tc_run.specs.Run.{Came, CameLast, IsAnswered, RepliesTo, RunsLines, TakesFront, TakesLine, TakesLines, answered, exchange, exchanges}
 use Rattle.tc_run.proofs.EchoLemmas.{exchanges_more}

@@ -14,23 +14,24 @@ use Rattle.tc_types.specs.Loads.{LoadLine}
 use Rattle.tc_types.specs.declared.refusals.Refusal.{Refusal}
 use Rattle.tc_types.specs.declared.refusals.Refusal.TheVariants as refusal
 use Rattle.tc_desk.specs.Replies.{Reply}
-use Rattle.tc_desk.specs.State.{IsConfig}
-use Rattle.tc_desk.specs.declared.configs.Config as configs
+use Rattle.tc_world.specs.Config.{IsConfig}
+use Rattle.tc_world.specs.declared.configs.Config as configs
 use Rattle.tc_store.specs.Ledgers.{KeptAnswer}
 use Rattle.tc_room.specs.Answers.{AsksPlaces, RefusesWith}
 use Rattle.tc_room.specs.Joined.{HoldsBook, Standing}
 use Rattle.tc_room.specs.Loads.{RoomLoad, loader_of}
 use Rattle.tc_room.specs.Replies.{AreLines, ended}
 use Rattle.tc_room.specs.Room.{IsJustOpened}
-use Rattle.tc_run.specs.declared.paths.PathFault.TheVariants as path_fault
-use Rattle.tc_run.specs.declared.script.ScriptFault.{ScriptFault}
-use Rattle.tc_run.specs.declared.script.ScriptFault.TheVariants.{Script, Output, Memory, Tables, Config, Path}
-use Rattle.tc_run.specs.Files.{FileAnswer, Gives, file_at, none_at}
-use Rattle.tc_run.specs.Script.{Ends, fault_of, written_counts}
+use Rattle.tc_closed.specs.declared.paths.PathFault.TheVariants as path_fault
+use Rattle.tc_closed.specs.declared.scripts.ScriptFault.{ScriptFault}
+use Rattle.tc_closed.specs.declared.scripts.ScriptFault.TheVariants.{Script, Output, Memory, Tables, Config, Path}
+use Rattle.tc_closed.specs.Files.{FileAnswer, Gives, file_at, none_at}
+use Rattle.tc_closed.specs.Scripts.{Ends, fault_of, written_counts}
 use Rattle.tc_check.specs.Scripts.{IsLoadLine, is_skipped, script_lines}
 use Rattle.tc_run.specs.Run.{AnswersScriptLine, Came, RepliesTo, TakesFront, TakesLine, TakesLines, answered, exchange, exchanges}
-use Rattle.tc_run.specs.Stops.{AnswersNext, IsCutShort, IsUnopened, IsUnread, IsUntouched, LeavesPart, Stops, StopsAfter, StopsNext, Unanswered, UnansweredNext}
-use Rattle.tc_run.proofs.EndsLemmas.{ends_by}
+use Rattle.tc_run.specs.Stops.{AnswersNext, IsCutShort, IsUnopened, IsUntouched, LeavesPart, Stops, StopsAfter, StopsNext, Unanswered, UnansweredNext}
+use Rattle.tc_closed.specs.Scripts.{IsUnread}
+use Rattle.tc_closed.proofs.EndsLemmas.{ends_by}
 use Rattle.tc_run.proofs.HoldLemmas.{Failed, front_failed, line_failed, line_held, lines_held, nobody, question_failed, step_held}
 use Rattle.tc_run.proofs.RunLemmas.{HasRun}
 use Rattle.tc_run.proofs.TakeLemmas.{gives_more, gives_none}
@@ -286,14 +287,3 @@ pub run_stopped : (echo : Bool) (config : configs.Config) (lines : List (List �
 run_stopped echo config lines start after gave gives old new fault opened stops = inr (start, after, opened, stops)
 
 -- ---- faults
-
-pub memory_is_other : Memory ≢ Script
-memory_is_other e = cc
-
-pub output_is_other : (fault : ScriptFault) → fault ≡ Output → fault ≢ Script
-output_is_other fault is e = let no : Output ≡ Script = sym is ∙ e in cc
-
--- what `?` gave out is the fault that it took
-pub is_fault : {X : Type 0} (result : Result X ScriptFault) (fault : ScriptFault) → IsErrAnd result (λ out. out ≡ fault) → result ≡ Err fault
-is_fault (Ok x) fault h = absurd h
-is_fault (Err out) fault h = ap Err h

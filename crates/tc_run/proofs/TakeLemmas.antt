@@ -3,7 +3,7 @@ use Rattle.std.proofs.Common.{◌≡◌, ◌∙◌, ℕ, Option, Some, None, Lis
 use Rattle.sqlite_trees.specs.declared.store.Store.{Ghosts}
 use Rattle.tc_desk.specs.Replies.{Reply}
 use Rattle.tc_room.specs.Joined.{Standing}
-use Rattle.tc_run.specs.Files.{FileAnswer, Gives}
+use Rattle.tc_closed.specs.Files.{FileAnswer, Gives}
 use Rattle.tc_run.specs.Run.{TakesFront, TakesLine, TakesLines}
 
 -- ---- the files that were given

@@ -14,7 +14,7 @@ use Rattle.sqlite.specs.Start.{FindsIn}
 use Rattle.tc_types.specs.declared.history.moves.Move.{Move}
 use Rattle.tc_book.specs.Book.{Book}
 use Rattle.tc_book.specs.Tables.{image_of}
-use Rattle.tc_desk.specs.declared.configs.Config.{Config}
+use Rattle.tc_world.specs.declared.configs.Config.{Config}
 use Rattle.tc_sql.specs.Builds.{no_schema}
 use Rattle.tc_sql.specs.Contents.{Matches}
 use Rattle.tc_store.specs.declared.versions.Version.{Version}

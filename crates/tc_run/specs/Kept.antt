@@ -7,17 +7,17 @@ use Rattle.sqlite.specs.State.{HasCleanDisk}
 use Rattle.tc_sql.specs.Builds.{no_schema}
 use Rattle.tc_types.specs.Lines.{move_line}
 use Rattle.tc_types.specs.declared.history.moves.Move.{Move}
-use Rattle.tc_desk.specs.declared.configs.Config as configs
+use Rattle.tc_world.specs.declared.configs.Config as configs
 use Rattle.tc_store.specs.declared.versions.Version.{Version}
 use Rattle.tc_store.specs.Schema.{IsSchemaOf}
 use Rattle.tc_room.specs.Joined.{Standing}
 use Rattle.tc_room.specs.Opening.{KeepsTables, LeavesOpening, OpensAs}
 use Rattle.tc_room.specs.Replies.{ended}
-use Rattle.tc_run.specs.Files.{FileAnswer, Gives}
+use Rattle.tc_closed.specs.Files.{FileAnswer, Gives}
 use Rattle.tc_run.specs.Run.{RunsLines}
 use Rattle.tc_run.specs.Stops.{IsCutShort, IsUnopened, IsUntouched, StopsAfter}
-use Rattle.tc_run.specs.declared.script.ScriptFault.{ScriptFault}
-use Rattle.tc_run.specs.declared.script.ScriptFault.TheVariants.{Output, Memory}
+use Rattle.tc_closed.specs.declared.scripts.ScriptFault.{ScriptFault}
+use Rattle.tc_closed.specs.declared.scripts.ScriptFault.TheVariants.{Output, Memory}
 
 -- the lines of the moves that an opening made
 abbrev pub opening_text : List Move → List ℕ

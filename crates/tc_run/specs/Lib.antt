@@ -1,10 +1,5 @@
-pub mod Boards
-pub mod Checking
-pub mod Closed
 pub mod Crash
-pub mod Files
 pub mod Kept
 pub mod Numbered
 pub mod Run
-pub mod Script
 pub mod Stops

@@ -21,7 +21,7 @@ use Rattle.tc_desk.specs.Headline.{TellsTrue}
 use Rattle.tc_desk.specs.Loads.{Loading}
 use Rattle.tc_desk.specs.Machine.{stamp_of}
 use Rattle.tc_desk.specs.Replies.{Reply}
-use Rattle.tc_desk.specs.declared.configs.Config as configs
+use Rattle.tc_world.specs.declared.configs.Config as configs
 use Rattle.tc_store.specs.Ledgers.{KeptAnswer}
 use Rattle.tc_room.specs.Answers.{AnswersLine, AsksPlaces, RefusesWith}
 use Rattle.tc_room.specs.Joined.{HoldsBook, IsKept, Standing}
@@ -29,7 +29,7 @@ use Rattle.tc_room.specs.Loads.{FailsLoad, RoomLoad, SpellsLoading, loader_of}
 use Rattle.tc_room.specs.Replies.{ended, is_refused}
 use Rattle.tc_room.specs.Room.{FailsStore, IsJustOpened}
 use Rattle.tc_check.specs.Scripts.{IsLoadLine, is_skipped, script_lines}
-use Rattle.tc_run.specs.Files.{FileAnswer, Gives, file_at}
+use Rattle.tc_closed.specs.Files.{FileAnswer, Gives, file_at}
 
 -- ---- what is written
 

@@ -8,21 +8,22 @@ use Rattle.sqlite.specs.State.{HasCleanDisk}
 use Rattle.sqlite.specs.Steps.{over_memory}
 use Rattle.tc_types.specs.Loads.{LoadLine}
 use Rattle.tc_desk.specs.Replies.{Reply}
-use Rattle.tc_desk.specs.State.{IsConfig}
+use Rattle.tc_world.specs.Config.{IsConfig}
 pub use Rattle.tc_front.specs.Write.{IsCutShort}
-use Rattle.tc_desk.specs.declared.configs.Config as configs
+use Rattle.tc_world.specs.declared.configs.Config as configs
 use Rattle.tc_store.specs.Ledgers.{KeptAnswer}
 use Rattle.tc_room.specs.Answers.{AsksPlaces}
 use Rattle.tc_room.specs.Joined.{HoldsBook, Standing}
 use Rattle.tc_room.specs.Replies.{ended}
 use Rattle.tc_room.specs.Room.{IsJustOpened}
-use Rattle.tc_run.specs.Files.{FileAnswer, Gives, none_at}
+use Rattle.tc_closed.specs.Files.{FileAnswer, Gives, none_at}
 use Rattle.tc_check.specs.Scripts.{IsLoadLine, is_skipped}
+use Rattle.tc_closed.specs.Scripts.{IsUnread}
 use Rattle.tc_run.specs.Run.{AnswersScriptLine, HasFailed, TakesFront, answered, exchange, exchanges}
-use Rattle.tc_run.specs.declared.paths.PathFault.{PathFault}
-use Rattle.tc_run.specs.declared.paths.PathFault.TheVariants as path_fault
-use Rattle.tc_run.specs.declared.script.ScriptFault.{ScriptFault}
-use Rattle.tc_run.specs.declared.script.ScriptFault.TheVariants.{Script, Output, Memory, Tables, Config, Path}
+use Rattle.tc_closed.specs.declared.paths.PathFault.{PathFault}
+use Rattle.tc_closed.specs.declared.paths.PathFault.TheVariants as path_fault
+use Rattle.tc_closed.specs.declared.scripts.ScriptFault.{ScriptFault}
+use Rattle.tc_closed.specs.declared.scripts.ScriptFault.TheVariants.{Script, Output, Memory, Tables, Config, Path}
 
 -- ---- at a line
 
@@ -91,10 +92,6 @@ pub record StopsAfter {S : Type 0} (g : Ghosts S) (echo : Bool) (fault : ScriptF
 -- nothing was written, and no file was asked for
 abbrev pub IsUntouched : Option (List FileAnswer) → Option (List FileAnswer) → Option (List ℕ) → Option (List ℕ) → Type 0
 IsUntouched gave gives old new = Gives gave gives [] × Appends old new []
-
--- the script was not read, or memory was refused to it
-abbrev pub IsUnread : ScriptFault → Type 0
-IsUnread fault = (fault ≡ Script) ⊎ (fault ≡ Memory)
 
 -- the desk was not opened: with `Config` exactly where there is no such desk, else for want of memory, or of its tables
 pub record IsUnopened (config : configs.Config) (fault : ScriptFault) : Type 0 where

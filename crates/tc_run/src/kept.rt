@@ -2,16 +2,15 @@
 ghost use Rattle.tc_types.specs.Counts.{counts_of, inner_of};
 ghost use Rattle.tc_run.specs.Kept.{RunsKept, RunsOpened, StopsKept, StopsOpened};
 ghost use Rattle.tc_check.specs.Scripts.{script_lines};
-ghost use Rattle.tc_run.specs.Script.{Ends};
+ghost use Rattle.tc_closed.specs.Scripts.{Ends};
 
+use crate::moments::latest_moment;
 use crate::opened::{Opening, tell_moves};
-use crate::paths::Paths;
 use crate::run::run_room;
-use crate::script::ScriptFault;
-use crate::watching::{Watch, latest_moment};
 use sqlite::{Alter, Connection};
 use std::alloc::Global;
 use std::io::Write;
+use tc_closed::{Paths, ScriptFault, Watch};
 use tc_room::{OpenedRoom, Room};
 use tc_types::{Counted, Move};
 

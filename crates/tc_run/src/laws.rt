@@ -24,9 +24,9 @@ use sqlite::Connection;
 use sqlite_disk::Disk;
 use sqlite_store::FileStore;
 use std::alloc::Global;
-use tc_desk::Config;
 use tc_room::{OpenedRoom, Room};
 use tc_types::{Moment, Refusal};
+use tc_world::Config;
 
 /// The room that comes next over a desk's files, and the store of the one before it.
 #[derive(Drop)]

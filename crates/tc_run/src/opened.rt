@@ -5,16 +5,15 @@ ghost use Rattle.tc_types.specs.Counts.{counts_of, inner_of, no_counts};
 ghost use Rattle.tc_types.specs.declared.history.moves.Move.{Move};
 ghost use Rattle.tc_room.specs.Opening.{OpensAs};
 ghost use Rattle.tc_run.specs.Kept.{CutsOpening, StopsTold, opening_text};
-ghost use Rattle.tc_run.specs.Script.{Ends, written_counts};
+ghost use Rattle.tc_closed.specs.Scripts.{Ends, written_counts};
 
-use crate::run::put;
-use crate::script::ScriptFault;
 use sqlite::{Alter, Connection};
 use std::alloc::Global;
 use std::io::Write;
-use tc_desk::Config;
+use tc_closed::{ScriptFault, put};
 use tc_room::{OpenedRoom, Room, opening_reply};
 use tc_types::{Counted, Moment, Move};
+use tc_world::Config;
 
 /// How a desk is opened that a database keeps.
 #[derive(Clone, Copy)]

@@ -5,33 +5,29 @@ ghost use Rattle.std.specs.String.{string_bytes};
 ghost use Rattle.tc_types.specs.Counts.{counts_of, inner_of, no_counts};
 ghost use Rattle.tc_types.specs.Loads.{line_of};
 ghost use Rattle.tc_desk.specs.Replies.{Reply};
-ghost use Rattle.tc_front.specs.Write.{Writes, seen};
 ghost use Rattle.tc_room.specs.Answers.{RefusesWith};
 ghost use Rattle.tc_room.specs.Loads.{RoomLoad, loader_of};
 ghost use Rattle.tc_room.specs.Replies.{ended};
-ghost use Rattle.tc_run.specs.Files.{Gives, file_at, none_at};
+ghost use Rattle.tc_closed.specs.Files.{Gives, file_at, none_at};
 ghost use Rattle.tc_check.specs.Scripts.{is_skipped, script_lines};
 ghost use Rattle.tc_run.specs.Run.{Came, CameLast, IsAnswered, RepliesTo, RunsLines, TakesLine, TakesLines, exchange};
-ghost use Rattle.tc_run.specs.Script.{Ends, IsUnreadable, written_counts};
+ghost use Rattle.tc_closed.specs.Scripts.{Ends, IsUnreadable, written_counts};
 ghost use Rattle.tc_run.specs.Stops.{LeavesPart, Stops, StopsAfter, StopsNext, Unanswered};
-ghost use Rattle.tc_run.specs.declared.paths.PathFault.TheVariants as path_fault;
+ghost use Rattle.tc_closed.specs.declared.paths.PathFault.TheVariants as path_fault;
 
-use crate::paths::{PathFault, Paths};
-use crate::script::{ScriptFault, read_script};
-use crate::watching::{Answered, Watch, last_moment};
+use crate::moments::last_moment;
 use bstr::ByteSlice;
 use sqlite::Alter;
 use std::alloc::{AllocError, Global};
 use std::io::{Read, Write};
 use tc_check::is_skipped;
-use tc_desk::Config;
-use tc_front::write_whole;
+use tc_closed::{
+    Answered, MOST_FILE_BYTES, PathFault, Paths, ScriptFault, Watch, put, read_script, status_of,
+};
+use tc_lines::read::load_reader::read_load;
 use tc_room::{Answer, Room, answer_line, answer_load, answer_places};
-use tc_types::read::load_reader::read_load;
 use tc_types::{Counted, Load};
-
-/// How many bytes of a file are read: one more than a stack or a procedure may have, so that a longer one is refused as too long.
-pub const MOST_FILE_BYTES: usize = 65_537;
+use tc_world::Config;
 
 /// Runs the lines of a script on a desk where nothing happened yet, and writes what they are answered, and at the end
 /// what `places` is answered. Gives the exit status: 1 where any line or that question was refused, else 0. A line that loads
@@ -100,22 +96,6 @@ pub(crate) fn run_room<S: Alter + Drop, P: Paths, T: Watch, W: Write>(
     let _opened = room.opened();
     let last = run_places(alloc, room, writer)?;
     Ok(status_of(refused | last))
-}
-
-/// The exit status, where some line was refused or none was.
-pub fn status_of(refused: bool) -> u8
-    ensures { result ≡ (if refused then 1 else 0) }
-{
-    if refused { 1 } else { 0 }
-}
-
-/// Writes all bytes, until a write fails.
-pub fn put<W: Write>(writer: &mut Counted<W>, bytes: &[u8]) -> Result<(), ScriptFault>
-    ensures writes { Writes bytes.now (seen W.contents writer.old) (seen W.contents writer.new) result }
-    ensures fault { IfErr result (λ fault. fault ≡ ScriptFault.Output) }
-    ensures counted { counts_of writer.old ≡ no_counts → counts_of writer.new ≡ written_counts result }
-{
-    Ok(write_whole(writer, bytes)?)
 }
 
 /// What a line that loads a stack or a procedure is answered, once the text at its path is there.

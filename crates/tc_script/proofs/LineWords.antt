@@ -13,7 +13,7 @@ use Rattle.tc_types.specs.Loads.{LoadLine, kind_word, load_words, IsLoad, Spells
 use Rattle.tc_types.specs.Words.{words}
 use Rattle.tc_types.proofs.WordLaws.{words_joined}
 use Rattle.tc_types.proofs.Spellings.{load_parted}
-use Rattle.tc_types.proofs.ActSpellings.{line_parted}
+use Rattle.tc_lines.proofs.ActSpellings.{line_parted}
 use Rattle.tc_script.specs.declared.slots.Slot.TheVariants as slot
 use Rattle.tc_script.specs.Faults.{Follow, IsTaken}
 use Rattle.tc_script.specs.Faults as text

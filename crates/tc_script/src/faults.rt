@@ -7,7 +7,8 @@ ghost use Rattle.tc_script.specs.Faults.{Blames, Follow, IsTaken, IsWrong, Tells
 use crate::behind::behind;
 use crate::fits::fits;
 use crate::slots::Slot;
-use tc_types::{Refusal, cut, read_line};
+use tc_lines::{cut, read_line};
+use tc_types::Refusal;
 
 /// Why a line is none that a run takes. Words are numbered from 1.
 #[derive(Clone, Copy, Debug, PartialEq, Eq)]

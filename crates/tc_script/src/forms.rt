@@ -15,8 +15,8 @@ ghost use Rattle.tc_script.specs.Fits.{FitsOutcome, FitsSubtype, IsDash, IsServi
 
 use crate::verbs::same;
 use std::str;
-use tc_types::read::entry_reader::outcome;
-use tc_types::read::readers::{
+use tc_lines::read::entry_reader::outcome;
+use tc_lines::read::readers::{
     ack, apid, counter, is, moment, number, offset, subtype, ticks, transmission_limit, window,
     yes_or_no,
 };

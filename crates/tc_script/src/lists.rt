@@ -4,7 +4,8 @@ ghost use Rattle.tc_script.specs.Fits.{AreMoments, AreNumbers, AreRequests, AreT
 ghost use Rattle.tc_script.specs.Slots.{parts};
 
 use crate::forms::{is_moment, is_number};
-use tc_types::{MOST_INSERTED, cut};
+use tc_lines::cut;
+use tc_types::MOST_INSERTED;
 
 /// How many semicolons part a list.
 fn count_semicolons(word: &[u8]) -> usize

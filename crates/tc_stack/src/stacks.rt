@@ -33,7 +33,7 @@ impl Model for Stack {
 }
 
 /// The row on a line, if there is such a line.
-pub(crate) fn row_at(rows: &[StackRow], line: u32) -> Option<StackRow>
+pub fn row_at(rows: &[StackRow], line: u32) -> Option<StackRow>
     ensures { result ≡ at_line rows.now line }
 {
     if line == 0 {
@@ -44,7 +44,7 @@ pub(crate) fn row_at(rows: &[StackRow], line: u32) -> Option<StackRow>
 
 impl Stack {
     /// A stack with these rows.
-    pub(crate) fn of(rows: Vec<StackRow>) -> Stack
+    pub fn of(rows: Vec<StackRow>) -> Stack
         requires { IsStack rows.items }
         ensures { result ≡ rows.items }
     {

@@ -5,9 +5,5 @@ pub mod StepTextLaws
 pub mod WordLaws
 pub mod NumberLaws
 pub mod OneLine
-pub mod LinkLaws
 pub mod Spellings
-pub mod ActSpellings
-pub mod QueryLaws
-mod WorkedCases
 pub mod PlaceLemmas

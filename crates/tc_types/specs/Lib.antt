@@ -22,3 +22,6 @@ pub mod Tables
 pub mod Counts
 pub mod Stages
 pub mod Tests
+pub mod WaitingLines
+pub mod ListLines
+pub mod StepLines

@@ -15,8 +15,6 @@ mod loads;
 mod names;
 mod numbers;
 mod persons;
-mod print;
-pub mod read;
 mod refusals;
 mod requests;
 mod rides;
@@ -24,6 +22,7 @@ mod step_texts;
 mod tables;
 mod targets;
 mod verdicts;
+mod waits;
 
 pub use acts::{Act, BookAct, Line, LinkAct, Query, StepAct};
 pub use counted::Counted;
@@ -45,19 +44,7 @@ pub use numbers::{
     Subtype,
 };
 pub use persons::{Person, is_person};
-pub use print::link_texts::{
-    accepted_text, activity_text, mirror_text, summarized_text, time_text, verified_text,
-    word_text, worked_text,
-};
-pub use print::procedure_texts::{
-    begun_text, execution_text, procedure_text, record_text, second_word,
-};
-pub use print::request_texts::{mark, request_text, yes_no};
-pub use print::texts::{approvals_text, entered_text, history_text, places_text, stack_text};
-pub use read::act_reader::read_act;
-pub use read::line_reader::read_line;
-pub use read::words::cut;
-pub use refusals::Refusal;
+pub use refusals::{Refusal, Untold};
 pub use requests::{Ack, Body, Command, Form, Identity, Origin, Outcome, Request};
 pub use rides::{Ride, Rides};
 pub use step_texts::StepText;
@@ -69,3 +56,4 @@ pub use tables::rows::{
 };
 pub use targets::Targets;
 pub use verdicts::Verdict;
+pub use waits::{Lock, Waiting, Wanting};

@@ -4,8 +4,8 @@ use Rattle.std.specs.List.{find}
 use Rattle.std.specs.Option.{option_map}
 use Rattle.tc_types.specs.declared.tables.rows.ProcedureStep.{ProcedureStep}
 use Rattle.tc_types.specs.Names.{is_same_name}
-use Rattle.tc_waits.specs.declared.waits.Waiting.{Waiting}
-use Rattle.tc_waits.specs.declared.waits.Waiting.TheVariants as waiting
+use Rattle.tc_types.specs.declared.waits.Waiting.{Waiting}
+use Rattle.tc_types.specs.declared.waits.Waiting.TheVariants as waiting
 use Rattle.tc_wall.specs.declared.boards.Wait.{Wait}
 
 -- the text of the step of a procedure with this number

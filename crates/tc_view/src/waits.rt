@@ -4,8 +4,7 @@ ghost use Rattle.tc_view.specs.Waits.{step_text, text_of, wait_of};
 
 use crate::adding::add;
 use std::alloc::{AllocError, Allocator};
-use tc_types::{Name, ProcedureStep, StepText, is_same_name};
-use tc_waits::Waiting;
+use tc_types::{Name, ProcedureStep, StepText, Waiting, is_same_name};
 use tc_wall::{MOST_WAITS, Wait};
 
 /// The text of the step of a procedure with this number.

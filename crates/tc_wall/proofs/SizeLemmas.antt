@@ -11,9 +11,9 @@ use Rattle.tc_types.specs.declared.requests.Command.{Command}
 use Rattle.tc_types.specs.declared.requests.Identity.{Identity}
 use Rattle.tc_types.specs.declared.link.activities.ListedActivity.{ListedActivity}
 use Rattle.tc_types.specs.Lines.{place_name, from_word, cause_name}
-use Rattle.tc_waits.specs.declared.waits.Lock.{Lock}
-use Rattle.tc_waits.specs.declared.waits.Wanting.{Wanting}
-use Rattle.tc_waits.specs.WaitingLines.{given, wanted}
+use Rattle.tc_types.specs.declared.waits.Lock.{Lock}
+use Rattle.tc_types.specs.declared.waits.Wanting.{Wanting}
+use Rattle.tc_types.specs.WaitingLines.{given, wanted}
 use Rattle.tc_wall.specs.declared.axes.Mark.{Mark}
 use Rattle.tc_wall.specs.declared.axes.TheConstants.{WIDTH}
 use Rattle.tc_wall.specs.Clock.{clock_text}

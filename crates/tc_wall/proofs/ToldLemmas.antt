@@ -8,9 +8,9 @@ use Rattle.tc_types.specs.declared.requests.Command.{Command}
 use Rattle.tc_types.specs.declared.requests.Origin.{Origin}
 use Rattle.tc_types.specs.declared.requests.Identity.{Identity}
 use Rattle.tc_types.specs.declared.link.activities.ListedActivity.{ListedActivity}
-use Rattle.tc_waits.specs.declared.waits.Wanting.{Wanting}
-use Rattle.tc_waits.specs.declared.waits.Waiting.{Waiting}
-use Rattle.tc_waits.specs.declared.waits.Waiting.TheVariants as waiting
+use Rattle.tc_types.specs.declared.waits.Wanting.{Wanting}
+use Rattle.tc_types.specs.declared.waits.Waiting.{Waiting}
+use Rattle.tc_types.specs.declared.waits.Waiting.TheVariants as waiting
 use Rattle.tc_wall.specs.declared.axes.Mark.{Mark}
 use Rattle.tc_wall.specs.declared.boards.Way.{Way}
 use Rattle.tc_wall.specs.declared.boards.Live.{Live}

@@ -5,9 +5,9 @@ use Rattle.tc_types.specs.declared.history.moves.Move.{Move}
 use Rattle.tc_types.specs.declared.requests.Origin.{Origin}
 use Rattle.tc_types.specs.declared.requests.Request.{Request}
 use Rattle.tc_types.specs.declared.link.activities.ListedActivity.{ListedActivity}
-use Rattle.tc_waits.specs.declared.waits.Wanting.{Wanting}
-use Rattle.tc_waits.specs.declared.waits.Waiting.{Waiting}
-use Rattle.tc_waits.specs.declared.waits.Waiting.TheVariants as waiting
+use Rattle.tc_types.specs.declared.waits.Wanting.{Wanting}
+use Rattle.tc_types.specs.declared.waits.Waiting.{Waiting}
+use Rattle.tc_types.specs.declared.waits.Waiting.TheVariants as waiting
 use Rattle.tc_wall.specs.declared.boards.Wait.{Wait}
 use Rattle.tc_wall.specs.declared.boards.Way.{Way}
 use Rattle.tc_wall.specs.declared.boards.ShownSchedule.{ShownSchedule}

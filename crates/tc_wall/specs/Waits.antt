@@ -2,11 +2,11 @@
 use Rattle.std.specs.Prelude.{ℕ, Bool, if◌then◌else◌, Option, Some, None, List, [], ◌∷◌, ◌++◌, codes, take}
 use Rattle.std.specs.List.{flat_map}
 use Rattle.tc_types.specs.declared.history.places.Place.TheVariants as place
-use Rattle.tc_waits.specs.declared.waits.Wanting.{Wanting}
-use Rattle.tc_waits.specs.declared.waits.Lock.{Lock}
-use Rattle.tc_waits.specs.declared.waits.Waiting.{Waiting}
-use Rattle.tc_waits.specs.declared.waits.Waiting.TheVariants.{Request, Stack, Free, Locked, Doubtful, Step}
-use Rattle.tc_waits.specs.WaitingLines.{given, wanted}
+use Rattle.tc_types.specs.declared.waits.Wanting.{Wanting}
+use Rattle.tc_types.specs.declared.waits.Lock.{Lock}
+use Rattle.tc_types.specs.declared.waits.Waiting.{Waiting}
+use Rattle.tc_types.specs.declared.waits.Waiting.TheVariants.{Request, Stack, Free, Locked, Doubtful, Step}
+use Rattle.tc_types.specs.WaitingLines.{given, wanted}
 use Rattle.tc_wall.specs.declared.boards.Wait.{Wait}
 use Rattle.tc_wall.specs.declared.boards.WallBoard.{WallBoard}
 use Rattle.tc_wall.specs.declared.boards.TheConstants.{MOST_WAITS}

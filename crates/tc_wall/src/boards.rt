@@ -1,7 +1,6 @@
 //! What the board shows.
 use crate::links::LinkLines;
-use tc_types::{ListedActivity, Move, PLACES, Place, Request, StepText};
-use tc_waits::Waiting;
+use tc_types::{ListedActivity, Move, PLACES, Place, Request, StepText, Waiting};
 
 /// The most requests that are shown.
 pub const MOST_OPEN: usize = 200;

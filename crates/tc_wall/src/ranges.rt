@@ -11,8 +11,7 @@ use crate::boards::{
 use crate::bounds::{first_of, last_of};
 use crate::links::{FarmLine, FopLine, LinkLines};
 use crate::way_rows::kind;
-use tc_types::{ListedActivity, Move, Name, Origin, PLACES, Request, StepText};
-use tc_waits::{Waiting, Wanting};
+use tc_types::{ListedActivity, Move, Name, Origin, PLACES, Request, StepText, Waiting, Wanting};
 
 /// A name is short.
 fn keep_name(name: &Name)

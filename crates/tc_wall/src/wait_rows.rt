@@ -12,8 +12,7 @@ use crate::fixed::WAITS;
 use crate::signs::sign;
 use std::alloc::{AllocError, Allocator};
 use std::fmt::Write;
-use tc_types::{Name, Place, StepText};
-use tc_waits::{Lock, Waiting, Wanting};
+use tc_types::{Lock, Name, Place, StepText, Waiting, Wanting};
 
 /// Adds the sign of what is critical, where it is.
 #[tactic(auto, unfolding(crate::specs::Waits::critical_parts))]

@@ -10,7 +10,7 @@ use Rattle.clap.specs.declared.parser.matches.Found.{Found}
 use Rattle.clap.specs.declared.builder.value_parser.ValueParser.TheVariants as parser
 use Rattle.clap.proofs.WalkLemmas.{both, one_text-rows}
 use Rattle.clap.proofs.ValueTestLemmas.{Accepts-accepts, accepts-Accepts}
-use Rattle.tc_desk.specs.State.{IsRing}
+use Rattle.tc_world.specs.Config.{IsRing}
 use Rattle.tc_words.specs.Asked.{number_within}
 
 -- a number that was read, where it is one from least to most

@@ -7,7 +7,7 @@ use Rattle.clap.specs.ValueTests.{accepts}
 use Rattle.clap.specs.Words.{Row, Text, count_of, first_of, one_of}
 use Rattle.clap.specs.declared.builder.value_parser.ValueParser.TheVariants as parser
 use Rattle.tc_types.specs.Numbers.{IsMoment}
-use Rattle.tc_stack.specs.StackTexts.{IsInstant}
+use Rattle.tc_csv.specs.StackTexts.{IsInstant}
 
 -- A command with what it was given. Where a desk is made or opened, its window, its channel and how many items the rings of its links hold,
 -- where they are rings, and what stands for the moment of its opening; where it is kept in a file, that file. A run has a script, and whether each line is shown before its answer and all is

@@ -5,8 +5,8 @@ use Rattle.clap.specs.declared.error.Error.{Error}
 use Rattle.clap.specs.declared.error.kind.ErrorKind.TheVariants.{OutOfMemory}
 use Rattle.tc_types.specs.Loads.{kind_word}
 use Rattle.tc_types.specs.declared.loads.LoadKind.{LoadKind}
-use Rattle.tc_desk.specs.State.{IsConfig}
-use Rattle.tc_desk.specs.declared.configs.Config.{Config}
+use Rattle.tc_world.specs.Config.{IsConfig}
+use Rattle.tc_world.specs.declared.configs.Config.{Config}
 use Rattle.tc_words.specs.Asked.{Asked, SpellsMoment, SpellsNoMoment, backup, board, check, loop, report, run, run_kept, script_word, serve}
 use Rattle.tc_words.specs.declared.lines.CommandLine.{CommandLine}
 use Rattle.tc_words.specs.declared.lines.CommandLine.TheVariants.{Backup, Board, Check, CheckScript, Loop, Report, Run, RunKept, Serve}

@@ -14,8 +14,8 @@ use clap::{ArgMatches, Command};
 use std::alloc::{AllocError, Global};
 use std::marker::Model;
 
-/// The version of the program, which `--version` prints behind its name, and the commit that it was made from: one with these sources, but for this line.
-const VERSION: &str = "0.1.0 (commit 2b75ef643cce)";
+/// The version of the program, which `--version` prints after its name.
+const VERSION: &str = "0.1.0";
 
 /// How the program is called: without a word it runs the script that the standard input has.
 const USAGE: &str = "tcdesk [COMMAND]";

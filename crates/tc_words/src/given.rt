@@ -3,15 +3,15 @@ ghost use Rattle.std.specs.Prelude.{◌%◌, ◌≡◌, ◌↔◌, ◌≤◌, If
 ghost use Rattle.clap.specs.Words.{first_of, found_of, one_of, rows_of};
 ghost use Rattle.tc_types.specs.Loads.{kind_word};
 ghost use Rattle.tc_types.specs.declared.loads.LoadKind.{LoadKind as SomeKind};
-ghost use Rattle.tc_desk.specs.State.{IsConfig, IsRing};
+ghost use Rattle.tc_world.specs.Config.{IsConfig, IsRing};
 ghost use Rattle.tc_words.specs.Asked.{SpellsMoment, SpellsNoMoment, given, given_channel, given_count, given_echo, given_first, given_port, given_ring, given_verbose, given_window, number_in, number_within};
 
 use crate::lines::{Telling, UsageFault};
 use clap::ArgMatches;
-use tc_desk::Config;
-use tc_stack::instant;
-use tc_types::read::readers;
+use tc_csv::instant;
+use tc_lines::read::readers;
 use tc_types::{LoadKind, Moment};
+use tc_world::{Config, GREATEST_RING};
 
 /// The text of an argument, or `-` where none was given.
 pub(crate) fn text_of<'a>(matches: &ArgMatches<'a>, id: &str) -> &'a str
@@ -55,7 +55,7 @@ fn ring_of(matches: &ArgMatches<'_>) -> Option<u32>
     ensures ring { result ≡ given_ring (rows_of (found_of matches.now)) }
     ensures size { IsRing result }
 {
-    number_within(matches, "ring", 1, 4_096)
+    number_within(matches, "ring", 1, GREATEST_RING)
 }
 
 /// The window, the channel and the links, where the window is even.

@@ -1,8 +1,8 @@
 //! What a command line asks for, and why one asks for nothing.
 
 use clap::error::ErrorKind;
-use tc_desk::Config;
 use tc_types::{LoadKind, Moment};
+use tc_world::Config;
 use thiserror::Error;
 
 /// What is told of the lines of a script besides what they are answered.

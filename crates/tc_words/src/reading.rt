@@ -13,7 +13,7 @@ use crate::given::{
 use crate::lines::{CommandLine, Telling, UsageFault};
 use clap::ArgMatches;
 use std::alloc::Global;
-use tc_desk::Config;
+use tc_world::Config;
 
 /// The window, the channel and the links where none are given.
 const CONFIG: Config = Config {

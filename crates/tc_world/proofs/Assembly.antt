@@ -2,6 +2,7 @@
 use Rattle.std.proofs.Common.{◌≡◌, ℕ, ◌<◌, ◌≤◌, arith, Bool, true, false, inl, inr, Option, Some, None, Ok, List, [], ◌∷◌, ◌++◌, refl, sym, ◌∙◌, ap, subst, map}
 use Rattle.std.specs.Prelude.{MatchBool, if◌then◌else◌, ◌/◌}
 use Rattle.std.specs.List.{flat_map}
+use Rattle.std.proofs.lemmas.Bool.{false≢true}
 use Rattle.std.proofs.lemmas.List.{append-nil}
 use Rattle.tc_types.specs.declared.link.frames.Frame.{Frame}
 use Rattle.tc_types.specs.declared.link.reports.Report.{Report}
@@ -30,7 +31,7 @@ use Rattle.tc_world.specs.Kept.{IsKept, IsSane, IsStarted, AreOwnWords}
 use Rattle.tc_world.specs.Fitting.{IsFitting, half_window}
 use Rattle.tc_world.specs.World.{Happens, unjudged, Carries, Begins, IsIdle, Boards, Hears, Descends, Reads, all_sent, is_good_start, clean_after}
 use Rattle.tc_world.proofs.TableLaws.{Laws}
-use Rattle.tc_world.proofs.Lists.{puts_lose, sublist_trans}
+use Rattle.tc_world.proofs.Lists.{puts_lose, sublist_trans, sublist_left}
 use Rattle.tc_world.proofs.WordLists.{value_of_word, own_append, own_sub, own_behind}
 use Rattle.tc_world.proofs.Moving.{Moving}
 use Rattle.tc_world.proofs.Stepping.{Steps, moves_on, hears_on, boards_on, releases_on, tells_on, reports_on, loses_on}
@@ -261,6 +262,33 @@ lands laws w v (Telemetry telemetry) lost left answer kept fop farm down (readie
     receives w v telemetry lost left kept down
     (whole ∙ ap (λ up. record w { up = up; down = left }) readied)
 
+-- nothing is known of the starts any more
+unclean : (w v : Bare) → IsFop v.fop → IsFarm v.farm → v.clean ≡ false → AreOwnWords v.vc v.down → Distinct (all_sent v ++ waiting_requests v.fop) → Goes w v
+unclean w v fop farm none words distinct = record {
+  kept = record {
+    fop = fop;
+    farm = farm;
+    words = words;
+    distinct = distinct;
+    past = λ c. absurd (false≢true (sym none ∙ c));
+    sane = λ c. absurd (false≢true (sym none ∙ c));
+  };
+  follows = λ c. absurd (false≢true (sym none ∙ c));
+  fits = λ c old small. absurd (false≢true (sym none ∙ c));
+}
+
+-- something from outside was heard
+hears_outside : Laws → (w v : Bare) (item : Report) (answer : List LinkIndication) → IsKept w → IsFop v.fop → IsFarm v.farm
+    → Hears lossy item (record w { clean = false }) v answer → Goes w v
+hears_outside laws w v (Word word) answer kept fop farm (heard, actions, rest, reads, gives, h, answered) =
+    let answers = answers_of (reported w.fop heard) w.fop v.fop actions gives (ap (λ x. x.fop) h.whole) in
+    let order = laws.words_order w.fop heard v.fop (output actions w.fop) kept.fop fop answers in
+    unclean w v fop farm (ap (λ x. x.clean) h.whole) (subst (λ x. AreOwnWords x.vc x.down) (sym h.whole) kept.words)
+    (carries_distinct w v (output actions w.fop) [] (ap (λ x. x.past) h.whole) (ap (λ x. x.newest.sent) h.whole) order (without_offer w kept.distinct))
+hears_outside laws w v (Telemetry telemetry) answer kept fop farm (readied, whole, answered) =
+    unclean w v fop farm (ap (λ x. x.clean) whole) (subst (λ x. AreOwnWords x.vc x.down) (sym whole) kept.words)
+    (subst (λ (x : Bare). Distinct (all_sent x ++ waiting_requests x.fop)) (sym whole) kept.distinct)
+
 -- the session that was on is prefixed
 pub newest_prefixed : (w : Bare) → IsSane 255 w → IsPrefixed w.newest
 newest_prefixed w (inl (started, kept)) = record {
@@ -395,3 +423,7 @@ event_goes laws event.Downlink w v answer kept fop farm (inl (nothing, h)) = idl
 event_goes laws event.Downlink w v answer kept fop farm (inr h) =
     lands laws w v h.item h.taken.0 h.left answer kept fop farm h.taken.1 h.heard
 event_goes laws (event.LoseDown place) w v answer kept fop farm h = loses w v w.up v.down kept h.whole (IsSublist-same w.up) h.lost
+event_goes laws event.Transmit w v answer kept fop farm (inl (nothing, h)) = idles w v answer kept h
+event_goes laws event.Transmit w v answer kept fop farm (inr h) =
+    loses w v v.up w.down kept h.whole (sublist_left w.up h.taken.0 h.frame v.up h.taken.1) (IsSublist-same w.down)
+event_goes laws (event.Hear item) w v answer kept fop farm h = hears_outside laws w v item answer kept fop farm h

@@ -151,3 +151,13 @@ happens_seen uplink downlink ul dl (event.LoseDown place) old new answer h = rec
   whole = ap (λ w. seen uplink downlink w) h.whole;
   answered = h.answered;
 }
+happens_seen uplink downlink ul dl event.Transmit old new answer (inl (nothing, h)) =
+    inl (nothing, idle_seen uplink downlink ul dl old new answer h)
+happens_seen uplink downlink ul dl event.Transmit old new answer (inr h) = inr (record {
+  frame = h.frame;
+  taken = ul.takes old.up new.up h.frame h.taken;
+  whole = ap (λ w. seen uplink downlink w) h.whole;
+  answered = h.answered;
+})
+happens_seen uplink downlink ul dl (event.Hear item) old new answer h =
+    hears_seen uplink downlink ul item (record old { clean = false }) new answer h

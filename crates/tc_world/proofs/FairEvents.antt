@@ -37,7 +37,7 @@ use Rattle.tc_world.proofs.Fitted.{event_fits, fits_before}
 use Rattle.tc_world.specs.Fair.{is_fair, words_of, is_set, asks, AreOpen, NoneAsks, ControlsFirst, IsCalming, IsFair, IsFairOn}
 use Rattle.tc_world.specs.World.{Happens, unjudged, Carries, Begins, IsIdle, Hears, Descends, Reads, IsWordOf, told_by_fop, told_of_loss, is_level, is_level_for, is_level_with, is_level_start, level_after, is_good_start, clean_after}
 use Rattle.tc_world.proofs.TableLaws.{Laws}
-use Rattle.tc_world.proofs.Lists.{each_sub, each_map, pairs_sub, puts_lose, sublist_trans}
+use Rattle.tc_world.proofs.Lists.{each_sub, each_map, pairs_sub, puts_lose, sublist_trans, sublist_left}
 use Rattle.tc_world.proofs.FrameLists.{controls_sub, controls_append}
 use Rattle.tc_world.proofs.WordLists.{value_of_word, own_behind, words_behind}
 use Rattle.tc_world.proofs.Distances.{distance_of}
@@ -483,6 +483,14 @@ event_fair laws fl (event.LoseDown place) w v answer kept fit fit_v fop farm cle
   subst (λ (x : Bare). IsFair x) (sym h.whole) (fair_loses w w.up v.down fair (IsSublist-same w.up) (words_of_sub v.down w.down h.lost)),
   ap (λ (l : List LinkIndication). list_all (is_fair w.level w.fop.state) l) h.answered ∙ loss_fair w.level w.fop.state h.found,
 )
+event_fair laws fl event.Transmit w v answer kept fit fit_v fop farm clean fair (inl (nothing, h)) = idle_fair w v answer fair h
+event_fair laws fl event.Transmit w v answer kept fit fit_v fop farm clean fair (inr h) = (
+  subst (λ (x : Bare). IsFair x) (sym h.whole)
+      (fair_loses w v.up w.down fair (sublist_left w.up h.taken.0 h.frame v.up h.taken.1) (IsSublist-same (words_of w.down))),
+  ap (λ (l : List LinkIndication). list_all (is_fair w.level w.fop.state) l) h.answered,
+)
+event_fair laws fl (event.Hear item) w v answer kept fit fit_v fop farm clean fair h =
+    absurd (false≢true (sym (clean_is lossy lossy (event.Hear item) w v answer h) ∙ clean))
 
 -- one event, where every start was good and K fitted
 pub event_fairly : Laws → FairLaws → (given : Event) (w v : Bare) (answer : List LinkIndication) → IsKept w → IsFit w → IsFairOn w → IsFop v.fop → IsFarm v.farm

@@ -1,5 +1,5 @@
 -- Where K fitted at every moment so far, the windows fit.
-use Rattle.std.proofs.Common.{◌≡◌, ◌≤◌, true, inl, inr, Ok, List, sym, ◌∙◌, ap, arith}
+use Rattle.std.proofs.Common.{◌≡◌, ◌≤◌, true, false, inl, inr, Ok, List, sym, ◌∙◌, ap, arith}
 use Rattle.std.specs.Prelude.{Result, Err, IfOk, IfErr}
 use Rattle.tc_types.specs.declared.link.frames.Frame.{Frame}
 use Rattle.tc_types.specs.declared.refusals.Refusal.{Refusal}
@@ -68,6 +68,11 @@ k_fits laws event.Downlink w v answer (inl (nothing, h)) fits small =
 k_fits laws event.Downlink w v answer (inr h) fits small = hears_fits laws h.item (record w { down = h.left }) v answer h.heard small
 k_fits laws (event.LoseDown place) w v answer h fits small =
     still_fits w v (ap (λ (x : Bare). x.fop.k) h.whole) (ap (λ (x : Bare). x.farm.window) h.whole) small
+k_fits laws event.Transmit w v answer (inl (nothing, h)) fits small =
+    still_fits w v (ap (λ (x : Bare). x.fop.k) h.same.rest) (ap (λ (x : Bare). x.farm.window) h.same.rest) small
+k_fits laws event.Transmit w v answer (inr h) fits small =
+    still_fits w v (ap (λ (x : Bare). x.fop.k) h.whole) (ap (λ (x : Bare). x.farm.window) h.whole) small
+k_fits laws (event.Hear item) w v answer h fits small = hears_fits laws item (record w { clean = false }) v answer h small
 
 pub fits_before : {U D : Type 0} (uplink : Kind U Frame) (downlink : Kind D Report) (given : Event) (w v : Whole U D) (answer : List LinkIndication) → Happens uplink downlink given w v answer → v.fits ≡ true → w.fits ≡ true
 fits_before uplink downlink (event.Offer request body) w v answer h fits = sym (fits_is uplink downlink (event.Offer request body) w v answer h) ∙ fits
@@ -81,6 +86,8 @@ fits_before uplink downlink event.Clcw w v answer h fits = sym (fits_is uplink d
 fits_before uplink downlink (event.Put telemetry) w v answer h fits = sym (fits_is uplink downlink (event.Put telemetry) w v answer h) ∙ fits
 fits_before uplink downlink event.Downlink w v answer h fits = sym (fits_is uplink downlink event.Downlink w v answer h) ∙ fits
 fits_before uplink downlink (event.LoseDown place) w v answer h fits = sym (fits_is uplink downlink (event.LoseDown place) w v answer h) ∙ fits
+fits_before uplink downlink event.Transmit w v answer h fits = sym (fits_is uplink downlink event.Transmit w v answer h) ∙ fits
+fits_before uplink downlink (event.Hear item) w v answer h fits = sym (fits_is uplink downlink (event.Hear item) w v answer h) ∙ fits
 
 -- a call that is refused leaves it
 pub was_fitting : {U D : Type 0} (uplink : Kind U Frame) (downlink : Kind D Report) (given : Event) (old new : Whole U D) (result : Result (List LinkIndication) Refusal)

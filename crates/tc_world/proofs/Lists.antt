@@ -1,7 +1,7 @@
 -- Lists with items left out, and what holds of each item and of pairs.
 use Rattle.std.proofs.Common.{◌≡◌, ℕ, zero, suc, ◌≤◌, inl, inr, ⊎_elim, List, [], ◌∷◌, ◌++◌, length, take, refl, sym, ap, subst, arith}
 use Rattle.std.proofs.lemmas.List.{append_assoc, append-nil}
-use Rattle.tc_world.specs.Sublist.{IsSublist, IsSublist-same, IsSublist-nil}
+use Rattle.tc_world.specs.Sublist.{IsSublist, IsSublist-same, IsSublist-nil, IsSublist-behind}
 use Rattle.tc_world.specs.Links.{Kind, PutsAll}
 use Rattle.tc_world.specs.Kept.{Each, Pairs}
 
@@ -99,3 +99,9 @@ pairs_sub R xs (y ∷ ys) h p =
 pub pairs_push : (R : ℕ → ℕ → Type 0) (xs : List ℕ) (y : ℕ) → Pairs R xs → Each (λ (x : ℕ). R x y) xs → Pairs R (xs ++ y ∷ [])
 pairs_push R [] y p e = (tt, tt)
 pairs_push R (x ∷ xs) y p e = (each_append (R x) xs (y ∷ []) p.0 (e.0, tt), pairs_push R xs y p.1 e.1)
+
+-- what is left behind a front and an item
+pub sublist_left : {X : Type 0} (xs lost : List X) (x : X) (left : List X) → xs ≡ lost ++ x ∷ left → IsSublist left xs
+sublist_left xs lost x left e =
+    subst (λ l. IsSublist left l) (sym e)
+    (sublist_trans left (x ∷ left) (lost ++ x ∷ left) (inl (IsSublist-same left)) (IsSublist-behind lost (x ∷ left)))

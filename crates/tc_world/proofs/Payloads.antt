@@ -18,14 +18,14 @@ use Rattle.tc_fop.specs.Moves.{is_initiation, transmitted_in}
 use Rattle.tc_world.specs.declared.events.Event.{Event}
 use Rattle.tc_world.specs.declared.events.Event.TheVariants as event
 use Rattle.tc_world.specs.declared.events.LinkIndication.{LinkIndication}
-use Rattle.tc_world.specs.declared.events.LinkIndication.TheVariants.{Fop, Farm, Received}
+use Rattle.tc_world.specs.declared.events.LinkIndication.TheVariants.{Fop, Farm, Received, Transmitted}
 use Rattle.tc_world.specs.Sublist.{IsSublist, IsSublist-same, IsSublist-behind}
 use Rattle.tc_world.specs.Links.{lossy, PutsAll, IsReadied}
 use Rattle.tc_world.specs.Logs.{Log}
 use Rattle.tc_world.specs.Abstraction.{Bare}
-use Rattle.tc_world.specs.World.{unjudged, Happens, Carries, Begins, Boards, Hears, all_sent, told_of_loss}
+use Rattle.tc_world.specs.World.{unjudged, Happens, Carries, Begins, Boards, Hears, Transmits, all_sent, told_of_loss}
 use Rattle.tc_world.specs.Payloads.{IsOneOf, CarriesOf, AreCarried, IsOfferOf, IsToldOf}
-use Rattle.tc_world.proofs.Lists.{puts_lose}
+use Rattle.tc_world.proofs.Lists.{puts_lose, sublist_left}
 use Rattle.tc_world.proofs.AllLists.{all_sub, all_append, all_behind, all_follow}
 use Rattle.tc_world.proofs.Requests.{all_sent_is}
 use Rattle.tc_world.proofs.Newest.{same_sent}
@@ -216,6 +216,27 @@ lands_kept P w v (Telemetry telemetry) left answer carried (readied, whole, answ
     stays_kept P w v answer (Received (Telemetry telemetry) ∷ []) (ap (λ (x : Bare). x.fop) whole) (ap (λ (x : Bare). x.past) whole) (ap (λ (x : Bare). x.newest) whole) readied
     answered (tt, tt) carried
 
+-- something from outside was heard
+outside_kept : (P : ℕ → Payload → Type 0) (w v : Bare) (item : Report) (answer : List LinkIndication) → AreCarried P w → Hears lossy item (record w { clean = false }) v answer → Keeps P v answer
+outside_kept P w v (Word word) answer carried (heard, actions, rest, reads, gives, h, answered) =
+    let before : Bare = record w { clean = false } in
+    let same : AreCarried P before = payloads_same P w before refl refl refl refl carried in
+    let kept = carries_kept P before v actions rest (brought P (reported w.fop heard) actions gives (words_bring P w.fop heard)) same h in
+    told_as P v answer (Received (Word word) ∷ rest) answered kept.0 (tt, kept.1)
+outside_kept P w v (Telemetry telemetry) answer carried (readied, whole, answered) =
+    stays_kept P w v answer (Received (Telemetry telemetry) ∷ []) (ap (λ (x : Bare). x.fop) whole) (ap (λ (x : Bare). x.past) whole) (ap (λ (x : Bare). x.newest) whole) readied
+    answered (tt, tt) carried
+
+-- the front end took a frame
+transmits_kept : (P : ℕ → Payload → Type 0) (w v : Bare) (answer : List LinkIndication) → AreCarried P w → Transmits lossy w v answer → Keeps P v answer
+transmits_kept P w v answer carried h =
+    let sent = same_sent w v (ap (λ (x : Bare). x.past) h.whole) (ap (λ (x : Bare). x.newest.sent) h.whole) in
+    let frame : CarriesOf P (all_sent w) h.frame =
+    (all_behind (CarriesOf P (all_sent w)) h.taken.0 (h.frame ∷ v.up) (subst (λ (l : List Frame). AllByRecursion (CarriesOf P (all_sent w)) l) h.taken.1 carried.up)).0 in
+    told_as P v answer (Transmitted h.frame ∷ []) h.answered
+    (flies P w v (ap (λ (x : Bare). x.fop) h.whole) sent (sublist_left w.up h.taken.0 h.frame v.up h.taken.1) carried)
+    (subst (λ (l : List ℕ). CarriesOf P l h.frame) (sym sent) frame, tt)
+
 -- One event: what is carried still is, by what was sent after it, and what is told to be accepted on board was offered
 -- so, and was sent.
 pub payloads_kept : (P : ℕ → Payload → Type 0) (given : Event) (w v : Bare) (answer : List LinkIndication) → AreCarried P w → IsOfferOf P given → Happens lossy lossy given w v answer → AreCarried P v × AllByRecursion (IsToldOf P (all_sent v)) answer
@@ -252,3 +273,8 @@ payloads_kept P event.Downlink w v answer carried own (inr h) = lands_kept P w v
 payloads_kept P (event.LoseDown place) w v answer carried own h =
     stays_kept P w v answer (told_of_loss h.found) (ap (λ (x : Bare). x.fop) h.whole) (ap (λ (x : Bare). x.past) h.whole) (ap (λ (x : Bare). x.newest) h.whole) (ap (λ (x : Bare). x.up) h.whole)
     h.answered (told_lost P (all_sent v) h.found) carried
+payloads_kept P event.Transmit w v answer carried own (inl (nothing, h)) =
+    stays_kept P w v answer [] (ap (λ (x : Bare). x.fop) h.same.rest) (ap (λ (x : Bare). x.past) h.same.rest) (ap (λ (x : Bare). x.newest) h.same.rest) h.same.up
+    h.answered tt carried
+payloads_kept P event.Transmit w v answer carried own (inr h) = transmits_kept P w v answer carried h
+payloads_kept P (event.Hear item) w v answer carried own h = outside_kept P w v item answer carried h

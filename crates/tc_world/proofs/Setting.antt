@@ -76,3 +76,5 @@ keeps_fitting uplink downlink law event.Clcw old new answer narrow h fits sets =
 keeps_fitting uplink downlink law (event.Put telemetry) old new answer narrow h fits sets = fits_is uplink downlink (event.Put telemetry) old new answer h ∙ fits
 keeps_fitting uplink downlink law event.Downlink old new answer narrow h fits sets = fits_is uplink downlink event.Downlink old new answer h ∙ fits
 keeps_fitting uplink downlink law (event.LoseDown place) old new answer narrow h fits sets = fits_is uplink downlink (event.LoseDown place) old new answer h ∙ fits
+keeps_fitting uplink downlink law event.Transmit old new answer narrow h fits sets = fits_is uplink downlink event.Transmit old new answer h ∙ fits
+keeps_fitting uplink downlink law (event.Hear item) old new answer narrow h fits sets = fits_is uplink downlink (event.Hear item) old new answer h ∙ fits

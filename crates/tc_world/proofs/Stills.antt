@@ -86,6 +86,9 @@ still uplink downlink event.Clcw old new answer other (clcw, is_word, h) = ap (�
 still uplink downlink (event.Put telemetry) old new answer other h = ap (λ (l : List LinkIndication). list_any tells_move l) h.answered
 still uplink downlink event.Downlink old new answer other h = absurd (let no_other : true ≡ false = other in cc)
 still uplink downlink (event.LoseDown place) old new answer other h = ap (λ (l : List LinkIndication). list_any tells_move l) h.answered ∙ loss_still h.found
+still uplink downlink event.Transmit old new answer other (inl (nothing, h)) = ap (λ (l : List LinkIndication). list_any tells_move l) h.answered
+still uplink downlink event.Transmit old new answer other (inr h) = ap (λ (l : List LinkIndication). list_any tells_move l) h.answered
+still uplink downlink (event.Hear item) old new answer other h = absurd (let no_other : true ≡ false = other in cc)
 
 -- a frame that comes up tells nothing of the FOP's
 pub quiet_aboard : {U D : Type 0} (uplink : Kind U Frame) (downlink : Kind D Report) (given : Event) (old new : Whole U D) (answer : List LinkIndication)
@@ -101,6 +104,9 @@ quiet_aboard uplink downlink event.Clcw old new answer h = tt
 quiet_aboard uplink downlink (event.Put telemetry) old new answer h = tt
 quiet_aboard uplink downlink event.Downlink old new answer h = tt
 quiet_aboard uplink downlink (event.LoseDown place) old new answer h = tt
+quiet_aboard uplink downlink event.Transmit old new answer (inl (nothing, h)) = ap (λ (l : List LinkIndication). list_any is_of_fop l) h.answered
+quiet_aboard uplink downlink event.Transmit old new answer (inr h) = ap (λ (l : List LinkIndication). list_any is_of_fop l) h.answered
+quiet_aboard uplink downlink (event.Hear item) old new answer h = tt
 
 -- ---- whether every start was good
 
@@ -129,6 +135,9 @@ clean_is {U} {D} uplink downlink (event.Put telemetry) old new answer h = ap (λ
 clean_is {U} {D} uplink downlink event.Downlink old new answer (inl (nothing, h)) = ap (λ (x : Whole U D). x.clean) h.same.rest
 clean_is {U} {D} uplink downlink event.Downlink old new answer (inr h) = hears_clean uplink h.item (record old { down = h.left }) new answer h.heard
 clean_is {U} {D} uplink downlink (event.LoseDown place) old new answer h = ap (λ (x : Whole U D). x.clean) h.whole
+clean_is {U} {D} uplink downlink event.Transmit old new answer (inl (nothing, h)) = ap (λ (x : Whole U D). x.clean) h.same.rest
+clean_is {U} {D} uplink downlink event.Transmit old new answer (inr h) = ap (λ (x : Whole U D). x.clean) h.whole
+clean_is uplink downlink (event.Hear item) old new answer h = hears_clean uplink item (record old { clean = false }) new answer h
 
 clean_of : (initiation clean good : Bool) → (if initiation then (if clean then good else false) else clean) ≡ true → clean ≡ true
 clean_of true true good e = refl
@@ -146,6 +155,8 @@ clean_before uplink downlink event.Clcw w e = e
 clean_before uplink downlink (event.Put telemetry) w e = e
 clean_before uplink downlink event.Downlink w e = e
 clean_before uplink downlink (event.LoseDown place) w e = e
+clean_before uplink downlink event.Transmit w e = e
+clean_before uplink downlink (event.Hear item) w e = absurd (let not : false ≡ true = e in cc)
 
 -- where every start was good, every start before was
 pub was_clean : {U D : Type 0} (uplink : Kind U Frame) (downlink : Kind D Report) (given : Event) (old new : Whole U D) (result : Result (List LinkIndication) Refusal)
@@ -177,6 +188,9 @@ fits_is {U} {D} uplink downlink (event.Put telemetry) old new answer h = ap (λ 
 fits_is {U} {D} uplink downlink event.Downlink old new answer (inl (nothing, h)) = ap (λ (x : Whole U D). x.fits) h.same.rest
 fits_is {U} {D} uplink downlink event.Downlink old new answer (inr h) = hears_fits uplink h.item (record old { down = h.left }) new answer h.heard
 fits_is {U} {D} uplink downlink (event.LoseDown place) old new answer h = ap (λ (x : Whole U D). x.fits) h.whole
+fits_is {U} {D} uplink downlink event.Transmit old new answer (inl (nothing, h)) = ap (λ (x : Whole U D). x.fits) h.same.rest
+fits_is {U} {D} uplink downlink event.Transmit old new answer (inr h) = ap (λ (x : Whole U D). x.fits) h.whole
+fits_is uplink downlink (event.Hear item) old new answer h = hears_fits uplink item (record old { clean = false }) new answer h
 
 hears_level : {U D : Type 0} (uplink : Kind U Frame) (item : Report) (old new : Whole U D) (answer : List LinkIndication) → Hears uplink item old new answer → new.level ≡ old.level
 hears_level {U} {D} uplink (Word word) old new answer (heard, actions, rest, reads, gives, h, answered) = ap (λ (x : Whole U D). x.level) h.whole
@@ -196,3 +210,6 @@ level_is {U} {D} uplink downlink (event.Put telemetry) old new answer h = ap (λ
 level_is {U} {D} uplink downlink event.Downlink old new answer (inl (nothing, h)) = ap (λ (x : Whole U D). x.level) h.same.rest
 level_is {U} {D} uplink downlink event.Downlink old new answer (inr h) = hears_level uplink h.item (record old { down = h.left }) new answer h.heard
 level_is {U} {D} uplink downlink (event.LoseDown place) old new answer h = ap (λ (x : Whole U D). x.level) h.whole
+level_is {U} {D} uplink downlink event.Transmit old new answer (inl (nothing, h)) = ap (λ (x : Whole U D). x.level) h.same.rest
+level_is {U} {D} uplink downlink event.Transmit old new answer (inr h) = ap (λ (x : Whole U D). x.level) h.whole
+level_is uplink downlink (event.Hear item) old new answer h = hears_level uplink item (record old { clean = false }) new answer h

@@ -19,7 +19,7 @@ use Rattle.tc_fop.specs.Moves.{is_initiation}
 use Rattle.tc_world.specs.declared.events.Event.{Event}
 use Rattle.tc_world.specs.declared.events.Event.TheVariants as event
 use Rattle.tc_world.specs.declared.events.LinkIndication.{LinkIndication}
-use Rattle.tc_world.specs.declared.events.LinkIndication.TheVariants.{Fop, Farm, Received}
+use Rattle.tc_world.specs.declared.events.LinkIndication.TheVariants.{Fop, Farm, Received, Transmitted}
 use Rattle.tc_world.specs.Links.{Kind}
 use Rattle.tc_world.specs.Logs.{Log, accepted_by}
 use Rattle.tc_world.specs.World.{unjudged, Whole, Happens, Carries, Begins, Boards, Hears, told_of_loss}
@@ -138,6 +138,9 @@ silent_loss false = silent_none
 silent_report : (item : Report) → IsSilent (Received item ∷ [])
 silent_report item = record { leaves = refl; sent = refl; accepted = refl; confirmed = refl }
 
+silent_frame : (frame : Frame) → IsSilent (Transmitted frame ∷ [])
+silent_frame frame = record { leaves = refl; sent = refl; accepted = refl; confirmed = refl }
+
 -- and nothing becomes of them
 stays_tells : {U D : Type 0} (given : Event) (old new : Whole U D) (shown answer : List LinkIndication) → answer ≡ shown → IsSilent shown → offered_by given ≡ []
     → new.fop ≡ old.fop → new.past ≡ old.past → new.newest ≡ old.newest → TellsRequests given old new answer
@@ -191,6 +194,19 @@ lands_tells {U} {D} uplink orders (Telemetry telemetry) left old new answer fop 
     stays_tells event.Downlink old new (Received (Telemetry telemetry) ∷ []) answer answered (silent_report (Telemetry telemetry)) refl
     (ap (λ (x : Whole U D). x.fop) whole) (ap (λ (x : Whole U D). x.past) whole) (ap (λ (x : Whole U D). x.newest) whole)
 
+-- something from outside was heard
+hears_tells : {U D : Type 0} (uplink : Kind U Frame) (orders : Orders) (item : Report) (old new : Whole U D) (answer : List LinkIndication) → IsFop old.fop → IsFop new.fop
+    → Hears uplink item (record old { clean = false }) new answer → TellsRequests (event.Hear item) old new answer
+hears_tells {U} {D} uplink orders (Word word) old new answer fop new_fop (heard, actions, rest, reads, gives, h, answered) =
+    let order = orders.words old.fop heard new.fop (output actions old.fop) fop new_fop
+    (answers_of (reported old.fop heard) old.fop new.fop actions gives (ap (λ (x : Whole U D). x.fop) h.whole)) in
+    let tells = carries_tells uplink (event.Hear (Word word)) actions (record old { clean = false }) new rest h order in
+    subst (λ (l : List LinkIndication). TellsRequests (event.Hear (Word word)) old new l) (sym answered)
+    (record { waits = tells.waits; sent = tells.sent; accepted = tells.accepted; confirmed = tells.confirmed })
+hears_tells {U} {D} uplink orders (Telemetry telemetry) old new answer fop new_fop (readied, whole, answered) =
+    stays_tells (event.Hear (Telemetry telemetry)) old new (Received (Telemetry telemetry) ∷ []) answer answered (silent_report (Telemetry telemetry)) refl
+    (ap (λ (x : Whole U D). x.fop) whole) (ap (λ (x : Whole U D). x.past) whole) (ap (λ (x : Whole U D). x.newest) whole)
+
 -- one event
 pub tells_requests : {U D : Type 0} (uplink : Kind U Frame) (downlink : Kind D Report) → Orders → (given : Event) (old new : Whole U D) (answer : List LinkIndication)
     → IsFop old.fop → IsFop new.fop → Happens uplink downlink given old new answer → TellsRequests given old new answer
@@ -231,3 +247,10 @@ tells_requests uplink downlink orders event.Downlink old new answer fop new_fop 
 tells_requests {U} {D} uplink downlink orders (event.LoseDown place) old new answer fop new_fop h =
     stays_tells (event.LoseDown place) old new (told_of_loss h.found) answer h.answered (silent_loss h.found) refl
     (ap (λ (x : Whole U D). x.fop) h.whole) (ap (λ (x : Whole U D). x.past) h.whole) (ap (λ (x : Whole U D). x.newest) h.whole)
+tells_requests {U} {D} uplink downlink orders event.Transmit old new answer fop new_fop (inl (nothing, h)) =
+    stays_tells event.Transmit old new [] answer h.answered silent_none refl
+    (ap (λ (x : Whole U D). x.fop) h.same.rest) (ap (λ (x : Whole U D). x.past) h.same.rest) (ap (λ (x : Whole U D). x.newest) h.same.rest)
+tells_requests {U} {D} uplink downlink orders event.Transmit old new answer fop new_fop (inr h) =
+    stays_tells event.Transmit old new (Transmitted h.frame ∷ []) answer h.answered (silent_frame h.frame) refl
+    (ap (λ (x : Whole U D). x.fop) h.whole) (ap (λ (x : Whole U D). x.past) h.whole) (ap (λ (x : Whole U D). x.newest) h.whole)
+tells_requests uplink downlink orders (event.Hear item) old new answer fop new_fop h = hears_tells uplink orders item old new answer fop new_fop h

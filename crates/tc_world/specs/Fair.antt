@@ -13,7 +13,7 @@ use Rattle.tc_fop.specs.Calls.{is_taking}
 use Rattle.tc_fop.specs.Standing.{is_starting}
 use Rattle.tc_fop.specs.Fair.{is_checking, is_retransmitting, may_alert}
 use Rattle.tc_world.specs.declared.events.LinkIndication.{LinkIndication}
-use Rattle.tc_world.specs.declared.events.LinkIndication.TheVariants.{Fop, Farm, Received, Lost}
+use Rattle.tc_world.specs.declared.events.LinkIndication.TheVariants.{Fop, Farm, Received, Lost, Transmitted}
 use Rattle.tc_world.specs.Abstraction.{Bare, report_value}
 use Rattle.tc_world.specs.Kept.{Each, Pairs}
 
@@ -30,6 +30,7 @@ is_fair level state (Fop signal.Started) = true
 is_fair level state (Farm verdict) = true
 is_fair level state (Received item) = true
 is_fair level state Lost = true
+is_fair level state (Transmitted frame) = true
 
 -- ---- what stands between two events
 

@@ -19,3 +19,4 @@ pub mod Told
 pub mod Marks
 pub mod Sides
 pub mod Payloads
+pub mod Config

@@ -9,7 +9,7 @@ use Rattle.tc_fop.specs.Machine.{Waiting, Held, option_list}
 use Rattle.tc_world.specs.declared.events.Event.{Event}
 use Rattle.tc_world.specs.declared.events.Event.TheVariants as event
 use Rattle.tc_world.specs.declared.events.LinkIndication.{LinkIndication}
-use Rattle.tc_world.specs.declared.events.LinkIndication.TheVariants.{Fop, Farm, Received, Lost}
+use Rattle.tc_world.specs.declared.events.LinkIndication.TheVariants.{Fop, Farm, Received, Lost, Transmitted}
 use Rattle.tc_world.specs.Abstraction.{Bare}
 use Rattle.tc_world.specs.World.{all_sent}
 
@@ -42,8 +42,10 @@ IsOfferOf P event.Clcw = Unit {0}
 IsOfferOf P (event.Put telemetry) = Unit {0}
 IsOfferOf P event.Downlink = Unit {0}
 IsOfferOf P (event.LoseDown place) = Unit {0}
+IsOfferOf P event.Transmit = Unit {0}
+IsOfferOf P (event.Hear item) = Unit {0}
 
--- what is told to be accepted on board
+-- what is told to be accepted on board, and the frame that the front end is given
 abbrev pub IsToldOf : (P : ℕ → Payload → Type 0) → List ℕ → LinkIndication → Type 0
 IsToldOf P sent (Fop i) = Unit {0}
 IsToldOf P sent (Farm (Accepted request body)) = P request body × IsOneOf request sent
@@ -51,3 +53,4 @@ IsToldOf P sent (Farm Discarded) = Unit {0}
 IsToldOf P sent (Farm Control) = Unit {0}
 IsToldOf P sent (Received item) = Unit {0}
 IsToldOf P sent Lost = Unit {0}
+IsToldOf P sent (Transmitted frame) = CarriesOf P sent frame

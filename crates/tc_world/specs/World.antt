@@ -23,7 +23,7 @@ use Rattle.tc_fop.specs.Moves.{is_initiation}
 use Rattle.tc_world.specs.declared.events.Event.{Event}
 use Rattle.tc_world.specs.declared.events.Event.TheVariants as event
 use Rattle.tc_world.specs.declared.events.LinkIndication.{LinkIndication}
-use Rattle.tc_world.specs.declared.events.LinkIndication.TheVariants.{Fop, Farm, Received, Lost}
+use Rattle.tc_world.specs.declared.events.LinkIndication.TheVariants.{Fop, Farm, Received, Lost, Transmitted}
 use Rattle.tc_world.specs.Links.{Kind, PutsAll, IsReadied}
 use Rattle.tc_world.specs.Logs.{Log, blank, noted, boarded}
 
@@ -73,6 +73,8 @@ refusal_of event.Clcw w = None
 refusal_of (event.Put telemetry) w = None
 refusal_of event.Downlink w = None
 refusal_of (event.LoseDown place) w = None
+refusal_of event.Transmit w = None
+refusal_of (event.Hear item) w = None
 
 -- an event is refused as said; where it is not, memory may be refused
 abbrev pub IsRefused : {U D : Type 0} → Event → Whole U D → Refusal → Type 0
@@ -168,6 +170,8 @@ fits_by event.Clcw old new = old.fits
 fits_by (event.Put telemetry) old new = old.fits
 fits_by event.Downlink old new = old.fits
 fits_by (event.LoseDown place) old new = old.fits
+fits_by event.Transmit old new = old.fits
+fits_by (event.Hear item) old new = old.fits
 
 -- a directive that sets no K, or one that fits
 abbrev pub is_fitting_setting : Directive → FarmView → Bool
@@ -193,6 +197,8 @@ sets_fitting event.Clcw farm = true
 sets_fitting (event.Put telemetry) farm = true
 sets_fitting event.Downlink farm = true
 sets_fitting (event.LoseDown place) farm = true
+sets_fitting event.Transmit farm = true
+sets_fitting (event.Hear item) farm = true
 
 -- whether the last start was level, after any event that happens
 abbrev pub level_by : {U D : Type 0} → Kind U Frame → Kind D Report → Event → Whole U D → Bool
@@ -206,8 +212,11 @@ level_by uplink downlink event.Clcw w = w.level
 level_by uplink downlink (event.Put telemetry) w = w.level
 level_by uplink downlink event.Downlink w = w.level
 level_by uplink downlink (event.LoseDown place) w = w.level
+level_by uplink downlink event.Transmit w = w.level
+level_by uplink downlink (event.Hear item) w = w.level
 
--- the same after any event that happens: an initiation is a start, and no other event is
+-- The same after any event that happens: an initiation is a start, and no other event is. What came from outside may be a
+-- word of another FARM's, so after it nothing is known of the starts.
 abbrev pub clean_by : {U D : Type 0} → Kind U Frame → Kind D Report → Event → Whole U D → Bool
 clean_by uplink downlink (event.Offer request body) w = w.clean
 clean_by uplink downlink (event.Directive given) w =
@@ -220,6 +229,8 @@ clean_by uplink downlink event.Clcw w = w.clean
 clean_by uplink downlink (event.Put telemetry) w = w.clean
 clean_by uplink downlink event.Downlink w = w.clean
 clean_by uplink downlink (event.LoseDown place) w = w.clean
+clean_by uplink downlink event.Transmit w = w.clean
+clean_by uplink downlink (event.Hear item) w = false
 
 -- ---- one event
 
@@ -328,6 +339,13 @@ pub record LosesDown {U D : Type 0} (downlink : Kind D Report) (place : ℕ) (ol
   pub whole : new ≡ record old { down = new.down }
   pub answered : answer ≡ told_of_loss found
 
+-- the front end took a frame: the first of the uplink leaves this machine, and it is told which
+pub record Transmits {U D : Type 0} (uplink : Kind U Frame) (old new : Whole U D) (answer : List LinkIndication) : Type 0 where
+  pub frame : Frame
+  pub taken : uplink.takes old.up frame new.up
+  pub whole : new ≡ record old { up = new.up }
+  pub answered : answer ≡ Transmitted frame ∷ []
+
 -- a directive was carried out
 abbrev pub Directs : {U D : Type 0} → Kind U Frame → Kind D Report → Directive → List Action → Whole U D → Whole U D → List LinkIndication → Type 0
 Directs uplink downlink given actions old new answer = MatchBool (is_initiation given)
@@ -359,10 +377,14 @@ Happens uplink downlink (event.Put telemetry) old new answer = Descends downlink
 Happens uplink downlink event.Downlink old new answer =
     ((downlink.content old.down ≡ []) × IsIdle uplink downlink old new answer) ⊎ Lands uplink downlink old new answer
 Happens uplink downlink (event.LoseDown place) old new answer = LosesDown downlink place old new answer
+Happens uplink downlink event.Transmit old new answer =
+    ((uplink.content old.up ≡ []) × IsIdle uplink downlink old new answer) ⊎ Transmits uplink old new answer
+Happens uplink downlink (event.Hear item) old new answer = Hears uplink item (record old { clean = false }) new answer
 
 -- ---- what one event takes and gives at most
 
--- Where memory is never refused: to an offer that waits since the window is closed; to a loss and a release; to a report
+-- Where memory is never refused: to an offer that waits since the window is closed; to a loss, a release and what the front
+-- end takes; to a report
 -- and a control word where the downlink has the room of one put; and where nothing can happen, since no timer runs or
 -- nothing is in flight.
 abbrev pub IsSpared : {U D : Type 0} → Kind U Frame → Kind D Report → (D → ℕ) → Event → Whole U D → Type 0
@@ -377,6 +399,8 @@ IsSpared uplink downlink covered event.Clcw w = 0 < covered w.down
 IsSpared uplink downlink covered (event.Put telemetry) w = 0 < covered w.down
 IsSpared uplink downlink covered event.Downlink w = downlink.content w.down ≡ []
 IsSpared uplink downlink covered (event.LoseDown place) w = Unit {0}
+IsSpared uplink downlink covered event.Transmit w = Unit {0}
+IsSpared uplink downlink covered (event.Hear item) w = ⊥
 
 -- an event that puts something on the downlink
 abbrev pub puts_down : Event → Bool
@@ -390,6 +414,8 @@ puts_down event.Clcw = true
 puts_down (event.Put telemetry) = true
 puts_down event.Downlink = false
 puts_down (event.LoseDown place) = false
+puts_down event.Transmit = false
+puts_down (event.Hear item) = false
 
 -- How a call ends, whatever the event: what is refused leaves all as before; where memory is spared it is not refused; at
 -- most so much is told and put on the uplink; only a put takes of the downlink's room, and no more than its own; and both
@@ -410,8 +436,9 @@ is_of_fop (Fop i) = true
 is_of_fop (Farm verdict) = false
 is_of_fop (Received item) = false
 is_of_fop Lost = false
+is_of_fop (Transmitted frame) = false
 
--- a frame that comes up tells nothing of the FOP's: no Sent, Confirmed, InDoubt or GivenBack
+-- a frame that comes up, or is taken by the front end, tells nothing of the FOP's: no Sent, Confirmed, InDoubt or GivenBack
 abbrev pub IsQuietAboard : Event → List LinkIndication → Type 0
 IsQuietAboard (event.Offer request body) answer = Unit {0}
 IsQuietAboard (event.Directive given) answer = Unit {0}
@@ -423,6 +450,8 @@ IsQuietAboard event.Clcw answer = Unit {0}
 IsQuietAboard (event.Put telemetry) answer = Unit {0}
 IsQuietAboard event.Downlink answer = Unit {0}
 IsQuietAboard (event.LoseDown place) answer = Unit {0}
+IsQuietAboard event.Transmit answer = list_any is_of_fop answer ≡ false
+IsQuietAboard (event.Hear item) answer = Unit {0}
 
 -- what tells that a request moves
 abbrev pub tells_move : LinkIndication → Bool
@@ -435,6 +464,7 @@ tells_move (Fop signal.Started) = false
 tells_move (Farm verdict) = false
 tells_move (Received item) = false
 tells_move Lost = false
+tells_move (Transmitted frame) = false
 
 abbrev pub is_terminate : Directive → Bool
 is_terminate directive.InitiateNone = false
@@ -447,7 +477,7 @@ is_terminate (directive.SetK k) = false
 is_terminate (directive.SetT1 t1) = false
 is_terminate (directive.SetLimit limit) = false
 
--- an event at which requests may move: an offer, the end of the service, a tick, and what comes down
+-- an event at which requests may move: an offer, the end of the service, a tick, and what comes down or is heard
 abbrev pub may_move : Event → Bool
 may_move (event.Offer request body) = true
 may_move (event.Directive given) = is_terminate given
@@ -459,3 +489,5 @@ may_move event.Clcw = false
 may_move (event.Put telemetry) = false
 may_move event.Downlink = true
 may_move (event.LoseDown place) = false
+may_move event.Transmit = false
+may_move (event.Hear item) = true

@@ -1,9 +1,9 @@
 //! What happens to the link, and what it tells.
 use tc_farm::FrameVerdict;
 use tc_fop::signals;
-use tc_types::{Directive, Payload, Report, RequestNumber, Telemetry};
+use tc_types::{Directive, Frame, Payload, Report, RequestNumber, Telemetry};
 
-/// What happens to the link. Control words come from its own FARM alone: no event puts one of another's.
+/// What happens to the link. Control words come from its own FARM alone, but those that are heard from outside.
 #[derive(Clone, Copy, Debug, PartialEq, Eq)]
 pub enum Event {
     /// A request is offered to the FOP.
@@ -31,6 +31,10 @@ pub enum Event {
     Downlink,
     /// The item at this place of the downlink is lost, from 0 for the oldest.
     LoseDown(usize),
+    /// The front end takes the first frame of the uplink: it leaves this machine, and its own FARM does not see it.
+    Transmit,
+    /// A control word or a report from outside is heard as one that came down.
+    Hear(Report),
 }
 
 /// What the link tells of an event.
@@ -44,4 +48,6 @@ pub enum LinkIndication {
     Received(Report),
     /// Something in flight was lost: a loss where nothing stood tells nothing.
     Lost,
+    /// The front end took this frame.
+    Transmitted(Frame),
 }

@@ -2,8 +2,10 @@
 #![tactic(auto)]
 
 mod carriers;
+mod configs;
 mod events;
 mod farm_side;
+mod field;
 mod fop_side;
 mod indications;
 pub mod laws;
@@ -18,6 +20,7 @@ mod steps;
 mod worlds;
 
 pub use carriers::Carrier;
+pub use configs::{Config, GREATEST_RING, is_fit};
 pub use events::{Event, LinkIndication};
 pub use indications::Indications;
 pub use link_carriers::LinkCarrier;

@@ -4,13 +4,11 @@ ghost use Rattle.tc_types.specs.declared.refusals.Refusal.TheVariants.{BadDirect
 ghost use Rattle.tc_world.specs.Sublist.{IsSublist};
 
 use crate::carriers::Carrier;
+use crate::configs::GREATEST_RING;
 use circular_buffer::HeapCircularBuffer;
 use std::alloc::{AllocError, Allocator};
 use std::marker::Model;
 use tc_types::Refusal;
-
-/// The most items that a ring may hold.
-const GREATEST_SIZE: u32 = 4_096;
 
 /// A link that holds so many items and no more: a put into a full one drops the oldest. All its memory is taken by `new`.
 /// A contract sees what is in flight, and the size.
@@ -37,7 +35,7 @@ impl<T: Drop, A: Allocator> RingCarrier<T, A> {
         ensures bad { (result ≡ Err BadDirective) ↔ ((size ≡ 0) ⊎ (4096 < size)) }
         ensures memory { IfErr result (λ e. e ≢ BadDirective → e ≡ Memory) }
     {
-        if size == 0 || size > GREATEST_SIZE {
+        if size == 0 || size > GREATEST_RING {
             return Err(Refusal::BadDirective);
         }
         let items = HeapCircularBuffer::with_capacity(alloc, size as usize)?;

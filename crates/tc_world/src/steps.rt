@@ -26,6 +26,8 @@ impl<U: Carrier<Frame>, D: Carrier<Report>, A: Allocator + Copy + Drop> LinkPart
             Event::Put(telemetry) => self.put(telemetry),
             Event::Downlink => self.downlink(),
             Event::LoseDown(place) => self.lose_down(place),
+            Event::Transmit => self.transmit(),
+            Event::Hear(item) => self.hear(item),
         }
     }
 }

@@ -19,8 +19,10 @@ use crate::records::Records;
 use crate::stacks::is_in_stack;
 use std::alloc::{AllocError, Allocator};
 use tc_stack::Approvals;
-use tc_types::{LoadedProcedure, Name, Place, ProcedureStep, Request, is_among, is_same_name};
-use tc_waits::{Lock, Waiting, Wanting};
+use tc_types::{
+    LoadedProcedure, Lock, Name, Place, ProcedureStep, Request, Waiting, Wanting, is_among,
+    is_same_name,
+};
 
 /// How far an approval has come that is not complete.
 fn wanting(approvals: &Approvals) -> Wanting

@@ -2,8 +2,8 @@
 use super::{Told, is_agreed};
 use std::alloc::Global;
 use std::test::Fail;
-use tc_csv::Rule;
-use tc_proc::{Procedure, Step, read_procedure, why_no_procedure};
+use tc_csv::{Rule, read_procedure, why_no_procedure};
+use tc_proc::{Procedure, Step};
 
 /// The procedure that a text spells, if it spells one.
 pub fn procedure(alloc: Global, text: &[u8]) -> Option<Procedure> {

@@ -6,8 +6,7 @@ use super::random_texts::{Kind, see_all};
 use super::written::{Fields, Headers, field, number};
 use std::alloc::{AllocError, Global};
 use std::test::Fail;
-use tc_csv::Fault;
-use tc_proc::{read_procedure, why_no_procedure};
+use tc_csv::{Fault, read_procedure, why_no_procedure};
 use tc_types::Refusal;
 
 /// What stands in the column of requests: good ones, and behind them bad ones.

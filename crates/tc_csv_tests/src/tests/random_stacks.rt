@@ -6,10 +6,9 @@ use super::random_texts::{Kind, see_all};
 use super::written::{Fields, Headers, field, number};
 use std::alloc::{AllocError, Global};
 use std::test::Fail;
-use tc_csv::Fault;
-use tc_stack::{read_stack, why_no_stack};
+use tc_csv::{Fault, read_stack, why_no_stack};
+use tc_lines::read::readers::is;
 use tc_types::Refusal;
-use tc_types::read::readers::is;
 
 /// Application processes: good ones, and behind them bad ones.
 const APIDS: [&[u8]; 6] = [b"5", b"0", b"2047", b"2048", b"", b"+5"];

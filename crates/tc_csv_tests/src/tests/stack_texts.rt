@@ -3,8 +3,8 @@ use super::stack_rows::CASES;
 use super::{Told, is_agreed};
 use std::alloc::Global;
 use std::test::Fail;
-use tc_csv::Rule;
-use tc_stack::{Stack, read_stack, why_no_stack};
+use tc_csv::{Rule, read_stack, why_no_stack};
+use tc_stack::Stack;
 use tc_types::{Command, Ride};
 
 /// The stack that a text spells, if it spells one.

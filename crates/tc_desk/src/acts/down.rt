@@ -56,8 +56,13 @@ fn first_of_down(said: &[LinkIndication]) -> FirstLine
     match said.first() {
         Some(LinkIndication::Received(Report::Word(word))) => FirstLine::Word(*word),
         Some(LinkIndication::Received(Report::Telemetry(item))) => first_of_report(item),
-        None | Some(LinkIndication::Fop(_) | LinkIndication::Farm(_) | LinkIndication::Lost) =>
-            FirstLine::Nothing,
+        None
+        | Some(
+            LinkIndication::Fop(_)
+            | LinkIndication::Farm(_)
+            | LinkIndication::Lost
+            | LinkIndication::Transmitted(_),
+        ) => FirstLine::Nothing,
     }
 }
 
@@ -85,8 +90,13 @@ fn command_down<A: Allocator + Copy + Drop>(
 {
     match said.first() {
         Some(LinkIndication::Received(item)) => command_told(records, item),
-        None | Some(LinkIndication::Fop(_) | LinkIndication::Farm(_) | LinkIndication::Lost) =>
-            None,
+        None
+        | Some(
+            LinkIndication::Fop(_)
+            | LinkIndication::Farm(_)
+            | LinkIndication::Lost
+            | LinkIndication::Transmitted(_),
+        ) => None,
     }
 }
 

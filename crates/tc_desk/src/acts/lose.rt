@@ -20,9 +20,12 @@ fn first_of_loss(said: &[LinkIndication]) -> FirstLine
     match said.first() {
         Some(LinkIndication::Lost) => FirstLine::Lost,
         None
-        | Some(LinkIndication::Fop(_) | LinkIndication::Farm(_) | LinkIndication::Received(_)) => {
-            FirstLine::Nothing
-        }
+        | Some(
+            LinkIndication::Fop(_)
+            | LinkIndication::Farm(_)
+            | LinkIndication::Received(_)
+            | LinkIndication::Transmitted(_),
+        ) => { FirstLine::Nothing }
     }
 }
 

@@ -27,8 +27,13 @@ fn first_of_up(said: &[LinkIndication]) -> FirstLine
         ),
         Some(LinkIndication::Farm(FrameVerdict::Discarded)) => FirstLine::Discarded,
         Some(LinkIndication::Farm(FrameVerdict::Control)) => FirstLine::Control,
-        None | Some(LinkIndication::Fop(_) | LinkIndication::Received(_) | LinkIndication::Lost) =>
-            { FirstLine::Nothing }
+        None
+        | Some(
+            LinkIndication::Fop(_)
+            | LinkIndication::Received(_)
+            | LinkIndication::Lost
+            | LinkIndication::Transmitted(_),
+        ) => { FirstLine::Nothing }
     }
 }
 

@@ -14,7 +14,7 @@ use crate::cells::{flag_at, name_at, number_at, place_at, request_at, second_at,
 use crate::faults::ReadFault;
 use crate::loads::commands::command_in;
 use sqlite::Row;
-use tc_types::read::entry_reader::outcome;
+use tc_lines::read::entry_reader::outcome;
 use tc_types::{Ack, Apid, Body, Identity, Origin, Outcome, PlacedRequest, Request, SequenceCount};
 
 /// A number of two bytes.

@@ -1,6 +1,6 @@
 use Rattle.std.proofs.Common.{Result, refl, subst}
 use Rattle.tc_room.specs.declared.answers.Answer.{Answer}
-use Rattle.tc_room.specs.declared.answers.Untold.{Untold}
+use Rattle.tc_types.specs.declared.refusals.Untold.{Untold}
 use Rattle.tc_room.specs.Answers.{Says}
 use Rattle.tc_api.proofs.ServingLemmas.{outcome_made}
 use Rattle.tc_api.proofs.serving.answer_served.Goals as goal

@@ -1,5 +1,5 @@
 use Rattle.std.proofs.Common.{rules}
-use Rattle.tc_routes.specs.Paths.{named_by}
+use Rattle.tc_front.specs.Paths.{named_by}
 use Rattle.tc_front.proofs.FieldLemmas.{pairs}
 use Rattle.tc_front.proofs.JudgeLemmas.{other_method, has_coding, has_body}
 use Rattle.tc_front.proofs.judge.judge_parts.Goals as goal

@@ -4,7 +4,7 @@ use Rattle.sqlite.specs.State.{HasCleanDisk}
 use Rattle.tc_types.specs.Tables.{Image}
 use Rattle.tc_types.specs.Images.{rows_in}
 use Rattle.tc_book.specs.Sound.{IsSound}
-use Rattle.tc_desk.specs.State.{IsConfig}
+use Rattle.tc_world.specs.Config.{IsConfig}
 use Rattle.tc_store.specs.Ledgers.{Ledger, with_image}
 use Rattle.tc_store.specs.Schema.{HoldsAs}
 use Rattle.tc_room.specs.Crash.{HasRows}

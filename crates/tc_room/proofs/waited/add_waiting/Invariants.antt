@@ -1,6 +1,6 @@
 use Rattle.std.proofs.Common.{◌≡◌, ◌++◌, drop, map, take}
 use Rattle.std.specs.String.{string_bytes}
-use Rattle.tc_waits.specs.WaitingLines.{waiting_line}
+use Rattle.tc_types.specs.WaitingLines.{waiting_line}
 use Rattle.tc_room.specs.Replies.{AreLines, ended}
 use Rattle.tc_room.proofs.waited.add_waiting.Given as goal
 

@@ -1,5 +1,5 @@
 use Rattle.std.proofs.Common.{◌∙◌, ℕ, inl, inr}
-use Rattle.tc_run.proofs.EndsLemmas.{ends_by, ends_so}
+use Rattle.tc_closed.proofs.EndsLemmas.{ends_by, ends_so}
 use Rattle.tc_run.proofs.KeptLemmas.{stays}
 use Rattle.tc_run.proofs.StopLemmas.{unopened, unopened_other, unopened_unwritten, untouched}
 use Rattle.tc_run.proofs.kept.run_kept.Goals as goal

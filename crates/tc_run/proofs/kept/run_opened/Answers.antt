@@ -1,7 +1,6 @@
 use Rattle.std.proofs.Common.{◌≡◌, Err, inl, inr, refl}
 use Rattle.tc_types.specs.Counts.{inner_of}
-use Rattle.tc_run.proofs.EndsLemmas.{ends_by, ends_so}
-use Rattle.tc_run.proofs.StopLemmas.{is_fault}
+use Rattle.tc_closed.proofs.EndsLemmas.{ends_by, ends_so, is_fault}
 use Rattle.tc_run.proofs.TakeLemmas.{gives_none}
 use Rattle.tc_run.proofs.kept.run_opened.Goals as goal
 

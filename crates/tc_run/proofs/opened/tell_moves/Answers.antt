@@ -1,9 +1,8 @@
 use Rattle.std.proofs.Common.{◌≡◌, ◌∙◌, [], Err, refl}
 use Rattle.std.proofs.KnownBytes.{Appends-nil}
-use Rattle.tc_run.specs.declared.script.ScriptFault.TheVariants.{Memory}
-use Rattle.tc_run.proofs.EndsLemmas.{ends_by}
+use Rattle.tc_closed.specs.declared.scripts.ScriptFault.TheVariants.{Memory}
+use Rattle.tc_closed.proofs.EndsLemmas.{ends_by, is_fault, memory_is_other}
 use Rattle.tc_run.proofs.KeptLemmas.{opening_told}
-use Rattle.tc_run.proofs.StopLemmas.{is_fault, memory_is_other}
 use Rattle.tc_run.proofs.opened.tell_moves.Goals as goal
 
 pub returns-in_err-told : goal.returns-in_err-told

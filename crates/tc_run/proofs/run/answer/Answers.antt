@@ -2,10 +2,11 @@ use Rattle.std.proofs.Common.{◌≡◌, Err, false, inl, inr, ◌∷◌, [], re
 use Rattle.std.proofs.lemmas.Result.{IfOk-weaker}
 use Rattle.tc_types.specs.ActGrammar.{HasLongAct}
 use Rattle.tc_types.specs.Loads.{line_of}
-use Rattle.tc_run.specs.Files.{file_at}
-use Rattle.tc_run.specs.declared.script.ScriptFault.TheVariants.{Memory}
+use Rattle.tc_closed.specs.Files.{file_at}
+use Rattle.tc_closed.specs.declared.scripts.ScriptFault.TheVariants.{Memory}
 use Rattle.tc_run.proofs.RunLemmas.{loads_nothing, loads_short}
-use Rattle.tc_run.proofs.StopLemmas.{file_unanswered, is_fault}
+use Rattle.tc_run.proofs.StopLemmas.{file_unanswered}
+use Rattle.tc_closed.proofs.EndsLemmas.{is_fault}
 use Rattle.tc_run.proofs.TakeLemmas.{gives_none}
 use Rattle.tc_run.proofs.run.answer.Goals as goal
 

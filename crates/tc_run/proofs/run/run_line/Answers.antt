@@ -3,10 +3,10 @@ use Rattle.std.specs.Io.KnownBytes.{Appends}
 use Rattle.std.specs.String.{string_bytes}
 use Rattle.tc_types.specs.Counts.{inner_of}
 use Rattle.tc_run.specs.Run.{exchange}
-use Rattle.tc_run.specs.declared.script.ScriptFault.TheVariants.{Memory}
-use Rattle.tc_run.proofs.EndsLemmas.{ends_by, ends_well}
+use Rattle.tc_closed.specs.declared.scripts.ScriptFault.TheVariants.{Memory}
+use Rattle.tc_closed.proofs.EndsLemmas.{ends_by, ends_well, is_fault, memory_is_other, output_is_other}
 use Rattle.tc_run.proofs.RunLemmas.{came_answered, came_skipped}
-use Rattle.tc_run.proofs.StopLemmas.{is_fault, memory_is_other, not_script, not_written, output_is_other, stopped_at_line, stopped_unanswered, stopped_unshown}
+use Rattle.tc_run.proofs.StopLemmas.{not_script, not_written, stopped_at_line, stopped_unanswered, stopped_unshown}
 use Rattle.tc_run.proofs.run.run_line.Goals as goal
 
 pub returns-then-is_skipped : goal.returns-then-is_skipped

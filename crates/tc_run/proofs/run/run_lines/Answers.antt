@@ -1,8 +1,8 @@
 use Rattle.std.proofs.Common.{rules, ◌≡◌, Err}
 use Rattle.tc_check.specs.Scripts.{script_lines}
-use Rattle.tc_run.proofs.EndsLemmas.{ends_by, ends_well}
+use Rattle.tc_closed.proofs.EndsLemmas.{ends_by, ends_well, is_fault}
 use Rattle.tc_run.proofs.RunLemmas.{has_run-start, has_run-step, has_run-end}
-use Rattle.tc_run.proofs.StopLemmas.{is_fault, stopped_in_line}
+use Rattle.tc_run.proofs.StopLemmas.{stopped_in_line}
 use Rattle.tc_run.proofs.run.run_lines.Goals as goal
 
 pub loop-line-init : goal.loop-line-init

@@ -1,9 +1,9 @@
 use Rattle.std.proofs.Common.{◌≡◌, ◌∙◌, Err, List, ℕ, false, subst}
 use Rattle.std.specs.Io.KnownBytes.{Appends}
 use Rattle.tc_types.specs.Counts.{inner_of}
-use Rattle.tc_run.specs.declared.script.ScriptFault.TheVariants.{Memory}
-use Rattle.tc_run.proofs.EndsLemmas.{ends_by, ends_well}
-use Rattle.tc_run.proofs.StopLemmas.{is_fault, memory_is_other, output_is_other, question_unanswered, stopped_in_question}
+use Rattle.tc_closed.specs.declared.scripts.ScriptFault.TheVariants.{Memory}
+use Rattle.tc_closed.proofs.EndsLemmas.{ends_by, ends_well, is_fault, memory_is_other, output_is_other}
+use Rattle.tc_run.proofs.StopLemmas.{question_unanswered, stopped_in_question}
 use Rattle.tc_run.proofs.run.run_places.Goals as goal
 
 pub returns-in_err-last : goal.returns-in_err-last

@@ -1,7 +1,7 @@
 use Rattle.std.proofs.Common.{◌≡◌, Err}
-use Rattle.tc_run.proofs.EndsLemmas.{ends_by, ends_well}
+use Rattle.tc_closed.proofs.EndsLemmas.{ends_by, ends_well, is_fault}
 use Rattle.tc_run.proofs.RunLemmas.{lines_run}
-use Rattle.tc_run.proofs.StopLemmas.{is_fault, lines_stopped}
+use Rattle.tc_run.proofs.StopLemmas.{lines_stopped}
 use Rattle.tc_run.proofs.run.run_room.Goals as goal
 
 pub returns-in_err-refused : goal.returns-in_err-refused

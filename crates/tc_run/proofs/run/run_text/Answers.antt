@@ -1,4 +1,4 @@
-use Rattle.tc_run.proofs.EndsLemmas.{ends_so}
+use Rattle.tc_closed.proofs.EndsLemmas.{ends_so}
 use Rattle.tc_run.proofs.RunLemmas.{run_answered}
 use Rattle.tc_run.proofs.StopLemmas.{run_stopped, run_unopened}
 use Rattle.tc_run.proofs.run.run_text.Goals as goal

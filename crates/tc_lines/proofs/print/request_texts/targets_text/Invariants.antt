@@ -1,0 +1,7 @@
+use Rattle.std.proofs.Common.{◌≡◌, take}
+use Rattle.std.specs.String.{string_bytes}
+use Rattle.tc_types.specs.Grammar.{listed, target_word}
+use Rattle.tc_lines.proofs.print.request_texts.targets_text.Given as goal
+
+abbrev pub invariant-loop-at : goal.invariant-loop-at
+invariant-loop-at g l = string_bytes l.text ≡ listed target_word (take l.at l.rides)

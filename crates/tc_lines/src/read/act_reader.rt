@@ -1,0 +1,111 @@
+//! Texts that are read as acts.
+ghost use Rattle.std.specs.Prelude.{◌≡◌, ◌≢◌, ◌↔◌, ◌<◌, ◌≤◌, Ok, Err, IfOk, IfErr, ◌∷◌, codes, length};
+ghost use Rattle.tc_types.specs.declared.acts.Act.{Act};
+ghost use Rattle.tc_types.specs.declared.refusals.Refusal.TheVariants as refusal;
+ghost use Rattle.tc_types.specs.Grammar.{Reads};
+ghost use Rattle.tc_types.specs.ActGrammar.{book_act_words, IsBookAct, act_words, IsAct, act_text, SpellsAct};
+
+use crate::read::entry_reader::entry;
+use crate::read::link_reader::link_act_of;
+use crate::read::query_reader::{is_question, query_of};
+use crate::read::readers::{is, number};
+use crate::read::step_reader::step;
+use crate::read::words::Words;
+use tc_types::limits::LONGEST_ACT;
+use tc_types::{Act, BookAct, Name, Refusal};
+
+/// What stands behind `withdraw`.
+fn withdraw(words: &mut Words<'_>) -> Option<BookAct>
+    ensures { Reads book_act_words IsBookAct (codes "withdraw" ∷ words.old) result }
+{
+    let request = number(words.next()?)?;
+    words.end()?;
+    Some(BookAct::Withdraw { request })
+}
+
+/// What stands behind `approve`.
+fn approve(words: &mut Words<'_>) -> Option<BookAct>
+    ensures { Reads book_act_words IsBookAct (codes "approve" ∷ words.old) result }
+{
+    let request = number(words.next()?)?;
+    words.end()?;
+    Some(BookAct::Approve { request })
+}
+
+/// What stands behind `close`.
+fn close(words: &mut Words<'_>) -> Option<BookAct>
+    ensures { Reads book_act_words IsBookAct (codes "close" ∷ words.old) result }
+{
+    let request = number(words.next()?)?;
+    words.end()?;
+    Some(BookAct::Close { request })
+}
+
+/// What stands behind `approvestack`.
+fn approve_stack(words: &mut Words<'_>) -> Option<BookAct>
+    ensures { Reads book_act_words IsBookAct (codes "approvestack" ∷ words.old) result }
+{
+    let stack = Name::read(words.next()?)?;
+    words.end()?;
+    Some(BookAct::ApproveStack { stack })
+}
+
+/// What stands behind `begin`.
+fn begin(words: &mut Words<'_>) -> Option<BookAct>
+    ensures { Reads book_act_words IsBookAct (codes "begin" ∷ words.old) result }
+{
+    let procedure = Name::read(words.next()?)?;
+    words.end()?;
+    Some(BookAct::Begin { procedure })
+}
+
+/// The words of an act, of which the first says which.
+#[tactic(auto, using(crate::proofs::QueryLaws::asked, crate::proofs::QueryLaws::unasked))]
+pub fn act_of(words: &mut Words<'_>) -> Option<Act>
+    ensures { Reads act_words IsAct words.old result }
+{
+    let verb = words.next()?;
+    if is(verb, b"enter") {
+        Some(Act::Book(BookAct::Enter(entry(words)?)))
+    } else if is(verb, b"withdraw") {
+        Some(Act::Book(withdraw(words)?))
+    } else if is(verb, b"approve") {
+        Some(Act::Book(approve(words)?))
+    } else if is(verb, b"close") {
+        Some(Act::Book(close(words)?))
+    } else if is(verb, b"approvestack") {
+        Some(Act::Book(approve_stack(words)?))
+    } else if is(verb, b"begin") {
+        Some(Act::Book(begin(words)?))
+    } else if is(verb, b"step") {
+        Some(Act::Step(step(words)?))
+    } else if is_question(verb) {
+        Some(Act::Ask(query_of(verb, words)?))
+    } else {
+        Some(Act::Link(link_act_of(verb, words)?))
+    }
+}
+
+/// The act that these bytes spell, however many they are.
+fn act(text: &[u8]) -> Option<Act>
+    ensures { Reads act_text IsAct text.now result }
+{
+    act_of(&mut Words::new(text, b' '))
+}
+
+/// The act or query that these bytes spell. Fails with `TooLong` where they are more than 200, and with `BadText`
+/// where they are no more and spell none.
+pub fn read_act(text: &[u8]) -> Result<Act, Refusal>
+    ensures found { IfOk result (λ act. SpellsAct text.now act) }
+    ensures only { (act : Act) → SpellsAct text.now act → length text.now ≤ 200 → result ≡ Ok act }
+    ensures too_long { (result ≡ Err refusal.TooLong) ↔ (200 < length text.now) }
+    ensures others { IfErr result (λ e. e ≢ refusal.TooLong → e ≡ refusal.BadText) }
+{
+    if text.len() > LONGEST_ACT {
+        return Err(Refusal::TooLong);
+    }
+    match act(text) {
+        Some(act) => Ok(act),
+        None => Err(Refusal::BadText),
+    }
+}

@@ -1,6 +1,0 @@
-mod SeekLaws
-mod WalkLaws
-mod PathLaws
-mod RouteLaws
-mod TextLaws
-mod DeskLaws

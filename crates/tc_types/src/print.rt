@@ -1,5 +1,0 @@
-//! Lines that are printed.
-pub mod link_texts;
-pub mod procedure_texts;
-pub mod request_texts;
-pub mod texts;

@@ -1,2 +1,0 @@
-pub mod OneLine
-mod WorkedCases

@@ -1,3 +1,0 @@
-pub mod WaitingLines
-pub mod ListLines
-pub mod StepLines
