@@ -78,26 +78,9 @@ layout() {
     find crates \( -name '*.rt' -o -name '*.antt' \) -print0 | xargs -0 "$rattle" fmt --check
 }
 
-# The crates that stand neither on the room nor on what is done where no desk is open: more than half of the work, and none of the end of the chain.
-low() {
-    awk -F '[: ]+' '$1 ~ /^tc_/ {
-        high = $1 == "tc_room" || $1 == "tc_closed"
-        for (i = 2; i <= NF; i++) if ($i in above) high = 1
-        if (high) above[$1]; else print $1
-    }' crates.txt
-}
-
-# The proofs. Crates wait for each other in one long chain, from tc_types to the program. At its two ends few others are left to prove, and rt ci gives a
-# proof more jobs than one. Between them it is told how many places there are, and each proof is one job: else it lets a crate wait for more memory
-# than its proof takes. What each call proves the next one takes from the toolchain's store; so with --anew there is one call.
+# The proofs, one job each and as many at once as there are processors. rt ci left to itself lets a proof wait for more memory than it takes.
 prove() {
-    local names places="${RT_JOBS:-$(nproc)}"
-    if ((${#anew[@]})); then
-        RT_JOBS=$places rt ci "${anew[@]}"
-        return
-    fi
-    mapfile -t names < <(low)
-    env -u RT_JOBS rt ci tc_types && RT_JOBS=$places rt ci "${names[@]}" && env -u RT_JOBS rt ci
+    RT_JOBS="${RT_JOBS:-$(nproc)}" rt ci "${anew[@]}"
 }
 
 times=$(mktemp) && said=$(mktemp) || exit 1

@@ -1,7 +1,7 @@
-//! The words of the desk: requests and their places, the moves between places, acts and queries as text, the lines
-//! that are printed, refusals, the rows of the desk's tables, and readers and writers that are counted.
+//! The words of the desk: requests, the places where they stand and the moves between them, acts and questions, refusals, and the rows of the desk's
+//! tables. How each is spelled, and which lines answer it, is defined here; `tc_lines` reads and prints by that.
 //!
-//! Every type here but `Counted`, `Targets`, `Words` and `Image` is `Copy`, and none but `Image`, all rows of all tables, holds memory. A newtype
+//! Every type here but `Counted`, `Targets` and `Image` is `Copy`, and none but `Image`, all rows of all tables, holds memory. A newtype
 //! keeps the range of its number, and a contract sees the number alone; a contract sees a `Name`, and a `Person`, as its bytes.
 #![tactic(auto)]
 
