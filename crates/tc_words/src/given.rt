@@ -156,9 +156,9 @@ pub(crate) fn spelled_kind<'a>(word: &'a str) -> Result<LoadKind, UsageFault<'a>
     ensures kind { IfOk result (λ kind. word.entry.now ≡ kind_word kind) }
     ensures fault { IfErr result (λ fault. (fault ≡ UsageFault.NoKind word.entry) × ((some : SomeKind) → ¬ (word.entry.now ≡ kind_word some))) }
 {
-    if word == "stack" {
+    if word == LoadKind::Stack.word() {
         Ok(LoadKind::Stack)
-    } else if word == "procedure" {
+    } else if word == LoadKind::Procedure.word() {
         Ok(LoadKind::Procedure)
     } else {
         Err(UsageFault::NoKind(word))
