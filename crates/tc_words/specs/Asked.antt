@@ -8,6 +8,7 @@ use Rattle.clap.specs.Words.{Row, Text, count_of, first_of, one_of}
 use Rattle.clap.specs.declared.builder.value_parser.ValueParser.TheVariants as parser
 use Rattle.tc_types.specs.Numbers.{IsMoment}
 use Rattle.tc_csv.specs.StackTexts.{IsInstant}
+use Rattle.tc_world.specs.declared.configs.TheConstants.{GREATEST_RING}
 
 -- A command with what it was given. Where a desk is made or opened, its window, its channel and how many items the rings of its links hold,
 -- where they are rings, and what stands for the moment of its opening; where it is kept in a file, that file. A run has a script, and whether each line is shown before its answer and all is
@@ -50,7 +51,7 @@ given_channel rows = number_in 0 63 3 (one_of (codes "vc") rows)
 
 -- how many items the rings hold, where a number of them was given
 abbrev pub given_ring : List Row → Option ℕ
-given_ring rows = number_within 1 4096 (one_of (codes "ring") rows)
+given_ring rows = number_within 1 GREATEST_RING (one_of (codes "ring") rows)
 
 -- what was given for the moment of the opening, or stands in the rows by default
 abbrev pub given_moment : List Row → Text

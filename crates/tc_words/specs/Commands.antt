@@ -3,6 +3,7 @@ use Rattle.std.specs.Prelude.{[], ◌∷◌, Some, codes, true}
 use Rattle.clap.specs.Words.{App, Rule, Text, new_app, new_rule, with_rule, with_subcommand}
 use Rattle.clap.specs.declared.builder.action.ArgAction.TheVariants.{Count}
 use Rattle.clap.specs.declared.builder.value_parser.ValueParser.TheVariants as parser
+use Rattle.tc_world.specs.declared.configs.TheConstants.{GREATEST_RING}
 
 -- ---- the arguments
 
@@ -87,7 +88,7 @@ abbrev pub ring_rule : Rule
 ring_rule = record (new_rule (codes "ring")) {
   long = Some (codes "ring");
   value_names = 1;
-  parser = Some (parser.Unsigned 1 4096);
+  parser = Some (parser.Unsigned 1 GREATEST_RING);
 }
 
 -- --db FILE: the database file that keeps the desk; a new desk where it is not given

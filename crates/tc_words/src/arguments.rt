@@ -7,6 +7,7 @@ use clap::builder::ValueParser;
 use clap::{Arg, ArgAction};
 use std::alloc::Global;
 use std::marker::Model;
+use tc_world::GREATEST_RING;
 
 /// An argument of one command, and of none below it. A contract sees it as its rule.
 #[derive(Drop)]
@@ -213,7 +214,7 @@ pub(crate) fn ring_arg<'a>(alloc: Global) -> Argument<'a>
         arg: Arg::new(alloc, "ring")
             .long("ring")
             .value_name("N")
-            .value_parser(ValueParser::Unsigned(1, 4_096))
+            .value_parser(ValueParser::Unsigned(1, u64::from(GREATEST_RING)))
             .help(
                 "Links that hold N items and drop the oldest: 1 to 4096 [default: lists, which lose nothing by themselves]",
             ),
