@@ -2,7 +2,7 @@
 #![tactic(auto)]
 
 mod acts;
-mod boards;
+mod walls;
 mod bodies;
 mod endings;
 mod exchange;

@@ -10,7 +10,7 @@
 //!
 //! `tcdesk backup DB COPY` copies that desk to another file, also while it runs.
 //!
-//! `tcdesk board DB` prints the board of that desk, as a page of HTML; it only reads the file.
+//! `tcdesk board DB` prints the wall of that desk, as a page of HTML; it only reads the file.
 //!
 //! `tcdesk check KIND FILE` says what is wrong with a script, or with the file of a stack or of a procedure.
 //!
@@ -36,7 +36,7 @@ use std::{env, io};
 use tc_closed::{PathFault, ScriptFault, write_check, write_script_check};
 use tc_host::{
     HostPaths, HostTexts, HostWatch, Unusable, backup, of_tables, open_desk, open_script,
-    print_board, print_report, text_at, text_of,
+    print_wall, print_report, text_at, text_of,
 };
 use tc_run::{Opening, run_kept, run_script};
 use tc_types::{Counted, LoadKind};
@@ -110,8 +110,8 @@ fn run_line(rt: &HostRuntime, line: CommandLine<'_>) -> u8 {
         CommandLine::Backup { database, copy } => {
             copy_status(rt, backup(rt, database, copy), database, copy)
         }
-        CommandLine::Board { database } => {
-            report_status(rt, print_board(rt, database), database)
+        CommandLine::Wall { database } => {
+            report_status(rt, print_wall(rt, database), database)
         }
         CommandLine::Check { kind, file } => check_in(rt, kind, file),
         CommandLine::CheckScript { file } => check_script_in(rt, file),

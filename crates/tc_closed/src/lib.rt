@@ -1,9 +1,9 @@
-//! What the program reads and writes where no desk is open: the text of a script, the check of a file, the report and the board of tables, and the
+//! What the program reads and writes where no desk is open: the text of a script, the check of a file, the report and the wall of tables, and the
 //! faults that end each. A reader, a writer, a store and a source of files are whatever the caller has.
 #![tactic(auto)]
 
-mod board_pages;
-mod boards;
+mod wall_pages;
+mod walls;
 mod checking;
 mod paths;
 mod reports;
@@ -12,8 +12,8 @@ mod shift_pages;
 mod watching;
 mod writing;
 
-pub use board_pages::records_of;
-pub use boards::write_board;
+pub use wall_pages::records_of;
+pub use walls::write_wall;
 pub use checking::{write_check, write_script_check};
 pub use paths::{MOST_FILE_BYTES, PathFault, Paths};
 pub use reports::closed_report;

@@ -39,8 +39,8 @@ pub(crate) enum Judgement {
     Refused(Refused),
     /// It asks this question.
     Asks(Query),
-    /// It asks for the board.
-    ShowsBoard,
+    /// It asks for the wall.
+    ShowsWall,
     /// It posts a body of so many bytes.
     Posts { post: Post, size: usize },
 }
@@ -94,7 +94,7 @@ fn judge_body(lengths: FieldValues<'_>, path: Path<'_>) -> Judgement
     match path {
         Path::Posts(post) => judge_post(lengths, post),
         Path::Asks(question) => judge_get(lengths, judge_question(question)),
-        Path::Board => judge_get(lengths, Judgement::ShowsBoard),
+        Path::Wall => judge_get(lengths, Judgement::ShowsWall),
     }
 }
 
@@ -104,7 +104,7 @@ fn method_of(path: Path<'_>) -> &'static [u8]
 {
     match path {
         Path::Posts(_) => b"POST",
-        Path::Asks(_) | Path::Board => b"GET",
+        Path::Asks(_) | Path::Wall => b"GET",
     }
 }
 

@@ -6,7 +6,7 @@ ghost use Rattle.tc_wall.specs.WayParts.{service_of, subtype_of, row_begins, ide
 
 use crate::axes::{Mark, WIDTH, drawn};
 use crate::bars::add_bar;
-use crate::boards::{MOST_STAGES, Way};
+use crate::walls::{MOST_STAGES, Way};
 use crate::escapes::Escaped;
 use crate::signs::sign;
 use crate::wait_rows::add_critical;

@@ -12,14 +12,14 @@ use Rattle.tc_world.specs.declared.configs.TheConstants.{GREATEST_RING}
 
 -- A command with what it was given. Where a desk is made or opened, its window, its channel and how many items the rings of its links hold,
 -- where they are rings, and what stands for the moment of its opening; where it is kept in a file, that file. A run has a script, and whether each line is shown before its answer and all is
--- told; a report what stands for FROM and TO; a backup the file that is copied to; a board its file alone; a server its port, how many connections it serves and whether all is told; a loop a script, the number of
+-- told; a report what stands for FROM and TO; a backup the file that is copied to; a wall its file alone; a server its port, how many connections it serves and whether all is told; a loop a script, the number of
 -- the first line that it sends, and what a run has besides; a check what stands for KIND, and a file.
 pub data Asked : Type 0 where
   run : (script : Text) (window channel : ℕ) (ring : Option ℕ) (moment : Text) (echo verbose : Bool) → Asked
   run_kept : (script : Text) (window channel : ℕ) (ring : Option ℕ) (database moment : Text) (echo verbose : Bool) → Asked
   report : (database begins ends : Text) → Asked
   backup : (database copy : Text) → Asked
-  board : (database : Text) → Asked
+  wall : (database : Text) → Asked
   check : (kind file : Text) → Asked
   serve : (database : Text) (port count window channel : ℕ) (ring : Option ℕ) (moment : Text) (verbose : Bool) → Asked
   loop : (database script : Text) (window channel : ℕ) (ring : Option ℕ) (moment : Text) (first : ℕ) (echo verbose : Bool) → Asked
@@ -99,9 +99,9 @@ asked_report rows = report (given (codes "DB") rows) (given (codes "FROM") rows)
 abbrev pub asked_backup : List Row → Asked
 asked_backup rows = backup (given (codes "DB") rows) (given (codes "COPY") rows)
 
--- what a board was given
-abbrev pub asked_board : List Row → Asked
-asked_board rows = board (given (codes "DB") rows)
+-- what a wall was given
+abbrev pub asked_wall : List Row → Asked
+asked_wall rows = wall (given (codes "DB") rows)
 
 -- the word of a script, as the kind of a file
 abbrev pub script_word : Text
@@ -127,7 +127,7 @@ abbrev pub asked_of : Text → List Row → Asked
 asked_of name rows =
     if bytes_eq name (codes "report") then asked_report rows else
     if bytes_eq name (codes "backup") then asked_backup rows else
-    if bytes_eq name (codes "board") then asked_board rows else
+    if bytes_eq name (codes "board") then asked_wall rows else
     if bytes_eq name (codes "check") then asked_check rows else
     if bytes_eq name (codes "serve") then asked_serve rows else
     if bytes_eq name (codes "loop") then asked_loop rows else asked_run rows

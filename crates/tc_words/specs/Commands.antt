@@ -144,9 +144,9 @@ report_app = with_rule (with_rule (with_rule (new_app (codes "report")) file_rul
 abbrev pub backup_app : App
 backup_app = with_rule (with_rule (new_app (codes "backup")) file_rule) copy_rule
 
--- board DB
-abbrev pub board_app : App
-board_app = with_rule (new_app (codes "board")) file_rule
+-- wall DB
+abbrev pub wall_app : App
+wall_app = with_rule (new_app (codes "board")) file_rule
 
 -- check KIND FILE
 abbrev pub check_app : App
@@ -184,9 +184,9 @@ script_apps = with_subcommand (with_subcommand bare_app run_app.top) report_app.
 abbrev pub with_backup : App → App
 with_backup app = with_subcommand app backup_app.top
 
--- .. with the one that prints the board of one
-abbrev pub with_board : App → App
-with_board app = with_subcommand app board_app.top
+-- .. with the one that prints the wall of one
+abbrev pub with_wall : App → App
+with_wall app = with_subcommand app wall_app.top
 
 -- .. with the one that checks a file
 abbrev pub with_check : App → App
@@ -198,4 +198,4 @@ with_http app = with_subcommand (with_subcommand app serve_app.top) loop_app.top
 
 -- the program, with its commands
 abbrev pub desk_app : App
-desk_app = with_http (with_check (with_board (with_backup script_apps)))
+desk_app = with_http (with_check (with_wall (with_backup script_apps)))

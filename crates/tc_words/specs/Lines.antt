@@ -7,9 +7,9 @@ use Rattle.tc_types.specs.Loads.{kind_word}
 use Rattle.tc_types.specs.declared.loads.LoadKind.{LoadKind}
 use Rattle.tc_world.specs.Config.{IsConfig}
 use Rattle.tc_world.specs.declared.configs.Config.{Config}
-use Rattle.tc_words.specs.Asked.{Asked, SpellsMoment, SpellsNoMoment, backup, board, check, loop, report, run, run_kept, script_word, serve}
+use Rattle.tc_words.specs.Asked.{Asked, SpellsMoment, SpellsNoMoment, backup, wall, check, loop, report, run, run_kept, script_word, serve}
 use Rattle.tc_words.specs.declared.lines.CommandLine.{CommandLine}
-use Rattle.tc_words.specs.declared.lines.CommandLine.TheVariants.{Backup, Board, Check, CheckScript, Loop, Report, Run, RunKept, Serve}
+use Rattle.tc_words.specs.declared.lines.CommandLine.TheVariants.{Backup, Wall, Check, CheckScript, Loop, Report, Run, RunKept, Serve}
 use Rattle.tc_words.specs.declared.lines.UsageFault.{UsageFault}
 use Rattle.tc_words.specs.declared.lines.UsageFault.TheVariants.{Memory, NoKind, NoMoment, NoOpening, OddWindow, Words}
 
@@ -25,7 +25,7 @@ AsksFor (RunKept script config database moment telling) asked =
 AsksFor (Report database from to) asked =
     (begins ends : Text) × SpellsMoment from begins × SpellsMoment to ends × (asked ≡ report database.now begins ends)
 AsksFor (Backup database copy) asked = asked ≡ backup database.now copy.now
-AsksFor (Board database) asked = asked ≡ board database.now
+AsksFor (Wall database) asked = asked ≡ wall database.now
 AsksFor (Check kind file) asked = asked ≡ check (kind_word kind) file.now
 AsksFor (CheckScript file) asked = asked ≡ check script_word file.now
 AsksFor (Serve database port count config moment verbose) asked =
@@ -40,7 +40,7 @@ config_of (Run script config telling) = Some config
 config_of (RunKept script config database moment telling) = Some config
 config_of (Report database from to) = None
 config_of (Backup database copy) = None
-config_of (Board database) = None
+config_of (Wall database) = None
 config_of (Check kind file) = None
 config_of (CheckScript file) = None
 config_of (Serve database port count config moment verbose) = Some config
@@ -57,7 +57,7 @@ AsksOddWindow (run script window channel ring moment echo verbose) = window % 2 
 AsksOddWindow (run_kept script window channel ring database moment echo verbose) = window % 2 ≡ 1
 AsksOddWindow (report database begins ends) = ⊥
 AsksOddWindow (backup database copy) = ⊥
-AsksOddWindow (board database) = ⊥
+AsksOddWindow (wall database) = ⊥
 AsksOddWindow (check kind file) = ⊥
 AsksOddWindow (serve database port count window channel ring moment verbose) = window % 2 ≡ 1
 AsksOddWindow (loop database script window channel ring moment first echo verbose) = window % 2 ≡ 1

@@ -42,8 +42,8 @@ pub enum CommandLine<'a> {
         database: &'a str,
         copy: &'a str,
     },
-    /// The page of the board of the desk that a database file keeps.
-    Board {
+    /// The page of the wall of the desk that a database file keeps.
+    Wall {
         database: &'a str,
     },
     /// Whether the file at this path, or the standard input where it is `-`, can be loaded as a stack or as a procedure.
