@@ -42,6 +42,7 @@ pub record Outcome : Type 0 where
 abbrev pub EndsWith : Reply → Ending → Type 0
 EndsWith reply ending.Done = is_refused reply ≡ false
 EndsWith reply (ending.Refused refusal) = reply ≡ refusal_reply refusal
+EndsWith reply ending.Foreign = ⊥
 EndsWith reply ending.NoPath = ⊥
 EndsWith reply ending.OtherMethod = ⊥
 
@@ -100,6 +101,7 @@ pub record ServesPost {S : Type 0} (g : Ghosts S) (old : Standing S) (post : Pos
 
 -- how an exchange ends whose head is refused
 abbrev pub front_ending : Refused → Ending
+front_ending front.Foreign = ending.Foreign
 front_ending front.NoPath = ending.NoPath
 front_ending front.OtherMethod = ending.OtherMethod
 front_ending front.Bad = ending.Refused BadText
@@ -107,6 +109,7 @@ front_ending front.Large = ending.Refused TooLong
 
 -- what it is refused with
 abbrev pub front_refusal : Refused → Refusal
+front_refusal front.Foreign = BadText
 front_refusal front.NoPath = BadText
 front_refusal front.OtherMethod = BadText
 front_refusal front.Bad = BadText

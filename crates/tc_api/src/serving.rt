@@ -10,10 +10,10 @@ ghost use Rattle.tc_api.specs.Loads.{load_keys};
 ghost use Rattle.tc_api.specs.Serving.{EndsWith, HasText, IsOutcome, IsServedBy, Serves, ServesWall, ServesKeys, ServesPost, ServesQuery, ServesValue, front_ending, front_refusal, outcome_of, refused_front, refused_so};
 
 use crate::acts::judge_act;
-use crate::walls::wall_page;
 use crate::bodies::value_of;
 use crate::endings::Ending;
 use crate::loads::judge_load;
+use crate::walls::wall_page;
 use serde_json::Value;
 use sqlite::Alter;
 use std::alloc::Global;
@@ -175,6 +175,7 @@ fn front_ending(why: Refused) -> Ending
     ensures { result ≡ front_ending why }
 {
     match why {
+        Refused::Foreign => Ending::Foreign,
         Refused::NoPath => Ending::NoPath,
         Refused::OtherMethod => Ending::OtherMethod,
         Refused::Bad => Ending::Refused(Refusal::BadText),
@@ -187,7 +188,9 @@ fn front_refusal(why: Refused) -> Refusal
     ensures { result ≡ front_refusal why }
 {
     match why {
-        Refused::NoPath | Refused::OtherMethod | Refused::Bad => Refusal::BadText,
+        Refused::Foreign | Refused::NoPath | Refused::OtherMethod | Refused::Bad => {
+            Refusal::BadText
+        }
         Refused::Large => Refusal::TooLong,
     }
 }

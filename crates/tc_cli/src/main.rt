@@ -36,7 +36,7 @@ use std::{env, io};
 use tc_closed::{PathFault, ScriptFault, write_check, write_script_check};
 use tc_host::{
     HostPaths, HostTexts, HostWatch, Unusable, backup, of_tables, open_desk, open_script,
-    print_wall, print_report, text_at, text_of,
+    print_report, print_wall, text_at, text_of,
 };
 use tc_run::{Opening, run_kept, run_script};
 use tc_types::{Counted, LoadKind};
@@ -110,9 +110,7 @@ fn run_line(rt: &HostRuntime, line: CommandLine<'_>) -> u8 {
         CommandLine::Backup { database, copy } => {
             copy_status(rt, backup(rt, database, copy), database, copy)
         }
-        CommandLine::Wall { database } => {
-            report_status(rt, print_wall(rt, database), database)
-        }
+        CommandLine::Wall { database } => { report_status(rt, print_wall(rt, database), database) }
         CommandLine::Check { kind, file } => check_in(rt, kind, file),
         CommandLine::CheckScript { file } => check_script_in(rt, file),
         CommandLine::Serve {

@@ -8,8 +8,8 @@ ghost use Rattle.tc_closed.specs.Walls.{CutsWall, TellsWall};
 ghost use Rattle.tc_closed.specs.Closed.{AreJudged};
 ghost use Rattle.tc_closed.specs.Reports.{PrintsTables};
 
-use crate::wall_pages::closed_wall;
 use crate::scripts::ScriptFault;
+use crate::wall_pages::closed_wall;
 use crate::writing::put;
 use sqlite::Alter;
 use std::alloc::Global;

@@ -48,7 +48,7 @@ fn complete<'a>(judgement: Judgement, rest: &'a [u8]) -> Option<Decision<'a>>
 }
 
 /// The bytes that a head may be found in.
-fn head_room(text: &[u8]) -> &[u8]
+pub(crate) fn head_room(text: &[u8]) -> &[u8]
     ensures value { result.now ≡ take 8192 text.now }
     ensures short { length result.now ≤ 8192 }
     ensures within { length result.now ≤ length text.now }

@@ -20,6 +20,8 @@ const LARGEST_BODY: usize = 65_536;
 /// Why a request is refused by its front alone.
 #[derive(Clone, Copy, Debug, PartialEq, Eq)]
 pub enum Refused {
+    /// It is not let in (403, RFC 9110, section 15.5.4).
+    Foreign,
     /// The target is no path of this desk (404, RFC 9110, section 15.5.5).
     NoPath,
     /// The path is served by another method (405, RFC 9110, section 15.5.6).

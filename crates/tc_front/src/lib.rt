@@ -6,6 +6,7 @@
 //! crate's.
 #![tactic(auto)]
 
+mod door;
 mod ends;
 mod fields;
 mod front;
@@ -20,7 +21,8 @@ mod routes;
 mod watch;
 mod write;
 
-pub use front::{Decision, decide};
+pub use door::{Door, enter};
+pub use front::Decision;
 pub use judge::Refused;
 pub use lines::length_line;
 pub use paths::{Path, Post, Question};

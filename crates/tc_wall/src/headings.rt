@@ -4,10 +4,10 @@ ghost use Rattle.std.specs.String.{string_bytes};
 ghost use Rattle.tc_wall.specs.Parts.{Adds};
 ghost use Rattle.tc_wall.specs.Heading.{file_parts, entered_parts, moved_parts, last_parts, heading_parts};
 
-use crate::walls::{Live, Wall};
 use crate::bounds::add_fixed;
 use crate::fixed::HEADING;
 use crate::times::time_text;
+use crate::walls::{Live, Wall};
 use std::alloc::{AllocError, Allocator};
 use std::fmt::Write;
 use tc_types::Move;

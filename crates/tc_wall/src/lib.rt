@@ -6,7 +6,6 @@
 
 mod axes;
 mod bars;
-mod walls;
 mod bounds;
 mod escapes;
 mod fixed;
@@ -23,12 +22,13 @@ mod signs;
 mod tiles;
 mod times;
 mod wait_rows;
+mod walls;
 mod way_rows;
 mod ways;
 
+pub use links::{FarmLine, FarmWord, FopLine, FopWord, LinkLines};
+pub use pages::{MOST_BYTES, wall_text};
 pub use walls::{
     Live, MOST_MOVES, MOST_OPEN, MOST_SHOWN_ACTIVITIES, MOST_STAGES, MOST_WAITS, ShownSchedule,
     Wait, Wall, Way,
 };
-pub use links::{FarmLine, FarmWord, FopLine, FopWord, LinkLines};
-pub use pages::{MOST_BYTES, wall_text};

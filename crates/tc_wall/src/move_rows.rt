@@ -5,11 +5,11 @@ ghost use Rattle.std.specs.String.{string_bytes};
 ghost use Rattle.tc_wall.specs.Parts.{Adds};
 ghost use Rattle.tc_wall.specs.MoveParts.{who_parts, what_parts, move_parts, moves_parts};
 
-use crate::walls::{MOST_MOVES, Wall};
 use crate::bounds::{add_fixed, add_left_out, add_none, last_of};
 use crate::escapes::Escaped;
 use crate::fixed::MOVES;
 use crate::times::time_text;
+use crate::walls::{MOST_MOVES, Wall};
 use std::alloc::{AllocError, Allocator};
 use std::fmt::Write;
 use tc_types::{Move, from_name};

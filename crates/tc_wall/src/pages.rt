@@ -4,7 +4,6 @@ ghost use Rattle.std.specs.String.{string_bytes, string_len};
 ghost use Rattle.tc_wall.specs.Parts.{Adds};
 ghost use Rattle.tc_wall.specs.Page.{laid_in, size_word, refresh_parts, head_parts, live_parts, page, wall_page};
 
-use crate::walls::{Live, Wall};
 use crate::bounds::add_fixed;
 use crate::fixed::{FOOT, HEAD, REFRESH, STYLE};
 use crate::headings::add_heading;
@@ -14,6 +13,7 @@ use crate::ranges::keep_wall;
 use crate::schedules::{add_closed_schedule, add_known_schedule};
 use crate::tiles::add_tiles;
 use crate::wait_rows::add_waits;
+use crate::walls::{Live, Wall};
 use crate::ways::add_ways;
 use std::alloc::{AllocError, Allocator};
 
@@ -39,10 +39,7 @@ fn size_word(wall: &Wall) -> &'static str
     ensures { result.now ≡ size_word wall.now }
 {
     let laid_in = laid_in(&wall.live);
-    if wall.opened <= MOST_FEW
-        && wall.waiting <= MOST_FEW
-        && laid_in <= MOST_FEW - wall.waiting
-    {
+    if wall.opened <= MOST_FEW && wall.waiting <= MOST_FEW && laid_in <= MOST_FEW - wall.waiting {
         "few"
     } else {
         "many"

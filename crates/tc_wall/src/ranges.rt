@@ -4,12 +4,11 @@ ghost use Rattle.std.specs.List.{AllByRecursion};
 ghost use Rattle.tc_wall.specs.Ranges.{IsShort, IsMoveInRange, IsWantingInRange, IsWaitingInRange, IsWaitInRange, IsOriginInRange, IsRequestInRange, IsWayInRange, AreQueuesInRange, AreCountersInRange, IsFopInRange, IsFarmInRange, IsLinkInRange, IsActivityInRange, IsScheduleInRange, IsLiveInRange, IsWallInRange};
 ghost use Rattle.tc_wall.specs.Waits.{text_of};
 
-use crate::walls::{
-    Live, MOST_MOVES, MOST_OPEN, MOST_SHOWN_ACTIVITIES, MOST_WAITS, ShownSchedule, Wait, Wall,
-    Way,
-};
 use crate::bounds::{first_of, last_of};
 use crate::links::{FarmLine, FopLine, LinkLines};
+use crate::walls::{
+    Live, MOST_MOVES, MOST_OPEN, MOST_SHOWN_ACTIVITIES, MOST_WAITS, ShownSchedule, Wait, Wall, Way,
+};
 use crate::way_rows::kind;
 use tc_types::{ListedActivity, Move, Name, Origin, PLACES, Request, StepText, Waiting, Wanting};
 

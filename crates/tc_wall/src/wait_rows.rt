@@ -5,11 +5,11 @@ ghost use Rattle.std.specs.String.{string_bytes};
 ghost use Rattle.tc_wall.specs.Parts.{Adds};
 ghost use Rattle.tc_wall.specs.Waits.{critical_parts, request_begins, stack_begins, marked_parts, approvals_parts, rows_parts, other_parts, author_parts, barred_parts, request_parts, stack_parts, free_parts, locked_parts, doubt_parts, text_of, whom_word, work_parts, waiting_parts, wait_parts, waits_parts};
 
-use crate::walls::{MOST_WAITS, Wait, Wall};
 use crate::bounds::{add_fixed, add_left_out, add_none, first_of};
 use crate::escapes::Escaped;
 use crate::fixed::WAITS;
 use crate::signs::sign;
+use crate::walls::{MOST_WAITS, Wait, Wall};
 use std::alloc::{AllocError, Allocator};
 use std::fmt::Write;
 use tc_types::{Lock, Name, Place, StepText, Waiting, Wanting};

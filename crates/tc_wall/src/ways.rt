@@ -6,11 +6,11 @@ ghost use Rattle.tc_wall.specs.Parts.{Adds};
 ghost use Rattle.tc_wall.specs.WayParts.{label_parts, tick_parts, ticks_begin, axis_parts, way_parts, table_parts, ways_parts};
 
 use crate::axes::{Mark, WIDTH, axis_of};
-use crate::walls::{MOST_OPEN, Wall, Way};
 use crate::bounds::{add_fixed, add_left_out, add_none, first_of};
 use crate::fixed::{WAYS, WAYS_HEAD};
 use crate::lines::lines_of;
 use crate::times::time_text;
+use crate::walls::{MOST_OPEN, Wall, Way};
 use crate::way_rows::add_way;
 use std::alloc::{AllocError, Allocator};
 use std::fmt::Write;

@@ -10,9 +10,19 @@ use Rattle.tc_types.specs.Numbers.{IsMoment}
 use Rattle.tc_csv.specs.StackTexts.{IsInstant}
 use Rattle.tc_world.specs.declared.configs.TheConstants.{GREATEST_RING}
 
+-- a server's port, after how many connections it ends if after any, a further name by which it is called, whether it ends with the standard input and when the desk has stopped, and whether
+-- all is told
+pub record Terms : Type 0 where
+  pub port : ℕ
+  pub count : Option ℕ
+  pub host : Option Text
+  pub until_eof : Bool
+  pub end_when_stopped : Bool
+  pub verbose : Bool
+
 -- A command with what it was given. Where a desk is made or opened, its window, its channel and how many items the rings of its links hold,
 -- where they are rings, and what stands for the moment of its opening; where it is kept in a file, that file. A run has a script, and whether each line is shown before its answer and all is
--- told; a report what stands for FROM and TO; a backup the file that is copied to; a wall its file alone; a server its port, how many connections it serves and whether all is told; a loop a script, the number of
+-- told; a report what stands for FROM and TO; a backup the file that is copied to; a wall its file alone; a server its terms; a loop a script, the number of
 -- the first line that it sends, and what a run has besides; a check what stands for KIND, and a file.
 pub data Asked : Type 0 where
   run : (script : Text) (window channel : ℕ) (ring : Option ℕ) (moment : Text) (echo verbose : Bool) → Asked
@@ -21,7 +31,7 @@ pub data Asked : Type 0 where
   backup : (database copy : Text) → Asked
   wall : (database : Text) → Asked
   check : (kind file : Text) → Asked
-  serve : (database : Text) (port count window channel : ℕ) (ring : Option ℕ) (moment : Text) (verbose : Bool) → Asked
+  serve : (database : Text) (terms : Terms) (window channel : ℕ) (ring : Option ℕ) (moment : Text) → Asked
   loop : (database script : Text) (window channel : ℕ) (ring : Option ℕ) (moment : Text) (first : ℕ) (echo verbose : Bool) → Asked
 
 -- ---- what the arguments were given
@@ -61,21 +71,36 @@ given_moment rows = given (codes "at") rows
 abbrev pub given_port : List Row → ℕ
 given_port rows = number_in 1 65535 1 (one_of (codes "PORT") rows)
 
--- how many connections were given, or stand in the rows by default
-abbrev pub given_count : List Row → ℕ
-given_count rows = number_in 1 1000000 1000000 (one_of (codes "COUNT") rows)
+-- how many connections were given, if they were
+abbrev pub given_count : List Row → Option ℕ
+given_count rows = number_within 1 1000000 (one_of (codes "COUNT") rows)
 
 -- the number of the first line that is sent, as it was given, or stands in the rows by default
 abbrev pub given_first : List Row → ℕ
 given_first rows = number_in 1 4294967295 1 (one_of (codes "first") rows)
 
+-- an option was given that has no value
+abbrev pub given_flag : Text → List Row → Bool
+given_flag id rows = nat_lt 0 (count_of id rows)
+
 -- whether each line is to be shown before its answer
 abbrev pub given_echo : List Row → Bool
-given_echo rows = nat_lt 0 (count_of (codes "echo") rows)
+given_echo rows = given_flag (codes "echo") rows
 
 -- whether all is to be told
 abbrev pub given_verbose : List Row → Bool
-given_verbose rows = nat_lt 0 (count_of (codes "verbose") rows)
+given_verbose rows = given_flag (codes "verbose") rows
+
+-- the terms of a server
+abbrev pub given_terms : List Row → Terms
+given_terms rows = record {
+  port = given_port rows;
+  count = given_count rows;
+  host = first_of (codes "host") rows;
+  until_eof = given_flag (codes "until-eof") rows;
+  end_when_stopped = given_flag (codes "end-when-stopped") rows;
+  verbose = given_verbose rows;
+}
 
 -- ---- what the commands were given
 
@@ -113,8 +138,7 @@ asked_check rows = check (given (codes "KIND") rows) (given (codes "FILE") rows)
 
 -- what a server was given
 abbrev pub asked_serve : List Row → Asked
-asked_serve rows = serve (given (codes "DB") rows) (given_port rows) (given_count rows) (given_window rows) (given_channel rows) (given_ring rows)
-    (given_moment rows) (given_verbose rows)
+asked_serve rows = serve (given (codes "DB") rows) (given_terms rows) (given_window rows) (given_channel rows) (given_ring rows) (given_moment rows)
 
 -- what a loop was given
 abbrev pub asked_loop : List Row → Asked

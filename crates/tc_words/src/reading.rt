@@ -7,8 +7,8 @@ ghost use Rattle.tc_words.specs.Lines.{IsFaultOf, IsLineFor, IsTold};
 
 use crate::commands::matches;
 use crate::given::{
-    config_of, count_of, first_number, is_verbose, path_of, port_of, spelled_kind, spelled_moment,
-    spelled_opening, telling_of, text_of,
+    config_of, first_number, path_of, service_of, spelled_kind, spelled_moment, spelled_opening,
+    telling_of, text_of,
 };
 use crate::lines::{CommandLine, Telling, UsageFault};
 use clap::ArgMatches;
@@ -162,11 +162,9 @@ fn serve_line_of<'a>(matches: &ArgMatches<'a>) -> Result<CommandLine<'a>, UsageF
     let moment = spelled_opening(text_of(matches, "at"))?;
     Ok(CommandLine::Serve {
         database: text_of(matches, "DB"),
-        port: port_of(matches),
-        count: count_of(matches),
+        service: service_of(matches),
         config,
         moment,
-        verbose: is_verbose(matches),
     })
 }
 

@@ -137,9 +137,7 @@ const QUESTIONS: [Verb; 11] = [
 pub(crate) fn is_question(word: &[u8]) -> bool
     ensures { result ≡ asks word.now }
 {
-    QUESTIONS
-        .iter()
-        .any(|verb| word == verb.word().as_bytes())
+    QUESTIONS.iter().any(|verb| word == verb.word().as_bytes())
 }
 
 /// A question: its verb, and the words behind it.
