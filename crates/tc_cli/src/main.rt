@@ -14,13 +14,14 @@
 //!
 //! `tcdesk check KIND FILE` says what is wrong with a script, or with the file of a stack or of a procedure.
 //!
-//! `tcdesk serve DB PORT [COUNT]` serves that desk over HTTP at a port of 127.0.0.1, and ends after so many connections.
+//! `tcdesk serve DB PORT [COUNT]` serves that desk over HTTP at a port of 127.0.0.1.
 //! `tcdesk loop DB SCRIPT` sends the lines of a script over HTTP to a desk that it serves itself, and prints what is answered.
 #![tactic(auto)]
 
 mod faults;
 mod looping;
-mod patience;
+mod peers;
+mod server;
 mod serving;
 
 use faults::{
@@ -28,7 +29,7 @@ use faults::{
     run_status, service_status,
 };
 use looping::send_to_file;
-use serving::{ServiceTerms, serve};
+use serving::serve;
 use std::alloc::{AllocError, Global};
 use std::io::IsTerminal;
 use std::process::ExitCode;
@@ -115,17 +116,10 @@ fn run_line(rt: &HostRuntime, line: CommandLine<'_>) -> u8 {
         CommandLine::CheckScript { file } => check_script_in(rt, file),
         CommandLine::Serve {
             database,
-            port,
-            count,
+            service,
             config,
             moment,
-            verbose,
         } => {
-            let service = ServiceTerms {
-                port,
-                count,
-                verbose,
-            };
             let served = serve(rt, database, &Opening { config, moment }, service);
             service_status(rt, served.map(|()| 0), database, database)
         }
