@@ -9,15 +9,15 @@ use tc_front::{Arriving, Routes};
 use tc_types::Refusal;
 
 /// How long a peer is waited for that says nothing, or takes nothing, while a request of it is read or answered.
-const SILENCE: Duration = Duration::from_secs(5);
+const SILENCE_MILLISECONDS: u64 = 5_000;
 
 /// How long a peer has for a whole request, and as long for the response.
-const EXCHANGE: Duration = Duration::from_secs(30);
+const EXCHANGE_MILLISECONDS: u64 = 30_000;
 
 /// How long it is waited for what a peer still sends after it was answered: for its next byte, and in all.
-const FAREWELL_SILENCE: Duration = Duration::from_millis(500);
+const FAREWELL_SILENCE_MILLISECONDS: u64 = 500;
 
-const FAREWELL: Duration = Duration::from_secs(2);
+const FAREWELL_MILLISECONDS: u64 = 2_000;
 
 /// How often a connection is read or written at most at a time. A read gives a byte, and so many bytes are a request (`MOST_READS` of tc_front).
 const MOST_CALLS: u32 = 73_728;
@@ -71,12 +71,16 @@ impl Peer {
     /// How long it is waited for yet; `None` if it waits for the server.
     pub(crate) fn patience(&self, now: Instant) -> Option<Duration> {
         let (silence, whole) = match self.stage {
-            Stage::Arriving(_) | Stage::Answering { .. } => (SILENCE, EXCHANGE),
-            Stage::Leaving => (FAREWELL_SILENCE, FAREWELL),
+            Stage::Arriving(_) | Stage::Answering { .. } => {
+                (SILENCE_MILLISECONDS, EXCHANGE_MILLISECONDS)
+            }
+            Stage::Leaving => (FAREWELL_SILENCE_MILLISECONDS, FAREWELL_MILLISECONDS),
             Stage::Waiting => return None,
         };
-        let for_a_byte = silence.saturating_sub(now.duration_since(self.moved));
-        let for_all = whole.saturating_sub(now.duration_since(self.began));
+        let for_a_byte = Duration::from_millis(silence).saturating_sub(now.duration_since(
+            self.moved,
+        ));
+        let for_all = Duration::from_millis(whole).saturating_sub(now.duration_since(self.began));
         Some(for_a_byte.min(for_all))
     }
 

@@ -28,10 +28,10 @@ const INPUT: Token = Token(MOST_PEERS + 1);
 /// How often it is tried to take a connection that cannot be taken, and how long lies between two tries.
 const MOST_TRIES: u32 = 100;
 
-const PAUSE: Duration = Duration::from_millis(100);
+const PAUSE_MILLISECONDS: u64 = 100;
 
 /// How long what is on its way may take once the standard input has ended.
-const LAST: Duration = Duration::from_secs(5);
+const LAST_MILLISECONDS: u64 = 5_000;
 
 /// Why a server ends.
 #[derive(Clone, Copy, Debug, PartialEq, Eq)]
@@ -130,7 +130,8 @@ impl<'a> Server<'a> {
 
     /// How long the next event is waited for at most.
     fn patience(&self, now: Instant) -> Option<Duration> {
-        let mut least = if self.tries > 0 { Some(PAUSE) } else { None };
+        let pause = Duration::from_millis(PAUSE_MILLISECONDS);
+        let mut least = if self.tries > 0 { Some(pause) } else { None };
         for peer in self.peers.iter().flatten() {
             if let Some(patience) = peer.patience(now) {
                 least = Some(least.map_or(patience, |other| patience.min(other)));
@@ -319,7 +320,9 @@ impl<'a> Server<'a> {
     /// Lets the connections go whose time is over; once the standard input has ended or the desk has stopped, also those of which nothing whole has come for a while.
     fn give_up(&mut self, now: Instant) {
         let is_late = match self.ending {
-            Some((End::Input | End::Stopped, since)) => now.duration_since(since) >= LAST,
+            Some((End::Input | End::Stopped, since)) => {
+                now.duration_since(since) >= Duration::from_millis(LAST_MILLISECONDS)
+            }
             _ => false,
         };
         for place in 0..self.peers.len() {
