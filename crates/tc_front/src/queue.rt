@@ -23,7 +23,7 @@ pub struct Queue {
 }
 
 impl Model for Queue {
-    ghost use Rattle.std.specs.Prelude.{◌×◌, ℕ, All, List, map};
+    ghost use Rattle.std.specs.Prelude.{ℕ, All, List, map};
     ghost use Rattle.tc_front.specs.Front.{Asked, IsDecided};
 
     ghost Value = { List (ℕ × List ℕ) };
