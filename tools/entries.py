@@ -46,6 +46,7 @@ ENTRIES = (
           modules=("tests.test_backup",), needs=C_COMPILER, takes_seed=True),
     Entry("plain-desk", "the plain desk itself: it answers scripts and days, and leaves rows, as they are written by hand",
           modules=("tests.test_cases", "tests.test_model")),
+    Entry("octets", "the plain octets of a link on worked cases: codes, frames, CLTUs, sync markers", modules=("tests.test_octets",)),
     Entry("plain-book", "acts on the book: each printed line and all tables beside the plain desk", modules=("tests.test_plain_book",),
           takes_seed=True),
     Entry("plain-link", "the link: each printed line beside the plain desk; each cell of FOP-1 and FARM-1; the promise by what is printed",
