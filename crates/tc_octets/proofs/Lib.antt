@@ -1,3 +1,4 @@
 pub mod BitLemmas
 pub mod RandomizerLemmas
 pub mod CodeblockLemmas
+pub mod CrcLawLemmas

@@ -2,3 +2,4 @@ pub mod Bits
 pub mod Crc
 pub mod Codeblocks
 pub mod Randomizer
+pub mod CrcLaws

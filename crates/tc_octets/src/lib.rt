@@ -5,6 +5,7 @@
 
 mod codeblocks;
 mod crcs;
+pub mod laws;
 mod randomizers;
 
 pub use codeblocks::{CODEBLOCK, INFORMATION, Mode, error_control, sent};
