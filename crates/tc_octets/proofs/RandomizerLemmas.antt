@@ -1,0 +1,22 @@
+-- The randomizer: one octet more, and twice is nothing.
+use Rattle.std.proofs.Common.{◌≡◌, ℕ, zero, suc, ◌+◌, ◌<◌, List, [], ◌∷◌, ◌++◌, take, drop, length, get_or, set, refl, sym, ap, ◌∙◌, add-one, arith}
+use Rattle.std.specs.Prelude.{bit_xor}
+use Rattle.std.proofs.lemmas.List.{take_more_set, drop-set-lt, drop_more, append_assoc}
+use Rattle.tc_octets.specs.Randomizer.{window_step, windows, next_octet, randomized, randomized_from}
+
+pub window_more : (n window : ℕ) → windows (n + 1) window ≡ windows n (window_step window)
+window_more n window = ap (λ k. windows k window) (add-one n)
+
+pub no_windows : (window : ℕ) → windows 0 window ≡ window
+no_windows window = refl
+
+-- the octet of now is done
+pub octet_randomized : (window i : ℕ) (octets : List ℕ) → i < length octets
+    → take i octets ++ randomized_from window (drop i octets)
+    ≡ take (i + 1) (set octets i (bit_xor (get_or octets i 0) window))
+    ++ randomized_from (next_octet window) (drop (i + 1) (set octets i (bit_xor (get_or octets i 0) window)))
+octet_randomized window i octets h =
+    let done = take_more_set octets i (bit_xor (get_or octets i 0) window) h in
+    let rest : drop (i + 1) (set octets i (bit_xor (get_or octets i 0) window)) ≡ drop (i + 1) octets = drop-set-lt (i + 1) octets i (bit_xor (get_or octets i 0) window) (omega arith) in
+    rw (done, rest, drop_more octets i 0 h)
+    (sym (append_assoc (take i octets) (bit_xor (get_or octets i 0) window ∷ []) (randomized_from (next_octet window) (drop (i + 1) octets))))

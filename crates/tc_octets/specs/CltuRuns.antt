@@ -1,0 +1,32 @@
+-- What a receiver of CLTUs gives over many octets.
+use Rattle.std.specs.Prelude.{◌≡◌, ◌≤◌, ℕ, Bool, true, false, List, [], ◌∷◌, ◌++◌, length, replicate, Option, Some, None}
+use Rattle.std.specs.List.{fold}
+use Rattle.tc_octets.specs.declared.codeblocks.Mode.{Mode}
+use Rattle.tc_octets.specs.Cltus.{Place, searching, found, cltu_of, filled_of}
+
+-- where a receiver is, and what has ended since
+pub record Run : Type 0 where
+  pub place : Place
+  pub ended : List (List ℕ)
+
+abbrev pub added : List (List ℕ) → Option (List ℕ) → List (List ℕ)
+added ended None = ended
+added ended (Some information) = ended ++ information ∷ []
+
+-- one octet more
+abbrev pub came : Mode → Run → ℕ → Run
+came mode run octet = record { place = (found mode run.place octet).place; ended = added run.ended (found mode run.place octet).ended }
+
+-- these octets, one after the other
+abbrev pub run : Mode → Run → List ℕ → Run
+run mode start octets = fold (came mode) start octets
+
+-- However octets are cut into pieces, the same comes out.
+abbrev pub PiecesDoNotMatter : Mode → Type 0
+PiecesDoNotMatter mode = (start : Run) (first rest : List ℕ) → run mode start (first ++ rest) ≡ run mode (run mode start first) rest
+
+-- The CLTU of a frame of up to 1,024 octets, where a start sequence is looked for, gives the frame with its fill and nothing else; then the next is looked for.
+abbrev pub WholeCltuIsFound : Mode → Type 0
+WholeCltuIsFound mode = (begun randomizer : Bool) (ended : List (List ℕ)) (frame : List ℕ) → length frame ≤ 1024
+    → run mode (record { place = searching begun; ended = ended }) (cltu_of randomizer frame)
+    ≡ record { place = searching false; ended = ended ++ filled_of randomizer frame ∷ [] }

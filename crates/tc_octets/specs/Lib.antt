@@ -1,0 +1,4 @@
+pub mod Bits
+pub mod Crc
+pub mod Codeblocks
+pub mod Randomizer

@@ -1,0 +1,133 @@
+//! The information of a CLTU, and the octets of its next block.
+ghost use Rattle.std.specs.Prelude.{◌≡◌, ◌++◌, ◌∷◌, [], ◌<◌, ◌≤◌, ◌+◌, length, take};
+ghost use Rattle.std.specs.Option.{MatchOption};
+ghost use Rattle.tc_octets.specs.Cltus.{HasFrame, told_length};
+
+use crate::tc_frames::pair_in;
+use std::marker::Model;
+
+/// The most octets of information of a CLTU: 147 codeblocks of 7.
+pub const MOST_INFORMATION: usize = 1029;
+
+/// The information of the codeblocks of a CLTU: a frame, maybe, with its fill. A contract sees its octets.
+#[derive(Clone, Copy, Debug)]
+pub struct Candidate {
+    octets: [u8; 1029],
+    length: usize,
+}
+
+impl Model for Candidate {
+    ghost use Rattle.std.specs.Prelude.{ℕ, ◌≤◌, ◌++◌, ◌-◌, List, length, take, replicate};
+
+    ghost Value = { List ℕ };
+
+    ghost view = { λ candidate. take candidate.length candidate.octets };
+
+    ghost invariant = { λ candidate. candidate.length ≤ 1029 };
+}
+
+impl Candidate {
+    /// No octets.
+    pub(crate) fn new() -> Candidate
+        ensures { result ≡ [] }
+    {
+        Candidate {
+            octets: [0; 1029],
+            length: 0,
+        }
+    }
+
+    /// How many octets there are.
+    pub fn len(&self) -> usize
+        ensures number { result ≡ length self.now }
+        ensures bound { length self.now ≤ 1029 }
+    {
+        self.length
+    }
+
+    /// The octets.
+    pub fn octets(&self) -> &[u8]
+        ensures { result.now ≡ self.now }
+    {
+        &self.octets[..self.length]
+    }
+
+    /// Adds the information of a codeblock.
+    pub(crate) fn add(&mut self, information: &[u8])
+        requires seven { length information.now ≡ 7 }
+        requires room { length self.old + 7 ≤ 1029 }
+        ensures { self.new ≡ self.old ++ information.now }
+    {
+        let end = self.length + 7;
+        self.octets[self.length..end].copy_from_slice(information);
+        self.length = end;
+    }
+
+    /// The frame at the front of the octets: as many as its frame length field says, with 0 to 6 octets of fill after it. `None` where there is none.
+    pub fn frame(&self) -> Option<&[u8]>
+        ensures { MatchOption result (¬ HasFrame self.now) (λ frame. HasFrame self.now × (frame.now ≡ take (told_length self.now) self.now)) }
+    {
+        let octets = self.octets();
+        if octets.len() < 5 {
+            return None;
+        }
+        let told = usize::from(pair_in(octets, 2) % 0x400) + 1;
+        if told > octets.len() || told + 6 < octets.len() {
+            return None;
+        }
+        Some(&octets[..told])
+    }
+}
+
+/// The octets of a block that have come. A contract sees them.
+#[derive(Clone, Copy, Debug)]
+pub(crate) struct Waiting {
+    octets: [u8; 8],
+    length: usize,
+}
+
+impl Model for Waiting {
+    ghost use Rattle.std.specs.Prelude.{ℕ, ◌≤◌, List, take};
+
+    ghost Value = { List ℕ };
+
+    ghost view = { λ waiting. take waiting.length waiting.octets };
+
+    ghost invariant = { λ waiting. waiting.length ≤ 8 };
+}
+
+impl Waiting {
+    /// None.
+    pub(crate) fn new() -> Waiting
+        ensures { result ≡ [] }
+    {
+        Waiting {
+            octets: [0; 8],
+            length: 0,
+        }
+    }
+
+    /// How many have come.
+    pub(crate) fn len(&self) -> usize
+        ensures { result ≡ length self.now }
+    {
+        self.length
+    }
+
+    /// One more.
+    pub(crate) fn add(&mut self, octet: u8)
+        requires { length self.old < 8 }
+        ensures { self.new ≡ self.old ++ octet ∷ [] }
+    {
+        self.octets[self.length] = octet;
+        self.length += 1;
+    }
+
+    /// The block, once all eight have come.
+    pub(crate) fn block(&self) -> [u8; 8]
+        requires { length self.now ≡ 8 }
+        ensures { result ≡ self.now }
+    {
+        self.octets
+    }
+}
