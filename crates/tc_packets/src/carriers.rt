@@ -130,19 +130,22 @@ impl<A: Allocator + Copy> PacketReader<A> {
     }
 }
 
-/// The least place of a packet's start at or after this octet of the joined packets, given in order; 2,047 where none lies within the frame.
-fn pointer_at(lengths: &[usize], begin: usize, data: usize) -> u16 {
+/// The first header pointer of so many octets of joined packets from this one on: the least start of a packet among them, from there; 2,047 where none starts.
+fn pointer_at(octets: &[u8], begin: usize, data: usize) -> u16 {
     let mut at = 0;
-    for length in lengths {
-        if at >= begin + data {
-            return NO_START;
+    while at < begin {
+        match told_length(&octets[at..]) {
+            Some(length) => at += length,
+            None => return NO_START,
         }
-        if at >= begin {
-            return (at - begin) as u16;
-        }
-        at += *length;
     }
-    NO_START
+    if at < begin + data { (at - begin) as u16 } else { NO_START }
+}
+
+/// The octets of an idle packet that fills up so many octets: all of what is left of the last frame, and a whole frame more where a packet doesn't fit there.
+fn idle_length(joined: usize, data: usize) -> usize {
+    let left = (data - joined % data) % data;
+    if left == 0 || left >= 7 { left } else { left + data }
 }
 
 /// Adds an idle packet of so many octets, 7 at least.
@@ -154,4 +157,57 @@ fn put_idle<A: Allocator>(out: &mut Vec<u8, A>, length: usize) -> Result<(), All
         out.push(0x55)?;
     }
     Ok(())
+}
+
+/// The octets that carry these packets: one after the other, and an idle packet where they don't fill the last frame. No packet at all: idle data.
+fn joined<A: Allocator + Copy>(alloc: A, data: usize, packets: &[Vec<u8, A>]) -> Result<Vec<u8, A>, AllocError> {
+    let mut out = Vec::new(alloc);
+    for packet in packets {
+        out.extend_from_slice(packet)?;
+    }
+    let idle = idle_length(out.len(), data);
+    if idle > 0 {
+        put_idle(&mut out, idle)?;
+    }
+    if packets.is_empty() {
+        for _ in 0..data {
+            out.push(0x55)?;
+        }
+    }
+    Ok(out)
+}
+
+/// The octets that frames of a channel carry for a list of packets.
+pub struct Carried<A: Allocator> {
+    octets: Vec<u8, A>,
+    idle: bool,
+    data: usize,
+}
+
+impl<A: Allocator + Copy> Carried<A> {
+    /// What carries these packets.
+    pub fn new(alloc: A, profile: &Profile, packets: &[Vec<u8, A>]) -> Result<Carried<A>, AllocError> {
+        let data = data_length(profile);
+        let octets = joined(alloc, data, packets)?;
+        Ok(Carried { octets, idle: packets.is_empty(), data })
+    }
+
+    /// How many frames it takes: one at least.
+    pub fn frames(&self) -> usize {
+        self.octets.len() / self.data
+    }
+
+    /// A frame of them, from 0, with its counts and the control word.
+    pub fn frame(&self, profile: &Profile, index: usize, master_count: u8, channel_count: u8, word: u32) -> TmFrame<'_> {
+        let begin = index * self.data;
+        let pointer = if self.idle { IDLE_ONLY } else { pointer_at(&self.octets, begin, self.data) };
+        TmFrame {
+            vcid: profile.tm.vcid,
+            master_count,
+            channel_count,
+            status: STATUS + pointer,
+            data: &self.octets[begin..begin + self.data],
+            word: Some(word),
+        }
+    }
 }
