@@ -1,4 +1,4 @@
--- A whole CLTU is found, whatever pieces it comes in.
+-- A whole CLTU is received, whatever pieces it comes in.
 use Rattle.std.proofs.Common.{◌≡◌, ℕ, zero, suc, ◌+◌, ◌-◌, ◌*◌, ◌/◌, ◌%◌, ◌<◌, ◌≤◌, Bool, true, false, List, [], ◌∷◌, ◌++◌, take, drop, length, Option, Some, None, replicate, refl, sym, ap, ◌∙◌, arith, eq-eqb}
 use Rattle.std.specs.Prelude.{◌==◌}
 use Rattle.std.specs.List.{fold}
@@ -8,7 +8,7 @@ use Rattle.std.proofs.lemmas.List.{append_assoc, append-nil, length-append, leng
 use Rattle.std.proofs.lemmas.List.Sums.{fold-append}
 use Rattle.tc_octets.specs.Codeblocks.{codeblock_of, error_control_of, is_codeblock, sent_of, mended_by, with_one_turned}
 use Rattle.tc_octets.specs.Randomizer.{randomized, randomized_from, next_octet}
-use Rattle.tc_octets.specs.Cltus.{Place, searching, within, Found, come, found, whole_block, after_block, codeblock_in, codeblocks_of, filled_to, filled_of, start_sequence, tail_sequence, cltu_of}
+use Rattle.tc_octets.specs.Cltus.{Place, searching, within, Found, come, received, whole_block, after_block, codeblock_in, codeblocks_of, filled_to, filled_of, start_sequence, tail_sequence, cltu_of}
 use Rattle.tc_octets.specs.CltuRuns.{Run, added, came, run, PiecesDoNotMatter, WholeCltuIsFound}
 use Rattle.tc_octets.specs.declared.codeblocks.Mode.{Mode}
 use Rattle.tc_octets.specs.declared.codeblocks.Mode.TheVariants.{Detecting, Correcting}
@@ -42,7 +42,7 @@ tail_in mode information = cond_both (nat_lt (length information) 1029) (sent_of
 block_run : (mode : Mode) (information block : List ℕ) (ended : List (List ℕ)) → length block ≡ 8
     → run mode (record { place = within information []; ended = ended }) block
     ≡ record { place = (after_block information block (codeblock_in mode information block)).place; ended = added ended (after_block information block (codeblock_in mode information block)).ended }
-unfolding found
+unfolding received
 block_run mode information [] ended e = absurd (omega arith)
 block_run mode information (a ∷ []) ended e = absurd (omega arith)
 block_run mode information (a ∷ b ∷ []) ended e = absurd (omega arith)
@@ -82,7 +82,7 @@ codeblocks_run mode (suc n) information octets ended h k =
 -- the start sequence
 start_run : (mode : Mode) (begun : Bool) (ended : List (List ℕ))
     → run mode (record { place = searching begun; ended = ended }) start_sequence ≡ record { place = within [] []; ended = ended }
-unfolding found
+unfolding received
 start_run mode true ended = refl
 start_run mode false ended = refl
 

@@ -35,7 +35,7 @@ last_two octets m e =
     ∙ ap (λ l. get_or octets m 0 ∷ l)
       (drop_more octets (m + 1) 0 (omega arith) ∙ ap (λ l. get_or octets (m + 1) 0 ∷ l) (drop_all (m + 1 + 1) octets (omega arith)))
 
-pair_back : (a b n : ℕ) → b < 2 ^ 8 → a * 256 + b ≡ n → a ∷ b ∷ [] ≡ pair n
+pub pair_back : (a b n : ℕ) → b < 2 ^ 8 → a * 256 + b ≡ n → a ∷ b ∷ [] ≡ pair n
 pair_back a b n h e =
     let high : a ≡ n / 256 = omega arith in
     let low : b ≡ n % 256 = omega arith in
@@ -51,7 +51,7 @@ closed_again true octets m small e checked =
       (last_two octets m e ∙ pair_back (get_or octets m 0) (get_or octets (m + 1) 0) (crc_of (take m octets)) (small (m + 1)) (checked refl))
 
 -- the check stands where the front ends
-checked_at : (fecf : Bool) (octets : List ℕ) (m : ℕ) → m + check_length fecf ≡ length octets
+pub checked_at : (fecf : Bool) (octets : List ℕ) (m : ℕ) → m + check_length fecf ≡ length octets
     → (fecf ≡ true → pair_at octets (length octets - 2) ≡ crc_of (take (length octets - 2) octets)) → fecf ≡ true → pair_at octets m ≡ crc_of (take m octets)
 checked_at false octets m e checked yes = absurd (cc)
 checked_at true octets m e checked yes =

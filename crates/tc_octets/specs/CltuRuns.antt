@@ -2,7 +2,7 @@
 use Rattle.std.specs.Prelude.{◌≡◌, ◌≤◌, ℕ, Bool, true, false, List, [], ◌∷◌, ◌++◌, length, replicate, Option, Some, None}
 use Rattle.std.specs.List.{fold}
 use Rattle.tc_octets.specs.declared.codeblocks.Mode.{Mode}
-use Rattle.tc_octets.specs.Cltus.{Place, searching, found, cltu_of, filled_of}
+use Rattle.tc_octets.specs.Cltus.{Place, searching, received, cltu_of, filled_of}
 
 -- where a receiver is, and what has ended since
 pub record Run : Type 0 where
@@ -15,7 +15,7 @@ added ended (Some information) = ended ++ information ∷ []
 
 -- one octet more
 abbrev pub came : Mode → Run → ℕ → Run
-came mode run octet = record { place = (found mode run.place octet).place; ended = added run.ended (found mode run.place octet).ended }
+came mode run octet = record { place = (received mode run.place octet).place; ended = added run.ended (received mode run.place octet).ended }
 
 -- these octets, one after the other
 abbrev pub run : Mode → Run → List ℕ → Run
@@ -30,3 +30,13 @@ abbrev pub WholeCltuIsFound : Mode → Type 0
 WholeCltuIsFound mode = (begun randomizer : Bool) (ended : List (List ℕ)) (frame : List ℕ) → length frame ≤ 1024
     → run mode (record { place = searching begun; ended = ended }) (cltu_of randomizer frame)
     ≡ record { place = searching false; ended = ended ++ filled_of randomizer frame ∷ [] }
+
+-- so many octets of idle
+abbrev pub idle : ℕ → List ℕ
+idle count = replicate count 0x55
+
+-- After any noise and fifteen octets of idle a whole CLTU is found: the receiver gives what the noise gave, and then the frame with its fill.
+abbrev pub FoundAfterNoise : Mode → Type 0
+FoundAfterNoise mode = (noise frame : List ℕ) (randomizer : Bool) → length frame ≤ 1024
+    → run mode (record { place = searching false; ended = [] }) (noise ++ idle 15 ++ cltu_of randomizer frame)
+    ≡ record { place = searching false; ended = (run mode (record { place = searching false; ended = [] }) (noise ++ idle 15)).ended ++ filled_of randomizer frame ∷ [] }

@@ -73,8 +73,8 @@ whole_block mode (within information waiting) =
     else after_block information waiting (codeblock_in mode information waiting)
 
 -- the next octet
-unfoldable pub found : Mode → Place → ℕ → Found
-found mode place octet = whole_block mode (come place octet)
+unfoldable pub received : Mode → Place → ℕ → Found
+received mode place octet = whole_block mode (come place octet)
 
 -- what a call says of where the receiver is, and of what ended
 pub record Takes (next : Found) (place : Place) (ended : Option (List ℕ)) : Type 0 where

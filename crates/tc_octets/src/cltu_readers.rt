@@ -1,6 +1,6 @@
 //! The receiver of CLTUs, a machine of one octet at a time.
 ghost use Rattle.std.specs.Prelude.{◌≡◌, ◌<◌, false};
-ghost use Rattle.tc_octets.specs.Cltus.{Takes, come, found, fresh, searching, waits, whole_block};
+ghost use Rattle.tc_octets.specs.Cltus.{Takes, come, received, fresh, searching, waits, whole_block};
 
 use crate::candidates::{Candidate, MOST_INFORMATION, Waiting};
 use crate::codeblocks::{CODEBLOCK, INFORMATION, Mode, sent};
@@ -123,7 +123,7 @@ impl CltuReader {
 
     /// Takes the next octet. `Some` where a CLTU ended with it: the information of its codeblocks.
     pub fn octet(&mut self, octet: u8) -> Option<Candidate>
-        ensures taken { Takes (found self.old.mode self.old.place octet) self.new.place result }
+        ensures taken { Takes (received self.old.mode self.old.place octet) self.new.place result }
         ensures mode { self.new.mode ≡ self.old.mode }
     {
         let mode = self.mode;

@@ -16,7 +16,7 @@ const TAIL: [u8; 8] = [0xc5, 0xc5, 0xc5, 0xc5, 0xc5, 0xc5, 0xc5, 0x79];
 const FILL: u8 = 0x55;
 
 /// Adds octets of fill up to a whole number of sevens.
-fn put_fill<A: Allocator>(out: &mut Vec<u8, A>) -> Result<(), AllocError>
+fn put_fill<A: Allocator + Copy>(out: &mut Vec<u8, A>) -> Result<(), AllocError>
     ensures { OnOk result (out.new.items ≡ filled_to out.old.items) }
 {
     let left = (INFORMATION - out.len() % INFORMATION) % INFORMATION;
@@ -27,7 +27,7 @@ fn put_fill<A: Allocator>(out: &mut Vec<u8, A>) -> Result<(), AllocError>
 }
 
 /// A frame as a CLTU has it: randomized where that is asked for, and filled up.
-fn filled<A: Allocator + Drop>(
+fn filled<A: Allocator + Copy>(
     alloc: A,
     randomizer: bool,
     frame: &[u8],
@@ -43,7 +43,7 @@ fn filled<A: Allocator + Drop>(
 }
 
 /// Adds the codeblocks of octets.
-fn put_codeblocks<A: Allocator>(out: &mut Vec<u8, A>, octets: &[u8]) -> Result<(), AllocError>
+fn put_codeblocks<A: Allocator + Copy>(out: &mut Vec<u8, A>, octets: &[u8]) -> Result<(), AllocError>
     ensures { OnOk result (out.new.items ≡ out.old.items ++ codeblocks_of (length octets.now / 7) octets.now) }
 {
     for block in 0..octets.len() / INFORMATION {
@@ -56,7 +56,7 @@ fn put_codeblocks<A: Allocator>(out: &mut Vec<u8, A>, octets: &[u8]) -> Result<(
 
 /// The CLTU of a frame (CCSDS 231.0-B): the start sequence, the codeblocks of the frame and its fill, and the tail sequence. Of a frame of up to 1,024
 /// octets it has up to 1,186. Fails where memory is refused.
-pub fn cltu<A: Allocator + Copy + Drop>(
+pub fn cltu<A: Allocator + Copy>(
     alloc: A,
     randomizer: bool,
     frame: &[u8],

@@ -65,7 +65,7 @@ pub(crate) fn check_octets(fecf: bool) -> usize
 }
 
 /// Adds a number as two octets.
-pub(crate) fn put_pair<A: Allocator>(out: &mut Vec<u8, A>, number: u16) -> Result<(), AllocError>
+pub(crate) fn put_pair<A: Allocator + Copy>(out: &mut Vec<u8, A>, number: u16) -> Result<(), AllocError>
     ensures { OnOk result (out.new.items ≡ out.old.items ++ pair number) }
 {
     out.push((number / 256) as u8)?;
@@ -82,7 +82,7 @@ pub(crate) fn pair_in(octets: &[u8], at: usize) -> u16
 }
 
 /// Adds a frame's data field.
-fn put_data<A: Allocator>(
+fn put_data<A: Allocator + Copy>(
     out: &mut Vec<u8, A>,
     channel: &TcChannel,
     frame: &TcFrame,
@@ -122,7 +122,7 @@ fn data_octets(channel: &TcChannel, frame: &TcFrame) -> usize
 }
 
 /// Adds a frame's header.
-fn put_header<A: Allocator>(
+fn put_header<A: Allocator + Copy>(
     out: &mut Vec<u8, A>,
     profile: &Profile,
     frame: &TcFrame,
@@ -143,7 +143,7 @@ fn put_header<A: Allocator>(
 }
 
 /// The octets of a frame (CCSDS 232.0-B, 4.1), at most 1,024. Fails where memory is refused.
-pub fn tc_frame<A: Allocator + Drop>(
+pub fn tc_frame<A: Allocator + Copy>(
     alloc: A,
     profile: &Profile,
     frame: &TcFrame,

@@ -1,8 +1,6 @@
 //! Telemetry transfer frames.
-ghost use Rattle.std.specs.Prelude.{◌≡◌, ◌++◌, ◌+◌, ◌<◌, ◌≤◌, ◌↔◌, IfOk, OnOk, IsTrue, length};
-ghost use Rattle.std.specs.Option.{MatchOption};
-ghost use Rattle.tc_octets.specs.TcFrames.{check_length};
-ghost use Rattle.tc_octets.specs.TmFrames.{IsTmFrame, TmHeaderSays, TmReads, IsOurs, four, tm_frame_of, tm_parts, has_word, word_octets};
+ghost use Rattle.std.specs.Prelude.{◌≡◌, ◌++◌, ◌≤◌, ◌↔◌, if◌then◌else◌, IfOk, OnOk, IsTrue, length};
+ghost use Rattle.tc_octets.specs.TmFrames.{IsTmChecked, IsTmFrame, TmReads, TmSays, four, our_word, tm_frame_of, tm_parts};
 
 use crate::crcs::crc;
 use crate::profiles::Profile;
@@ -46,12 +44,14 @@ pub enum TmFault {
 }
 
 /// The octets of the operational control field.
-fn word_length(there: bool) -> usize {
+fn word_length(there: bool) -> usize
+    ensures { result ≡ (if there then 4 else 0) }
+{
     if there { WORD } else { 0 }
 }
 
 /// Adds a number as four octets.
-fn put_four<A: Allocator>(out: &mut Vec<u8, A>, number: u32) -> Result<(), AllocError>
+fn put_four<A: Allocator + Copy>(out: &mut Vec<u8, A>, number: u32) -> Result<(), AllocError>
     ensures { OnOk result (out.new.items ≡ out.old.items ++ four number) }
 {
     put_pair(out, (number / 0x10000) as u16)?;
@@ -60,7 +60,7 @@ fn put_four<A: Allocator>(out: &mut Vec<u8, A>, number: u32) -> Result<(), Alloc
 }
 
 /// The octets of a frame (CCSDS 132.0-B, 4.1): as many as each frame of this link has. Fails where memory is refused.
-pub fn tm_frame<A: Allocator + Copy + Drop>(
+pub fn tm_frame<A: Allocator + Copy>(
     alloc: A,
     profile: &Profile,
     frame: &TmFrame,
@@ -86,7 +86,10 @@ pub fn tm_frame<A: Allocator + Copy + Drop>(
 }
 
 /// Whether the frame error control field is right.
-fn is_checked(profile: &Profile, octets: &[u8]) -> bool {
+fn is_checked(profile: &Profile, octets: &[u8]) -> bool
+    requires { 2 ≤ length octets.now }
+    ensures { IsTrue result ↔ IsTmChecked profile.now octets.now }
+{
     if !profile.tm.fecf {
         return true;
     }
@@ -96,7 +99,7 @@ fn is_checked(profile: &Profile, octets: &[u8]) -> bool {
 
 /// What a frame is refused for.
 fn fault(profile: &Profile, octets: &[u8]) -> Option<TmFault>
-    ensures { TmHeaderSays profile.now octets.now result }
+    ensures { TmSays profile.now octets.now result }
 {
     if octets.len() != usize::from(profile.tm.length) {
         return Some(TmFault::Length);
