@@ -15,12 +15,12 @@ block_put out octets information check blocks i h is right =
     let more : blocks - i ≡ suc (blocks - (i + 1)) = omega arith in
     let next : 7 * (i + 1) ≡ 7 * i + 7 = omega arith in
     sym (
-      ap (λ n. out ++ codeblocks_of n (drop (7 * i) octets)) more
-      ∙ ap (λ l. out ++ (codeblock_of (take 7 (drop (7 * i) octets)) ++ codeblocks_of (blocks - (i + 1)) l)) (drop-drop 7 (7 * i) octets ∙ ap (λ n. drop n octets) (sym next))
-      ∙ ap (λ l. out ++ (codeblock_of l ++ codeblocks_of (blocks - (i + 1)) (drop (7 * (i + 1)) octets))) (sym is)
-      ∙ ap (λ n. out ++ ((information ++ n ∷ []) ++ codeblocks_of (blocks - (i + 1)) (drop (7 * (i + 1)) octets))) (sym right)
-      ∙ sym (append_assoc out (information ++ check ∷ []) (codeblocks_of (blocks - (i + 1)) (drop (7 * (i + 1)) octets)))
-      ∙ ap (λ l. l ++ codeblocks_of (blocks - (i + 1)) (drop (7 * (i + 1)) octets)) (sym (append_assoc out information (check ∷ [])))
+    ap (λ n. out ++ codeblocks_of n (drop (7 * i) octets)) more
+    ∙ ap (λ l. out ++ (codeblock_of (take 7 (drop (7 * i) octets)) ++ codeblocks_of (blocks - (i + 1)) l)) (drop-drop 7 (7 * i) octets ∙ ap (λ n. drop n octets) (sym next))
+    ∙ ap (λ l. out ++ (codeblock_of l ++ codeblocks_of (blocks - (i + 1)) (drop (7 * (i + 1)) octets))) (sym is)
+    ∙ ap (λ n. out ++ ((information ++ n ∷ []) ++ codeblocks_of (blocks - (i + 1)) (drop (7 * (i + 1)) octets))) (sym right)
+    ∙ sym (append_assoc out (information ++ check ∷ []) (codeblocks_of (blocks - (i + 1)) (drop (7 * (i + 1)) octets)))
+    ∙ ap (λ l. l ++ codeblocks_of (blocks - (i + 1)) (drop (7 * (i + 1)) octets)) (sym (append_assoc out information (check ∷ [])))
     )
 
 -- one octet more waits, at most

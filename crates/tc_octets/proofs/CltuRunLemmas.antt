@@ -23,7 +23,7 @@ unfolding is_codeblock
 encoded_is information e =
     eq-eqb (error_control_of (take 7 (codeblock_of information))) _
     (ap error_control_of (take_at information (error_control_of information ∷ []) 7 e)
-     ∙ sym (get_or_at information (error_control_of information) [] 0 7 e))
+    ∙ sym (get_or_at information (error_control_of information) [] 0 7 e))
 
 pub encoded_read : (mode : Mode) (information : List ℕ) → length information ≡ 7 → sent_of mode (codeblock_of information) ≡ Some (codeblock_of information)
 unfolding sent_of
@@ -76,8 +76,8 @@ codeblocks_run mode (suc n) information octets ended h k =
     ∙ ap (λ r. run mode r (codeblocks_of n (drop 7 octets))) (codeblock_run mode information (take 7 octets) ended seven (omega arith))
     ∙ codeblocks_run mode n (information ++ take 7 octets) (drop 7 octets) ended rest (omega arith)
     ∙ ap (λ l. record { place = within l []; ended = ended })
-      (append_assoc information (take 7 octets) (take (7 * n) (drop 7 octets))
-       ∙ ap (λ l. information ++ l) (sym (take-add 7 (7 * n) octets) ∙ ap (λ m. take m octets) (sym total)))
+    (append_assoc information (take 7 octets) (take (7 * n) (drop 7 octets))
+    ∙ ap (λ l. information ++ l) (sym (take-add 7 (7 * n) octets) ∙ ap (λ m. take m octets) (sym total)))
 
 -- the start sequence
 start_run : (mode : Mode) (begun : Bool) (ended : List (List ℕ))
@@ -106,7 +106,7 @@ turned_length false frame = refl
 filled_length : (octets : List ℕ) → length octets ≤ 1024 → (7 * (length (filled_to octets) / 7) ≡ length (filled_to octets)) × (length (filled_to octets) ≤ 1029)
 filled_length octets h =
     let size : length (filled_to octets) ≡ length octets + (7 - length octets % 7) % 7 =
-      length-append octets (replicate ((7 - length octets % 7) % 7) 0x55) ∙ ap (λ n. length octets + n) (length-replicate ((7 - length octets % 7) % 7) 0x55) in
+    length-append octets (replicate ((7 - length octets % 7) % 7) 0x55) ∙ ap (λ n. length octets + n) (length-replicate ((7 - length octets % 7) % 7) 0x55) in
     (omega arith, omega arith)
 
 pub whole_found : (mode : Mode) → WholeCltuIsFound mode
@@ -116,8 +116,8 @@ whole_found mode begun randomizer ended frame h =
     let blocks = length (filled_of randomizer frame) / 7 in
     fold-append (came mode) (record { place = searching begun; ended = ended }) (start_sequence ++ codeblocks_of (length (filled_of randomizer frame) / 7) (filled_of randomizer frame)) tail_sequence
     ∙ ap (λ r. run mode r tail_sequence)
-      (fold-append (came mode) (record { place = searching begun; ended = ended }) start_sequence (codeblocks_of (length (filled_of randomizer frame) / 7) (filled_of randomizer frame))
-       ∙ ap (λ r. run mode r (codeblocks_of (length (filled_of randomizer frame) / 7) (filled_of randomizer frame))) (start_run mode begun ended)
-       ∙ codeblocks_run mode (length (filled_of randomizer frame) / 7) [] (filled_of randomizer frame) ended (omega arith) (omega arith)
-       ∙ ap (λ l. record { place = within l []; ended = ended }) (take_all (7 * (length (filled_of randomizer frame) / 7)) (filled_of randomizer frame) (omega arith)))
+    (fold-append (came mode) (record { place = searching begun; ended = ended }) start_sequence (codeblocks_of (length (filled_of randomizer frame) / 7) (filled_of randomizer frame))
+    ∙ ap (λ r. run mode r (codeblocks_of (length (filled_of randomizer frame) / 7) (filled_of randomizer frame))) (start_run mode begun ended)
+    ∙ codeblocks_run mode (length (filled_of randomizer frame) / 7) [] (filled_of randomizer frame) ended (omega arith) (omega arith)
+    ∙ ap (λ l. record { place = within l []; ended = ended }) (take_all (7 * (length (filled_of randomizer frame) / 7)) (filled_of randomizer frame) (omega arith)))
     ∙ tail_run mode (filled_of randomizer frame) ended

@@ -19,14 +19,14 @@ step_tells : (register bit : ℕ) → ((register / 2 ^ 15 ≡ bit) × (crc_step 
 unfolding crc_step
 step_tells register bit =
     elim (eqb_tells (register / 2 ^ 15) bit) [
-      inl t ↦ inl (t.1, cond-true (register / 2 ^ 15 == bit) (register * 2 % 2 ^ 16) (bit_xor (register * 2 % 2 ^ 16) 4129) t.0)
+      | inl t ↦ inl (t.1, cond-true (register / 2 ^ 15 == bit) (register * 2 % 2 ^ 16) (bit_xor (register * 2 % 2 ^ 16) 4129) t.0)
       | inr t ↦ inr (t.1, cond-false (register / 2 ^ 15 == bit) (register * 2 % 2 ^ 16) (bit_xor (register * 2 % 2 ^ 16) 4129) t.0)
     ]
 
 step_small : (register bit : ℕ) → crc_step register bit < 2 ^ 16
 step_small register bit =
     elim (step_tells register bit) [
-      inl t ↦ (let e = t.1 in omega arith)
+      | inl t ↦ (let e = t.1 in omega arith)
       | inr t ↦ subst (λ (n : ℕ). n < 2 ^ 16) (sym t.1) (xor_lt 16 (register * 2 % 2 ^ 16) 4129 (omega arith) (omega arith))
     ]
 
@@ -38,7 +38,7 @@ odd_after shifted even = xor_mod shifted 4129 1 ∙ ap (λ n. bit_xor n 1) even
 step_even : (register bit : ℕ) → crc_step register bit % 2 ≡ 0 → (register / 2 ^ 15 ≡ bit) × (crc_step register bit ≡ register * 2 % 2 ^ 16)
 step_even register bit even =
     elim (step_tells register bit) [
-      inl t ↦ t
+      | inl t ↦ t
       | inr t ↦ absurd (let odd : bit_xor (register * 2 % 2 ^ 16) 4129 % 2 ≡ 1 = odd_after (register * 2 % 2 ^ 16) (omega arith) in
           let same : crc_step register bit % 2 ≡ bit_xor (register * 2 % 2 ^ 16) 4129 % 2 = ap (λ n. n % 2) t.1 in omega arith)
     ]
@@ -52,7 +52,7 @@ shift_in register bit value k n small e top shifted =
     let power : 2 ^ n * 2 ^ k ≡ 2 ^ 15 = sym (pow-add 2 n k) ∙ ap (λ m. 2 ^ m) e in
     let twice : value * 2 ^ suc k ≡ value * 2 ^ k * 2 = ap (λ m. value * m) (pow-suc 2 k) ∙ sym (mul_assoc value (2 ^ k) 2) in
     let parts : (bit * 2 ^ n + value) * 2 ^ k ≡ bit * 2 ^ 15 + value * 2 ^ k =
-      add-mul (bit * 2 ^ n) value (2 ^ k) ∙ ap (λ m. m + value * 2 ^ k) (mul_assoc bit (2 ^ n) (2 ^ k) ∙ ap (λ m. bit * m) power) in
+    add-mul (bit * 2 ^ n) value (2 ^ k) ∙ ap (λ m. m + value * 2 ^ k) (mul_assoc bit (2 ^ n) (2 ^ k) ∙ ap (λ m. bit * m) power) in
     sum_up register bit (value * 2 ^ k) small top (shifted ∙ twice) ∙ sym parts
 
 even_of : (m n : ℕ) → m ≡ n * 2 → m % 2 ≡ 0
@@ -69,7 +69,7 @@ reads_zero : (register : ℕ) (bits : List ℕ) → register < 2 ^ 16 → AllBel
 reads_zero register [] small all few e = e
 reads_zero register (bit ∷ bits) small all few e =
     let next : crc_step register bit ≡ number_of_bits bits * 2 ^ (16 - length bits) =
-      reads_zero (crc_step register bit) bits (step_small register bit) all.1 (omega arith) e in
+    reads_zero (crc_step register bit) bits (step_small register bit) all.1 (omega arith) e in
     let more : 16 - length bits ≡ suc (16 - suc (length bits)) = omega arith in
     let there : crc_step register bit ≡ number_of_bits bits * 2 ^ suc (16 - suc (length bits)) = next ∙ ap (λ m. number_of_bits bits * 2 ^ m) more in
     let even : crc_step register bit % 2 ≡ 0 = ap (λ m. m % 2) there ∙ even_shift (number_of_bits bits) (16 - suc (length bits)) in
@@ -110,8 +110,8 @@ burst_some burst all few some e =
 pub bursts_found : BurstsAreFound
 bursts_found before after burst all few some e =
     let whole : crc_from 0 (replicate before 0 ++ burst ++ replicate after 0) ≡ crc_from (crc_from 0 burst) (replicate after 0) =
-      fold-append crc_step 0 (replicate before 0 ++ burst) (replicate after 0)
-      ∙ ap (λ r. crc_from r (replicate after 0)) (fold-append crc_step 0 (replicate before 0) burst ∙ ap (λ r. crc_from r burst) (zeros_keep before)) in
+    fold-append crc_step 0 (replicate before 0 ++ burst) (replicate after 0)
+    ∙ ap (λ r. crc_from r (replicate after 0)) (fold-append crc_step 0 (replicate before 0) burst ∙ ap (λ r. crc_from r burst) (zeros_keep before)) in
     others_stay (crc_from 0 burst) after (from_small 0 burst (omega arith)) (burst_some burst all few some) (sym whole ∙ e)
 
 -- ---- the CRC is linear
@@ -145,7 +145,7 @@ step_shape : (register bit : ℕ) → register < 2 ^ 16 → bit < 2
     → crc_step register bit ≡ bit_xor (register * 2 % 2 ^ 16) (bit_xor (register / 2 ^ 15) bit * 4129)
 step_shape register bit small h =
     elim (step_tells register bit) [
-      inl t ↦ t.1 ∙ sym (ap (λ x. bit_xor (register * 2 % 2 ^ 16) (x * 4129)) (ap (λ x. bit_xor x bit) t.0 ∙ xor_self bit) ∙ xor_zero_r (register * 2 % 2 ^ 16))
+      | inl t ↦ t.1 ∙ sym (ap (λ x. bit_xor (register * 2 % 2 ^ 16) (x * 4129)) (ap (λ x. bit_xor x bit) t.0 ∙ xor_self bit) ∙ xor_zero_r (register * 2 % 2 ^ 16))
       | inr t ↦ t.1 ∙ sym (ap (λ x. bit_xor (register * 2 % 2 ^ 16) (x * 4129)) (bits_differ (register / 2 ^ 15) bit (omega arith) h t.0))
     ]
 
@@ -162,11 +162,11 @@ step_linear r s a b hr hs ha hb =
     let hx : r / 2 ^ 15 < 2 = omega arith in
     let hy : s / 2 ^ 15 < 2 = omega arith in
     let both : bit_xor (bit_xor r s / 2 ^ 15) (bit_xor a b) ≡ bit_xor (bit_xor (r / 2 ^ 15) a) (bit_xor (s / 2 ^ 15) b) =
-      ap (λ t. bit_xor t (bit_xor a b)) (xor_shr r s 15) ∙ swapped (r / 2 ^ 15) (s / 2 ^ 15) a b in
+    ap (λ t. bit_xor t (bit_xor a b)) (xor_shr r s 15) ∙ swapped (r / 2 ^ 15) (s / 2 ^ 15) a b in
     step_shape (bit_xor r s) (bit_xor a b) (xor_lt 16 r s hr hs) (xor_lt 1 a b ha hb)
     ∙ ap (λ t. bit_xor t (bit_xor (bit_xor r s / 2 ^ 15) (bit_xor a b) * 4129)) (shift_linear r s)
     ∙ ap (λ t. bit_xor (bit_xor (r * 2 % 2 ^ 16) (s * 2 % 2 ^ 16)) t)
-      (ap (λ t. t * 4129) both ∙ masks_linear (bit_xor (r / 2 ^ 15) a) (bit_xor (s / 2 ^ 15) b) (xor_lt 1 (r / 2 ^ 15) a hx ha) (xor_lt 1 (s / 2 ^ 15) b hy hb))
+    (ap (λ t. t * 4129) both ∙ masks_linear (bit_xor (r / 2 ^ 15) a) (bit_xor (s / 2 ^ 15) b) (xor_lt 1 (r / 2 ^ 15) a hx ha) (xor_lt 1 (s / 2 ^ 15) b hy hb))
     ∙ swapped (r * 2 % 2 ^ 16) (s * 2 % 2 ^ 16) (bit_xor (r / 2 ^ 15) a * 4129) (bit_xor (s / 2 ^ 15) b * 4129)
     ∙ ap (λ t. bit_xor t (bit_xor (s * 2 % 2 ^ 16) (bit_xor (s / 2 ^ 15) b * 4129))) (sym (step_shape r a hr ha))
     ∙ ap (λ t. bit_xor (crc_step r a) t) (sym (step_shape s b hs hb))
@@ -234,4 +234,4 @@ pub crc_linear : CrcIsLinear
 crc_linear octets errors e =
     ap (λ l. crc_from 65535 l) (all_laid octets errors e)
     ∙ from_linear 65535 0 (bits_of octets) (bits_of errors) (omega arith) (omega arith)
-      (all_length octets ∙ ap (λ n. 8 * n) e ∙ sym (all_length errors)) (all_small octets) (all_small errors)
+    (all_length octets ∙ ap (λ n. 8 * n) e ∙ sym (all_length errors)) (all_small octets) (all_small errors)

@@ -72,7 +72,7 @@ between_idle mode information count =
     ap (places mode (within information [])) (idle_split 8 count)
     ∙ places-append mode (within information []) (idle 8) (idle count)
     ∙ ap (λ p. places mode p (idle count))
-      (block_made mode information [] (idle 8) (omega arith) refl ∙ ap (λ r. (after_block information (idle 8) r).place) (idle_in mode information))
+    (block_made mode information [] (idle 8) (omega arith) refl ∙ ap (λ r. (after_block information (idle 8) r).place) (idle_in mode information))
     ∙ searched_idle mode count
 
 within_all : (information waiting octets : List ℕ) → fold come (within information waiting) octets ≡ within information (waiting ++ octets)
@@ -96,7 +96,7 @@ looks begun (octet ∷ octets) count =
     cond_both (begun && (octet == 0x90)) (within [] []) (searching (octet == 0xeb)) (λ p. Looks (octet ∷ octets) count (fold come p (octets ++ idle (suc count))))
     (λ e. inr (octets, omega arith, within_all [] [] (octets ++ idle (suc count))))
     (λ e. elim (looks (octet == 0xeb) octets count) [
-      inl nothing ↦ inl nothing
+      | inl nothing ↦ inl nothing
       | inr later ↦ inr (later.0, omega (arith, later.1), later.2)
     ])
 
@@ -138,26 +138,26 @@ within_idle mode fuel information [] m h k =
     ∙ ap (places mode (within information (idle m))) (idle_split (8 - m) 7)
     ∙ places-append mode (within information (idle m)) (idle (8 - m)) (idle 7)
     ∙ ap (λ p. places mode p (idle 7))
-      (block_made mode information (idle m) (idle (8 - m)) (omega (arith, length-replicate m 0x55)) (omega (arith, length-replicate m 0x55, length-replicate (8 - m) 0x55))
-       ∙ ap (λ l. (after_block information l (codeblock_in mode information l)).place) whole
-       ∙ ap (λ r. (after_block information (idle 8) r).place) (idle_in mode information))
+    (block_made mode information (idle m) (idle (8 - m)) (omega (arith, length-replicate m 0x55)) (omega (arith, length-replicate m 0x55, length-replicate (8 - m) 0x55))
+    ∙ ap (λ l. (after_block information l (codeblock_in mode information l)).place) whole
+    ∙ ap (λ r. (after_block information (idle 8) r).place) (idle_in mode information))
     ∙ searched_idle mode 7
 within_idle mode zero information (x ∷ octets) m h k = absurd (omega arith)
 within_idle mode (suc fuel) information (x ∷ octets) m h k =
     let parts : 15 - m ≡ (8 - length (x ∷ octets) - m) + (7 + length (x ∷ octets)) = omega arith in
     let ends : m + (8 - length (x ∷ octets) - m) ≡ suc (7 - length (x ∷ octets)) = omega arith in
     let block : ((x ∷ octets) ++ idle m) ++ idle (8 - length (x ∷ octets) - m) ≡ (x ∷ octets) ++ idle (suc (7 - length (x ∷ octets))) =
-      append_assoc (x ∷ octets) (idle m) (idle (8 - length (x ∷ octets) - m))
-      ∙ ap (λ l. (x ∷ octets) ++ l) (sym (idle_split m (8 - length (x ∷ octets) - m)) ∙ ap idle ends) in
+    append_assoc (x ∷ octets) (idle m) (idle (8 - length (x ∷ octets) - m))
+    ∙ ap (λ l. (x ∷ octets) ++ l) (sym (idle_split m (8 - length (x ∷ octets) - m)) ∙ ap idle ends) in
     let sizes : length ((x ∷ octets) ++ idle m) ≡ length (x ∷ octets) + m = length-append (x ∷ octets) (idle m) ∙ ap (λ s. length (x ∷ octets) + s) (length-replicate m 0x55) in
     ap (λ s. places mode (within information ((x ∷ octets) ++ idle m)) (idle s)) parts
     ∙ ap (places mode (within information ((x ∷ octets) ++ idle m))) (idle_split (8 - length (x ∷ octets) - m) (7 + length (x ∷ octets)))
     ∙ places-append mode (within information ((x ∷ octets) ++ idle m)) (idle (8 - length (x ∷ octets) - m)) (idle (7 + length (x ∷ octets)))
     ∙ ap (λ p. places mode p (idle (7 + length (x ∷ octets))))
-      (block_made mode information ((x ∷ octets) ++ idle m) (idle (8 - length (x ∷ octets) - m)) (omega arith) (omega (arith, length-replicate (8 - length (x ∷ octets) - m) 0x55))
-       ∙ ap (λ l. (after_block information l (codeblock_in mode information l)).place) block)
+    (block_made mode information ((x ∷ octets) ++ idle m) (idle (8 - length (x ∷ octets) - m)) (omega arith) (omega (arith, length-replicate (8 - length (x ∷ octets) - m) 0x55))
+    ∙ ap (λ l. (after_block information l (codeblock_in mode information l)).place) block)
     ∙ whatever mode fuel information (x ∷ octets) ((x ∷ octets) ++ idle (suc (7 - length (x ∷ octets)))) (codeblock_in mode information ((x ∷ octets) ++ idle (suc (7 - length (x ∷ octets)))))
-      (within_idle mode fuel) h (omega arith) (omega arith) refl
+    (within_idle mode fuel) h (omega arith) (omega arith) refl
 
 -- wherever a receiver is
 place_idle : (mode : Mode) (place : Place) → waits place < 8 → places mode place (idle 15) ≡ searching false
@@ -193,7 +193,7 @@ next_few mode (searching begun) octet h =
     cond_both (begun && (octet == 0x90)) (within [] []) (searching (octet == 0xeb)) (λ p. waits (whole_block mode p).place < 8) (λ e. omega arith) (λ e. omega arith)
 next_few mode (within information waiting) octet h =
     elim (split_few (length waiting)) [
-      inl few ↦ subst (λ (p : Place). waits p < 8) (sym (next_waits mode (within information waiting) octet (omega (arith, length-append waiting (octet ∷ []), few)))) (omega (arith, length-append waiting (octet ∷ []), few))
+      | inl few ↦ subst (λ (p : Place). waits p < 8) (sym (next_waits mode (within information waiting) octet (omega (arith, length-append waiting (octet ∷ []), few)))) (omega (arith, length-append waiting (octet ∷ []), few))
       | inr seven ↦ subst (λ (f : Found). waits f.place < 8)
           (sym (block_there mode information (waiting ++ octet ∷ []) (omega (arith, length-append waiting (octet ∷ []), seven))))
           (after_few mode information (waiting ++ octet ∷ []) (codeblock_in mode information (waiting ++ octet ∷ [])) (omega (arith, length-append waiting (octet ∷ []), seven)))
@@ -211,9 +211,9 @@ same_run start place e = λ i. record { place = e i; ended = start.ended }
 pub found_after_noise : (mode : Mode) → FoundAfterNoise mode
 found_after_noise mode noise frame randomizer h =
     let there : (run mode (record { place = searching false; ended = [] }) (noise ++ idle 15)).place ≡ searching false =
-      run_place mode (record { place = searching false; ended = [] }) (noise ++ idle 15)
-      ∙ places-append mode (searching false) noise (idle 15)
-      ∙ place_idle mode (places mode (searching false) noise) (places_few mode (searching false) noise (omega arith)) in
+    run_place mode (record { place = searching false; ended = [] }) (noise ++ idle 15)
+    ∙ places-append mode (searching false) noise (idle 15)
+    ∙ place_idle mode (places mode (searching false) noise) (places_few mode (searching false) noise (omega arith)) in
     fold-append (came mode) (record { place = searching false; ended = [] }) (noise ++ idle 15) (cltu_of randomizer frame)
     ∙ ap (λ r. run mode r (cltu_of randomizer frame)) (same_run (run mode (record { place = searching false; ended = [] }) (noise ++ idle 15)) (searching false) there)
     ∙ whole_found mode false randomizer (run mode (record { place = searching false; ended = [] }) (noise ++ idle 15)).ended frame h

@@ -33,7 +33,7 @@ last_two : (octets : List ℕ) (m : ℕ) → m + 2 ≡ length octets → drop m 
 last_two octets m e =
     drop_more octets m 0 (omega arith)
     ∙ ap (λ l. get_or octets m 0 ∷ l)
-      (drop_more octets (m + 1) 0 (omega arith) ∙ ap (λ l. get_or octets (m + 1) 0 ∷ l) (drop_all (m + 1 + 1) octets (omega arith)))
+    (drop_more octets (m + 1) 0 (omega arith) ∙ ap (λ l. get_or octets (m + 1) 0 ∷ l) (drop_all (m + 1 + 1) octets (omega arith)))
 
 pub pair_back : (a b n : ℕ) → b < 2 ^ 8 → a * 256 + b ≡ n → a ∷ b ∷ [] ≡ pair n
 pair_back a b n h e =
@@ -48,7 +48,7 @@ closed_again false octets m small e checked = sym (take_all m octets (omega arit
 closed_again true octets m small e checked =
     sym (take-append-drop m octets)
     ∙ ap (λ l. take m octets ++ l)
-      (last_two octets m e ∙ pair_back (get_or octets m 0) (get_or octets (m + 1) 0) (crc_of (take m octets)) (small (m + 1)) (checked refl))
+    (last_two octets m e ∙ pair_back (get_or octets m 0) (get_or octets (m + 1) 0) (crc_of (take m octets)) (small (m + 1)) (checked refl))
 
 -- the check stands where the front ends
 pub checked_at : (fecf : Bool) (octets : List ℕ) (m : ℕ) → m + check_length fecf ≡ length octets
@@ -121,13 +121,15 @@ parts_there profile carried h =
     let small = flags_small carried in
     record {
       flags =
-        rw (closed_keeps profile.tc.fecf (header_of profile carried ++ data_field profile.tc carried) 0 (omega arith),
-            closed_keeps profile.tc.fecf (header_of profile carried ++ data_field profile.tc carried) 1 (omega arith))
-        (omega arith);
+          rw (
+            closed_keeps profile.tc.fecf (header_of profile carried ++ data_field profile.tc carried) 0 (omega arith),
+            closed_keeps profile.tc.fecf (header_of profile carried ++ data_field profile.tc carried) 1 (omega arith),
+          )
+          (omega arith);
       number = closed_keeps profile.tc.fecf (header_of profile carried ++ data_field profile.tc carried) 4 (omega arith);
       field =
-        between_is (tc_frame_of profile carried) 5 (length (tc_frame_of profile carried) - check_length profile.tc.fecf)
-        ∙ ap (drop 5) (closed_front profile.tc.fecf (header_of profile carried ++ data_field profile.tc carried));
+          between_is (tc_frame_of profile carried) 5 (length (tc_frame_of profile carried) - check_length profile.tc.fecf)
+          ∙ ap (drop 5) (closed_front profile.tc.fecf (header_of profile carried ++ data_field profile.tc carried));
     }
 
 pub parts_of_frame : (profile : Profile) (carried : Carried) (octets : List ℕ) → profile.scid ≤ 1023 → octets ≡ tc_frame_of profile carried
@@ -165,16 +167,19 @@ pub read_field : (profile : Profile) (octets field : List ℕ) (m flags : ℕ) (
 read_field profile octets field m flags (Ok frame) small within passes long is_field told kinds says =
     let least = passes.long.least in
     let size : length (take (m - 5) (drop 5 octets)) ≡ m - 5 = omega (arith, length-take (m - 5) (drop 5 octets), length-drop 5 octets) in
-    let whole : 5 + length field + check_length profile.tc.fecf ≡ length octets = omega (arith, ap length is_field) in
-    (carried_fits profile (carried_of frame) octets field small within passes.long says.3 (sym says.1) says.2 whole,
-     frame_again profile (carried_of frame) octets m small passes long (told ∙ sym says.0) (sym says.1) (sym is_field ∙ says.2))
+    let whole : 5 + length field + check_length profile.tc.fecf ≡ length octets = omega (arith, ap length is_field) in (
+      carried_fits profile (carried_of frame) octets field small within passes.long says.3 (sym says.1) says.2 whole,
+      frame_again profile (carried_of frame) octets m small passes long (told ∙ sym says.0) (sym says.1) (sym is_field ∙ says.2),
+    )
 read_field profile octets field m flags (Err faults.Content) small within passes long is_field told kinds says =
-    let same : length octets - check_length profile.tc.fecf ≡ m = omega arith in
-    (passes, kinds_at octets flags told kinds,
-     λ carried is_frame.
-       let parts = parts_of_frame profile carried octets profile.scid_fits is_frame.1 in
-       says carried (sym parts.flags ∙ told) (sym parts.number) (packet_of profile.tc carried is_frame.0)
-       (is_field ∙ ap (λ n. take (n - 5) (drop 5 octets)) (sym same) ∙ parts.field))
+    let same : length octets - check_length profile.tc.fecf ≡ m = omega arith in (
+      passes,
+      kinds_at octets flags told kinds,
+      λ carried is_frame.
+          let parts = parts_of_frame profile carried octets profile.scid_fits is_frame.1 in
+          says carried (sym parts.flags ∙ told) (sym parts.number) (packet_of profile.tc carried is_frame.0)
+          (is_field ∙ ap (λ n. take (n - 5) (drop 5 octets)) (sym same) ∙ parts.field),
+    )
 read_field profile octets field m flags (Err faults.Length) small within passes long is_field told kinds says = absurd says
 read_field profile octets field m flags (Err faults.Check) small within passes long is_field told kinds says = absurd says
 read_field profile octets field m flags (Err faults.Version) small within passes long is_field told kinds says = absurd says

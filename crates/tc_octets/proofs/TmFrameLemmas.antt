@@ -34,11 +34,11 @@ four_last : (octets : List ℕ) (k : ℕ) → k + 4 ≤ length octets
     → take 4 (drop k octets) ≡ get_or octets k 0 ∷ get_or octets (k + 1) 0 ∷ get_or octets (k + 1 + 1) 0 ∷ get_or octets (k + 1 + 1 + 1) 0 ∷ []
 four_last octets k h =
     ap (take 4)
-      (drop_more octets k 0 (omega arith)
-       ∙ ap (λ l. get_or octets k 0 ∷ l)
-         (drop_more octets (k + 1) 0 (omega arith)
-          ∙ ap (λ l. get_or octets (k + 1) 0 ∷ l)
-            (drop_more octets (k + 1 + 1) 0 (omega arith) ∙ ap (λ l. get_or octets (k + 1 + 1) 0 ∷ l) (drop_more octets (k + 1 + 1 + 1) 0 (omega arith)))))
+    (drop_more octets k 0 (omega arith)
+    ∙ ap (λ l. get_or octets k 0 ∷ l)
+    (drop_more octets (k + 1) 0 (omega arith)
+    ∙ ap (λ l. get_or octets (k + 1) 0 ∷ l)
+    (drop_more octets (k + 1 + 1) 0 (omega arith) ∙ ap (λ l. get_or octets (k + 1 + 1) 0 ∷ l) (drop_more octets (k + 1 + 1 + 1) 0 (omega arith)))))
 
 -- the data field, and the control word where there is one
 rest_split : (octets : List ℕ) (word : Option ℕ) (m e : ℕ) → AreOctets octets → 6 ≤ e → m ≤ length octets → m ≡ e + length (word_octets word)
@@ -52,9 +52,9 @@ rest_split octets (Some w) m e small h k is there =
     ∙ take-add (e - 6) 4 (drop 6 octets)
     ∙ ap (λ l. take (e - 6) (drop 6 octets) ++ take 4 l) (drop-drop (e - 6) 6 octets ∙ ap (λ n. drop n octets) place)
     ∙ ap (λ l. take (e - 6) (drop 6 octets) ++ l)
-      (four_last octets e (omega arith)
-       ∙ four_back (get_or octets e 0) (get_or octets (e + 1) 0) (get_or octets (e + 1 + 1) 0) (get_or octets (e + 1 + 1 + 1) 0) w
-         (small e) (small (e + 1)) (small (e + 1 + 1)) (small (e + 1 + 1 + 1)) there)
+    (four_last octets e (omega arith)
+    ∙ four_back (get_or octets e 0) (get_or octets (e + 1) 0) (get_or octets (e + 1 + 1) 0) (get_or octets (e + 1 + 1 + 1) 0) w
+    (small e) (small (e + 1)) (small (e + 1 + 1)) (small (e + 1 + 1 + 1)) there)
 
 -- octets that pass are the frame of what stands in them
 pub tm_frame_again : (profile : Profile) (parts : TmParts) (octets : List ℕ) (m e : ℕ) → AreOctets octets → IsTmChecked profile octets
@@ -75,10 +75,10 @@ tm_frame_again profile parts octets m e small checked long h size version scid v
     let third = pair_back (get_or octets 4 0) (get_or octets 5 0) parts.status s5 (sym status) in
     closed_again profile.tm.fecf octets m small long (checked_at profile.tm.fecf octets m long checked)
     ∙ ap (closed profile.tm.fecf)
-      (six_split octets m (omega arith) inside
-       ∙ ap (λ l. get_or octets 0 0 ∷ get_or octets 1 0 ∷ get_or octets 2 0 ∷ get_or octets 3 0 ∷ get_or octets 4 0 ∷ get_or octets 5 0 ∷ l)
-         (rest_split octets parts.word m e small h inside size word ∙ ap (λ l. l ++ word_octets parts.word) (sym content))
-       ∙ ap (λ l. l ++ get_or octets 2 0 ∷ get_or octets 3 0 ∷ get_or octets 4 0 ∷ get_or octets 5 0 ∷ (parts.content ++ word_octets parts.word)) first
-       ∙ ap (λ l. pair (profile.scid * 2 ^ 4 + parts.vcid * 2 + word_flag parts.word) ++ get_or octets 2 0 ∷ get_or octets 3 0 ∷ (l ++ (parts.content ++ word_octets parts.word))) third
-       ∙ ap (λ n. pair (profile.scid * 2 ^ 4 + parts.vcid * 2 + word_flag parts.word) ++ n ∷ get_or octets 3 0 ∷ (pair parts.status ++ (parts.content ++ word_octets parts.word))) (sym master)
-       ∙ ap (λ n. pair (profile.scid * 2 ^ 4 + parts.vcid * 2 + word_flag parts.word) ++ parts.master_count ∷ n ∷ (pair parts.status ++ (parts.content ++ word_octets parts.word))) (sym channel))
+    (six_split octets m (omega arith) inside
+    ∙ ap (λ l. get_or octets 0 0 ∷ get_or octets 1 0 ∷ get_or octets 2 0 ∷ get_or octets 3 0 ∷ get_or octets 4 0 ∷ get_or octets 5 0 ∷ l)
+    (rest_split octets parts.word m e small h inside size word ∙ ap (λ l. l ++ word_octets parts.word) (sym content))
+    ∙ ap (λ l. l ++ get_or octets 2 0 ∷ get_or octets 3 0 ∷ get_or octets 4 0 ∷ get_or octets 5 0 ∷ (parts.content ++ word_octets parts.word)) first
+    ∙ ap (λ l. pair (profile.scid * 2 ^ 4 + parts.vcid * 2 + word_flag parts.word) ++ get_or octets 2 0 ∷ get_or octets 3 0 ∷ (l ++ (parts.content ++ word_octets parts.word))) third
+    ∙ ap (λ n. pair (profile.scid * 2 ^ 4 + parts.vcid * 2 + word_flag parts.word) ++ n ∷ get_or octets 3 0 ∷ (pair parts.status ++ (parts.content ++ word_octets parts.word))) (sym master)
+    ∙ ap (λ n. pair (profile.scid * 2 ^ 4 + parts.vcid * 2 + word_flag parts.word) ++ parts.master_count ∷ n ∷ (pair parts.status ++ (parts.content ++ word_octets parts.word))) (sym channel))

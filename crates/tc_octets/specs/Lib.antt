@@ -1,4 +1,9 @@
 pub mod Bits
 pub mod Crc
+pub mod CrcLaws
 pub mod Codeblocks
 pub mod Randomizer
+pub mod TcFrames
+pub mod TmFrames
+pub mod Cltus
+pub mod CltuRuns

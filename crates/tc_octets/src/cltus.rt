@@ -43,7 +43,10 @@ fn filled<A: Allocator + Copy>(
 }
 
 /// Adds the codeblocks of octets.
-fn put_codeblocks<A: Allocator + Copy>(out: &mut Vec<u8, A>, octets: &[u8]) -> Result<(), AllocError>
+fn put_codeblocks<A: Allocator + Copy>(
+    out: &mut Vec<u8, A>,
+    octets: &[u8],
+) -> Result<(), AllocError>
     ensures { OnOk result (out.new.items ≡ out.old.items ++ codeblocks_of (length octets.now / 7) octets.now) }
 {
     for block in 0..octets.len() / INFORMATION {

@@ -65,7 +65,10 @@ pub(crate) fn check_octets(fecf: bool) -> usize
 }
 
 /// Adds a number as two octets.
-pub(crate) fn put_pair<A: Allocator + Copy>(out: &mut Vec<u8, A>, number: u16) -> Result<(), AllocError>
+pub(crate) fn put_pair<A: Allocator + Copy>(
+    out: &mut Vec<u8, A>,
+    number: u16,
+) -> Result<(), AllocError>
     ensures { OnOk result (out.new.items ≡ out.old.items ++ pair number) }
 {
     out.push((number / 256) as u8)?;

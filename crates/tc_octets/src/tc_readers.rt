@@ -2,7 +2,6 @@
 ghost use Rattle.std.specs.Prelude.{◌≡◌, ◌≤◌, ◌+◌, ◌++◌, ◌↔◌, ℕ, List, IsTrue, length};
 ghost use Rattle.std.specs.Option.{MatchOption};
 ghost use Rattle.tc_octets.specs.TcFrames.{segment_header, IsLong, IsChecked, check_length, HeaderSays, ReadsField, Reads};
-
 ghost use Rattle.tc_octets.specs.declared.profiles.TcChannel.{TcChannel as SomeChannel};
 
 use crate::crcs::crc;

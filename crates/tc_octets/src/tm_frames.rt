@@ -70,7 +70,10 @@ pub fn tm_frame<A: Allocator + Copy>(
 {
     let mut octets = Vec::new(alloc);
     let flag = u16::from(frame.word.is_some());
-    put_pair(&mut octets, profile.scid * 16 + u16::from(frame.vcid) * 2 + flag)?;
+    put_pair(
+        &mut octets,
+        profile.scid * 16 + u16::from(frame.vcid) * 2 + flag,
+    )?;
     octets.push(frame.master_count)?;
     octets.push(frame.channel_count)?;
     put_pair(&mut octets, frame.status)?;

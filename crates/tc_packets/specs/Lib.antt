@@ -1,4 +1,0 @@
-pub mod Fields
-pub mod Telecommands
-pub mod Reports
-pub mod Carriers
