@@ -1,13 +1,14 @@
 -- A whole CLTU is received, whatever pieces it comes in.
 use Rattle.std.proofs.Common.{◌≡◌, ℕ, zero, suc, ◌+◌, ◌-◌, ◌*◌, ◌/◌, ◌%◌, ◌<◌, ◌≤◌, Bool, true, false, List, [], ◌∷◌, ◌++◌, take, drop, length, Option, Some, None, replicate, refl, sym, ap, ◌∙◌, arith, eq-eqb}
-use Rattle.std.specs.Prelude.{◌==◌}
+use Rattle.std.specs.Prelude.{◌==◌, nat_lt}
 use Rattle.std.specs.List.{fold}
 use Rattle.std.proofs.Math.Seq.{take-add}
 use Rattle.std.proofs.lemmas.Bool.{cond-true, cond_both}
 use Rattle.std.proofs.lemmas.List.{append_assoc, append-nil, length-append, length-take-le, length-drop, length-replicate, take_at, get_or_at, take_all}
 use Rattle.std.proofs.lemmas.List.Sums.{fold-append}
-use Rattle.tc_octets.specs.Codeblocks.{codeblock_of, error_control_of, is_codeblock, sent_of, mended_by, with_one_turned}
+use Rattle.tc_octets.specs.Codeblocks.{codeblock_of, error_control_of, bch_step, is_codeblock, sent_of, mended_by, with_one_turned}
 use Rattle.tc_octets.specs.Randomizer.{randomized, randomized_from, next_octet}
+use Rattle.tc_octets.specs.Bits.{octet_bits}
 use Rattle.tc_octets.specs.Cltus.{Place, searching, within, Found, come, received, whole_block, after_block, codeblock_in, codeblocks_of, filled_to, filled_of, start_sequence, tail_sequence, cltu_of}
 use Rattle.tc_octets.specs.CltuRuns.{Run, added, came, run, PiecesDoNotMatter, WholeCltuIsFound}
 use Rattle.tc_octets.specs.declared.codeblocks.Mode.{Mode}
@@ -31,7 +32,7 @@ encoded_read mode information e = cond-true (is_codeblock (codeblock_of informat
 
 -- the tail is no codeblock, and none of its bits makes it one
 pub tail_read : (mode : Mode) → sent_of mode tail_sequence ≡ None
-unfolding sent_of is_codeblock octet_bits bch_step
+unfolding sent_of with_one_turned is_codeblock octet_bits bch_step
 tail_read Detecting = refl
 tail_read Correcting = refl
 

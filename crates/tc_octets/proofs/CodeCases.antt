@@ -3,7 +3,7 @@ use Rattle.std.proofs.Common.{◌≡◌, List, [], ◌∷◌, take, replicate, S
 use Rattle.std.specs.Option.{option_map}
 use Rattle.tc_octets.specs.Bits.{octet_bits}
 use Rattle.tc_octets.specs.Crc.{crc_of, crc_step}
-use Rattle.tc_octets.specs.Codeblocks.{bch_step, error_control_of, is_codeblock, sent_of}
+use Rattle.tc_octets.specs.Codeblocks.{bch_step, error_control_of, is_codeblock, sent_of, with_one_turned}
 use Rattle.tc_octets.specs.Randomizer.{next_octet, randomized, window_step}
 use Rattle.tc_octets.specs.declared.codeblocks.Mode.TheVariants.{Detecting, Correcting}
 
@@ -94,152 +94,152 @@ case_17 = refl
 
 -- detecting, decode, whole
 case_18 : option_map (take 7) (sent_of Detecting (0x30 ∷ 0x01 ∷ 0x0c ∷ 0x07 ∷ 0x00 ∷ 0x00 ∷ 0x00 ∷ 0x8a ∷ [])) ≡ Some (0x30 ∷ 0x01 ∷ 0x0c ∷ 0x07 ∷ 0x00 ∷ 0x00 ∷ 0x00 ∷ [])
-unfolding octet_bits bch_step is_codeblock sent_of
+unfolding octet_bits bch_step is_codeblock with_one_turned sent_of
 case_18 = refl
 
 -- correcting, decode, whole
 case_19 : option_map (take 7) (sent_of Correcting (0x30 ∷ 0x01 ∷ 0x0c ∷ 0x07 ∷ 0x00 ∷ 0x00 ∷ 0x00 ∷ 0x8a ∷ [])) ≡ Some (0x30 ∷ 0x01 ∷ 0x0c ∷ 0x07 ∷ 0x00 ∷ 0x00 ∷ 0x00 ∷ [])
-unfolding octet_bits bch_step is_codeblock sent_of
+unfolding octet_bits bch_step is_codeblock with_one_turned sent_of
 case_19 = refl
 
 -- detecting, decode, bit 0 turned
 case_20 : sent_of Detecting (0xb0 ∷ 0x01 ∷ 0x0c ∷ 0x07 ∷ 0x00 ∷ 0x00 ∷ 0x00 ∷ 0x8a ∷ []) ≡ None
-unfolding octet_bits bch_step is_codeblock sent_of
+unfolding octet_bits bch_step is_codeblock with_one_turned sent_of
 case_20 = refl
 
 -- correcting, decode, bit 0 turned
 case_21 : option_map (take 7) (sent_of Correcting (0xb0 ∷ 0x01 ∷ 0x0c ∷ 0x07 ∷ 0x00 ∷ 0x00 ∷ 0x00 ∷ 0x8a ∷ [])) ≡ Some (0x30 ∷ 0x01 ∷ 0x0c ∷ 0x07 ∷ 0x00 ∷ 0x00 ∷ 0x00 ∷ [])
-unfolding octet_bits bch_step is_codeblock sent_of
+unfolding octet_bits bch_step is_codeblock with_one_turned sent_of
 case_21 = refl
 
 -- detecting, decode, bit 55, the last of the information, turned
 case_22 : sent_of Detecting (0x30 ∷ 0x01 ∷ 0x0c ∷ 0x07 ∷ 0x00 ∷ 0x00 ∷ 0x01 ∷ 0x8a ∷ []) ≡ None
-unfolding octet_bits bch_step is_codeblock sent_of
+unfolding octet_bits bch_step is_codeblock with_one_turned sent_of
 case_22 = refl
 
 -- correcting, decode, bit 55, the last of the information, turned
 case_23 : option_map (take 7) (sent_of Correcting (0x30 ∷ 0x01 ∷ 0x0c ∷ 0x07 ∷ 0x00 ∷ 0x00 ∷ 0x01 ∷ 0x8a ∷ [])) ≡ Some (0x30 ∷ 0x01 ∷ 0x0c ∷ 0x07 ∷ 0x00 ∷ 0x00 ∷ 0x00 ∷ [])
-unfolding octet_bits bch_step is_codeblock sent_of
+unfolding octet_bits bch_step is_codeblock with_one_turned sent_of
 case_23 = refl
 
 -- detecting, decode, bit 62, the last of the parity, turned
 case_24 : sent_of Detecting (0x30 ∷ 0x01 ∷ 0x0c ∷ 0x07 ∷ 0x00 ∷ 0x00 ∷ 0x00 ∷ 0x88 ∷ []) ≡ None
-unfolding octet_bits bch_step is_codeblock sent_of
+unfolding octet_bits bch_step is_codeblock with_one_turned sent_of
 case_24 = refl
 
 -- correcting, decode, bit 62, the last of the parity, turned
 case_25 : option_map (take 7) (sent_of Correcting (0x30 ∷ 0x01 ∷ 0x0c ∷ 0x07 ∷ 0x00 ∷ 0x00 ∷ 0x00 ∷ 0x88 ∷ [])) ≡ Some (0x30 ∷ 0x01 ∷ 0x0c ∷ 0x07 ∷ 0x00 ∷ 0x00 ∷ 0x00 ∷ [])
-unfolding octet_bits bch_step is_codeblock sent_of
+unfolding octet_bits bch_step is_codeblock with_one_turned sent_of
 case_25 = refl
 
 -- detecting, decode, bit 63, the filler, turned
 case_26 : sent_of Detecting (0x30 ∷ 0x01 ∷ 0x0c ∷ 0x07 ∷ 0x00 ∷ 0x00 ∷ 0x00 ∷ 0x8b ∷ []) ≡ None
-unfolding octet_bits bch_step is_codeblock sent_of
+unfolding octet_bits bch_step is_codeblock with_one_turned sent_of
 case_26 = refl
 
 -- correcting, decode, bit 63, the filler, turned
 case_27 : option_map (take 7) (sent_of Correcting (0x30 ∷ 0x01 ∷ 0x0c ∷ 0x07 ∷ 0x00 ∷ 0x00 ∷ 0x00 ∷ 0x8b ∷ [])) ≡ Some (0x30 ∷ 0x01 ∷ 0x0c ∷ 0x07 ∷ 0x00 ∷ 0x00 ∷ 0x00 ∷ [])
-unfolding octet_bits bch_step is_codeblock sent_of
+unfolding octet_bits bch_step is_codeblock with_one_turned sent_of
 case_27 = refl
 
 -- detecting, decode, bits 3 and 40 turned
 case_28 : sent_of Detecting (0x20 ∷ 0x01 ∷ 0x0c ∷ 0x07 ∷ 0x00 ∷ 0x80 ∷ 0x00 ∷ 0x8a ∷ []) ≡ None
-unfolding octet_bits bch_step is_codeblock sent_of
+unfolding octet_bits bch_step is_codeblock with_one_turned sent_of
 case_28 = refl
 
 -- correcting, decode, bits 3 and 40 turned
 case_29 : sent_of Correcting (0x20 ∷ 0x01 ∷ 0x0c ∷ 0x07 ∷ 0x00 ∷ 0x80 ∷ 0x00 ∷ 0x8a ∷ []) ≡ None
-unfolding octet_bits bch_step is_codeblock sent_of
+unfolding octet_bits bch_step is_codeblock with_one_turned sent_of
 case_29 = refl
 
 -- detecting, decode, bit 5 and the filler turned
 case_30 : sent_of Detecting (0x34 ∷ 0x01 ∷ 0x0c ∷ 0x07 ∷ 0x00 ∷ 0x00 ∷ 0x00 ∷ 0x8b ∷ []) ≡ None
-unfolding octet_bits bch_step is_codeblock sent_of
+unfolding octet_bits bch_step is_codeblock with_one_turned sent_of
 case_30 = refl
 
 -- correcting, decode, bit 5 and the filler turned
 case_31 : sent_of Correcting (0x34 ∷ 0x01 ∷ 0x0c ∷ 0x07 ∷ 0x00 ∷ 0x00 ∷ 0x00 ∷ 0x8b ∷ []) ≡ None
-unfolding octet_bits bch_step is_codeblock sent_of
+unfolding octet_bits bch_step is_codeblock with_one_turned sent_of
 case_31 = refl
 
 -- detecting, decode, bits 0, 1 and 2 turned: found, and mended wrongly
 case_32 : sent_of Detecting (0xd0 ∷ 0x01 ∷ 0x0c ∷ 0x07 ∷ 0x00 ∷ 0x00 ∷ 0x00 ∷ 0x8a ∷ []) ≡ None
-unfolding octet_bits bch_step is_codeblock sent_of
+unfolding octet_bits bch_step is_codeblock with_one_turned sent_of
 case_32 = refl
 
 -- correcting, decode, bits 0, 1 and 2 turned: found, and mended wrongly
 case_33 : option_map (take 7) (sent_of Correcting (0xd0 ∷ 0x01 ∷ 0x0c ∷ 0x07 ∷ 0x00 ∷ 0x00 ∷ 0x00 ∷ 0x8a ∷ [])) ≡ Some (0xd0 ∷ 0x01 ∷ 0x0c ∷ 0x07 ∷ 0x01 ∷ 0x00 ∷ 0x00 ∷ [])
-unfolding octet_bits bch_step is_codeblock sent_of
+unfolding octet_bits bch_step is_codeblock with_one_turned sent_of
 case_33 = refl
 
 -- detecting, decode, bits (0, 1, 2, 39) turned: four errors that no block decoder finds
 case_34 : option_map (take 7) (sent_of Detecting (0xd0 ∷ 0x01 ∷ 0x0c ∷ 0x07 ∷ 0x01 ∷ 0x00 ∷ 0x00 ∷ 0x8a ∷ [])) ≡ Some (0xd0 ∷ 0x01 ∷ 0x0c ∷ 0x07 ∷ 0x01 ∷ 0x00 ∷ 0x00 ∷ [])
-unfolding octet_bits bch_step is_codeblock sent_of
+unfolding octet_bits bch_step is_codeblock with_one_turned sent_of
 case_34 = refl
 
 -- correcting, decode, bits (0, 1, 2, 39) turned: four errors that no block decoder finds
 case_35 : option_map (take 7) (sent_of Correcting (0xd0 ∷ 0x01 ∷ 0x0c ∷ 0x07 ∷ 0x01 ∷ 0x00 ∷ 0x00 ∷ 0x8a ∷ [])) ≡ Some (0xd0 ∷ 0x01 ∷ 0x0c ∷ 0x07 ∷ 0x01 ∷ 0x00 ∷ 0x00 ∷ [])
-unfolding octet_bits bch_step is_codeblock sent_of
+unfolding octet_bits bch_step is_codeblock with_one_turned sent_of
 case_35 = refl
 
 -- detecting, decode, the tail sequence fails
 case_36 : sent_of Detecting (0xc5 ∷ 0xc5 ∷ 0xc5 ∷ 0xc5 ∷ 0xc5 ∷ 0xc5 ∷ 0xc5 ∷ 0x79 ∷ []) ≡ None
-unfolding octet_bits bch_step is_codeblock sent_of
+unfolding octet_bits bch_step is_codeblock with_one_turned sent_of
 case_36 = refl
 
 -- correcting, decode, the tail sequence fails
 case_37 : sent_of Correcting (0xc5 ∷ 0xc5 ∷ 0xc5 ∷ 0xc5 ∷ 0xc5 ∷ 0xc5 ∷ 0xc5 ∷ 0x79 ∷ []) ≡ None
-unfolding octet_bits bch_step is_codeblock sent_of
+unfolding octet_bits bch_step is_codeblock with_one_turned sent_of
 case_37 = refl
 
 -- detecting, decode, the tail with its filler bit turned
 case_38 : sent_of Detecting (0xc5 ∷ 0xc5 ∷ 0xc5 ∷ 0xc5 ∷ 0xc5 ∷ 0xc5 ∷ 0xc5 ∷ 0x78 ∷ []) ≡ None
-unfolding octet_bits bch_step is_codeblock sent_of
+unfolding octet_bits bch_step is_codeblock with_one_turned sent_of
 case_38 = refl
 
 -- correcting, decode, the tail with its filler bit turned
 case_39 : sent_of Correcting (0xc5 ∷ 0xc5 ∷ 0xc5 ∷ 0xc5 ∷ 0xc5 ∷ 0xc5 ∷ 0xc5 ∷ 0x78 ∷ []) ≡ None
-unfolding octet_bits bch_step is_codeblock sent_of
+unfolding octet_bits bch_step is_codeblock with_one_turned sent_of
 case_39 = refl
 
 -- detecting, decode, the tail with bits 0 and 9 turned
 case_40 : sent_of Detecting (0x45 ∷ 0x85 ∷ 0xc5 ∷ 0xc5 ∷ 0xc5 ∷ 0xc5 ∷ 0xc5 ∷ 0x79 ∷ []) ≡ None
-unfolding octet_bits bch_step is_codeblock sent_of
+unfolding octet_bits bch_step is_codeblock with_one_turned sent_of
 case_40 = refl
 
 -- correcting, decode, the tail with bits 0 and 9 turned
 case_41 : sent_of Correcting (0x45 ∷ 0x85 ∷ 0xc5 ∷ 0xc5 ∷ 0xc5 ∷ 0xc5 ∷ 0xc5 ∷ 0x79 ∷ []) ≡ None
-unfolding octet_bits bch_step is_codeblock sent_of
+unfolding octet_bits bch_step is_codeblock with_one_turned sent_of
 case_41 = refl
 
 -- detecting, decode, idle, eight 55, fails
 case_42 : sent_of Detecting (0x55 ∷ 0x55 ∷ 0x55 ∷ 0x55 ∷ 0x55 ∷ 0x55 ∷ 0x55 ∷ 0x55 ∷ []) ≡ None
-unfolding octet_bits bch_step is_codeblock sent_of
+unfolding octet_bits bch_step is_codeblock with_one_turned sent_of
 case_42 = refl
 
 -- correcting, decode, idle, eight 55, fails
 case_43 : sent_of Correcting (0x55 ∷ 0x55 ∷ 0x55 ∷ 0x55 ∷ 0x55 ∷ 0x55 ∷ 0x55 ∷ 0x55 ∷ []) ≡ None
-unfolding octet_bits bch_step is_codeblock sent_of
+unfolding octet_bits bch_step is_codeblock with_one_turned sent_of
 case_43 = refl
 
 -- detecting, decode, zeros: no codeblock, one wrong bit for the mending decoder
 case_44 : sent_of Detecting (0x00 ∷ 0x00 ∷ 0x00 ∷ 0x00 ∷ 0x00 ∷ 0x00 ∷ 0x00 ∷ 0x00 ∷ []) ≡ None
-unfolding octet_bits bch_step is_codeblock sent_of
+unfolding octet_bits bch_step is_codeblock with_one_turned sent_of
 case_44 = refl
 
 -- correcting, decode, zeros: no codeblock, one wrong bit for the mending decoder
 case_45 : option_map (take 7) (sent_of Correcting (0x00 ∷ 0x00 ∷ 0x00 ∷ 0x00 ∷ 0x00 ∷ 0x00 ∷ 0x00 ∷ 0x00 ∷ [])) ≡ Some (0x00 ∷ 0x00 ∷ 0x00 ∷ 0x00 ∷ 0x00 ∷ 0x20 ∷ 0x00 ∷ [])
-unfolding octet_bits bch_step is_codeblock sent_of
+unfolding octet_bits bch_step is_codeblock with_one_turned sent_of
 case_45 = refl
 
 -- detecting, decode, aa
 case_46 : sent_of Detecting (0xaa ∷ 0xaa ∷ 0xaa ∷ 0xaa ∷ 0xaa ∷ 0xaa ∷ 0xaa ∷ 0xaa ∷ []) ≡ None
-unfolding octet_bits bch_step is_codeblock sent_of
+unfolding octet_bits bch_step is_codeblock with_one_turned sent_of
 case_46 = refl
 
 -- correcting, decode, aa
 case_47 : option_map (take 7) (sent_of Correcting (0xaa ∷ 0xaa ∷ 0xaa ∷ 0xaa ∷ 0xaa ∷ 0xaa ∷ 0xaa ∷ 0xaa ∷ [])) ≡ Some (0xaa ∷ 0xaa ∷ 0xaa ∷ 0xaa ∷ 0xaa ∷ 0xaa ∷ 0xaa ∷ [])
-unfolding octet_bits bch_step is_codeblock sent_of
+unfolding octet_bits bch_step is_codeblock with_one_turned sent_of
 case_47 = refl
 
 -- randomizer, its first octets

@@ -5,7 +5,7 @@ use Rattle.std.specs.List.{fold}
 use Rattle.std.proofs.lemmas.Bool.{cond_both, cases_lt}
 use Rattle.std.proofs.lemmas.List.{append_assoc, append-nil, length-append, length-replicate, replicate-append-replicate}
 use Rattle.std.proofs.lemmas.List.Sums.{fold-append}
-use Rattle.tc_octets.specs.Codeblocks.{sent_of, is_codeblock, bch_step}
+use Rattle.tc_octets.specs.Codeblocks.{sent_of, is_codeblock, bch_step, with_one_turned}
 use Rattle.tc_octets.specs.Bits.{octet_bits}
 use Rattle.tc_octets.specs.Cltus.{Place, searching, within, Found, come, received, whole_block, after_block, codeblock_in, waits, cltu_of}
 use Rattle.tc_octets.specs.CltuRuns.{Run, added, came, run, idle, FoundAfterNoise}
@@ -53,7 +53,7 @@ block_made mode information waiting (octet ∷ other ∷ octets) h e =
 
 -- eight octets of idle are no codeblock, in neither mode
 idle_read : (mode : Mode) → sent_of mode (idle 8) ≡ None
-unfolding sent_of is_codeblock octet_bits bch_step
+unfolding sent_of with_one_turned is_codeblock octet_bits bch_step
 idle_read Detecting = refl
 idle_read Correcting = refl
 

@@ -8,3 +8,4 @@ pub mod CrcLawLemmas
 pub mod IdleLemmas
 mod CodeCases
 mod CltuCases
+pub mod CodeblockLemmas

@@ -1,8 +1,8 @@
 -- The randomizer: one octet more, and twice is nothing.
-use Rattle.std.proofs.Common.{◌≡◌, ℕ, zero, suc, ◌+◌, ◌<◌, List, [], ◌∷◌, ◌++◌, take, drop, length, get_or, set, refl, sym, ap, ◌∙◌, add-one, arith}
+use Rattle.std.proofs.Common.{◌≡◌, ℕ, zero, suc, ◌+◌, ◌<◌, ◌≤◌, List, [], ◌∷◌, ◌++◌, take, drop, length, get_or, set, refl, sym, ap, ◌∙◌, add-one, arith}
 use Rattle.std.specs.Prelude.{bit_xor}
 use Rattle.std.specs.Int.Bits.{xor_assoc, xor_self, xor_zero_r}
-use Rattle.std.proofs.lemmas.List.{take_more_set, drop-set-lt, drop_more, append_assoc}
+use Rattle.std.proofs.lemmas.List.{take_all, drop_all, append-nil, take_more_set, drop-set-lt, drop_more, append_assoc}
 use Rattle.tc_octets.specs.Randomizer.{window_step, windows, next_octet, randomized, randomized_from}
 
 pub window_more : (n window : ℕ) → windows (n + 1) window ≡ windows n (window_step window)
@@ -32,3 +32,7 @@ twice_from window (octet ∷ octets) =
 
 pub twice : (octets : List ℕ) → randomized (randomized octets) ≡ octets
 twice octets = twice_from 255 octets
+
+-- all octets are done
+pub all_randomized : (window i : ℕ) (octets : List ℕ) → length octets ≤ i → take i octets ++ randomized_from window (drop i octets) ≡ octets
+all_randomized window i octets h = rw (take_all i octets h, drop_all i octets h) (append-nil octets)

@@ -30,7 +30,7 @@ abbrev pub turned : ℕ → List ℕ → List ℕ
 turned place block = slice_set block (place / 8) (bit_xor (slice_index block (place / 8)) (128 / 2 ^ (place % 8)))
 
 -- a codeblock that differs from these octets in one of so many bits
-abbrev pub with_one_turned : ℕ → List ℕ → Option (List ℕ)
+unfoldable pub with_one_turned : ℕ → List ℕ → Option (List ℕ)
 with_one_turned zero block = None
 with_one_turned (suc place) block = if is_codeblock (turned place block) then Some (turned place block) else with_one_turned place block
 

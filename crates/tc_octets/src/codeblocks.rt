@@ -82,6 +82,7 @@ fn with_turned(block: &[u8; 8], place: usize) -> [u8; 8]
 }
 
 /// The codeblock that differs in one bit.
+#[tactic(auto, using(crate::proofs::CodeblockLemmas::turned_found, crate::proofs::CodeblockLemmas::turned_passed, crate::proofs::CodeblockLemmas::turned_ended))]
 fn mended(block: &[u8; 8]) -> Option<[u8; 8]>
     ensures { result ≡ with_one_turned 64 block.now }
 {

@@ -30,7 +30,7 @@ fn next(window: u8) -> u8
 
 /// Lays the randomizer's sequence over the octets of a frame, from its first octet on (CCSDS 231.0-B): x^8 + x^6 + x^4 + x^3 + x^2 + x + 1, preset ones.
 /// Doing it twice undoes it.
-#[tactic(auto, using(crate::proofs::RandomizerLemmas::octet_randomized))]
+#[tactic(auto, using(crate::proofs::RandomizerLemmas::octet_randomized, crate::proofs::RandomizerLemmas::all_randomized))]
 pub fn randomize(octets: &mut [u8])
     ensures { octets.new ≡ randomized octets.old }
 {
