@@ -16,3 +16,6 @@ turned_passed place block e =
 pub turned_ended : (block : List ℕ) → with_one_turned 0 block ≡ None
 unfolding with_one_turned
 turned_ended block = refl
+
+pub turned_ended_at : (place : ℕ) (block : List ℕ) → place ≡ 0 → with_one_turned place block ≡ None
+turned_ended_at place block e = ap (λ n. with_one_turned n block) e ∙ turned_ended block

@@ -3,4 +3,4 @@ use Rattle.tc_octets.specs.Randomizer.{windows}
 use Rattle.tc_octets.proofs.randomizers.next.Given as goal
 
 abbrev pub invariant-loop-left : goal.invariant-loop-left
-invariant-loop-left l = windows 8 l.window ≡ windows l.left l.after
+invariant-loop-left l = windows 8 l.window ≡ windows l._left l.after

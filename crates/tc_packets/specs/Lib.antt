@@ -1,0 +1,4 @@
+pub mod Fields
+pub mod Telecommands
+pub mod Reports
+pub mod Carriers
