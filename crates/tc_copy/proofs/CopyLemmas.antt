@@ -109,8 +109,8 @@ not_other before behind same other =
 -- two readings of one state are of a log that was not emptied between them
 not_emptied : (before behind : Marks) (files : Files) (events : List Event) → IsOneState before behind → AllHappen before files events
     → (after_all files events).marks ≡ behind → Empties events → ⊥
-not_emptied before behind files events (inl same) happen ends empties = nothing_happened before files events happen (ends ∙ sym same) empties
-not_emptied before behind files events (inr same) happen ends empties =
+not_emptied before behind files events (pair, inl same) happen ends empties = nothing_happened before files events happen (ends ∙ sym same) empties
+not_emptied before behind files events (pair, inr same) happen ends empties =
     not_other before behind same.1 (subst (λ (marks : Marks). IsOther before marks) ends (other_emptied before files events happen empties))
 
 all_first : (before : Marks) (files : Files) (first rest : List Event) → AllHappen before files (first ++ rest) → AllHappen before files first
