@@ -232,12 +232,7 @@ fn name_copy(rt: &HostRuntime, copy: &str, kept: &Kept, parts: &Parts) -> io::Re
 }
 
 /// Makes the copy, and gives it its name. Gives the line that tells of it.
-fn make(
-    rt: &HostRuntime,
-    copy: &str,
-    kept: &Kept,
-    parts: &mut Parts,
-) -> Result<String, CopyFault> {
+fn make(rt: &HostRuntime, copy: &str, kept: &Kept, parts: &mut Parts) -> Result<String, CopyFault> {
     copy_files(rt, kept, parts)?;
     let line = checked(rt, parts)?;
     forget(rt, parts.log.as_str())?;

@@ -4,9 +4,8 @@ use crate::because::Because;
 use crate::marking::{opened, read_marks};
 use crate::reporting::Kept;
 use std::alloc::AllocError;
-use std::io;
 use std::time::Duration;
-use std::{fs, thread};
+use std::{fs, io, thread};
 use tc_closed::{PathFault, ScriptFault};
 use tc_copy::{Unpaired, is_one_state, unpaired};
 
