@@ -1,8 +1,7 @@
 //! The marks of a desk's two files, and whether two readings of them are of one state.
-ghost use Rattle.std.specs.Prelude.{◌≡◌, ◌×◌, ◌⊎◌, ◌↔◌, IsTrue};
+ghost use Rattle.std.specs.Prelude.{◌≡◌, ◌⊎◌, ◌↔◌, IsTrue};
 ghost use Rattle.tc_copy.specs.Copies.{CopiesWhatStands};
 ghost use Rattle.tc_copy.specs.Marks.{IsOneState, IsSameFile, IsSameLog, Stands};
-ghost use Rattle.tc_copy.specs.Pairs.{IsPair};
 
 use crate::pairs::unpaired;
 

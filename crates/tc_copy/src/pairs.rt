@@ -1,5 +1,5 @@
 //! Whether a database file and what stands beside it are one desk's two files.
-ghost use Rattle.std.specs.Prelude.{◌≡◌, ◌×◌, ◌↔◌, true, false, IsTrue, None, Some};
+ghost use Rattle.std.specs.Prelude.{◌≡◌, ◌↔◌, true, false, IsTrue, None, Some};
 ghost use Rattle.tc_copy.specs.declared.pairs.Unpaired.TheVariants.{Named, Unlogged, Unopened};
 ghost use Rattle.tc_copy.specs.Pairs.{HasOneName, HaveOneName, IsPair, is_log_held};
 
