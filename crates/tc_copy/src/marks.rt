@@ -84,9 +84,9 @@ fn are_same_logs(one: &Option<LogMark>, other: &Option<LogMark>) -> bool
 {
     match (one, other) {
         (Some(one), Some(other)) => {
-            is_same_stamp(&one.stamp, &other.stamp)
+            is_same_head(&one.head, &other.head)
+                && is_same_stamp(&one.stamp, &other.stamp)
                 && one.is_held == other.is_held
-                && is_same_head(&one.head, &other.head)
         }
         (None, None) => true,
         _ => false,
