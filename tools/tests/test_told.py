@@ -88,13 +88,14 @@ REASONS = [
     Case("backup late.db ", 2, "", cannot("", NO_NAME)),
     Case("backup late.db none/copy.db", 2, "", cannot("none/copy.db", "there is no such folder")),
 ]
-# What is no desk's file, and why; each command that opens one tells it.
+# What is no desk's file, and why; each command that opens one tells it, but that a report judges no more than that rows read.
 NO_DESKS = {
     "folder": FOLDER, "fifo": SPECIAL, "left.db": JOURNAL, "text.db": NO_DATABASE, "foreign.db": FOREIGN, "later.db": LATER, "damaged.db": DAMAGED,
     "wide.db": DAMAGED, "twice.db": NAMES, "logged.db": NAMES,
 }
 COMMANDS = ("run --db {} none.tc", "loop --w 20 {} none.tc", "serve {} 1", "report {} 0 1", "board {}", "backup {} copy.db")
-REASONS += [Case(command.format(name), 2, "", cannot(name, why)) for name, why in NO_DESKS.items() for command in COMMANDS]
+REASONS += [Case(command.format(name), 2, "", cannot(name, why)) for name, why in NO_DESKS.items() for command in COMMANDS
+            if (name, command) != ("damaged.db", "report {} 0 1")]
 AT = "tcdesk: --at is Unix seconds, 0 to 4102444799 (for now: $(date +%s)), or an instant such as 2031-05-04T10:00:00Z: "
 WORDS = [Case(f"{command} --at {word}", 2, "", f"{AT}{word}\n")
          for command in ("run none.tc", "run --db new.db none.tc", "serve new.db 1", "loop new.db none.tc")
