@@ -33,28 +33,23 @@ impl Locks {
         let Some(list) = &self.list else {
             return Ok(true);
         };
-        let name = listed_name(alloc, file)?;
+        let place = listed_place(alloc, file)?;
         match str::from_utf8(list.as_slice()) {
-            Ok(list) => Ok(list.lines().any(|line| tells_of(line, name.as_str()))),
+            Ok(list) => Ok(list.lines().any(|line| tells_of(line, place.as_str()))),
             Err(_) => Ok(true),
         }
     }
 }
 
-/// How the list names a file: its device, in two numbers of base 16, and its own number.
-fn listed_name(alloc: Global, file: &FileStamp) -> Result<String, AllocError> {
+/// How the list tells where a lock of a file begins that a program has open: the file's device, in two numbers of base 16, its own number, and that byte.
+fn listed_place(alloc: Global, file: &FileStamp) -> Result<String, AllocError> {
     let major = ((file.device >> 32) & 0xffff_f000) | ((file.device >> 8) & 0xfff);
     let minor = ((file.device >> 12) & 0xffff_ff00) | (file.device & 0xff);
     let inode = file.inode;
-    Ok(format!(in alloc; "{major:02x}:{minor:02x}:{inode}")?)
+    Ok(format!(in alloc; " {major:02x}:{minor:02x}:{inode} {FIRST_BYTE} ")?)
 }
 
-/// Whether a line of the list tells that the file of this name is locked, to be written, from the first byte on. Its words are a number, the kind, whether it
-/// binds, what for, whose, the file, and the first and the last byte.
-fn tells_of(line: &str, name: &str) -> bool {
-    let mut words = line.split_whitespace().skip(3);
-    let is_to_write = words.next().is_some_and(|word| word == "WRITE");
-    let is_of_file = words.nth(1).is_some_and(|word| word == name);
-    let is_from_first = words.next().is_some_and(|word| word == FIRST_BYTE);
-    is_to_write && is_of_file && is_from_first
+/// Whether a line of the list tells of a lock at this place that is to write.
+fn tells_of(line: &str, place: &str) -> bool {
+    line.contains(" WRITE ") && line.contains(place)
 }
