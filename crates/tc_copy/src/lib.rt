@@ -10,4 +10,4 @@ mod marks;
 mod pairs;
 
 pub use marks::{FileStamp, LogMark, Marks, is_one_state, is_same_file};
-pub use pairs::{Unpaired, unpaired};
+pub use pairs::{Unpaired, why_unpaired};

@@ -3,7 +3,7 @@ ghost use Rattle.std.specs.Prelude.{◌≡◌, ◌⊎◌, ◌↔◌, IsTrue};
 ghost use Rattle.tc_copy.specs.Copies.{CopiesWhatStands};
 ghost use Rattle.tc_copy.specs.Marks.{IsOneState, IsSameFile, IsSameLog, Stands};
 
-use crate::pairs::unpaired;
+use crate::pairs::why_unpaired;
 
 /// How the head of a log begins that stands. This byte is taken away before a log is emptied, and written last where one is begun.
 const FIRST: u8 = 0x37;
@@ -114,7 +114,7 @@ fn is_unbroken(before: &Marks, after: &Marks) -> bool
 fn are_of_one(before: &Marks, after: &Marks) -> bool
     ensures { IsTrue result ↔ IsOneState before.now after.now }
 {
-    unpaired(after).is_none() && is_unbroken(before, after)
+    why_unpaired(after).is_none() && is_unbroken(before, after)
 }
 
 /// Whether what was read of both files between two readings of their marks is of one state: the two belong together, and the log stands under one head,

@@ -44,7 +44,7 @@ fn have_one_name(marks: &Marks) -> bool
 }
 
 /// Why these are not the marks of one desk's two files, if they are not. A second name is told before all else.
-pub fn unpaired(marks: &Marks) -> Option<Unpaired>
+pub fn why_unpaired(marks: &Marks) -> Option<Unpaired>
     ensures paired { (result ≡ None) ↔ IsPair marks.now }
     ensures named { (result ≡ Some Named) ↔ ¬ HaveOneName marks.now }
     ensures unlogged { (result ≡ Some Unlogged) ↔ (HaveOneName marks.now × (marks.now.is_held ≡ true) × (is_log_held marks.now.log ≡ false)) }

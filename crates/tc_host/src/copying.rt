@@ -7,7 +7,7 @@ use std::alloc::AllocError;
 use std::time::Duration;
 use std::{fs, io, thread};
 use tc_closed::{PathFault, ScriptFault};
-use tc_copy::{Unpaired, is_one_state, unpaired};
+use tc_copy::{Unpaired, is_one_state, why_unpaired};
 
 /// A file by its name: that of a database, or what stands beside it.
 #[derive(Clone, Copy, Debug, PartialEq, Eq)]
@@ -114,7 +114,7 @@ fn read_once<T: Target>(
     target: &mut T,
 ) -> Result<Reading, CopyFault> {
     let before = read_marks(rt, kept)?;
-    if let Some(why) = unpaired(&before) {
+    if let Some(why) = why_unpaired(&before) {
         return Ok(Reading::Unpaired(why));
     }
     let database = fs::open(rt, kept.database.as_str()).map_err(of_desk)?;
@@ -124,7 +124,7 @@ fn read_once<T: Target>(
     if is_one_state(&before, &after) {
         return Ok(Reading::Whole);
     }
-    match unpaired(&after) {
+    match why_unpaired(&after) {
         Some(why) => Ok(Reading::Unpaired(why)),
         None => Ok(Reading::Torn),
     }
