@@ -44,6 +44,11 @@ class Bare(web.Response):
         for name in ("Date", "Server"):
             self.headers.pop(name, None)
 
+    async def _write_headers(self) -> None:
+        """As HTTP/1.1, whatever was asked."""
+        assert self._payload_writer
+        await self._payload_writer.write_headers(f"HTTP/1.1 {self.status} {self.reason}", self.headers)
+
 
 def response_of(answer: Answer, place: Optional[int] = None, closes: bool = False) -> web.Response:
     """An answer, and its place."""
@@ -121,7 +126,7 @@ class Entrance(threading.Thread):
         if is_get and path in ("/healthz", "/metrics"):
             is_well, text = self.health.told()
             return response_of(Answer(200 if is_well else 503, text) if path == "/healthz" else Answer(200, self.health.metrics(), PLAIN))
-        bad = of_head(request.method, path.removesuffix(NEWEST) if is_get else path, request.raw_headers)
+        bad = BAD if tuple(request.version) not in ((1, 0), (1, 1)) else of_head(request.method, path.removesuffix(NEWEST) if is_get else path, request.raw_headers)
         if bad:
             return response_of(bad, closes=True)
         if is_get:

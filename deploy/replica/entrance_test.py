@@ -3,7 +3,6 @@ import http.client
 import json
 import random
 import socket
-import threading
 import time
 import unittest
 from typing import Optional
@@ -164,18 +163,6 @@ class Unknown(ServedAlone):
         self.assertEqual(200, self.served.ask("POST", "/acts", act("3"))[0])
         self.assertEqual([act("3")], self.posts())
         self.assertEqual([act("3")], self.desk.posts)
-
-    def test_place_taken(self) -> None:
-        """What was tried at a place that another machine took, and came in no further, is known not to be done."""
-        self.etcd.is_away, told = True, list[tuple[int, str]]()
-        asks = threading.Thread(target=lambda: told.append(self.given_up("POST", "/acts", act("2"))))
-        asks.start()
-        self.served.wait(lambda: len(self.served.machine.waiting) > 0)
-        time.sleep(SOON * 0.9)
-        self.etcd.lay(self.log, self.log.free, entry(7, "b"))
-        self.etcd.is_away = False
-        asks.join()
-        self.assertEqual([(503, "not done")] if self.posts() == [entry(7).body] else [(504, "may be done")], told)
 
     def test_no_room(self) -> None:
         """Where etcd has no room a post is told at once that it is not done, and is never put."""

@@ -145,11 +145,14 @@ class Alone(Desks):
         process = self.begin(f"{folder}/a", port)
         served = Served(log_of(StandIn()), Desk(f"{folder}/a"), "a")
         served.wait(lambda: served.machine.is_in)
+        unlike = []
         for head in HEADS:
             told = [self.exchange(it, head + b"\r\n\r\n" + b"{}" * head.endswith(b"Length: 2")) for it in (port, served.entrance.port)]
             if head.startswith(b"HEAD"):
                 told = [it[:1] for it in told]
-            self.assertEqual(*told, head)
+            if told[0] != told[1]:
+                unlike.append((head[:100], *told))
+        self.assertEqual([], unlike)
         process.kill()
         process.wait()
 
