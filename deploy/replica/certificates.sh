@@ -17,12 +17,12 @@ cd "$folder"
 
 # authority NAME: an authority that signs for nothing else, where there is none yet.
 authority() {
-    [[ -e authority/$1.key ]] || openssl req -x509 -newkey rsa:2048 -noenc -days 3650 -subj "/CN=tcdesk $1" -keyout "authority/$1.key" -out "authority/$1.pem" 2>/dev/null
+    [[ -e authority/$1.key ]] || openssl req -x509 -newkey ec -pkeyopt ec_paramgen_curve:prime256v1 -noenc -days 3650 -subj "/CN=tcdesk $1" -keyout "authority/$1.key" -out "authority/$1.pem" 2>/dev/null
 }
 
 # signed AUTHORITY PATH NAME [ADDRESSES]: a key, and a certificate of it, for this name and these addresses. It has no common name: etcd takes none of who speaks JSON.
 signed() {
-    openssl req -newkey rsa:2048 -noenc -subj "/O=tcdesk/OU=$3" -keyout "$2.key" -out "$2.csr" 2>/dev/null
+    openssl req -newkey ec -pkeyopt ec_paramgen_curve:prime256v1 -noenc -subj "/O=tcdesk/OU=$3" -keyout "$2.key" -out "$2.csr" 2>/dev/null
     openssl x509 -req -in "$2.csr" -CA "authority/$1.pem" -CAkey "authority/$1.key" -CAcreateserial -days 3650 \
         ${4:+-extfile <(echo "subjectAltName=$4")} -out "$2.pem" 2>/dev/null
     rm "$2.csr"
