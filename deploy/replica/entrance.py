@@ -13,6 +13,7 @@ from aiohttp.http_exceptions import LineTooLong
 from multidict import CIMultiDict
 
 from appender import Appender
+from clock import now
 from desk import Ended
 from etcd import Unanswered
 from health import Health
@@ -21,6 +22,7 @@ from words import BAD, FULL, LONG, NEWEST, NUMBER, Answer, of_body, of_head, sho
 
 SHARE = 0.8  # of the time that a sender is told to wait: a post is carried out for the first time within it, or never
 SLOWEST = 30.0  # seconds for a request to come
+BEAT, STILL = 0.2, 1.0  # seconds between two beats of the entrance; one that has not beaten for the second time stood still, and refuses posts for as long behind it
 PHRASES = {200: "OK", 400: "Bad Request", 404: "Not Found", 405: "Method Not Allowed", 409: "Conflict", 413: "Payload Too Large", 500: "Internal Server Error",
            503: "Service Unavailable", 504: "Gateway Timeout"}
 PLAIN = (("Content-Type", "text/plain; charset=utf-8"),)
@@ -98,7 +100,7 @@ class Entrance(threading.Thread):
         super().__init__(daemon=True)
         self.address, self.appender, self.machine, self.health, self.patience = address, appender, appender.machine, health, patience
         self.listens = threading.Event()
-        self.port = 0
+        self.port, self.beaten, self.closed_until = 0, now(), 0.0
 
     def run(self) -> None:
         """For ever."""
@@ -113,7 +115,19 @@ class Entrance(threading.Thread):
         server = await asyncio.get_running_loop().create_server(door, *self.address, backlog=1024)
         self.port = server.sockets[0].getsockname()[1]
         self.listens.set()
-        await server.serve_forever()
+        while True:
+            self.beat()
+            await asyncio.sleep(BEAT)
+
+    def beat(self) -> None:
+        """It runs. If it stood still, what it reads now may have been sent long ago, by who is gone."""
+        if now() - self.beaten > STILL:
+            self.closed_until = now() + STILL
+        self.beaten = now()
+
+    def stood_still(self) -> bool:
+        """Whether what it has just read may be old."""
+        return now() - self.beaten > STILL or now() < self.closed_until
 
     # ---- a request
 
@@ -146,7 +160,7 @@ class Entrance(threading.Thread):
 
     async def post(self, path: str, body: bytes, seconds: float, peer: Peer) -> Reply:
         """What the machine's own desk answers to a post at its place; or whether it was not done, or may be."""
-        why = self.health.closed(True)
+        why = "this machine stood still" if self.stood_still() else self.health.closed(True)
         if why or self.health.is_full():
             return not_done(why) if why else FULL
         told: Told = Told()

@@ -208,6 +208,14 @@ class Unknown(ServedAlone):
         self.served.machine.asking_since = 1.0
         self.assertEqual([503, 503], [self.served.ask("POST", "/acts", act("1"))[0], self.served.ask("GET", "/places")[0]])
 
+    def test_stood_still(self) -> None:
+        """Behind a time in which it stood still an entrance takes no post for a while: its sender may be gone."""
+        self.served.entrance.beaten -= 9
+        self.assertEqual(503, self.served.ask("POST", "/acts", act("1"))[0])
+        self.served.wait(lambda: not self.served.entrance.stood_still())
+        self.assertEqual(200, self.served.ask("POST", "/acts", act("2"))[0])
+        self.assertEqual([act("2")], self.posts())
+
     def test_prefer(self) -> None:
         """A sender that waits for less says so."""
         self.etcd.is_away = True

@@ -1,6 +1,6 @@
 #!/usr/bin/python3
 """The parts of a replica, tried without etcd: in its place stands one in this process, which fails now and then, before it did what was asked or behind it.
-Then the whole of it, by the short form of trial.py.
+Then the whole of it, by the short form of trial.py, for three minutes.
 
     deploy/replica/replica_test.py [--program PATH] [--parts]        --parts: nothing but the parts
 
@@ -41,7 +41,7 @@ def main() -> int:
     print(f"{ran.testsRun - failed} passed, {failed} failed", flush=True)
     if asked.parts:
         return int(failed > 0)
-    whole = subprocess.run([sys.executable, f"{HERE}/trial.py", "--short", "--program", ASKED.program], check=False)
+    whole = subprocess.run([sys.executable, f"{HERE}/trial.py", "--short", "--seconds", "180", "--program", ASKED.program], check=False)
     return int(failed > 0 or whole.returncode > 0)
 
 

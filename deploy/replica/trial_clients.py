@@ -180,6 +180,6 @@ class Watcher(threading.Thread):
         """Looks, again and again."""
         while not self.is_over:
             began = time.monotonic()
-            place = max(it.begun() for it in self.members)
+            place = max((it.begun() for it in self.members), default=0)
             self.seen += [began] * (place + 1 - len(self.seen))
             time.sleep(0.005)

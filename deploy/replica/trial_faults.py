@@ -6,7 +6,7 @@ import time
 from typing import TYPE_CHECKING, Callable, NamedTuple, Optional
 
 from entry import Entry
-from etcd import put
+from etcd import is_free, put, span
 from log import Log, Wanted
 from tests.http_peer import free_port
 from tests.runs import made_shim
@@ -100,7 +100,7 @@ class Faults:
         """A desk begins anew on a disk that fails some acts later: it is told 31."""
         it = self.any()
         before = it.said("31 Store")
-        calls = 3 * max(client.told[-1].place for client in self.trial.clients)
+        calls = 3 * max(member.begun(3) for member in self.members)
         it.desk_env = {"LD_PRELOAD": made_shim("stop_io", self.trial.folder), "STOP_FILE": f"{it.folder}/desk/desk.db", "FAIL_FROM": str(calls)}
         it.units["desk"].signal(signal.SIGKILL)
         self.trial.let_go(self.asked.stage // 2)
@@ -159,12 +159,11 @@ class Faults:
     def foreign(self) -> str:
         """Whoever has a machine's keys for etcd, and not its seal, puts something into the log: a text that is none, and one that was copied from another place."""
         log, before = self.log(), [it.said("no replica of this desk wrote it") for it in self.members]
-        copied = log.etcd.ask({**put(log.key(2), b""), "serializable": False}).pairs[0].value
+        copied = log.etcd.ask(span(log.key(2), log.key(3))).pairs[0].value
         for value in (b"no newline", copied, b"x /acts 1 2 3\n{}"):
             while True:
                 place = log.newest(0) + 1
-                if not log.etcd.write([{"key": put(log.key(place), b"")["key"], "target": "CREATE", "result": "EQUAL", "create_revision": "0"}],
-                                      [put(log.key(place), value)]):
+                if not log.etcd.write([is_free(log.key(place))], [put(log.key(place), value)]):
                     break
         wait_for("all machines passed them over", lambda: all(it.said("no replica of this desk wrote it") >= was + 3 for it, was in zip(self.members, before)))
         return ""

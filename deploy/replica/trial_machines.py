@@ -288,11 +288,11 @@ class Member:
         with open(f"{self.folder}/replica.log", encoding="utf-8") as file:
             return file.readlines()
 
-    def begun(self) -> int:
-        """The last post that its follower gave its desk, by its place."""
+    def begun(self, word: int = 1) -> int:
+        """The last post that its follower gave its desk, by its place; or another number that is written there, 3 for how many posts that were."""
         try:
             with open(f"{self.folder}/desk/begun", encoding="ascii") as told:
-                return int(told.read().split()[1])
+                return int(told.read().split()[word])
         except (OSError, IndexError, ValueError):
             return 0
 
