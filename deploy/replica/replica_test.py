@@ -22,7 +22,7 @@ sys.path[1:1] = [f"{HERE}/../../tools"]
 from run import program_of  # noqa: E402
 from tests.asked import ASKED  # noqa: E402
 
-PARTS = ("log_test", "judge_test", "machine_test", "entrance_test", "real_test")
+PARTS = ("log_test", "judge_test", "machine_test", "passed_over_test", "entrance_test", "real_test")
 
 
 def main() -> int:
