@@ -7,7 +7,7 @@ from typing import NamedTuple, Optional
 from clock import now
 from etcd import Etcd, holds, is_free, put, span
 
-TOLD_AGAIN = 5.0  # seconds after which the place of a machine is told again, where nothing else changed
+TOLD_AGAIN = 1.0  # seconds after which the place of a machine is told again, where nothing else changed
 
 
 class State(NamedTuple):

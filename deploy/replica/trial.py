@@ -72,8 +72,7 @@ class Trial:
             for it in self.members:
                 it.opened()
                 it.units["etcd"].goes.set()
-            wait_for("a leader", lambda: any(it.leads() for it in self.members))
-            self.members[0].turn_auth_on()
+            wait_for("etcd's auth", self.members[0].turns_auth_on, 120)
         for it in self.members:
             it.go()
         wait_for("all machines in", self.are_in)
@@ -219,7 +218,8 @@ def faults(asked: argparse.Namespace, folder: str) -> int:
         trial.send_and_leave()
         began = time.monotonic()
         for it in [Planned(f"a desk ends after its COUNT, {asked.stage // 2}", lambda: None, True), *plan(trial)]:
-            trial.fault(it, asked.stage)
+            if asked.only in it.what:
+                trial.fault(it, asked.stage)
         trial.let_go(max(0, asked.posts - trial.answered()))
         while time.monotonic() - began < asked.seconds and trial.answered() < len(trial.dealer.posts):
             trial.let_go(asked.stage // 4)
@@ -292,6 +292,7 @@ def main() -> int:
     parser.add_argument("--posts", type=int, metavar="N", help="at least so many (20,000; short 1,100; rates 3,000)")
     parser.add_argument("--seconds", type=int, default=0, metavar="N", help="posts go on until so many seconds went by (0)")
     parser.add_argument("--away", type=int, default=30, metavar="N", help="etcd is away for so many seconds more (30)")
+    parser.add_argument("--only", default="", metavar="TEXT", help="those faults alone whose names have this text")
     parser.add_argument("--folder", metavar="PATH", help="a folder on the disk that is used (short: memory)")
     parser.add_argument("--short", action="store_true", help="some faults, on 127.0.0.1, in memory")
     parser.add_argument("--rates", action="store_true", help="acts a second, without faults")
@@ -303,7 +304,7 @@ def main() -> int:
         return 0
     asked.program = program_of(asked.program)
     asked.posts = asked.posts or (1100 if asked.short else 3000 if asked.rates else 20_000)
-    asked.stage, asked.every = asked.posts // (11 if asked.short else 22), asked.posts // 20
+    asked.stage, asked.every = asked.posts // (11 if asked.short else 22), max(50, asked.posts // 20)
     within = asked.folder or quick_folder() if asked.short else asked.folder
     with tempfile.TemporaryDirectory(prefix="replica-", dir=within) as folder:
         return rates(asked, folder) if asked.rates else faults(asked, folder)

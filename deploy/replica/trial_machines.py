@@ -215,12 +215,12 @@ class Member:
         ran = subprocess.run([*self.net.words(self.at), sys.executable, REPLICA, *words, *self.ways()], capture_output=True, text=True, check=False)
         return ran.stdout + ran.stderr
 
-    def turn_auth_on(self) -> None:
-        """Turns etcd's auth on, for all machines."""
+    def turns_auth_on(self) -> bool:
+        """Turns etcd's auth on, for all machines, once most of them are there. Whether it is on."""
         with open(f"{self.keys}/../authority/root.password", encoding="ascii") as root, open(f"{self.keys}/replica/password", encoding="ascii") as own:
             told = root.read() + own.read()
-        subprocess.run([*self.net.words(self.at), f"{HERE}/auth.sh", f"{self.keys}/replica", f"127.0.0.1:{self.etcd_port}"], input=told, text=True,
-                       stdout=subprocess.DEVNULL, check=True)
+        words = [*self.net.words(self.at), f"{HERE}/auth.sh", f"{self.keys}/replica", f"127.0.0.1:{self.etcd_port}"]
+        return subprocess.run(words, input=told, text=True, capture_output=True, check=False).returncode == 0
 
     def as_root(self, *words: str) -> None:
         """What etcd's root does, by etcdctl."""
