@@ -10,6 +10,7 @@ from typing import Any, NamedTuple, Optional, Sequence
 from clock import now
 
 JSON = dict[str, Any]
+LONG = 10.0  # seconds for a login
 NO_TOKEN, NO_ROOM = 16, 8  # codes of gRPC: a token that is none or outdated, and no room (a quota that is full)
 
 
@@ -80,6 +81,15 @@ def span(first: str, end: str, limit: int = 0, is_newest: bool = True) -> JSON:
     return {"key": spelled(first.encode()), "range_end": spelled(end.encode()), "limit": str(limit), "serializable": not is_newest}
 
 
+def read(status: int, body: bytes) -> tuple[int, JSON]:
+    """An answer of the gateway, whose body is JSON."""
+    try:
+        told: JSON = json.loads(body)
+    except ValueError:
+        raise Unanswered(f"{status} {body[:100]!r}") from None
+    return status, told
+
+
 def found_in(told: JSON) -> Found:
     """What a question for a span is answered."""
     pairs = [Pair(base64.b64decode(it["key"]).decode(), base64.b64decode(it.get("value", ""))) for it in told.get("kvs", [])]
@@ -104,25 +114,29 @@ class Etcd:
         """It listens there; whoever asks waits for so many seconds. Without a login it is asked without TLS, for tests."""
         self.host, self.port, self.patience, self.login, self.own = host, port, patience, login, threading.local()
         self.tls = login.tls() if login else None
-        self.token, self.heard, self.refused = "", now(), -1e9
+        self.token, self.heard, self.refused, self.logging = "", now(), -1e9, threading.Lock()
 
     def silent(self) -> float:
         """For how many seconds most members of etcd were not heard."""
         return now() - self.heard
 
-    def peer(self) -> http.client.HTTPConnection:
-        """The connection of this thread."""
-        if "peer" not in self.own.__dict__:
-            self.own.peer = (http.client.HTTPSConnection(self.host, self.port, timeout=self.patience, context=self.tls) if self.tls else
-                             http.client.HTTPConnection(self.host, self.port, timeout=self.patience))
-        peer: http.client.HTTPConnection = self.own.peer
-        return peer
+    def opened(self, patience: float) -> http.client.HTTPConnection:
+        """A connection."""
+        if self.tls:
+            return http.client.HTTPSConnection(self.host, self.port, timeout=patience, context=self.tls)
+        return http.client.HTTPConnection(self.host, self.port, timeout=patience)
 
     def exchange(self, method: str, path: str, body: Optional[str] = None) -> tuple[int, bytes]:
+        """The status and the body of an answer, by the connection of this thread."""
+        peer: http.client.HTTPConnection = self.own.__dict__.setdefault("peer", None) or self.opened(self.patience)
+        self.own.peer = peer
+        return self.answered(peer, method, path, body, {"Authorization": self.token} if self.token else {})
+
+    @staticmethod
+    def answered(peer: http.client.HTTPConnection, method: str, path: str, body: Optional[str], head: dict[str, str]) -> tuple[int, bytes]:
         """The status and the body of an answer."""
-        peer = self.peer()
         try:
-            peer.request(method, path, body, {"Authorization": self.token} if self.token else {})
+            peer.request(method, path, body, head)
             answer = peer.getresponse()
             return answer.status, answer.read()
         except (OSError, http.client.HTTPException) as why:
@@ -131,20 +145,16 @@ class Etcd:
 
     def told(self, path: str, asked: JSON) -> tuple[int, JSON]:
         """The status and the JSON of an answer of the gateway."""
-        status, body = self.exchange("POST", path, json.dumps(asked))
-        try:
-            read: JSON = json.loads(body)
-        except ValueError:
-            raise Unanswered(f"{status} {body[:100]!r}") from None
-        return status, read
+        return read(*self.exchange("POST", path, json.dumps(asked)))
 
     def call(self, path: str, asked: JSON) -> JSON:
         """What the gateway answers, behind a login where it asks for one."""
-        if self.login and not self.token:
-            self.log_in()
+        token = self.token
+        if self.login and not token:
+            self.log_in(token)
         status, told = self.told(path, asked)
         if self.login and status != 200 and (told.get("code") == NO_TOKEN or "auth store is old" in str(told)):
-            self.log_in()
+            self.log_in(token)
             status, told = self.told(path, asked)
         if status != 200 and told.get("code") == NO_ROOM and "space" in str(told):
             self.refused = now()
@@ -155,16 +165,22 @@ class Etcd:
             self.heard = now()  # which takes most members
         return told
 
-    def log_in(self) -> None:
-        """Gets a token. An etcd whose `auth` is not on yet gives none."""
+    def log_in(self, before: str) -> None:
+        """Gets a token, unless another thread has got one since. It takes etcd long, so one thread at a time does so. An etcd whose auth is not on gives none."""
         assert self.login
-        self.token = ""
-        status, told = self.told("/v3/auth/authenticate", self.login.told())
-        if status != 200:
-            raise Unanswered(str(told.get("error", status)))
-        self.token = told["token"]
+        with self.logging:
+            if self.token != before:
+                return
+            peer = self.opened(LONG)
+            try:
+                status, told = read(*self.answered(peer, "POST", "/v3/auth/authenticate", json.dumps(self.login.told()), {}))
+            finally:
+                peer.close()
+            if status != 200:
+                raise Unanswered(str(told.get("error", status)))
+            self.token = told["token"]
 
-    def room(self) -> "Room":
+    def room(self) -> Room:
         """How much of its room is taken, and its alarms."""
         told = self.call("/v3/maintenance/status", {})
         alarms = self.call("/v3/maintenance/alarm", {"action": "GET"}).get("alarms", [])

@@ -43,7 +43,7 @@ network() {
 # begin_etcd NAME AT: the etcd of a machine.
 begin_etcd() {
     local keys=$folder/keys/$1/etcd
-    keeps "$1" etcd --name "$1" --data-dir "$folder/$1/etcd" --initial-cluster "$members" --initial-cluster-state new --log-level error --logger zap \
+    keeps "$1" etcd --name "$1" --data-dir "$folder/$1/etcd" --initial-cluster "$members" --initial-cluster-state new --bcrypt-cost 4 --log-level error --logger zap \
         --listen-client-urls https://127.0.0.1:2379 --advertise-client-urls https://127.0.0.1:2379 \
         --listen-peer-urls "https://10.79.0.$2:2380" --initial-advertise-peer-urls "https://10.79.0.$2:2380" \
         --client-cert-auth --trusted-ca-file "$keys/clients.pem" --cert-file "$keys/server.pem" --key-file "$keys/server.key" \
