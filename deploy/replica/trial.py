@@ -180,7 +180,7 @@ class Trial:
         carried = carried_out(items, self.first, looks)
         self.tell("each answer is the plain desk's at its place", wrong_answers(carried, told))
         self.tell(f"{len(looks)} questions by GET are answered as the plain desk answers at their places", carried.wrong_looks + ["there are none"] * (not looks))
-        newest = [it for it in looks if it.least]
+        newest = [it for it in looks if it.least and it.place]
         self.tell(f"{len(newest)} of them for the newest, none as of an older place than the post before", [f"{it}" for it in newest if it.place < it.least])
         self.look_at_links(carried.desk.acts)
         for it in self.members:
