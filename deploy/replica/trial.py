@@ -29,6 +29,7 @@ sys.path[1:1] = [f"{os.path.dirname(os.path.realpath(__file__))}/../../tools"]
 
 from run import program_of  # noqa: E402
 from model.rows import Tables, empty_tables  # noqa: E402
+from order import Verdict  # noqa: E402
 from tests.asked import TOP  # noqa: E402
 from tests.http_peer import Fault, run  # noqa: E402
 from tests.plain_runs import kept_tables  # noqa: E402
@@ -176,6 +177,8 @@ class Trial:
         self.tell("each entry of the log has a mark of its own", ["one mark comes twice"] * (len(marks) != len(set(marks))))
         self.tell("the log says of each place what is to be done", [f"place {it.place}" for it in items if not it.verdict])
         tries = [*self.tries, *(it for client in everybody for it in client.tries)]
+        void = sum(it.verdict is Verdict.LATE for it in items)
+        print(f"{void} posts are void; the time of each post is known within {self.watcher.gap:.2f} s")
         self.tell("no post was carried out when its sender was told to wait no more", too_late(items, self.watcher.seen, tries))
         carried = carried_out(items, self.first, looks)
         self.tell("each answer is the plain desk's at its place", wrong_answers(carried, told))

@@ -19,7 +19,6 @@ from trial_machines import Member
 from words import shortened
 
 SHOWN = 200  # lines of a reply that an answer shows
-SEEN = 0.5  # seconds after which it is seen at the latest that a place was begun
 
 
 Answer = tuple[int, bytes]  # a status, and a body
@@ -62,7 +61,7 @@ def carried_out(items: Sequence[Item], first: Tables, looks: Iterable[Look]) -> 
     return Carried(list(items), answers[1:], calls.desk, faults)
 
 
-def too_late(items: Sequence[Item], seen: Sequence[float], tries: Iterable[Try]) -> list[str]:
+def too_late(items: Sequence[Item], seen: Sequence[tuple[float, float]], tries: Iterable[Try]) -> list[str]:
     """Posts that were first given to a desk when nobody was told to wait any more, of those that were sent to the machine that put them into the log."""
     sent, faults = defaultdict[tuple[str, str, bytes], list[Try]](list), list[str]()
     for it in tries:
@@ -70,10 +69,10 @@ def too_late(items: Sequence[Item], seen: Sequence[float], tries: Iterable[Try])
     for item in items:
         if not item.entry or not counts(item):
             continue
-        at = seen[item.place] if item.place < len(seen) else 0.0
+        least, most = seen[item.place] if item.place < len(seen) else (0.0, 0.0)
         mine = sent[item.entry.mark.split("-")[0], item.entry.path, item.entry.body]
-        if not any(it.at <= at <= it.at + it.seconds + SEEN for it in mine):
-            faults.append(f"place {item.place}: it was begun {min((at - it.at for it in mine if it.at <= at), default=-1):.1f} s after it was sent, and "
+        if not any(it.at <= most and least <= it.at + it.seconds for it in mine):
+            faults.append(f"place {item.place}: it was begun {[f'{least - it.at:.1f} to {most - it.at:.1f}' for it in mine]} s after it was sent, and "
                           f"{[it.seconds for it in mine]} s were told")
     return faults
 

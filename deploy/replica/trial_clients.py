@@ -168,18 +168,20 @@ class Leaver(Client):
 
 
 class Watcher(threading.Thread):
-    """Sees when each place of the log was first given to a desk, by any follower."""
+    """Sees when each place of the log was first given to a desk, by any follower: between which two moments."""
 
     def __init__(self, members: Sequence[Member]) -> None:
         """It has seen nothing."""
         super().__init__(daemon=True)
-        self.members, self.is_over = members, False
-        self.seen = [0.0]  # by the place
+        self.members, self.is_over, self.gap = members, False, 0.0
+        self.seen: list[tuple[float, float]] = [(0.0, 0.0)]  # by the place
 
     def run(self) -> None:
         """Looks, again and again."""
+        before = time.monotonic()
         while not self.is_over:
             began = time.monotonic()
             place = max((it.begun() for it in self.members), default=0)
-            self.seen += [began] * (place + 1 - len(self.seen))
+            self.seen += [(before, time.monotonic())] * (place + 1 - len(self.seen))
+            self.gap, before = max(self.gap, time.monotonic() - before), began
             time.sleep(0.005)
