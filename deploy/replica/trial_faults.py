@@ -8,7 +8,7 @@ from typing import TYPE_CHECKING, Callable, NamedTuple, Optional
 from entry import Entry
 from etcd import is_free, put, span
 from log import Log, Wanted
-from tests.http_peer import free_port
+from tests.http_peer import Fault, free_port
 from tests.runs import made_shim
 from trial_clients import AT_ONCE, LIMIT, Post, Try
 from trial_machines import LEASE, PATIENCE, CutNet, Member, Unit, wait_for
@@ -100,11 +100,14 @@ class Faults:
         """A desk begins anew on a disk that fails some acts later: it is told 31."""
         it = self.any()
         before = it.said("31 Store")
-        calls = 3 * max(member.begun(3) for member in self.members)
+        calls = 1000 + 3 * max(member.begun(3) for member in self.members)
         it.desk_env = {"LD_PRELOAD": made_shim("stop_io", self.trial.folder), "STOP_FILE": f"{it.folder}/desk/desk.db", "FAIL_FROM": str(calls)}
         it.units["desk"].signal(signal.SIGKILL)
-        self.trial.let_go(self.asked.stage // 2)
-        wait_for("a desk told 31", lambda: it.said("31 Store") > before)
+        end = time.monotonic() + 300
+        while it.said("31 Store") == before:
+            self.trial.let_go(2 * AT_ONCE)
+            if time.monotonic() > end:
+                raise Fault("no desk was told 31")
         return ""
 
     # ---- all machines
