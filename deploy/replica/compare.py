@@ -45,7 +45,7 @@ def digest_of(it: Comparison) -> bytes:
 
 
 class Judge:
-    """Tells the digests of one machine, and judges them beside those of the others. Nobody is waited for without end: who has not told his digest in time has no voice."""
+    """Tells the digests of one machine, and judges them beside those of the others. Nobody is waited for without end: who is late with his digest has no voice."""
 
     def __init__(self, machine: Judged, etcd: Etcd, root: str, present: Present, patience: float = 30.0) -> None:
         """Nothing is to be judged yet. It waits so many seconds for the digests of others."""

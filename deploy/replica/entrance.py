@@ -22,7 +22,7 @@ from words import BAD, FULL, LONG, NEWEST, NUMBER, Answer, of_body, of_head, sho
 
 SHARE = 0.8  # of the time that a sender is told to wait: a post is carried out for the first time within it, or never
 SLOWEST = 30.0  # seconds for a request to come
-BEAT, STILL = 0.2, 1.0  # seconds between two beats of the entrance; one that has not beaten for the second time stood still, and refuses posts for as long behind it
+BEAT, STILL = 0.2, 1.0  # seconds between two beats of the entrance; one that has not beaten for the second time stood still, and refuses posts for as long after it
 PHRASES = {200: "OK", 400: "Bad Request", 404: "Not Found", 405: "Method Not Allowed", 409: "Conflict", 413: "Payload Too Large", 500: "Internal Server Error",
            503: "Service Unavailable", 504: "Gateway Timeout"}
 PLAIN = (("Content-Type", "text/plain; charset=utf-8"),)

@@ -16,7 +16,7 @@ from model.http import answer_to
 from stand_ins import LONG, DeskInMemory, Served, StandIn, entry, log_of, quick, whole
 from words import MOST_BODY, of_body, of_head, shortened
 
-SOON = 3.0  # seconds behind which somebody is told that nothing is known, where a test waits for that
+SOON = 3.0  # seconds after which somebody is told that nothing is known, where a test waits for that
 
 
 def act(text: str, number: int = 1, **more: object) -> bytes:
@@ -152,7 +152,7 @@ class Unknown(ServedAlone):
     """What was done, and what may be."""
 
     def test_silent(self) -> None:
-        """While etcd is silent nothing is known of what was sent; behind three seconds a post is refused at once, and never put."""
+        """While etcd is silent nothing is known of what was sent; after three seconds a post is refused at once, and never put."""
         self.etcd.is_away = True
         self.assertEqual((504, "may be done"), self.given_up("POST", "/acts", act("1")))
         began = time.monotonic()

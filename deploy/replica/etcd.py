@@ -148,7 +148,7 @@ class Etcd:
         return read(*self.exchange("POST", path, json.dumps(asked)))
 
     def call(self, path: str, asked: JSON) -> JSON:
-        """What the gateway answers, behind a login where it asks for one."""
+        """What the gateway answers, after a login where it asks for one."""
         token = self.token
         if self.login and not token:
             self.log_in(token)

@@ -61,7 +61,7 @@ class Judges(unittest.TestCase):
         return [(it.is_in, bool(it.leaves)) for it in self.told.values()]
 
     def test_present(self) -> None:
-        """A machine is there as long as its lease, and what it tells is told again behind a new one."""
+        """A machine is there as long as its lease, and what it tells is told again after a new one."""
         self.tell(a=True, b=False)
         self.assertEqual({"a": True, "b": False}, self.are("c"))
         self.etcd.lose(self.present["a"].leased)

@@ -62,7 +62,7 @@ class Log:
 
     @property
     def end(self) -> str:
-        """The key behind all places."""
+        """The key after all places."""
         return f"{self.root}/log/:"
 
     def agrees(self, what: bytes) -> bool:
@@ -80,8 +80,8 @@ class Log:
     def put(self, wanted: Sequence[Wanted], skips: int = 0) -> None:
         """Tries once to give these entries the next places, in one transaction, those that are wanted; with one of them a place may be skipped. Of each it is known
         then where it stands, or that it does not stand there; of all nothing, where etcd does not answer. One that nobody wants any more is tried no further: so
-        what its sender sends again, once he gave up, comes behind it or in its stead."""
-        place = min([it.tried_at for it in wanted if it.tried_at] or [self.free])  # before it is asked who waits: behind that may come what is sent again
+        what its sender sends again, once he gave up, comes after it or in its stead."""
+        place = min([it.tried_at for it in wanted if it.tried_at] or [self.free])  # before it is asked who waits: after that may come what is sent again
         first = {id(it) for it in wanted if not it.tried_at}
         still = [it for it in wanted if it.claim(place)]
         if not still:
@@ -112,7 +112,7 @@ class Log:
         """The places of others, by their marks: also of what this machine put there, and was not told of."""
         entries = self.entries(place, there)
         if not entries:
-            raise LogLost(f"there is nothing at place {place}, and behind it or before it there was")
+            raise LogLost(f"there is nothing at place {place}, and after it or before it there was")
         return {it.mark: place + at for at, it in enumerate(entries) if it}
 
     def entries(self, place: int, found: Found) -> list[Optional[Entry]]:
@@ -120,7 +120,7 @@ class Log:
         entries = []
         for at, it in enumerate(found.pairs):
             if it.key != self.key(place + at):
-                raise LogLost(f"there is nothing at place {place + at}, and behind it there is")
+                raise LogLost(f"there is nothing at place {place + at}, and after it there is")
             text = self.seal.opened(it.key, it.value)
             entries.append(entry_of(text) if text is not None else None)
         return entries
@@ -134,7 +134,7 @@ class Log:
         return entries
 
     def newest(self, place: int) -> int:
-        """The last place of the log, which is this one or behind it, as of now."""
+        """The last place of the log, which is this one or after it, as of now."""
         return place + self.etcd.ask(span(self.key(place + 1), self.end, 1)).amount
 
     def skip_key(self, place: int) -> str:

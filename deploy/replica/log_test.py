@@ -123,7 +123,7 @@ class Logs(unittest.TestCase):
                 calls.append(asked)
                 told = StandIn.done(etcd, asked)
                 if len(calls) == 1:
-                    raise Unanswered("behind it")
+                    raise Unanswered("after it")
                 return told
 
             setattr(etcd, "done", done)
@@ -163,7 +163,7 @@ class Logs(unittest.TestCase):
         self.assertEqual(2_000_000, slow.clock.now())
 
     def test_foreign(self) -> None:
-        """What no replica of this desk put there is read as nothing, and is put behind; so is one that was copied from another place."""
+        """What no replica of this desk put there is read as nothing, and others are put after it; so is one that was copied from another place."""
         etcd = StandIn()
         log = log_of(etcd)
         log.put([Wanted(entry(1))])

@@ -24,7 +24,7 @@ IDLE = 0.25  # seconds after which it looks into the log again, where nobody cal
 AGAIN = 30.0  # seconds after which a machine that is out asks for a comparison once more
 WORD_AFTER = 0.5  # seconds after which a machine says of a post of another one that it was carried out, where nobody has said so
 VOID_AFTER = 1.0  # seconds for which a post that is late has to be known before a machine says that it is void: whoever was in time says so before
-MOST_REPEATS = 3  # failures in a row at one place behind which a machine stays out
+MOST_REPEATS = 3  # failures in a row at one place after which a machine stays out
 
 
 def say(text: str) -> None:
@@ -195,7 +195,7 @@ class Machine:
 
     def leave(self, opening: Opening, why: str) -> None:
         """The machine is out, and whoever waits is told so."""
-        say(f"out, behind place {self.place}: {why}")
+        say(f"out, after place {self.place}: {why}")
         self.is_in, self.mark, self.asking_since = False, "", None
         if self.at_hand:
             say(f"failed {self.desk.failed(self.at_hand)} times in a row at place {self.at_hand}")
@@ -264,7 +264,7 @@ class Machine:
             self.compare(opening, item)
 
     def post(self, opening: Opening, item: Item, entry: Entry) -> None:
-        """Has the desk carry out a post. It is written down first, so that this one alone is posted again by a follower that begins behind a stop."""
+        """Has the desk carry out a post. It is written down first, so that this one alone is posted again by a follower that begins after a stop."""
         self.at_hand = item.place
         self.begun = self.begun._replace(place=item.place, posts=self.begun.posts + 1)
         self.desk.begin(opening.mark, self.begun._replace(done=self.done))
@@ -345,7 +345,7 @@ class Machine:
                 answer = self.ask_desk(opening, "GET", it.path, None)
                 if answer.has_failed():
                     it.told.set_exception(Ended("the desk failed"))
-                    raise Left(f"behind place {self.place} the desk answered {answer.body.decode()}")
+                    raise Left(f"after place {self.place} the desk answered {answer.body.decode()}")
                 it.told.set_result(Carried(self.place, answer))
             else:
                 it.told.set_exception(Ended("the machine is out"))

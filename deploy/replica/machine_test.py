@@ -63,7 +63,7 @@ class Followed(unittest.TestCase):
         self.log.free = other.free
 
     def begun(self, is_in: bool = False) -> Machine:
-        """A follower that begins behind a stop."""
+        """A follower that begins after a stop."""
         self.machine = Machine(self.log, self.desk, 7)
         self.machine.writer = Writer()
         self.machine.begin(self.desk.runs)
@@ -323,7 +323,7 @@ class InTime(Followed):
         self.assertEqual((22, 24), (self.machine.place, self.machine.done))
 
     def test_restart(self) -> None:
-        """A follower that begins anew behind a post that it has carried out in time says so still, and posts it no more."""
+        """A follower that begins anew after a post that it has carried out in time says so still, and posts it no more."""
         self.begun(True)
         self.goes()
         self.begun(True)

@@ -1,6 +1,6 @@
 """What the log says of each of its places. It alone says so, and so all machines find the same.
 
-A post counts as carried out if the first word of it in the log, behind its place, is that some machine has carried it out in time; and as void if that word is
+A post counts as carried out if the first word of it in the log, after its place, is that some machine has carried it out in time; and as void if that word is
 that it is late. A machine says `done` of all places up to one at once, in each entry that it writes.
 """
 from enum import Enum

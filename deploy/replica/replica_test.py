@@ -1,5 +1,5 @@
 #!/usr/bin/python3
-"""The parts of a replica, tried without etcd: in its place stands one in this process, which fails now and then, before it did what was asked or behind it.
+"""The parts of a replica, tried without etcd: in its place stands one in this process, which fails now and then, before it did what was asked or after it.
 Then the whole of it, by the short form of trial.py, for three minutes.
 
     deploy/replica/replica_test.py [--program PATH] [--parts]        --parts: nothing but the parts

@@ -1,4 +1,4 @@
-"""For the tests of the parts: in place of etcd one in this process, which fails now and then, before it did what was asked or behind it; a desk in memory; and a
+"""For the tests of the parts: in place of etcd one in this process, which fails now and then, before it did what was asked or after it; a desk in memory; and a
 machine that runs in this process, with its entrance."""
 import base64
 import http.client
@@ -60,7 +60,7 @@ class Hand:
 
 
 class StandIn(Etcd):
-    """What of etcd's gateway is asked, kept in this process. Of so many calls of a hundred one fails before it is done, or behind it."""
+    """What of etcd's gateway is asked, kept in this process. Of so many calls of a hundred one fails before it is done, or after it."""
 
     def __init__(self, failing: int = 0, dice: Optional[random.Random] = None) -> None:
         """No key is there."""
@@ -80,7 +80,7 @@ class StandIn(Etcd):
                 raise Unanswered("before it was done")
             told = ways[path](asked) if path in ways else {}
             if self.dice.randrange(100) < self.failing:
-                raise Unanswered("behind it")
+                raise Unanswered("after it")
             read: JSON = json.loads(json.dumps(told))
             return 200, read
 
@@ -145,7 +145,7 @@ def whole(log: Log) -> list[Entry]:
 
 
 class DeskInMemory(Desk):
-    """A desk that answers with the number of its posts. It is told before and behind each thing that a follower has it do."""
+    """A desk that answers with the number of its posts. It is told before and after each thing that a follower has it do."""
 
     def __init__(self, folder: str) -> None:
         """It runs, and was asked nothing."""

@@ -73,13 +73,13 @@ class Faults:
     def hang_desk(self) -> str:
         """A desk stands still for good, with its follower alive, which ends it."""
         it = self.any()
-        before = it.said("out, behind place")
+        before = it.said("out, after place")
         it.units["desk"].signal(signal.SIGSTOP)
-        took = wait_for("the desk that hangs ended", lambda: it.said("out, behind place") > before)
+        took = wait_for("the desk that hangs ended", lambda: it.said("out, after place") > before)
         return f" (its follower ended it after {took:.1f} s)"
 
     def hang_and_kill(self) -> None:
-        """A desk stands still for good, and the two others are killed, one behind the other."""
+        """A desk stands still for good, and the two others are killed, one after the other."""
         hung, *others = self.dice.sample(self.members, len(self.members))
         hung.units["desk"].signal(signal.SIGSTOP)
         for it in others:
@@ -190,7 +190,7 @@ class Faults:
         it.ask_desk({"act": "loseup 4294967295", "by": "replica", "moment": 0, "number": 4_000_000_000})
         self.trial.let_go(self.asked.every + AT_ONCE)
         took = wait_for("the other tables found", lambda: it.said("not those of most") > before)
-        return f" (found {took:.1f} s behind the next comparison)"
+        return f" (found {took:.1f} s after the next comparison)"
 
     def full_quota(self) -> str:
         """etcd's quota is full: a post is refused at once, `status` says so; then it has room again."""

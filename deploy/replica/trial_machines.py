@@ -186,7 +186,8 @@ class Member:
                 "--initial-advertise-peer-urls", f"https://{self.peer}:{self.peer_port}", "--initial-cluster", members, "--initial-cluster-state", "new",
                 "--peer-trusted-ca-file", f"{keys}/authority.pem", "--peer-cert-file", f"{keys}/peer.pem", "--peer-key-file", f"{keys}/peer.key",
                 "--peer-client-cert-auth", "--trusted-ca-file", f"{keys}/clients.pem", "--cert-file", f"{keys}/server.pem", "--key-file", f"{keys}/server.key",
-                "--client-cert-auth", "--bcrypt-cost", "4", "--auto-compaction-retention", "1", "--quota-backend-bytes", str(self.quota), "--logger", "zap", "--log-level", "error"]
+                "--client-cert-auth", "--bcrypt-cost", "4", "--auto-compaction-retention", "1",
+                "--quota-backend-bytes", str(self.quota), "--logger", "zap", "--log-level", "error"]
 
     def desk_words(self) -> list[str]:
         """Begins its desk, with what was set for this beginning alone."""
