@@ -157,7 +157,7 @@ class Unknown(ServedAlone):
         self.assertEqual((504, "may be done"), self.given_up("POST", "/acts", act("1")))
         began = time.monotonic()
         self.assertEqual((503, "not done"), self.given_up("POST", "/acts", act("2")))
-        self.assertLess(time.monotonic() - began, 1)
+        self.assertLess(time.monotonic() - began, SOON)
         self.etcd.is_away = False
         self.served.wait(lambda: not self.served.health.is_silent())
         self.assertEqual(200, self.served.ask("POST", "/acts", act("3"))[0])
@@ -221,7 +221,7 @@ class Unknown(ServedAlone):
         self.etcd.is_away = True
         began = time.monotonic()
         self.assertEqual(504, self.served.ask("POST", "/acts", act("1"), Prefer="wait=1")[0])
-        self.assertLess(time.monotonic() - began, 3)
+        self.assertLess(time.monotonic() - began, LONG / 4)
 
 
 class Words(unittest.TestCase):
