@@ -29,6 +29,10 @@ class Judged(Protocol):
     """What is told of a machine."""
     mark: str
 
+    @property
+    def place(self) -> int:
+        """The last place that was carried out there, and counts."""
+
     def comes_in(self, mark: str) -> None:
         """The tables of the desk of this mark were found to be those of the others."""
 
@@ -62,10 +66,11 @@ class Judge:
                 self.judge(other)
 
     def judge(self, it: Comparison) -> None:
-        """Judges one comparison, which then stands for those before it. One of a desk that has ended is nobody's any more; one without a name waits for it."""
+        """Judges one comparison, which then stands for those before it. One of a desk that has ended is nobody's any more. It waits for the name of this machine, and
+        until what the desk had carried out counts."""
         if it.mark != self.machine.mark:
             self.digests.pop(it, None)
-        if it not in self.digests or not self.present.is_owned:
+        if it not in self.digests or not self.present.is_owned or self.machine.place < it.place:
             return
         is_same = self.is_same(it)
         if is_same is None:

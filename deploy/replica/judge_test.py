@@ -18,7 +18,7 @@ class Told:
 
     def __init__(self) -> None:
         """It was told nothing yet."""
-        self.mark, self.is_in, self.leaves = "m", False, ""
+        self.mark, self.is_in, self.leaves, self.place = "m", False, "", 100
 
     def comes_in(self, mark: str) -> None:
         """It is in."""
@@ -134,6 +134,15 @@ class Judges(unittest.TestCase):
         end = self.judges["a"].told.popitem()
         self.judges["a"].told[end[0]] = end[1] - 1
         self.assertEqual((True, False), self.look()[0])
+
+    def test_may_be_void(self) -> None:
+        """A digest of what may be void is told to nobody."""
+        self.tell(a=False)
+        self.told["a"].place = 4
+        self.give("a", 5, b"x", "a")
+        self.assertEqual((False, {}), (self.look()[0][0], self.etcd.below("/r/same/")))
+        self.told["a"].place = 5
+        self.assertTrue(self.look()[0][0])
 
     def test_most(self) -> None:
         """Of three the one leaves that is not as the two others; of two that differ both do; and all of three that differ."""
