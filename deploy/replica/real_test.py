@@ -34,7 +34,10 @@ class Desks(unittest.TestCase):
     def begin(self, folder: str, port: int, first: str = "") -> subprocess.Popen[bytes]:
         """A desk of this folder."""
         with open(f"{folder}.log", "ab") as file:
-            return subprocess.Popen([sys.executable, "-c", BEGIN, folder, ASKED.program, str(port), first], cwd=HERE, stdout=file, stderr=file)
+            process = subprocess.Popen([sys.executable, "-c", BEGIN, folder, ASKED.program, str(port), first], cwd=HERE, stdout=file, stderr=file)
+        self.addCleanup(process.wait)
+        self.addCleanup(process.kill)
+        return process
 
     def folder(self) -> str:
         """A folder for a test."""
@@ -142,7 +145,7 @@ class Alone(Desks):
     def test_heads(self) -> None:
         """What an entrance answers itself is what the desk answers, status and body."""
         folder, port = self.folder(), free_port()
-        process = self.begin(f"{folder}/a", port)
+        self.begin(f"{folder}/a", port)
         served = Served(log_of(StandIn()), Desk(f"{folder}/a"), "a")
         served.wait(lambda: served.machine.is_in)
         unlike = []
@@ -153,8 +156,6 @@ class Alone(Desks):
             if told[0] != told[1]:
                 unlike.append((head[:100], *told))
         self.assertEqual([], unlike)
-        process.kill()
-        process.wait()
 
     @staticmethod
     def exchange(port: int, text: bytes) -> list[bytes]:
@@ -183,28 +184,23 @@ class Two(Desks):
         ports = {it: free_port() for it in "ab"}
         desks = {it: self.begin(f"{folder}/{it}", ports[it]) for it in "ab"}
         served = {it: Served(log_of(etcd), Desk(f"{folder}/{it}"), it) for it in "ab"}
-        try:
-            for it in served.values():
-                it.wait(lambda: it.machine.is_in)
-            for number in range(1, 101):
-                if number == 40:
-                    desks["b"].kill()
-                    desks["b"].wait()
-                    desks["b"] = self.begin(f"{folder}/b", ports["b"])
-                body = json.dumps({"act": "enter 5 a--c no 8 1 - - ok", "by": "ann", "moment": 9, "number": number}).encode()
-                told = [self.until_known(served, "ab"[(number + more) % 2], body) for more in range(1 + number % 2)]
-                lines = f'["ok request {number} 5/{number - 1}","move {number} 9 ann {number} - Entered enter"]'
-                self.assertEqual({f'{{"lines":{lines},"more":0,"refusal":0}}'}, set(told))
-            for it in served.values():
-                it.wait(lambda: it.machine.is_in)
-            etcd.failing = 0
-            places = {it.ask("GET", "/places?newest")[2] for it in served.values()}
-            self.assertEqual({'{"lines":["places 100: 100 0 0 0 0 0 0 0 0 0 0 0 0 0 0"],"more":0,"refusal":0}'}, places)
-            self.assertEqual(1, len({self.copied(folder, it) for it in "ab"}))
-        finally:
-            for process in desks.values():
-                process.kill()
-                process.wait()
+        for it in served.values():
+            it.wait(lambda: it.machine.is_in)
+        for number in range(1, 101):
+            if number == 40:
+                desks["b"].kill()
+                desks["b"].wait()
+                desks["b"] = self.begin(f"{folder}/b", ports["b"])
+            body = json.dumps({"act": "enter 5 a--c no 8 1 - - ok", "by": "ann", "moment": 9, "number": number}).encode()
+            told = [self.until_known(served, "ab"[(number + more) % 2], body) for more in range(1 + number % 2)]
+            lines = f'["ok request {number} 5/{number - 1}","move {number} 9 ann {number} - Entered enter"]'
+            self.assertEqual({f'{{"lines":{lines},"more":0,"refusal":0}}'}, set(told))
+        for it in served.values():
+            it.wait(lambda: it.machine.is_in)
+        etcd.failing = 0
+        places = {it.ask("GET", "/places?newest")[2] for it in served.values()}
+        self.assertEqual({'{"lines":["places 100: 100 0 0 0 0 0 0 0 0 0 0 0 0 0 0"],"more":0,"refusal":0}'}, places)
+        self.assertEqual(1, len({self.copied(folder, it) for it in "ab"}))
 
     @staticmethod
     def until_known(served: dict[str, Served], name: str, body: bytes) -> str:
