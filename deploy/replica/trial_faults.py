@@ -223,7 +223,7 @@ class Faults:
         try:
             took = wait_for("the second one told", lambda: told_in(f"{folder}/replica.log", "another machine is called a"))
             self.trial.let_go(self.asked.stage // 4)
-            self.trial.tell("a second machine of one name is out", [it.name for it in self.members if not it.is_in()])
+            self.trial.tell("a second machine of one name is out", ["it was in"] * told_in(f"{folder}/replica.log", "in, at place"))
         finally:
             unit.end()
             shutil.rmtree(folder, ignore_errors=True)
