@@ -1,1 +1,2 @@
 pub mod Missions
+pub mod FieldRuns

@@ -1,6 +1,7 @@
 -- Each event of the desk is a step of the mission.
 use Rattle.std.proofs.Common.{refl, sym}
-use Rattle.tc_mission.proofs.Missions.{ground_steps, far_stays, sent_same, confirmed_same, field_run}
+use Rattle.tc_mission.proofs.Missions.{ground_steps, sent_same, confirmed_same}
+use Rattle.tc_mission.proofs.FieldRuns.{far_stays, field_run}
 use Rattle.tc_mission.proofs.the_ground_is_a_desk.Goals as goal
 
 pub returns-clause-steps : goal.returns-clause-steps
