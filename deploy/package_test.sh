@@ -345,7 +345,7 @@ user_cases
 if ! in_root "apt-get install -y systemd systemd-sysv"; then
     not_tried "the service, since systemd could not be installed in the root"
 elif ! in_root "apt-get install -y --no-install-recommends nginx-light libnginx-mod-http-js openssl postgresql rsync sqlite3 &&
-    apt-get install -y --no-install-recommends --download-only etcd-server python3"; then
+    apt-get install -y --no-install-recommends --download-only etcd-server etcd-client python3 python3-aiohttp iproute2"; then
     not_tried "the service, since what its pages want could not be installed in the root"
 elif ! boot; then
     in_root "apt-get install -y ./${package##*/}"
