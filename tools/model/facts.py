@@ -200,8 +200,8 @@ TESTS: dict[str, tuple[Refusal, ...]] = {
 # The statuses of answers by HTTP, and the phrase of each; all refusals that are not named have 409.
 STATUSES = {Refusal.BAD_TEXT: 400, Refusal.UNKNOWN_REQUEST: 404, Refusal.UNKNOWN_STACK: 404, Refusal.UNKNOWN_PROCEDURE: 404, Refusal.TOO_LONG: 413,
             Refusal.MEMORY: 503, Refusal.STORE: 503, Refusal.STOPPED: 503}
-ACCEPTED_STATUS, OTHER_STATUS, NO_PATH_STATUS, OTHER_METHOD_STATUS = 200, 409, 404, 405
-PHRASES = {200: "OK", 400: "Bad Request", 404: "Not Found", 405: "Method Not Allowed", 409: "Conflict", 413: "Payload Too Large",
+ACCEPTED_STATUS, OTHER_STATUS, FOREIGN_STATUS, NO_PATH_STATUS, OTHER_METHOD_STATUS = 200, 409, 403, 404, 405
+PHRASES = {200: "OK", 400: "Bad Request", 403: "Forbidden", 404: "Not Found", 405: "Method Not Allowed", 409: "Conflict", 413: "Payload Too Large",
            503: "Service Unavailable"}
 LONGEST_HEAD, LONGEST_BODY = 8192, 65_536  # bytes; the CR and LF bytes before a head count
 MOST_FIELDS = 64  # header lines

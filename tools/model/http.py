@@ -9,7 +9,7 @@ import math
 import re
 from typing import Any, Callable, NamedTuple, NoReturn, Optional, Sequence, Union
 
-from model.facts import (LAST_MOMENT, LAST_NUMBER, LONGEST_ACT, LONGEST_BODY, LONGEST_HEAD, LONGEST_TEXT, MARK, MOST_ANSWERED, MOST_FIELDS,
+from model.facts import (FOREIGN_STATUS, LAST_MOMENT, LAST_NUMBER, LONGEST_ACT, LONGEST_BODY, LONGEST_HEAD, LONGEST_TEXT, MARK, MOST_ANSWERED, MOST_FIELDS,
                          MOST_LINE_ENDS, MOST_ROWS, MOST_STEPS, NAME, NO_PATH_STATUS, OTHER_METHOD_STATUS, PHRASES, THE_DESK, Refusal, status_of)
 
 MOST_RECORDS = {"stack": MOST_ROWS, "procedure": MOST_STEPS}
@@ -58,7 +58,7 @@ Called = Union[Acts, Loads]
 Asked = Union[Refused, Asks, Shows, Called]
 Headers = Sequence[tuple[bytes, bytes]]
 BAD, LARGE = (Refused(status_of(it), it) for it in (Refusal.BAD_TEXT, Refusal.TOO_LONG))
-NO_PATH, OTHER_METHOD = (Refused(it, Refusal.BAD_TEXT) for it in (NO_PATH_STATUS, OTHER_METHOD_STATUS))
+FOREIGN, NO_PATH, OTHER_METHOD = (Refused(it, Refusal.BAD_TEXT) for it in (FOREIGN_STATUS, NO_PATH_STATUS, OTHER_METHOD_STATUS))
 
 
 # ---- a front of an input
@@ -144,22 +144,49 @@ def judged(head: bytes) -> Union[Refused, Asks, Shows, Post]:
     return asked(*question, lengths) if question else posted_to(POSTS[target], lengths)
 
 
-def decided(front: bytes) -> Optional[Asked]:
-    """What a front of an input decides by itself; none where it decides nothing."""
+# The hosts by which a desk is called, whatever its port.
+OWN_HOSTS = ("127.0.0.1", "localhost")
+
+
+def hosts_of(port: int, *names: str) -> tuple[str, ...]:
+    """The hosts by which a desk at this port is called, with these further names."""
+    return tuple(host for name in (*OWN_HOSTS, *names) for host in (name, f"{name}:{port}"))
+
+
+def is_foreign(head: bytes, hosts: Sequence[str]) -> bool:
+    """Whether a head text, which is a request's, calls the desk by another host, or is a POST that a page of another site sends."""
+    found = HEAD.fullmatch(head)
+    fields = re.findall(FIELD, found[3]) if found else []
+    if not found or len(fields) > MOST_FIELDS or not is_utf8(found[2]):
+        return False
+    own = {it.encode().lower() for it in hosts}
+    origins = {scheme + it for scheme in (b"http://", b"https://") for it in own}
+    called, origin, site = (values(fields, name) for name in (b"host", b"origin", b"sec-fetch-site"))
+    is_called = not called or len(called) == 1 and called[0].lower() in own
+    is_from = not origin or len(origin) == 1 and origin[0][:origin[0].find(b"//") + 2] + origin[0][origin[0].find(b"//") + 2:].lower() in origins
+    is_own = is_from and (not site or site in ([b"same-origin"], [b"none"]))
+    return not is_called or found[1] == b"POST" and not is_own
+
+
+def decided(front: bytes, hosts: Sequence[str] = OWN_HOSTS) -> Optional[Asked]:
+    """What is served of a front of an input by itself; none where it decides nothing."""
     end = head_end(front[:LONGEST_HEAD])
     if end is None:
         return LARGE if len(front) > LONGEST_HEAD else None
-    found = judged(front[:end].lstrip(b"\r\n"))
-    if not isinstance(found, Post):
-        return found
-    body = front[end:end + found.size]
-    return posted(found.kind, body) if len(body) == found.size else None
+    head = front[:end].lstrip(b"\r\n")
+    found = judged(head)
+    body = front[end:end + found.size] if isinstance(found, Post) else b""
+    if isinstance(found, Post) and len(body) < found.size:
+        return None
+    if is_foreign(head, hosts):
+        return FOREIGN
+    return posted(found.kind, body) if isinstance(found, Post) else found
 
 
-def answer_to(text: bytes) -> Optional[Asked]:
-    """What the shortest front of an input that decides anything decides; none where no front does. A longer front of the same input decides what a
+def answer_to(text: bytes, hosts: Sequence[str] = OWN_HOSTS) -> Optional[Asked]:
+    """What is served of the shortest front of an input that decides anything; none where no front does. A longer front of the same input decides what a
     shorter one has decided: the tests try that on all fronts of some inputs."""
-    return decided(text)
+    return decided(text, hosts)
 
 
 # ---- a body

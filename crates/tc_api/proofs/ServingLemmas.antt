@@ -27,7 +27,7 @@ use Rattle.tc_api.specs.declared.serving.Told.{Told}
 use Rattle.tc_api.specs.Acts.{ActCall, ActKeys, JudgesActKeys, JudgesActPost}
 use Rattle.tc_api.specs.Endings.{is_done}
 use Rattle.tc_api.specs.Loads.{JudgesLoadKeys, JudgesLoadPost, LoadCall, LoadKeys, load_keys}
-use Rattle.tc_api.specs.Serving.{EndsWith, HasText, IsOutcome, Outcome, Serves, ServesActCall, ServesBoard, ServesBody, ServesKeys, ServesPost, ServesQuery, ServesValue, Tells, outcome_of, page_in, refused_front, refused_with}
+use Rattle.tc_api.specs.Serving.{EndsWith, HasText, IsOutcome, Outcome, Serves, ServesActCall, ServesWall, ServesBody, ServesKeys, ServesPost, ServesQuery, ServesValue, Tells, outcome_of, page_in, refused_front, refused_with}
 
 pub outcome_made : (acts : Bool) (reply : Reply) (ending : Ending) (text : Option Told) (served : Served) → served ≡ record { ending = ending; stands = acts && is_done ending; text = text }
     → EndsWith reply ending → page_in text ≡ None → IfSome text (Tells reply) → IsOutcome acts (outcome_of reply served) × HasText reply served
@@ -105,8 +105,8 @@ asks_nothing g old given why outcome is so = rw is (so, refl)
 pub asks_query : {S : Type 0} (g : Ghosts S) (old new : Standing S) (given : Decision) (query : Query) (outcome : Outcome) → given ≡ decision.Asks query → ServesQuery g old query outcome new → Serves g old (asked_of given) outcome new
 asks_query g old new given query outcome is h = rw is h
 
-pub asks_board : {S : Type 0} (g : Ghosts S) (old new : Standing S) (given : Decision) (outcome : Outcome) → given ≡ decision.ShowsBoard → ServesBoard old outcome new → Serves g old (asked_of given) outcome new
-asks_board g old new given outcome is h = rw is h
+pub asks_wall : {S : Type 0} (g : Ghosts S) (old new : Standing S) (given : Decision) (outcome : Outcome) → given ≡ decision.ShowsWall → ServesWall old outcome new → Serves g old (asked_of given) outcome new
+asks_wall g old new given outcome is h = rw is h
 
 pub asks_post : {S : Type 0} (g : Ghosts S) (old new : Standing S) (given : Decision) (post : Post) (body : Bor (List ℕ)) (outcome : Outcome) → given ≡ decision.Posts post body → ServesPost g old post body.now outcome new → Serves g old (asked_of given) outcome new
 asks_post g old new given post body outcome is h = rw is h

@@ -6,4 +6,4 @@ pub mod Loads
 pub mod Serving
 pub mod Exchange
 pub mod Kept
-pub mod Boards
+pub mod Walls

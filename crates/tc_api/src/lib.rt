@@ -2,7 +2,6 @@
 #![tactic(auto)]
 
 mod acts;
-mod boards;
 mod bodies;
 mod endings;
 mod exchange;
@@ -10,5 +9,6 @@ pub mod laws;
 mod loads;
 mod responses;
 mod serving;
+mod walls;
 
 pub use exchange::serve_one;

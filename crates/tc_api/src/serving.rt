@@ -7,13 +7,13 @@ ghost use Rattle.tc_front.specs.Front.{asked_of};
 ghost use Rattle.tc_room.specs.Answers.{RefusesWith, Says};
 ghost use Rattle.tc_api.specs.Endings.{is_done};
 ghost use Rattle.tc_api.specs.Loads.{load_keys};
-ghost use Rattle.tc_api.specs.Serving.{EndsWith, HasText, IsOutcome, IsServedBy, Serves, ServesBoard, ServesKeys, ServesPost, ServesQuery, ServesValue, front_ending, front_refusal, outcome_of, refused_front, refused_so};
+ghost use Rattle.tc_api.specs.Serving.{EndsWith, HasText, IsOutcome, IsServedBy, Serves, ServesWall, ServesKeys, ServesPost, ServesQuery, ServesValue, front_ending, front_refusal, outcome_of, refused_front, refused_so};
 
 use crate::acts::judge_act;
-use crate::boards::board_page;
 use crate::bodies::value_of;
 use crate::endings::Ending;
 use crate::loads::judge_load;
+use crate::walls::wall_page;
 use serde_json::Value;
 use sqlite::Alter;
 use std::alloc::Global;
@@ -97,11 +97,11 @@ fn serve_query<S: Alter + Drop>(alloc: Global, room: &mut Room<S>, query: Query)
     answer_served(answer_query(alloc, room, query), false)
 }
 
-/// Shows the board of the room.
-fn serve_board<S: Alter + Drop>(alloc: Global, room: &Room<S>) -> Served
-    ensures { IsServedBy (ServesBoard room.now) room.now result room.now }
+/// Shows the wall of the room.
+fn serve_wall<S: Alter + Drop>(alloc: Global, room: &Room<S>) -> Served
+    ensures { IsServedBy (ServesWall room.now) room.now result room.now }
 {
-    match board_page(alloc, room) {
+    match wall_page(alloc, room) {
         Ok(page) => Served {
             ending: Ending::Done,
             stands: false,
@@ -175,6 +175,7 @@ fn front_ending(why: Refused) -> Ending
     ensures { result ≡ front_ending why }
 {
     match why {
+        Refused::Foreign => Ending::Foreign,
         Refused::NoPath => Ending::NoPath,
         Refused::OtherMethod => Ending::OtherMethod,
         Refused::Bad => Ending::Refused(Refusal::BadText),
@@ -187,7 +188,9 @@ fn front_refusal(why: Refused) -> Refusal
     ensures { result ≡ front_refusal why }
 {
     match why {
-        Refused::NoPath | Refused::OtherMethod | Refused::Bad => Refusal::BadText,
+        Refused::Foreign | Refused::NoPath | Refused::OtherMethod | Refused::Bad => {
+            Refusal::BadText
+        }
         Refused::Large => Refusal::TooLong,
     }
 }
@@ -199,7 +202,7 @@ fn serve_refused(alloc: Global, why: Refused) -> Served
     refused(alloc, front_ending(why), front_refusal(why))
 }
 
-/// Serves what a front of the input decides: a head that is refused asks nothing of the room; the board is shown, and a question makes its step, whoever asks; a
+/// Serves what a front of the input decides: a head that is refused asks nothing of the room; the wall is shown, and a question makes its step, whoever asks; a
 /// post makes the step of its act, question or load, or is refused as it is read.
 pub fn serve_decision<S: Alter + Drop>(
     alloc: Global,
@@ -211,7 +214,7 @@ pub fn serve_decision<S: Alter + Drop>(
     match *decision {
         Decision::Refused(why) => serve_refused(alloc, why),
         Decision::Asks(query) => serve_query(alloc, room, query),
-        Decision::ShowsBoard => serve_board(alloc, room),
+        Decision::ShowsWall => serve_wall(alloc, room),
         Decision::Posts { post, body } => serve_post(alloc, room, post, body),
     }
 }

@@ -10,6 +10,9 @@ use tc_host::{
 /// The exit status of a fault: of usage, of a file or of memory.
 pub(crate) const UNUSABLE: u8 = 2;
 
+/// The exit status of a desk that has stopped as it was served.
+const STOPPED: u8 = 3;
+
 /// Says on the standard error what cannot be used. Where that cannot be written either, the status alone says it.
 pub(crate) fn cannot_use(rt: &impl Eprint, name: &str) -> u8 {
     let _ = eprintln!(rt; "tcdesk: cannot use {name}");
@@ -19,11 +22,16 @@ pub(crate) fn cannot_use(rt: &impl Eprint, name: &str) -> u8 {
 /// Says so of what has a name of its own, and why, where that is known.
 fn cannot_use_so(rt: &HostRuntime, name: &str, because: Option<Because>) -> u8 {
     let status = cannot_use(rt, name);
+    tell_because(rt, because);
+    status
+}
+
+/// Says why, where that is known.
+fn tell_because(rt: &HostRuntime, because: Option<Because>) {
     if let Some(because) = because {
         let words = because.words();
         let _ = eprintln!(rt; "tcdesk: because {words}");
     }
-    status
 }
 
 /// Says that a file cannot be read, and why.
@@ -135,6 +143,12 @@ pub(crate) fn service_status(
         Err(ServiceFault::Port(port)) => {
             let _ = eprintln!(rt; "tcdesk: cannot use port {port}");
             UNUSABLE
+        }
+        Err(ServiceFault::Input) => cannot_use(rt, "standard input"),
+        Err(ServiceFault::Stopped(because)) => {
+            let _ = eprintln!(rt; "tcdesk: {file} has stopped: its tables could not be written");
+            tell_because(rt, because);
+            STOPPED
         }
         Err(ServiceFault::Desk(why)) => kept_status(rt, Err(why), script, file, script),
     }

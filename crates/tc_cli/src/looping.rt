@@ -9,6 +9,7 @@ use std::io::{self, Read, Write};
 use std::net::{Ipv4Addr, TcpListener, TcpStream};
 use tc_api::serve_one;
 use tc_closed::{Answered, ScriptFault, Watch, put, status_of};
+use tc_front::Door;
 use tc_host::{HostWatch, open_desk, refusal_of, text_at};
 use tc_posts::{Told, Untellable, places_request, post_request, read_told};
 use tc_room::Room;
@@ -32,6 +33,7 @@ impl From<AllocError> for ServiceFault {
 struct Server {
     listener: TcpListener,
     port: u16,
+    door: Door,
 }
 
 /// What a call on a port tells by failing so.
@@ -48,9 +50,11 @@ fn listen(rt: &HostRuntime) -> Result<Server, ServiceFault> {
     let bound = TcpListener::bind(rt, (Ipv4Addr::LOCALHOST, 0));
     let listener = bound.map_err(|_| ServiceFault::Port(0))?;
     let address = listener.local_addr().map_err(|_| ServiceFault::Port(0))?;
+    let port = address.port();
     Ok(Server {
         listener,
-        port: address.port(),
+        port,
+        door: Door::new(rt.alloc(), port, None)?,
     })
 }
 
@@ -83,6 +87,7 @@ fn serve_client<S: Alter + Drop>(
     let stream = taken(server, client).map_err(|error| fault_of(server.port, &error))?;
     let served = serve_one(
         alloc,
+        &server.door,
         &mut Counted::new(&stream),
         &mut Counted::new(&stream),
         room,

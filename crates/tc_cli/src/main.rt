@@ -10,17 +10,18 @@
 //!
 //! `tcdesk backup DB COPY` copies that desk to another file, also while it runs.
 //!
-//! `tcdesk board DB` prints the board of that desk, as a page of HTML; it only reads the file.
+//! `tcdesk board DB` prints the wall of that desk, as a page of HTML; it only reads the file.
 //!
 //! `tcdesk check KIND FILE` says what is wrong with a script, or with the file of a stack or of a procedure.
 //!
-//! `tcdesk serve DB PORT [COUNT]` serves that desk over HTTP at a port of 127.0.0.1, and ends after so many connections.
+//! `tcdesk serve DB PORT [COUNT]` serves that desk over HTTP at a port of 127.0.0.1.
 //! `tcdesk loop DB SCRIPT` sends the lines of a script over HTTP to a desk that it serves itself, and prints what is answered.
 #![tactic(auto)]
 
 mod faults;
 mod looping;
-mod patience;
+mod peers;
+mod server;
 mod serving;
 
 use faults::{
@@ -28,7 +29,7 @@ use faults::{
     run_status, service_status,
 };
 use looping::send_to_file;
-use serving::{ServiceTerms, serve};
+use serving::serve;
 use std::alloc::{AllocError, Global};
 use std::io::IsTerminal;
 use std::process::ExitCode;
@@ -36,7 +37,7 @@ use std::{env, io};
 use tc_closed::{PathFault, ScriptFault, write_check, write_script_check};
 use tc_host::{
     HostPaths, HostTexts, HostWatch, Unusable, backup, of_tables, open_desk, open_script,
-    print_board, print_report, text_at, text_of,
+    print_report, print_wall, text_at, text_of,
 };
 use tc_run::{Opening, run_kept, run_script};
 use tc_types::{Counted, LoadKind};
@@ -110,24 +111,15 @@ fn run_line(rt: &HostRuntime, line: CommandLine<'_>) -> u8 {
         CommandLine::Backup { database, copy } => {
             copy_status(rt, backup(rt, database, copy), database, copy)
         }
-        CommandLine::Board { database } => {
-            report_status(rt, print_board(rt, database), database)
-        }
+        CommandLine::Wall { database } => { report_status(rt, print_wall(rt, database), database) }
         CommandLine::Check { kind, file } => check_in(rt, kind, file),
         CommandLine::CheckScript { file } => check_script_in(rt, file),
         CommandLine::Serve {
             database,
-            port,
-            count,
+            service,
             config,
             moment,
-            verbose,
         } => {
-            let service = ServiceTerms {
-                port,
-                count,
-                verbose,
-            };
             let served = serve(rt, database, &Opening { config, moment }, service);
             service_status(rt, served.map(|()| 0), database, database)
         }

@@ -72,12 +72,12 @@ waiting_alone = subst (IsRouted (codes "/waiting")) (sym (text_steps (codes "/wa
 waiting_more : (path : List ℕ) → Finds (codes "/waiting/" ++ path)
 waiting_more path = no_more (codes "/waiting/") path refl refl (goes_on _ path)
 
-board_alone : Finds (codes "/board")
+wall_alone : Finds (codes "/board")
 unfolding seek
-board_alone = subst (IsRouted (codes "/board")) (sym (text_steps (codes "/board") [] rows refl)) (tt, refl)
+wall_alone = subst (IsRouted (codes "/board")) (sym (text_steps (codes "/board") [] rows refl)) (tt, refl)
 
-board_more : (path : List ℕ) → Finds (codes "/board/" ++ path)
-board_more path = no_more (codes "/board/") path refl refl (goes_on _ path)
+wall_more : (path : List ℕ) → Finds (codes "/board/" ++ path)
+wall_more path = no_more (codes "/board/") path refl refl (goes_on _ path)
 
 moves_alone : Finds (codes "/moves")
 unfolding seek
@@ -276,14 +276,14 @@ data Name (word : List ℕ) : Type 0 where
   is_report : word ≡ codes "report" → Name word
   is_waiting : word ≡ codes "waiting" → Name word
   is_moves : word ≡ codes "moves" → Name word
-  is_board : word ≡ codes "board" → Name word
+  is_wall : word ≡ codes "board" → Name word
   is_none : same word (codes "acts") ≡ false → same word (codes "stacks") ≡ false → same word (codes "procedures") ≡ false → same word (codes "places") ≡ false
       → same word (codes "requests") ≡ false → same word (codes "history") ≡ false → same word (codes "report") ≡ false → same word (codes "waiting") ≡ false → same word (codes "moves") ≡ false
       → same word (codes "board") ≡ false → Name word
 
 name_of : (word : List ℕ) → Name word
 name_of word =
-    ⊎_elim is_acts (λ a. ⊎_elim is_stacks (λ b. ⊎_elim is_procedures (λ c. ⊎_elim is_places (λ d. ⊎_elim is_requests (λ e. ⊎_elim is_history (λ f. ⊎_elim is_report (λ g. ⊎_elim is_waiting (λ h. ⊎_elim is_moves (λ i. ⊎_elim is_board (λ j. is_none a b c d e f g h i j)
+    ⊎_elim is_acts (λ a. ⊎_elim is_stacks (λ b. ⊎_elim is_procedures (λ c. ⊎_elim is_places (λ d. ⊎_elim is_requests (λ e. ⊎_elim is_history (λ f. ⊎_elim is_report (λ g. ⊎_elim is_waiting (λ h. ⊎_elim is_moves (λ i. ⊎_elim is_wall (λ j. is_none a b c d e f g h i j)
     (is_word word (codes "board"))) (is_word word (codes "moves"))) (is_word word (codes "waiting"))) (is_word word (codes "report"))) (is_word word (codes "history"))) (is_word word (codes "requests"))) (is_word word (codes "places"))) (is_word word (codes "procedures")))
     (is_word word (codes "stacks"))) (is_word word (codes "acts"))
 
@@ -319,7 +319,7 @@ alone path w (is_history e) = subst (λ l. Finds (47 ∷ l)) (sym e) history_alo
 alone path w (is_report e) = subst (λ l. Finds (47 ∷ l)) (sym e) report_alone
 alone path w (is_waiting e) = subst (λ l. Finds (47 ∷ l)) (sym e) waiting_alone
 alone path w (is_moves e) = subst (λ l. Finds (47 ∷ l)) (sym e) moves_alone
-alone path w (is_board e) = subst (λ l. Finds (47 ∷ l)) (sym e) board_alone
+alone path w (is_wall e) = subst (λ l. Finds (47 ∷ l)) (sym e) wall_alone
 alone path w (is_none a b c d e f g h i j) = no_name path path [] w.cut a b c d e f g h i j
 
 more : (path : List ℕ) (p : Parted path) → IsText p.rest → IsUtf8 p.rest → Name p.word → Finds (47 ∷ path)
@@ -338,7 +338,7 @@ more path p small whole name = by name
     by (is_report e) = at (codes "report") e (report_more p.rest small whole)
     by (is_waiting e) = at (codes "waiting") e (waiting_more p.rest)
     by (is_moves e) = at (codes "moves") e (moves_more p.rest small whole)
-    by (is_board e) = at (codes "board") e (board_more p.rest)
+    by (is_wall e) = at (codes "board") e (wall_more p.rest)
     by (is_none a b c d e f g h i j) = no_name path p.word (words 47 p.rest) p.cut a b c d e f g h i j
 
 behind : (path : List ℕ) → IsText path → IsUtf8 path → Finds (47 ∷ path)

@@ -3,6 +3,7 @@ pub mod WordLemmas
 pub mod FieldLemmas
 pub mod JudgeLemmas
 pub mod FrontLemmas
+pub mod DoorLemmas
 pub mod WantedLemmas
 pub mod ReadLemmas
 pub mod WriteLemmas

@@ -15,8 +15,8 @@ route pattern text names kind = record { pattern = pattern; text = text; names =
 abbrev pub acts : RouteOf RouteKind
 acts = route (codes "/acts") (codes "/acts") [] kind.Acts
 
-abbrev pub board : RouteOf RouteKind
-board = route (codes "/board") (codes "/board") [] kind.Board
+abbrev pub wall : RouteOf RouteKind
+wall = route (codes "/board") (codes "/board") [] kind.Wall
 
 abbrev pub history : RouteOf RouteKind
 history = route (codes "/history/" ++ param_token ∷ 47 ∷ param_token ∷ []) (codes "/history/{request}/{after}") ((10, 17) ∷ (20, 25) ∷ []) kind.History
@@ -50,7 +50,7 @@ row route = (route.pattern, route)
 
 -- the rows in their order: one that goes on comes before what it starts with
 abbrev pub rows : KindRoutes
-rows = row acts ∷ row board ∷ row history ∷ row moves ∷ row places ∷ row procedure ∷ row procedures ∷ row report ∷ row request ∷ row stacks ∷ row waiting ∷ []
+rows = row acts ∷ row wall ∷ row history ∷ row moves ∷ row places ∷ row procedure ∷ row procedures ∷ row report ∷ row request ∷ row stacks ∷ row waiting ∷ []
 
 pub desk_rows : desk_routes ≡ rows
 unfolding matchit_on_literals with_route desk_routes

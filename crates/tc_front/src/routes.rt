@@ -25,7 +25,7 @@ pub(crate) enum RouteKind {
     Waiting,
     Moves,
     Procedure,
-    Board,
+    Wall,
 }
 
 /// The path of this kind with these texts, which are empty where it has none.
@@ -49,7 +49,7 @@ fn path_at<'a>(kind: RouteKind, first: &'a [u8], second: &'a [u8]) -> Path<'a>
         RouteKind::Waiting => Path::Asks(Question::Waiting),
         RouteKind::Moves => Path::Asks(Question::Moves { after: first }),
         RouteKind::Procedure => Path::Asks(Question::Procedure { name: first }),
-        RouteKind::Board => Path::Board,
+        RouteKind::Wall => Path::Wall,
     }
 }
 
@@ -116,7 +116,7 @@ impl Routes {
         add(&mut router, "/waiting", RouteKind::Waiting)?;
         add(&mut router, "/moves/{after}", RouteKind::Moves)?;
         add(&mut router, "/procedures/{name}", RouteKind::Procedure)?;
-        add(&mut router, "/board", RouteKind::Board)?;
+        add(&mut router, "/board", RouteKind::Wall)?;
         Ok(Routes { router })
     }
 

@@ -1,4 +1,4 @@
-//! The shift report and the board of a desk that is kept in a file: what is done with its two files.
+//! The shift report and the wall of a desk that is kept in a file: what is done with its two files.
 
 use sqlite::Connection;
 use sqlite_disk::Wary;
@@ -7,7 +7,7 @@ use sqlite_store::FileStore;
 use std::alloc::Global;
 use std::rt::Files;
 use std::{fs, io};
-use tc_closed::{ScriptFault, closed_report, write_board};
+use tc_closed::{ScriptFault, closed_report, write_wall};
 use tc_store::{StoreFault, Tables, Version};
 use tc_types::{Counted, Moment};
 
@@ -101,14 +101,14 @@ pub fn print_report(
     printed
 }
 
-/// Prints the board of the desk that a file keeps. The file stays as it is, byte for byte, and so does its log where that holds a batch; one that holds none may
+/// Prints the wall of the desk that a file keeps. The file stays as it is, byte for byte, and so does its log where that holds a batch; one that holds none may
 /// have other bytes afterwards.
-pub fn print_board(rt: &HostRuntime, file: &str) -> Result<(), ScriptFault> {
+pub fn print_wall(rt: &HostRuntime, file: &str) -> Result<(), ScriptFault> {
     let kept = find(rt, file)?;
     let store = open_kept(rt, &kept)?;
     let (mut tables, version) = tables_in(rt, &kept, store)?;
     let mut writer = Counted::new(io::writer(rt));
-    let printed = write_board(rt.alloc(), &mut tables, version, &mut writer);
+    let printed = write_wall(rt.alloc(), &mut tables, version, &mut writer);
     forget_log(rt, &kept);
     printed
 }

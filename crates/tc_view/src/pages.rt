@@ -1,8 +1,8 @@
 //! The pages.
 ghost use Rattle.std.specs.Prelude.{◌≡◌, ◌≤◌, IfOk};
 ghost use Rattle.std.specs.String.{string_bytes, string_len};
-ghost use Rattle.tc_wall.specs.declared.boards.WallBoard.{WallBoard as SomeBoard};
-ghost use Rattle.tc_wall.specs.Page.{board_page};
+ghost use Rattle.tc_wall.specs.declared.walls.Wall.{Wall as SomeWall};
+ghost use Rattle.tc_wall.specs.Page.{wall_page};
 ghost use Rattle.tc_view.specs.Shown.{IsDeskPage, IsFilePage, ShowsBook};
 
 use crate::gathering::gather;
@@ -14,7 +14,7 @@ use std::alloc::{AllocError, Allocator};
 use tc_book::Records;
 use tc_desk::Desk;
 use tc_types::{Frame, Report};
-use tc_wall::{Live, MOST_BYTES, ShownSchedule, WallBoard, board_text};
+use tc_wall::{Live, MOST_BYTES, ShownSchedule, Wall, wall_text};
 use tc_world::Carrier;
 
 /// The page of a book, with what is told of a desk that has it open. Fails where memory is refused.
@@ -23,7 +23,7 @@ fn page_of<A: Allocator + Copy + Drop>(
     records: &Records<A>,
     live: Option<Live<'_>>,
 ) -> Result<String<A>, AllocError>
-    ensures page { IfOk result (λ t. (board : SomeBoard) × ShowsBook records.now.book board × (board.live ≡ live.entry) × (string_bytes t ≡ board_page board)) }
+    ensures page { IfOk result (λ t. (wall : SomeWall) × ShowsBook records.now.book wall × (wall.live ≡ live.entry) × (string_bytes t ≡ wall_page wall)) }
     ensures few { IfOk result (λ t. string_len t ≤ MOST_BYTES) }
 {
     // read for the proof alone: the book is good
@@ -36,7 +36,7 @@ fn page_of<A: Allocator + Copy + Drop>(
     let ways = ways_of(alloc, &trails)?;
     let counts = records.tallies();
     let moves = records.rows();
-    let board = WallBoard {
+    let wall = Wall {
         entered: records.count(),
         counts: &counts,
         waits: &waits,
@@ -47,7 +47,7 @@ fn page_of<A: Allocator + Copy + Drop>(
         moves,
         moved: moves.len(),
     };
-    board_text(alloc, &board)
+    wall_text(alloc, &wall)
 }
 
 /// The page of the book of a file that nobody has open. Fails where memory is refused.

@@ -4,10 +4,10 @@ ghost use Rattle.std.specs.String.{string_bytes};
 ghost use Rattle.tc_wall.specs.Parts.{Adds};
 ghost use Rattle.tc_wall.specs.Heading.{file_parts, entered_parts, moved_parts, last_parts, heading_parts};
 
-use crate::boards::{Live, WallBoard};
 use crate::bounds::add_fixed;
 use crate::fixed::HEADING;
 use crate::times::time_text;
+use crate::walls::{Live, Wall};
 use std::alloc::{AllocError, Allocator};
 use std::fmt::Write;
 use tc_types::Move;
@@ -59,13 +59,13 @@ fn add_last<A: Allocator + Copy>(page: &mut String<A>, moves: &[Move]) -> Result
 #[tactic(auto, using(crate::proofs::PartLemmas::then_adds), unfolding(crate::specs::Heading::heading_parts))]
 pub(crate) fn add_heading<A: Allocator + Copy>(
     page: &mut String<A>,
-    board: &WallBoard,
+    wall: &Wall,
 ) -> Result<(), AllocError>
-    ensures { OnOk result (Adds (heading_parts board.now) (string_bytes page.old) (string_bytes page.new)) }
+    ensures { OnOk result (Adds (heading_parts wall.now) (string_bytes page.old) (string_bytes page.new)) }
 {
     add_fixed(page, HEADING)?;
-    add_file(page, &board.live)?;
-    add_entered(page, board.entered)?;
-    add_last(page, board.moves)?;
+    add_file(page, &wall.live)?;
+    add_entered(page, wall.entered)?;
+    add_last(page, wall.moves)?;
     add_fixed(page, "</header>\n")
 }

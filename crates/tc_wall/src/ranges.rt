@@ -1,15 +1,14 @@
-//! What the types of a board keep. These functions do nothing: their clauses are what the types know.
+//! What the types of a wall keep. These functions do nothing: their clauses are what the types know.
 ghost use Rattle.std.specs.Prelude.{◌<◌, ◌≤◌, ◌^◌, IfSome, length};
 ghost use Rattle.std.specs.List.{AllByRecursion};
-ghost use Rattle.tc_wall.specs.Ranges.{IsShort, IsMoveInRange, IsWantingInRange, IsWaitingInRange, IsWaitInRange, IsOriginInRange, IsRequestInRange, IsWayInRange, AreQueuesInRange, AreCountersInRange, IsFopInRange, IsFarmInRange, IsLinkInRange, IsActivityInRange, IsScheduleInRange, IsLiveInRange, IsBoardInRange};
+ghost use Rattle.tc_wall.specs.Ranges.{IsShort, IsMoveInRange, IsWantingInRange, IsWaitingInRange, IsWaitInRange, IsOriginInRange, IsRequestInRange, IsWayInRange, AreQueuesInRange, AreCountersInRange, IsFopInRange, IsFarmInRange, IsLinkInRange, IsActivityInRange, IsScheduleInRange, IsLiveInRange, IsWallInRange};
 ghost use Rattle.tc_wall.specs.Waits.{text_of};
 
-use crate::boards::{
-    Live, MOST_MOVES, MOST_OPEN, MOST_SHOWN_ACTIVITIES, MOST_WAITS, ShownSchedule, Wait, WallBoard,
-    Way,
-};
 use crate::bounds::{first_of, last_of};
 use crate::links::{FarmLine, FopLine, LinkLines};
+use crate::walls::{
+    Live, MOST_MOVES, MOST_OPEN, MOST_SHOWN_ACTIVITIES, MOST_WAITS, ShownSchedule, Wait, Wall, Way,
+};
 use crate::way_rows::kind;
 use tc_types::{ListedActivity, Move, Name, Origin, PLACES, Request, StepText, Waiting, Wanting};
 
@@ -267,18 +266,18 @@ fn keep_last(last: Option<Move>)
     }
 }
 
-/// A whole board.
-pub(crate) fn keep_board(board: &WallBoard)
-    ensures { IsBoardInRange board.now }
+/// A whole wall.
+pub(crate) fn keep_wall(wall: &Wall)
+    ensures { IsWallInRange wall.now }
 {
-    let _entered = board.entered;
-    let _waiting = board.waiting;
-    let _opened = board.opened;
-    let _moved = board.moved;
-    keep_counts(board.counts);
-    keep_waits(first_of(board.waits, MOST_WAITS));
-    keep_live(&board.live);
-    keep_ways(first_of(board.ways, MOST_OPEN));
-    keep_last(board.moves.last().copied());
-    keep_moves(last_of(board.moves, MOST_MOVES));
+    let _entered = wall.entered;
+    let _waiting = wall.waiting;
+    let _opened = wall.opened;
+    let _moved = wall.moved;
+    keep_counts(wall.counts);
+    keep_waits(first_of(wall.waits, MOST_WAITS));
+    keep_live(&wall.live);
+    keep_ways(first_of(wall.ways, MOST_OPEN));
+    keep_last(wall.moves.last().copied());
+    keep_moves(last_of(wall.moves, MOST_MOVES));
 }

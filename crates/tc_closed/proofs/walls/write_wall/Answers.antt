@@ -7,7 +7,7 @@ use Rattle.std.proofs.KnownBytes.{Appends-nil}
 use Rattle.tc_types.specs.Counts.{inner_of}
 use Rattle.tc_front.specs.Write.{IsCutShort}
 use Rattle.tc_closed.proofs.ReportLemmas.{on_err, on_err_then, on_ok}
-use Rattle.tc_closed.proofs.boards.write_board.Goals as goal
+use Rattle.tc_closed.proofs.walls.write_wall.Goals as goal
 
 pub returns-clause-told : goal.returns-clause-told
 returns-clause-told g c clean =

@@ -1,4 +1,4 @@
--- The page of the board of tables, over which no desk is opened.
+-- The page of the wall of tables, over which no desk is opened.
 use Rattle.std.specs.Prelude.{◌≡◌, ◌≤◌, ◌⊎◌, ℕ, IfErr, IfOk, OnOk, List, Result}
 use Rattle.std.specs.declared.alloc.Global.{Global}
 use Rattle.std.specs.declared.string.String.{String}
@@ -18,7 +18,7 @@ use Rattle.tc_closed.specs.Closed.{LeavesTables, OnlyReads}
 
 -- Of tables that hold a ledger whose rows are told by their columns: the page is that of the book which they tell of, and a desk could have written them. The tables
 -- are only read.
-pub record ReadsBoard {S T E : Type 0} (g : Ghosts S) (page_of : T → List ℕ) (result : Result T E) (old new : Held S) : Type 0 where
+pub record ReadsWall {S T E : Type 0} (g : Ghosts S) (page_of : T → List ℕ) (result : Result T E) (old new : Held S) : Type 0 where
   pub told : HasCleanDisk (state g new) → IfOk result (λ page. (version : Version) (ledger : Ledger) → IsTold ledger.image → HoldsAs version (state g old).now ledger
       → IsSound ledger.image × IsFilePage (book_of ledger.image) (page_of page))
   pub reads : OnOk result (OnlyReads g old new)

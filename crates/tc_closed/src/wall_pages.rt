@@ -1,9 +1,9 @@
-//! The board of tables alone, over which no desk is opened: it is of the book that they tell of, with no move of an opening.
+//! The wall of tables alone, over which no desk is opened: it is of the book that they tell of, with no move of an opening.
 ghost use Rattle.std.specs.Prelude.{◌≡◌, ◌≤◌, ◌⊎◌, IfErr, IfOk, OnOk};
 ghost use Rattle.std.specs.String.{string_bytes, string_len};
 ghost use Rattle.sqlite.specs.Held.{state};
 ghost use Rattle.sqlite.specs.State.{HasCleanDisk};
-ghost use Rattle.tc_closed.specs.BoardPages.{EndsPage, ReadsBoard};
+ghost use Rattle.tc_closed.specs.WallPages.{EndsPage, ReadsWall};
 ghost use Rattle.tc_closed.specs.Closed.{AreJudged};
 ghost use Rattle.tc_types.specs.Images.{rows_in};
 ghost use Rattle.tc_book.specs.Sound.{IsSound, book_of};
@@ -41,16 +41,16 @@ fn page_of(alloc: Global, image: &Image) -> Result<String, Refusal>
     Ok(file_page(alloc, &records)?)
 }
 
-/// The page of the board of these tables, which are of this version. They are only read. `Store` where they cannot be read, or no desk could have written them;
+/// The page of the wall of these tables, which are of this version. They are only read. `Store` where they cannot be read, or no desk could have written them;
 /// `Memory` where that is refused.
-pub(crate) fn closed_board<S: Alter + Drop>(
+pub(crate) fn closed_wall<S: Alter + Drop>(
     alloc: Global,
     tables: &mut Tables<S>,
     version: Version,
 ) -> Result<String, Refusal>
     // whatever was left
     ensures judged { HasCleanDisk (state S.Store tables.new) → OnOk result (AreJudged S.Store version tables.old) }
-    ensures page { ReadsBoard S.Store (λ page. string_bytes page) result tables.old tables.new }
+    ensures page { ReadsWall S.Store (λ page. string_bytes page) result tables.old tables.new }
     ensures ends { EndsPage MOST_BYTES result }
 {
     match tables.load(version) {

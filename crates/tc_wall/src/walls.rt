@@ -1,4 +1,4 @@
-//! What the board shows.
+//! What the wall shows.
 use crate::links::LinkLines;
 use tc_types::{ListedActivity, Move, PLACES, Place, Request, StepText, Waiting};
 
@@ -59,9 +59,9 @@ pub struct Live<'a> {
     pub schedule: ShownSchedule<'a>,
 }
 
-/// What the board shows of a desk.
+/// What the wall shows of a desk.
 #[derive(Clone, Copy, Debug)]
-pub struct WallBoard<'a> {
+pub struct Wall<'a> {
     /// How many requests were entered.
     pub entered: u32,
     /// How many stand at each place.

@@ -1,7 +1,7 @@
 use Rattle.std.proofs.Common.{[], inl, inr, refl}
 use Rattle.std.specs.String.{string_bytes}
 use Rattle.tc_desk.specs.Replies.{refusal_reply}
-use Rattle.tc_api.proofs.serving.serve_board.Goals as goal
+use Rattle.tc_api.proofs.serving.serve_wall.Goals as goal
 
 pub returns-in-Ok : goal.returns-in-Ok
 returns-in-Ok g c =

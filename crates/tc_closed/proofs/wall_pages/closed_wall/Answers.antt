@@ -6,7 +6,7 @@ use Rattle.tc_book.specs.Sound.{IsSound, book_of}
 use Rattle.tc_view.specs.Shown.{IsFilePage}
 use Rattle.tc_closed.specs.Closed.{LeavesTables}
 use Rattle.tc_closed.proofs.ReadLemmas.{if_ok, on_ok}
-use Rattle.tc_closed.proofs.board_pages.closed_board.Goals as goal
+use Rattle.tc_closed.proofs.wall_pages.closed_wall.Goals as goal
 
 pub returns-in-Ok-clause-page : goal.returns-in-Ok-clause-page
 returns-in-Ok-clause-page g c = record {
