@@ -113,7 +113,8 @@ impl<'a> Server<'a> {
             {
                 return Ok(end);
             }
-            self.poll.poll(&mut events, self.patience(now))?;
+            let patience = self.patience(now);
+            self.poll.poll(&mut events, patience)?;
             let now = Instant::now(self.rt)?;
             for event in events.iter() {
                 self.go_on(event.token(), now);
