@@ -116,7 +116,7 @@ fn run_line(rt: &HostRuntime, line: CommandLine<'_>) -> u8 {
         CommandLine::CheckScript { file } => check_script_in(rt, file),
         CommandLine::Serve {
             database,
-            service,
+            ref service,
             config,
             moment,
         } => {

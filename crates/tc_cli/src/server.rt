@@ -34,7 +34,7 @@ const PAUSE_MILLISECONDS: u64 = 100;
 const LAST_MILLISECONDS: u64 = 5_000;
 
 /// Why a server ends.
-#[derive(Clone, Copy, Debug, PartialEq, Eq)]
+#[derive(Clone, Copy, PartialEq, Eq)]
 pub(crate) enum End {
     /// So many connections were served as were asked for.
     Count,
@@ -50,7 +50,7 @@ pub(crate) enum End {
 #[derive(Drop)]
 pub(crate) struct Server<'a> {
     rt: &'a HostRuntime,
-    service: Service<'a>,
+    service: &'a Service<'a>,
     door: Door,
     routes: Routes,
     poll: Poll,
@@ -72,7 +72,7 @@ impl<'a> Server<'a> {
     pub(crate) fn new(
         rt: &'a HostRuntime,
         mut listener: TcpListener,
-        service: Service<'a>,
+        service: &'a Service<'a>,
     ) -> io::Result<Server<'a>> {
         let alloc = rt.alloc();
         let poll = Poll::new(rt)?;

@@ -14,7 +14,7 @@ use tc_types::Counted;
 use tc_words::Service;
 
 /// Why a desk is not served, or no longer.
-#[derive(Clone, Copy, Debug, PartialEq, Eq)]
+#[derive(Clone, Copy, PartialEq, Eq)]
 pub enum ServiceFault {
     /// As the run of a script ends before its end.
     Desk(Unusable),
@@ -53,7 +53,7 @@ pub(crate) fn closed<T: Drop>(
 }
 
 /// What the end of a server comes to.
-fn ended(rt: &HostRuntime, service: Service<'_>, end: End) -> Result<(), ServiceFault> {
+fn ended(rt: &HostRuntime, service: &Service<'_>, end: End) -> Result<(), ServiceFault> {
     match end {
         End::Count => {
             let count = service.count.unwrap_or(0);
@@ -75,7 +75,7 @@ fn serve_by(
     mut server: Server<'_>,
     file: &str,
     opening: &Opening,
-    service: Service<'_>,
+    service: &Service<'_>,
 ) -> Result<(), ServiceFault> {
     let store = open_desk(rt, file)?;
     let mut writer = Counted::new(io::writer(rt));
@@ -95,7 +95,10 @@ fn serve_by(
 }
 
 /// A server that listens, if the port and the standard input can be used.
-fn listening<'a>(rt: &'a HostRuntime, service: Service<'a>) -> Result<Server<'a>, ServiceFault> {
+fn listening<'a>(
+    rt: &'a HostRuntime,
+    service: &'a Service<'a>,
+) -> Result<Server<'a>, ServiceFault> {
     let address = SocketAddr::from((Ipv4Addr::LOCALHOST, service.port));
     let listener = TcpListener::bind(rt, address).map_err(|_| ServiceFault::Port(service.port))?;
     Server::new(rt, listener, service).map_err(|error| match error.kind() {
@@ -112,7 +115,7 @@ pub fn serve(
     rt: &HostRuntime,
     file: &str,
     opening: &Opening,
-    service: Service<'_>,
+    service: &Service<'_>,
 ) -> Result<(), ServiceFault> {
     match listening(rt, service) {
         Ok(server) => serve_by(rt, server, file, opening, service),

@@ -7,7 +7,7 @@ ghost use Rattle.tc_copy.specs.Marks.{IsOneState, IsSameFile, IsSameLog, Stands}
 const FIRST: u8 = 0x37;
 
 /// Which file it is, how long, and when it was written last, as the system tells.
-#[derive(Clone, Copy, Debug, PartialEq, Eq)]
+#[derive(Clone, Copy, PartialEq, Eq)]
 pub struct FileStamp {
     pub device: u64,
     pub inode: u64,
@@ -17,14 +17,14 @@ pub struct FileStamp {
 }
 
 /// A log that is there: its stamp, and its first bytes, with zeros behind its end where it is shorter.
-#[derive(Clone, Copy, Debug)]
+#[derive(Clone, Copy)]
 pub struct LogMark {
     pub stamp: FileStamp,
     pub head: [u8; 32],
 }
 
 /// What is read of a database file and its log, to tell whether the log was emptied meanwhile.
-#[derive(Clone, Copy, Debug)]
+#[derive(Clone, Copy)]
 pub struct Marks {
     pub file: FileStamp,
     pub log: Option<LogMark>,

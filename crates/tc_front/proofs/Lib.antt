@@ -6,6 +6,7 @@ pub mod FrontLemmas
 pub mod DoorLemmas
 pub mod WantedLemmas
 pub mod ReadLemmas
+pub mod QueueLemmas
 pub mod WriteLemmas
 mod SeekLaws
 mod WalkLaws

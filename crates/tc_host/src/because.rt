@@ -6,7 +6,7 @@ use std::io;
 use tc_closed::ScriptFault;
 
 /// Why something cannot be used.
-#[derive(Clone, Copy, Debug, PartialEq, Eq)]
+#[derive(Clone, Copy, PartialEq, Eq)]
 pub enum Because {
     /// There is no file of this name.
     Missing,
@@ -88,7 +88,7 @@ impl Because {
 }
 
 /// A fault, and why it came, where that was told as it came.
-#[derive(Clone, Copy, Debug, PartialEq, Eq)]
+#[derive(Clone, Copy, PartialEq, Eq)]
 pub struct Unusable {
     pub fault: ScriptFault,
     pub because: Option<Because>,

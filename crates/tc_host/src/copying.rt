@@ -13,7 +13,7 @@ use tc_copy::is_one_state;
 use tc_types::Counted;
 
 /// A file by its name: that of a database, or what stands beside it.
-#[derive(Clone, Copy, Debug, PartialEq, Eq)]
+#[derive(Clone, Copy, PartialEq, Eq)]
 pub enum Beside {
     Database,
     Log,
@@ -32,7 +32,7 @@ impl Beside {
 }
 
 /// Why a desk is not copied.
-#[derive(Clone, Copy, Debug, PartialEq, Eq)]
+#[derive(Clone, Copy, PartialEq, Eq)]
 pub enum CopyFault {
     /// Its file cannot be read, or holds no desk that opens.
     Desk,

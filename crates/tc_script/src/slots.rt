@@ -2,7 +2,7 @@
 use crate::sorts::Sort;
 
 /// A place of a line.
-#[derive(Clone, Copy, Debug, PartialEq, Eq)]
+#[derive(Clone, Copy, PartialEq, Eq)]
 pub enum Slot {
     /// When.
     Moment,

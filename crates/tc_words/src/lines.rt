@@ -6,7 +6,7 @@ use tc_world::Config;
 use thiserror::Error;
 
 /// What is told of the lines of a script besides what they are answered.
-#[derive(Clone, Copy, Debug, PartialEq, Eq)]
+#[derive(Clone, Copy, PartialEq, Eq)]
 pub struct Telling {
     /// Whether each line is shown before its answer.
     pub echo: bool,
@@ -15,7 +15,7 @@ pub struct Telling {
 }
 
 /// How a desk is served over HTTP.
-#[derive(Clone, Copy, Debug, PartialEq, Eq)]
+#[derive(Clone, Copy, PartialEq, Eq)]
 pub struct Service<'a> {
     /// The port of 127.0.0.1, 1 to 65,535.
     pub port: u16,
@@ -32,7 +32,7 @@ pub struct Service<'a> {
 }
 
 /// What the words of a command line ask the program to do.
-#[derive(Clone, Copy, Debug, PartialEq, Eq)]
+#[derive(Clone, Copy, PartialEq, Eq)]
 pub enum CommandLine<'a> {
     /// Run the script at this path, or the standard input where it is `-`, on a new desk with this window, channel and links.
     Run {
