@@ -109,13 +109,18 @@ small 100
 unopened "files of 100 KiB" $? "the disk failed"
 small 300
 filled "files of 300 KiB" $? "the disk failed"
-mounted="file systems of 96 and 384 KiB were filled"
+mounted="file systems of 64, 96 and 384 KiB were filled"
 if mount -t tmpfs -o size=8k none disk 2>/dev/null && umount disk; then
     on_disk 96
     unopened "a file system of 96 KiB" $? "the disk is full"
     umount disk
     on_disk 384
     filled "a file system of 384 KiB" $? "the disk is full"
+    umount disk
+    mount -t tmpfs -o size=64k none disk
+    full=$'tcdesk: cannot use disk/copy.db\ntcdesk: because the disk is full\n2'
+    same "a copy on a full disk" "$full" "$("$program" backup kept.db disk/copy.db 2>&1; echo $?)"
+    same "a copy on a full disk: what is left" "" "$(ls -A disk)"
     umount disk
 else
     mounted="no file system may be mounted here, so none was filled"

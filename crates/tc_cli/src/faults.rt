@@ -44,11 +44,6 @@ pub(crate) fn cannot_read_script(rt: &HostRuntime, path: &str) -> u8 {
     cannot_use_so(rt, path, why_no_script(rt, path))
 }
 
-/// Says that the desk in a file cannot be read, and why.
-fn cannot_read_desk(rt: &HostRuntime, file: &str) -> u8 {
-    cannot_use_so(rt, file, why_no_desk(rt, file))
-}
-
 /// The exit status of what ended with a fault that needs no name of a file. None where it needs one.
 fn plain_status(rt: &HostRuntime, fault: ScriptFault) -> Option<u8> {
     match fault {
@@ -96,13 +91,14 @@ pub(crate) fn kept_status(
 }
 
 /// The exit status of a report of the desk that a file keeps.
-pub(crate) fn report_status(rt: &HostRuntime, printed: Result<(), ScriptFault>, file: &str) -> u8 {
-    match printed {
-        Ok(()) => 0,
-        Err(fault) => match plain_status(rt, fault) {
-            Some(status) => status,
-            None => cannot_read_desk(rt, file),
-        },
+pub(crate) fn report_status(rt: &HostRuntime, printed: Result<(), Unusable>, file: &str) -> u8 {
+    let why = match printed {
+        Ok(()) => return 0,
+        Err(why) => why,
+    };
+    match plain_status(rt, why.fault) {
+        Some(status) => status,
+        None => cannot_use_so(rt, file, why.because.or_else(|| why_no_desk(rt, file))),
     }
 }
 
@@ -115,8 +111,12 @@ pub(crate) fn copy_status(
 ) -> u8 {
     match copied {
         Ok(()) => 0,
-        Err(CopyFault::Desk) => cannot_use_so(rt, file, why_uncopied(rt, file)),
-        Err(CopyFault::Copy) => cannot_use_so(rt, copy, why_unwritable(rt, copy)),
+        Err(CopyFault::Desk(because)) => {
+            cannot_use_so(rt, file, because.or_else(|| why_uncopied(rt, file)))
+        }
+        Err(CopyFault::Copy(because)) => {
+            cannot_use_so(rt, copy, because.or_else(|| why_unwritable(rt, copy)))
+        }
         Err(CopyFault::Memory) => cannot_use(rt, "memory"),
         Err(CopyFault::Output) => cannot_use(rt, "output"),
         Err(CopyFault::Taken(beside)) => {
