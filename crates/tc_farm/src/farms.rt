@@ -6,7 +6,7 @@ use std::marker::Model;
 use tc_types::{Frame, Payload, RequestNumber};
 
 /// The states of FARM-1 (CCSDS 232.1-B, 6.1.2).
-#[derive(Clone, Copy, PartialEq, Eq)]
+#[derive(Clone, Copy, Debug, PartialEq, Eq)]
 pub enum FarmState {
     /// Frames in order are accepted.
     Open,

@@ -2,7 +2,7 @@
 use tc_types::RequestNumber;
 
 /// The states of FOP-1 (CCSDS 232.1-B, 5.1.2).
-#[derive(Clone, Copy, PartialEq, Eq)]
+#[derive(Clone, Copy, Debug, PartialEq, Eq)]
 pub enum FopState {
     /// S1 Active.
     Active,
@@ -19,7 +19,7 @@ pub enum FopState {
 }
 
 /// Why the FOP stopped its service (CCSDS 232.1-B, 5.2.7).
-#[derive(Clone, Copy, PartialEq, Eq)]
+#[derive(Clone, Copy, Debug, PartialEq, Eq)]
 pub enum AlertKind {
     /// The Transmission_Limit was reached.
     Limit,

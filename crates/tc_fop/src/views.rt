@@ -2,7 +2,7 @@
 use crate::signals::FopState;
 
 /// The variables of a FOP, without the requests in its queues.
-#[derive(Clone, Copy, PartialEq, Eq)]
+#[derive(Clone, Copy, Debug, PartialEq, Eq)]
 pub struct FopView {
     /// The state.
     pub state: FopState,

@@ -9,7 +9,7 @@ use tc_copy::FileStamp;
 /// Where the system lists the locks that stand (proc_locks(5)).
 const LIST: &str = "/proc/locks";
 
-/// The first byte that SQLite locks of a file. A program that has a desk open locks it, and those behind it, of the database file and of the log.
+/// The first byte that SQLite locks of a file. A program that has a desk open locks it, and the bytes after it, of the database file and of the log.
 const FIRST_BYTE: &str = "1073741824";
 
 /// The locks that stand, as the system lists them; none where it lists none to this program.

@@ -8,7 +8,7 @@ use std::alloc::{AllocError, Allocator};
 
 /// The desk's refusals, by number and name. A refusal changes nothing, but for `Store`, after which the desk is
 /// stopped, and `WriteFault`, which speaks of an answer alone.
-#[derive(Clone, Copy, PartialEq, Eq)]
+#[derive(Clone, Copy, Debug, PartialEq, Eq)]
 pub enum Refusal {
     /// 1: the text is no act, query or line.
     BadText,

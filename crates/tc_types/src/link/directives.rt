@@ -1,7 +1,7 @@
 //! What the FOP can be told to do.
 
 /// A directive to the FOP (CCSDS 232.1-B, 5.2.2).
-#[derive(Clone, Copy, PartialEq, Eq)]
+#[derive(Clone, Copy, Debug, PartialEq, Eq)]
 pub enum Directive {
     /// Initiate AD service without CLCW check.
     InitiateNone,
