@@ -3,6 +3,7 @@ pub mod Responses
 pub mod Bodies
 pub mod Acts
 pub mod Loads
+pub mod Openings
 pub mod Serving
 pub mod Exchange
 pub mod Kept

@@ -7,6 +7,7 @@ mod endings;
 mod exchange;
 pub mod laws;
 mod loads;
+mod openings;
 mod responses;
 mod serving;
 mod walls;

@@ -6,18 +6,22 @@ ghost use Rattle.tc_api.specs.Walls.{RefusesWall, TellsWall};
 use sqlite::Alter;
 use std::alloc::Global;
 use tc_room::Room;
-use tc_types::Refusal;
+use tc_types::{Moment, Refusal};
 use tc_view::desk_page;
 use tc_wall::MOST_BYTES;
 
-/// The page of the wall. The desk says it: no table is read. `Stopped` where the room has stopped, else `Memory` where that is refused.
-pub(crate) fn wall_page<S: Alter + Drop>(alloc: Global, room: &Room<S>) -> Result<String, Refusal>
-    ensures told { IfOk result (λ page. TellsWall room.now (string_bytes page)) }
+/// The page of the wall of a room that was opened at this moment. The desk says it: no table is read. `Stopped` where the room has stopped, else `Memory` where that is refused.
+pub(crate) fn wall_page<S: Alter + Drop>(
+    alloc: Global,
+    room: &Room<S>,
+    since: Moment,
+) -> Result<String, Refusal>
+    ensures told { IfOk result (λ page. TellsWall since room.now (string_bytes page)) }
     ensures few { IfOk result (λ page. string_len page ≤ MOST_BYTES) }
     ensures refused { IfErr result (RefusesWall room.now) }
 {
     if room.stopped() {
         return Err(Refusal::Stopped);
     }
-    Ok(desk_page(alloc, room.desk())?)
+    Ok(desk_page(alloc, room.desk(), since)?)
 }

@@ -16,7 +16,7 @@ use tc_room::Room;
 use tc_run::{
     NumberedLine, Opening, exchange, last_moment, latest_moment, numbered_lines, open_told,
 };
-use tc_types::{Counted, Refusal};
+use tc_types::{Counted, Moment, Refusal};
 use tc_words::Telling;
 
 /// How many connections of other programs are let go at most before a program's own comes.
@@ -34,6 +34,8 @@ struct Server {
     listener: TcpListener,
     port: u16,
     door: Door,
+    /// When the desk was opened.
+    since: Moment,
 }
 
 /// What a call on a port tells by failing so.
@@ -46,7 +48,7 @@ fn fault_of(port: u16, error: &io::Error) -> ServiceFault {
 }
 
 /// Listens on 127.0.0.1 on a port that the system picks.
-fn listen(rt: &HostRuntime) -> Result<Server, ServiceFault> {
+fn listen(rt: &HostRuntime, since: Moment) -> Result<Server, ServiceFault> {
     let bound = TcpListener::bind(rt, (Ipv4Addr::LOCALHOST, 0));
     let listener = bound.map_err(|_| ServiceFault::Port(0))?;
     let address = listener.local_addr().map_err(|_| ServiceFault::Port(0))?;
@@ -55,6 +57,7 @@ fn listen(rt: &HostRuntime) -> Result<Server, ServiceFault> {
         listener,
         port,
         door: Door::new(rt.alloc(), port, None)?,
+        since,
     })
 }
 
@@ -88,6 +91,7 @@ fn serve_client<S: Alter + Drop>(
     let served = serve_one(
         alloc,
         &server.door,
+        server.since,
         &mut Counted::new(&stream),
         &mut Counted::new(&stream),
         room,
@@ -179,14 +183,23 @@ fn send_question<S: Alter + Drop, W: Write>(
 fn send_script<S: Alter + Drop, W: Write>(
     rt: &HostRuntime,
     room: &mut Room<S>,
+    since: Moment,
     lines: &[NumberedLine<'_>],
     watch: &HostWatch<'_>,
     writer: &mut Counted<W>,
 ) -> Result<u8, ServiceFault> {
-    let server = listen(rt)?;
+    let server = listen(rt, since)?;
     let refused = send_lines(rt, &server, room, lines, watch, writer)?;
     let last = send_question(rt, &server, room, writer)?;
     Ok(status_of(refused | last))
+}
+
+/// Says, if all is told, when a desk was opened that was worked before, and how many moves stood then. Its link is new since.
+fn tell_new_link(rt: &HostRuntime, telling: Telling, since: Moment, stood: usize) {
+    if telling.verbose && stood > 0 {
+        let at = since.get();
+        let _ = eprintln!(rt; "tcdesk: opened at {at} after {stood} moves: the link is new");
+    }
 }
 
 /// Sends the lines of a script to the desk that a file keeps, opened at a moment, over HTTP: writes the moves that the opening made, the lines
@@ -209,7 +222,8 @@ pub fn send_to_file(
         Ok(mut room) => {
             let watch = HostWatch::of_loop(rt, script, telling);
             watch.opened(opening.moment, latest_moment(&room));
-            let ended = send_script(rt, &mut room, &lines, &watch, &mut writer);
+            tell_new_link(rt, telling, opening.moment, room.opened());
+            let ended = send_script(rt, &mut room, opening.moment, &lines, &watch, &mut writer);
             closed(room.into_connection(), ended)
         }
         Err(left) => closed(left.store, Err(ServiceFault::from(left.fault))),

@@ -11,7 +11,7 @@ use std::time::{Duration, Instant};
 use tc_api::serve_one;
 use tc_front::{Door, Queue, Routes, Whole};
 use tc_room::Room;
-use tc_types::{Counted, Refusal};
+use tc_types::{Counted, Moment, Refusal};
 use tc_words::Service;
 
 /// How many connections are open at most. A request has 73,728 bytes at most, and up to 4,095 that came with its last: so all of them hold 20 MB.
@@ -51,6 +51,8 @@ pub(crate) enum End {
 pub(crate) struct Server<'a> {
     rt: &'a HostRuntime,
     service: &'a Service<'a>,
+    /// When the desk was opened.
+    since: Moment,
     door: Door,
     routes: Routes,
     poll: Poll,
@@ -68,11 +70,12 @@ pub(crate) struct Server<'a> {
 }
 
 impl<'a> Server<'a> {
-    /// A server at this port, which is listened at.
+    /// A server at this port, which is listened at, of a desk that is opened at this moment.
     pub(crate) fn new(
         rt: &'a HostRuntime,
         mut listener: TcpListener,
         service: &'a Service<'a>,
+        since: Moment,
     ) -> io::Result<Server<'a>> {
         let alloc = rt.alloc();
         let poll = Poll::new(rt)?;
@@ -89,6 +92,7 @@ impl<'a> Server<'a> {
         Ok(Server {
             rt,
             service,
+            since,
             door: Door::new(alloc, service.port, service.host)?,
             routes: Routes::new(alloc)?,
             poll,
@@ -301,7 +305,14 @@ impl<'a> Server<'a> {
         let alloc = self.rt.alloc();
         let mut reader = Counted::new(whole.text.as_slice());
         let mut writer = Counted::new(Vec::new(alloc));
-        let served = serve_one(alloc, &self.door, &mut reader, &mut writer, room);
+        let served = serve_one(
+            alloc,
+            &self.door,
+            self.since,
+            &mut reader,
+            &mut writer,
+            room,
+        );
         let Some(peer) = &mut self.peers[whole.peer] else {
             return;
         };

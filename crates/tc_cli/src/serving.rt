@@ -10,7 +10,7 @@ use std::net::{Ipv4Addr, SocketAddr};
 use tc_closed::ScriptFault;
 use tc_host::{Because, Unusable, of_tables, open_desk, opening_fault, tell_opening};
 use tc_run::{Opening, latest_moment, open_told};
-use tc_types::Counted;
+use tc_types::{Counted, Moment};
 use tc_words::Service;
 
 /// Why a desk is not served, or no longer.
@@ -98,10 +98,11 @@ fn serve_by(
 fn listening<'a>(
     rt: &'a HostRuntime,
     service: &'a Service<'a>,
+    since: Moment,
 ) -> Result<Server<'a>, ServiceFault> {
     let address = SocketAddr::from((Ipv4Addr::LOCALHOST, service.port));
     let listener = TcpListener::bind(rt, address).map_err(|_| ServiceFault::Port(service.port))?;
-    Server::new(rt, listener, service).map_err(|error| match error.kind() {
+    Server::new(rt, listener, service, since).map_err(|error| match error.kind() {
         io::ErrorKind::OutOfMemory => ServiceFault::from(ScriptFault::Memory),
         io::ErrorKind::PermissionDenied => ServiceFault::Input,
         _ => ServiceFault::Port(service.port),
@@ -117,7 +118,7 @@ pub fn serve(
     opening: &Opening,
     service: &Service<'_>,
 ) -> Result<(), ServiceFault> {
-    match listening(rt, service) {
+    match listening(rt, service, opening.moment) {
         Ok(server) => serve_by(rt, server, file, opening, service),
         Err(fault) => {
             opening_fault(rt, file)?;

@@ -22,6 +22,8 @@ pub enum Decision<'a> {
     Asks(Query),
     /// The request asks for the wall.
     ShowsWall,
+    /// The request asks how the desk was opened.
+    TellsOpening,
     /// The request posts this body, which is whole. It need not be text.
     Posts { post: Post, body: &'a [u8] },
 }
@@ -35,6 +37,7 @@ fn complete<'a>(judgement: Judgement, rest: &'a [u8]) -> Option<Decision<'a>>
         Judgement::Refused(refused) => Some(Decision::Refused(refused)),
         Judgement::Asks(query) => Some(Decision::Asks(query)),
         Judgement::ShowsWall => Some(Decision::ShowsWall),
+        Judgement::TellsOpening => Some(Decision::TellsOpening),
         Judgement::Posts { post, size } => {
             if size > rest.len() {
                 return None;
@@ -77,7 +80,10 @@ fn body_size(judgement: &Judgement) -> usize
 {
     match judgement {
         Judgement::Posts { size, .. } => *size,
-        Judgement::Refused(_) | Judgement::Asks(_) | Judgement::ShowsWall => 0,
+        Judgement::Refused(_)
+        | Judgement::Asks(_)
+        | Judgement::ShowsWall
+        | Judgement::TellsOpening => 0,
     }
 }
 

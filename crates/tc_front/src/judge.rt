@@ -43,6 +43,8 @@ pub(crate) enum Judgement {
     Asks(Query),
     /// It asks for the wall.
     ShowsWall,
+    /// It asks how the desk was opened.
+    TellsOpening,
     /// It posts a body of so many bytes.
     Posts { post: Post, size: usize },
 }
@@ -97,6 +99,7 @@ fn judge_body(lengths: FieldValues<'_>, path: Path<'_>) -> Judgement
         Path::Posts(post) => judge_post(lengths, post),
         Path::Asks(question) => judge_get(lengths, judge_question(question)),
         Path::Wall => judge_get(lengths, Judgement::ShowsWall),
+        Path::Opening => judge_get(lengths, Judgement::TellsOpening),
     }
 }
 
@@ -106,7 +109,7 @@ fn method_of(path: Path<'_>) -> &'static [u8]
 {
     match path {
         Path::Posts(_) => b"POST",
-        Path::Asks(_) | Path::Wall => b"GET",
+        Path::Asks(_) | Path::Wall | Path::Opening => b"GET",
     }
 }
 

@@ -39,4 +39,6 @@ pub enum Path<'a> {
     Asks(Question<'a>),
     /// `/board`: it shows the wall.
     Wall,
+    /// `/opening`: it tells how the desk was opened.
+    Opening,
 }

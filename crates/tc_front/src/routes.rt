@@ -26,6 +26,7 @@ pub(crate) enum RouteKind {
     Moves,
     Procedure,
     Wall,
+    Opening,
 }
 
 /// The path of this kind with these texts, which are empty where it has none.
@@ -50,6 +51,7 @@ fn path_at<'a>(kind: RouteKind, first: &'a [u8], second: &'a [u8]) -> Path<'a>
         RouteKind::Moves => Path::Asks(Question::Moves { after: first }),
         RouteKind::Procedure => Path::Asks(Question::Procedure { name: first }),
         RouteKind::Wall => Path::Wall,
+        RouteKind::Opening => Path::Opening,
     }
 }
 
@@ -117,6 +119,7 @@ impl Routes {
         add(&mut router, "/moves/{after}", RouteKind::Moves)?;
         add(&mut router, "/procedures/{name}", RouteKind::Procedure)?;
         add(&mut router, "/board", RouteKind::Wall)?;
+        add(&mut router, "/opening", RouteKind::Opening)?;
         Ok(Routes { router })
     }
 

@@ -28,15 +28,22 @@ pub record ShowsBook (book : Book) (wall : Wall) : Type 0 where
   pub moves : wall.moves.now ≡ book.history
   pub moved : wall.moved ≡ length book.history
 
--- what is told of a desk that is open: what the questions `link` and `schedule` are answered
-pub record ShowsLive {U D : Type 0} (up : Kind U Frame) (down : Kind D Report) (desk : State U D) (live : Live) : Type 0 where
+-- how a desk was opened: when, and how many moves stood then
+pub record Opening : Type 0 where
+  pub since : ℕ
+  pub stood : ℕ
+
+-- what is told of a desk that is open: how it was opened, and what the questions `link` and `schedule` are answered
+pub record ShowsLive {U D : Type 0} (up : Kind U Frame) (down : Kind D Report) (opening : Opening) (desk : State U D) (live : Live) : Type 0 where
+  pub since : live.since ≡ opening.since
+  pub stood : live.stood ≡ opening.stood
   pub link : live.link ≡ link_of (status_of up down desk)
   pub schedule : IsScheduleOf desk.mirror live.schedule
 
 -- a wall shows a desk that is open
-pub record ShowsDesk {U D : Type 0} (up : Kind U Frame) (down : Kind D Report) (desk : State U D) (wall : Wall) : Type 0 where
+pub record ShowsDesk {U D : Type 0} (up : Kind U Frame) (down : Kind D Report) (opening : Opening) (desk : State U D) (wall : Wall) : Type 0 where
   pub shown : ShowsBook desk.book wall
-  pub live : IsSomeAnd wall.live (ShowsLive up down desk)
+  pub live : IsSomeAnd wall.live (ShowsLive up down opening desk)
 
 -- a wall shows the book of a file that nobody has open
 pub record ShowsFile (book : Book) (wall : Wall) : Type 0 where
@@ -44,9 +51,9 @@ pub record ShowsFile (book : Book) (wall : Wall) : Type 0 where
   pub live : wall.live ≡ None
 
 -- the page of an open desk, and that of a file that nobody has open
-pub record IsDeskPage {U D : Type 0} (up : Kind U Frame) (down : Kind D Report) (desk : State U D) (page : List ℕ) : Type 0 where
+pub record IsDeskPage {U D : Type 0} (up : Kind U Frame) (down : Kind D Report) (opening : Opening) (desk : State U D) (page : List ℕ) : Type 0 where
   pub wall : Wall
-  pub shows : ShowsDesk up down desk wall
+  pub shows : ShowsDesk up down opening desk wall
   pub bytes : page ≡ wall_page wall
 
 pub record IsFilePage (book : Book) (page : List ℕ) : Type 0 where

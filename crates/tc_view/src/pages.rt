@@ -13,7 +13,7 @@ use crate::waits::waits_of;
 use std::alloc::{AllocError, Allocator};
 use tc_book::Records;
 use tc_desk::Desk;
-use tc_types::{Frame, Report};
+use tc_types::{Frame, Moment, Report};
 use tc_wall::{Live, MOST_BYTES, ShownSchedule, Wall, wall_text};
 use tc_world::Carrier;
 
@@ -61,16 +61,19 @@ pub fn file_page<A: Allocator + Copy + Drop>(
     page_of(alloc, records, None)
 }
 
-/// The page of a desk that is open. Fails where memory is refused.
+/// The page of a desk that was opened at this moment. Fails where memory is refused.
 pub fn desk_page<U: Carrier<Frame> + Drop, D: Carrier<Report> + Drop, A: Allocator + Copy + Drop>(
     alloc: A,
     desk: &Desk<U, D, A>,
+    since: Moment,
 ) -> Result<String<A>, AllocError>
-    ensures page { IfOk result (λ t. IsDeskPage U.kind D.kind desk.now.parts (string_bytes t)) }
+    ensures page { IfOk result (λ t. IsDeskPage U.kind D.kind (record { since = since; stood = desk.now.opened }) desk.now.parts (string_bytes t)) }
     ensures few { IfOk result (λ t. string_len t ≤ MOST_BYTES) }
 {
     let schedule = desk.schedule()?;
     let live = Live {
+        since,
+        stood: desk.opened(),
         link: link_of(&desk.link()),
         schedule: ShownSchedule {
             enabled: schedule.enabled,

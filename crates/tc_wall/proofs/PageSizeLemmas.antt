@@ -43,7 +43,7 @@ use Rattle.tc_wall.specs.MoveParts.{move_parts, moves_parts}
 use Rattle.tc_wall.specs.Page.{laid_in, size_word, refresh_parts, head_parts, live_parts, page, wall_page}
 use Rattle.tc_wall.specs.Ranges.{IsShort, IsMoveInRange, IsWantingInRange, IsWaitingInRange, IsWaitInRange, IsOriginInRange, IsWayInRange, AreQueuesInRange, AreCountersInRange, IsFopInRange, IsFarmInRange, IsLinkInRange, IsActivityInRange, IsScheduleInRange, IsLiveInRange, IsWallInRange}
 use Rattle.tc_wall.proofs.ListLemmas.{flat_map-append}
-use Rattle.tc_wall.proofs.SizeLemmas.{size, of_nothing, of_text, of_words, of_u16, of_u32, of_u64, of_place, of_name, chosen_size, entered_size, moved_size, tile_begins_size, tile_label_size, count_size, request_begins_size, stack_begins_size, approvals_size, rows_size, author_size, free_size, locked_size, doubt_size, work_size, worded_size, number_size, share_size, flies_size, section_size, premise_size, enabled_size, activity_size, row_begins_size, identity_size, command_size, way_author_size, bar_begins_size, place_size, label_size, tick_size, ticks_begin_size, who_size, what_size}
+use Rattle.tc_wall.proofs.SizeLemmas.{size, of_nothing, of_text, of_words, of_u16, of_u32, of_u64, of_place, of_name, chosen_size, entered_size, moved_size, opened_size, tile_begins_size, tile_label_size, count_size, request_begins_size, stack_begins_size, approvals_size, rows_size, author_size, free_size, locked_size, doubt_size, work_size, worded_size, number_size, share_size, flies_size, section_size, premise_size, enabled_size, activity_size, row_begins_size, identity_size, command_size, way_author_size, bar_begins_size, place_size, label_size, tick_size, ticks_begin_size, who_size, what_size}
 use Rattle.tc_wall.proofs.AxisLemmas.{IsOnAxis, axis_small, x_small, lines_small, lines_few, all_reversed}
 
 -- parts behind parts
@@ -81,19 +81,19 @@ none_size : (count : ℕ) (said : List ℕ) → length said ≤ 19 → size (non
 unfolding none_parts
 none_size count said few = chosen (nat_lt 0 count) _ _ 40 (more [] 0 40 (omega arith) of_nothing) (of_text _ _ 24 (of_words said 19 _ 5 few (of_text _ _ 0 of_nothing)))
 
-file_size : (live : Option Live) → size (file_parts live) ≤ 34
+file_size : (live : Option Live) → IfSome live IsLiveInRange → size (file_parts live) ≤ 88
 unfolding file_parts
-file_size (Some live) = more [] 0 34 (omega arith) of_nothing
-file_size None = more _ 32 34 (omega arith) (of_text _ _ 0 of_nothing)
+file_size (Some live) h = opened_size live.since live.stood h.stood
+file_size None h = more _ 32 88 (omega arith) (of_text _ _ 0 of_nothing)
 
 last_size : (last : Option Move) → IfSome last (λ row. row.seq < 2 ^ 32) → size (last_parts last) ≤ 69
 last_size (Some row) small = moved_size row small
 last_size None h = fixed_size _ 69 (lit≤ tt)
 
-heading_size : (b : Wall) → b.entered < 2 ^ 32 → IfSome (slice_get b.moves.now (length b.moves.now - 1)) (λ row. row.seq < 2 ^ 32) → size (heading_parts b) ≤ 346
+heading_size : (b : Wall) → b.entered < 2 ^ 32 → IfSome b.live IsLiveInRange → IfSome (slice_get b.moves.now (length b.moves.now - 1)) (λ row. row.seq < 2 ^ 32) → size (heading_parts b) ≤ 400
 unfolding heading_parts
-heading_size b entered last =
-    both _ _ 336 10 (both _ _ 267 69 (both _ _ 234 33 (both _ _ 200 34 (fixed_size HEADING.now 200 (lit≤ tt)) (file_size b.live)) (entered_size b.entered entered)) (last_size _ last)) (fixed_size _ 10 (lit≤ tt))
+heading_size b entered live last =
+    both _ _ 390 10 (both _ _ 321 69 (both _ _ 288 33 (both _ _ 200 88 (fixed_size HEADING.now 200 (lit≤ tt)) (file_size b.live live)) (entered_size b.entered entered)) (last_size _ last)) (fixed_size _ 10 (lit≤ tt))
 
 -- ---- the tiles
 
@@ -355,12 +355,12 @@ head_size b =
     both _ _ 21197 3 (both _ _ 21193 4 (both _ _ 21159 34 (both _ _ 21059 100 (both _ _ 21000 59 (both _ _ 1000 20000 (fixed_size HEAD.now 1000 (lit≤ tt)) (fixed_size STYLE.now 20000 (lit≤ tt))) (fixed_size _ 59 (lit≤ tt)))
     (refresh_size b.live)) (fixed_size _ 34 (lit≤ tt))) (fixed_size _ 4 (word_size b))) (fixed_size _ 3 (lit≤ tt))
 
-whole_size : (b : Wall) → IsWallInRange b → size (page b) ≤ 442397
+whole_size : (b : Wall) → IsWallInRange b → size (page b) ≤ 442451
 unfolding page
 whole_size b h =
-    both _ _ 442097 300 (both _ _ 428978 13119 (both _ _ 165244 263734 (both _ _ 160846 4398 (both _ _ 23127 137719 (both _ _ 21546 1581 (both _ _ 21200 346 (head_size b) (heading_size b h.entered h.last)) (tiles_size b.counts.now h.counts))
+    both _ _ 442151 300 (both _ _ 429032 13119 (both _ _ 165298 263734 (both _ _ 160900 4398 (both _ _ 23181 137719 (both _ _ 21600 1581 (both _ _ 21200 400 (head_size b) (heading_size b h.entered h.live h.last)) (tiles_size b.counts.now h.counts))
     (waits_size b h.waits h.waits_count)) (live_size b.live h.live)) (ways_size b h.ways h.ways_count)) (moves_size b h.moves h.moves_count)) (fixed_size FOOT.now 300 (lit≤ tt))
 
 pub page_size : (b : Wall) → IsWallInRange b → length (wall_page b) ≤ MOST_BYTES
 unfolding wall_page size
-page_size b h = more (page b) 442397 MOST_BYTES (lit≤ tt) (whole_size b h)
+page_size b h = more (page b) 442451 MOST_BYTES (lit≤ tt) (whole_size b h)

@@ -1,4 +1,4 @@
--- The heading: how many requests were entered, and the last move; a closed file says so.
+-- The heading: how the desk was opened, how many requests were entered, and the last move; a closed file says so.
 use Rattle.std.specs.Prelude.{ℕ, ◌-◌, Option, Some, None, List, [], ◌∷◌, ◌++◌, codes, length, slice_get}
 use Rattle.tc_types.specs.declared.history.moves.Move.{Move}
 use Rattle.tc_wall.specs.declared.walls.Live.{Live}
@@ -6,8 +6,13 @@ use Rattle.tc_wall.specs.declared.walls.Wall.{Wall}
 use Rattle.tc_wall.specs.declared.fixed.TheConstants.{HEADING}
 use Rattle.tc_wall.specs.Parts.{Part, Fixed, Number, Time, fixed}
 
+-- when it was opened, and how many moves stood then
+unfoldable pub opened_parts : ℕ → ℕ → List Part
+opened_parts since stood =
+    Fixed (codes "<p>opened at <b>") ∷ Time since ∷ Fixed (codes "</b> UTC after <b>") ∷ Number stood ∷ Fixed (codes "</b> moves</p>\n") ∷ []
+
 unfoldable pub file_parts : Option Live → List Part
-file_parts (Some live) = []
+file_parts (Some live) = opened_parts live.since live.stood
 file_parts None = Fixed (codes "<p class=\"file\">closed file</p>\n") ∷ []
 
 unfoldable pub entered_parts : ℕ → List Part

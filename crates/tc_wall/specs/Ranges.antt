@@ -100,6 +100,7 @@ pub record IsScheduleInRange (s : ShownSchedule) : Type 0 where
   pub laid_in : s.laid_in < 2 ^ 64
 
 pub record IsLiveInRange (live : Live) : Type 0 where
+  pub stood : live.stood < 2 ^ 64
   pub link : IsLinkInRange live.link
   pub schedule : IsScheduleInRange live.schedule
 

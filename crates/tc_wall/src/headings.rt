@@ -2,7 +2,7 @@
 ghost use Rattle.std.specs.Prelude.{◌-◌, length, slice_get, OnOk};
 ghost use Rattle.std.specs.String.{string_bytes};
 ghost use Rattle.tc_wall.specs.Parts.{Adds};
-ghost use Rattle.tc_wall.specs.Heading.{file_parts, entered_parts, moved_parts, last_parts, heading_parts};
+ghost use Rattle.tc_wall.specs.Heading.{file_parts, opened_parts, entered_parts, moved_parts, last_parts, heading_parts};
 
 use crate::bounds::add_fixed;
 use crate::fixed::HEADING;
@@ -10,9 +10,26 @@ use crate::times::time_text;
 use crate::walls::{Live, Wall};
 use std::alloc::{AllocError, Allocator};
 use std::fmt::Write;
-use tc_types::Move;
+use tc_types::{Moment, Move};
 
-/// Adds that the file is closed, where it is.
+/// Adds when the desk was opened, and how many moves stood then.
+#[tactic(auto, unfolding(crate::specs::Heading::opened_parts))]
+fn add_opened<A: Allocator + Copy>(
+    page: &mut String<A>,
+    since: Moment,
+    stood: usize,
+) -> Result<(), AllocError>
+    ensures { OnOk result (Adds (opened_parts since stood) (string_bytes page.old) (string_bytes page.new)) }
+{
+    let time = time_text(since);
+    let time = time.as_str();
+    write!(
+        page,
+        "<p>opened at <b>{time}</b> UTC after <b>{stood}</b> moves</p>\n"
+    )
+}
+
+/// Adds how the desk was opened, or that the file is closed.
 #[tactic(auto, unfolding(crate::specs::Heading::file_parts))]
 fn add_file<A: Allocator + Copy>(
     page: &mut String<A>,
@@ -21,7 +38,7 @@ fn add_file<A: Allocator + Copy>(
     ensures { OnOk result (Adds (file_parts live.now) (string_bytes page.old) (string_bytes page.new)) }
 {
     match live {
-        Some(_) => Ok(()),
+        Some(live) => add_opened(page, live.since, live.stood),
         None => page.push_str("<p class=\"file\">closed file</p>\n"),
     }
 }
@@ -55,7 +72,7 @@ fn add_last<A: Allocator + Copy>(page: &mut String<A>, moves: &[Move]) -> Result
     }
 }
 
-/// Adds the heading: how many requests were entered, and the last move; a closed file says so.
+/// Adds the heading: how the desk was opened, how many requests were entered, and the last move; a closed file says so.
 #[tactic(auto, using(crate::proofs::PartLemmas::then_adds), unfolding(crate::specs::Heading::heading_parts))]
 pub(crate) fn add_heading<A: Allocator + Copy>(
     page: &mut String<A>,

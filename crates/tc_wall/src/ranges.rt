@@ -242,6 +242,7 @@ fn keep_live(live: &Option<Live>)
     ensures { IfSome live.now IsLiveInRange }
 {
     if let Some(live) = live {
+        let _stood = live.stood;
         keep_link(&live.link);
         keep_schedule(&live.schedule);
     }

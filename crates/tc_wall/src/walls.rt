@@ -1,6 +1,6 @@
 //! What the wall shows.
 use crate::links::LinkLines;
-use tc_types::{ListedActivity, Move, PLACES, Place, Request, StepText, Waiting};
+use tc_types::{ListedActivity, Moment, Move, PLACES, Place, Request, StepText, Waiting};
 
 /// The most requests that are shown.
 pub const MOST_OPEN: usize = 200;
@@ -53,6 +53,10 @@ pub struct ShownSchedule<'a> {
 /// What is told of a desk that is open.
 #[derive(Clone, Copy)]
 pub struct Live<'a> {
+    /// When the desk was opened.
+    pub since: Moment,
+    /// How many moves stood then.
+    pub stood: usize,
     /// How the link stands.
     pub link: LinkLines,
     /// The on-board schedule.

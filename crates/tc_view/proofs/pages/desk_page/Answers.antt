@@ -12,7 +12,9 @@ returns-clause-page g c =
     let known = c.in_ok-schedule.schedule in
     let counted : vec_len known.activities ≡ length known.activities.items = search rules in
     let all = c.in_ok-schedule.ensures.all in
-    desk_made g.U.Carrier.kind g.D.Carrier.kind c.args.desk.now.parts _ _ _ c.page_of.result c.records.ensures refl (record {
+    desk_made g.U.Carrier.kind g.D.Carrier.kind (record { since = c.args.since; stood = c.args.desk.now.opened }) c.args.desk.now.parts _ _ _ c.page_of.result c.records.ensures refl (record {
+      since = refl;
+      stood = c.opened-stood.ensures.opened;
       link = c.link_of.ensures ∙ ap link_of c.link.ensures;
       schedule = record {
         enabled = c.in_ok-schedule.ensures.enabled;
