@@ -293,8 +293,7 @@ impl<'a> Server<'a> {
                 return;
             };
             self.serve_whole(room, whole, now);
-            let ends = self.service.count.is_none() || self.service.end_when_stopped;
-            if ends && room.stopped() {
+            if self.service.ends_with_desk() && room.stopped() {
                 self.end(End::Stopped, now);
             }
         }

@@ -1,5 +1,5 @@
 -- What a line of the program is of what its words ask for, and why they ask for nothing.
-use Rattle.std.specs.Prelude.{◌%◌, ◌≡◌, ◌⊎◌, ◌↔◌, ⊤, ℕ, [], IfSome, Option, None, Some, option_map}
+use Rattle.std.specs.Prelude.{◌%◌, ◌≡◌, ◌⊎◌, ◌↔◌, ◌||◌, ⊤, ℕ, [], Bool, IfSome, Option, None, Some, is_none, option_map}
 use Rattle.clap.specs.Words.{IsAmong, Kinds, Text, kind_of}
 use Rattle.clap.specs.declared.error.Error.{Error}
 use Rattle.clap.specs.declared.error.kind.ErrorKind.TheVariants.{OutOfMemory}
@@ -24,6 +24,10 @@ terms_of service = record {
   end_when_stopped = service.end_when_stopped;
   verbose = service.verbose;
 }
+
+-- it ends once its desk has stopped: if it has no count, or if that is asked for
+abbrev pub ends_with_desk : Service → Bool
+ends_with_desk service = is_none service.count || service.end_when_stopped
 
 -- A line asks for this. What stands for the moment of an opening, and for a report's FROM and TO, spells it, also where a new desk is not opened at any; the KIND of a check is the word of its
 -- kind, or that of a script.

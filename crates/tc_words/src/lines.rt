@@ -1,4 +1,6 @@
 //! What a command line asks for, and why one asks for nothing.
+ghost use Rattle.std.specs.Prelude.{◌≡◌};
+ghost use Rattle.tc_words.specs.Lines.{ends_with_desk};
 
 use clap::error::ErrorKind;
 use tc_types::{LoadKind, Moment};
@@ -29,6 +31,15 @@ pub struct Service<'a> {
     pub end_when_stopped: bool,
     /// Whether the standard error says how each connection ended.
     pub verbose: bool,
+}
+
+impl Service<'_> {
+    /// Whether it ends once its desk has stopped: if it has no count, or if that is asked for.
+    pub fn ends_with_desk(&self) -> bool
+        ensures { result ≡ ends_with_desk self.now }
+    {
+        self.count.is_none() || self.end_when_stopped
+    }
 }
 
 /// What the words of a command line ask the program to do.
