@@ -6,7 +6,7 @@ ghost use Rattle.tc_api.specs.Endings.{is_done, refusal_number, status_number, s
 use tc_types::Refusal;
 
 /// The statuses that the desk answers with (RFC 9110, section 15).
-#[derive(Clone, Copy, PartialEq, Eq)]
+#[derive(Clone, Copy, Debug, PartialEq, Eq)]
 pub enum Status {
     /// 200: what was asked was done.
     Fine,
@@ -65,7 +65,7 @@ fn status_of_refusal(refusal: Refusal) -> Status
 }
 
 /// How an exchange ends.
-#[derive(Clone, Copy, PartialEq, Eq)]
+#[derive(Clone, Copy, Debug, PartialEq, Eq)]
 pub enum Ending {
     /// What was asked was done.
     Done,

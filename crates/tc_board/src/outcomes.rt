@@ -8,7 +8,7 @@ use std::alloc::{AllocError, Allocator};
 use tc_types::{Ack, Identity, Outcome, RequestNumber, Steps, Telemetry, Verification};
 
 /// Whose reports these are: a request and the reports of success that it asks for.
-#[derive(Clone, Copy, PartialEq, Eq)]
+#[derive(Clone, Copy, Debug, PartialEq, Eq)]
 pub struct Reporter {
     /// The request.
     pub request: RequestNumber,

@@ -15,7 +15,7 @@ use tc_types::{
 pub const MARGIN: u32 = 60;
 
 /// Why a command of the schedule fails (this desk's own).
-#[derive(Clone, Copy, PartialEq, Eq)]
+#[derive(Clone, Copy, Debug, PartialEq, Eq)]
 pub enum ScheduleFault {
     /// A time is nearer than the margin, or past the last moment.
     Time,

@@ -20,7 +20,7 @@ pub struct Draft<A: Allocator + Copy + Drop> {
 }
 
 /// How much an act needs room for. An act names what it needs, and nothing else.
-#[derive(Clone, Copy, PartialEq, Eq)]
+#[derive(Clone, Copy, Debug, PartialEq, Eq)]
 pub struct Needs {
     /// How many requests it enters.
     pub requests: usize,

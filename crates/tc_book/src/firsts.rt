@@ -2,7 +2,7 @@
 use tc_types::{Identity, Name, RequestNumber};
 
 /// What the first line of a reply says.
-#[derive(Clone, Copy, PartialEq, Eq)]
+#[derive(Clone, Copy, Debug, PartialEq, Eq)]
 pub enum First {
     /// `ok`.
     Plain,

@@ -2,7 +2,7 @@
 use tc_types::PLACES;
 
 /// How many requests, rows and approvals stood, and how many requests at each place.
-#[derive(Clone, Copy, PartialEq, Eq)]
+#[derive(Clone, Copy, Debug, PartialEq, Eq)]
 pub struct Mark {
     /// How many requests.
     pub requests: usize,

@@ -2,7 +2,7 @@
 use tc_types::{Moment, Person};
 
 /// What each row of a person's act carries.
-#[derive(Clone, Copy, PartialEq, Eq)]
+#[derive(Clone, Copy, Debug, PartialEq, Eq)]
 pub struct Stamp {
     /// Who gave the act.
     pub by: Person,

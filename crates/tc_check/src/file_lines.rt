@@ -9,7 +9,7 @@ use crate::looks::has_mark;
 use std::alloc::{AllocError, Global};
 
 /// Where the reading of a text stands.
-#[derive(Clone, Copy, PartialEq, Eq)]
+#[derive(Clone, Copy, Debug, PartialEq, Eq)]
 enum Within {
     /// Between two records.
     Between,

@@ -7,7 +7,7 @@ use csv::ByteRecord;
 use tc_csv::field;
 
 /// What a text looks like.
-#[derive(Clone, Copy, PartialEq, Eq)]
+#[derive(Clone, Copy, Debug, PartialEq, Eq)]
 pub(crate) enum Look {
     /// Text of another encoding.
     Utf16,

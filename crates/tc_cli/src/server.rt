@@ -34,7 +34,7 @@ const PAUSE_MILLISECONDS: u64 = 100;
 const LAST_MILLISECONDS: u64 = 5_000;
 
 /// Why a server ends.
-#[derive(Clone, Copy, PartialEq, Eq)]
+#[derive(Clone, Copy, Debug, PartialEq, Eq)]
 pub(crate) enum End {
     /// So many connections were served as were asked for.
     Count,

@@ -14,7 +14,7 @@ use tc_types::{Counted, Moment};
 use tc_words::Service;
 
 /// Why a desk is not served, or no longer.
-#[derive(Clone, Copy, PartialEq, Eq)]
+#[derive(Clone, Copy, Debug, PartialEq, Eq)]
 pub enum ServiceFault {
     /// As the run of a script ends before its end.
     Desk(Unusable),

@@ -9,7 +9,7 @@ use std::io;
 pub const MOST_FILE_BYTES: usize = 65_537;
 
 /// Why there is no text at a path.
-#[derive(Clone, Copy, PartialEq, Eq)]
+#[derive(Clone, Copy, Debug, PartialEq, Eq)]
 pub enum PathFault {
     /// It names no file that can be read.
     Unreadable,

@@ -9,7 +9,7 @@ use crate::pairs::why_unpaired;
 const FIRST: u8 = 0x37;
 
 /// Which file it is, how many names it has, how long it is, and when it was written last, as the system tells.
-#[derive(Clone, Copy, PartialEq, Eq)]
+#[derive(Clone, Copy, Debug, PartialEq, Eq)]
 pub struct FileStamp {
     pub device: u64,
     pub inode: u64,
@@ -20,7 +20,7 @@ pub struct FileStamp {
 }
 
 /// A log that is there: its stamp, whether a program holds it, and its first bytes, with zeros behind its end where it is shorter.
-#[derive(Clone, Copy)]
+#[derive(Clone, Copy, Debug)]
 pub struct LogMark {
     pub stamp: FileStamp,
     pub is_held: bool,
@@ -29,7 +29,7 @@ pub struct LogMark {
 
 /// What is read of a database file and its log, to tell whether the two belong together and the log was not emptied meanwhile. Held is a file that a
 /// program has open as one of a desk's two, or may have, where the system does not tell.
-#[derive(Clone, Copy)]
+#[derive(Clone, Copy, Debug)]
 pub struct Marks {
     pub file: FileStamp,
     pub is_held: bool,

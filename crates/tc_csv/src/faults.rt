@@ -8,7 +8,7 @@ use std::alloc::AllocFailed;
 use tc_types::Refusal;
 
 /// A rule that a text keeps, or breaks.
-#[derive(Clone, Copy, PartialEq, Eq)]
+#[derive(Clone, Copy, Debug, PartialEq, Eq)]
 pub enum Rule {
     /// The text has at most 65,536 bytes.
     TextLength,
@@ -89,7 +89,7 @@ impl Rule {
 }
 
 /// Where a text is wrong, and why.
-#[derive(Clone, Copy, PartialEq, Eq)]
+#[derive(Clone, Copy, Debug, PartialEq, Eq)]
 pub struct Fault {
     /// The record: 0 for the header or the text as a whole, else the number of the row, from 1.
     pub row: u32,
@@ -98,7 +98,7 @@ pub struct Fault {
 }
 
 /// Why a text was not read.
-#[derive(Clone, Copy, PartialEq, Eq)]
+#[derive(Clone, Copy, Debug, PartialEq, Eq)]
 pub enum NotRead {
     /// It breaks a rule.
     Wrong(Fault),

@@ -3,7 +3,7 @@ use tc_book::First;
 use tc_types::{Identity, Moment, RequestNumber, Verification};
 
 /// What the first line of a reply says.
-#[derive(Clone, Copy, PartialEq, Eq)]
+#[derive(Clone, Copy, Debug, PartialEq, Eq)]
 pub enum FirstLine {
     /// As an act on the book says, or `ok` alone.
     Book(First),

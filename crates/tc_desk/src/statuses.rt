@@ -5,7 +5,7 @@ use tc_fop::FopView;
 use tc_types::ListedActivity;
 
 /// How the FOP, the FARM and the carriers stand.
-#[derive(Clone, Copy, PartialEq, Eq)]
+#[derive(Clone, Copy, Debug, PartialEq, Eq)]
 pub struct LinkStatus {
     /// The variables of the FOP.
     pub fop: FopView,

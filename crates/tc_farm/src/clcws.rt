@@ -2,7 +2,7 @@
 ghost use Rattle.std.specs.Prelude.{◌≤◌};
 
 /// A control word (CCSDS 232.0-B, 4.2): what the FARM reports to the ground.
-#[derive(Clone, Copy, PartialEq, Eq)]
+#[derive(Clone, Copy, Debug, PartialEq, Eq)]
 pub struct Clcw {
     /// The virtual channel, 0 to 63.
     pub vc: u8,

@@ -17,7 +17,7 @@ pub enum FarmState {
 }
 
 /// The variables of FARM-1.
-#[derive(Clone, Copy, PartialEq, Eq)]
+#[derive(Clone, Copy, Debug, PartialEq, Eq)]
 pub struct FarmView {
     /// The state.
     pub state: FarmState,
@@ -36,7 +36,7 @@ pub struct FarmView {
 }
 
 /// What the FARM says of a frame.
-#[derive(Clone, Copy, PartialEq, Eq)]
+#[derive(Clone, Copy, Debug, PartialEq, Eq)]
 pub enum FrameVerdict {
     /// The frame was taken: this request, and the part of it that flies.
     Accepted {
@@ -50,7 +50,7 @@ pub enum FrameVerdict {
 }
 
 /// FARM-1, the frame acceptance and reporting mechanism (CCSDS 232.1-B, 6). A contract sees it as its variables.
-#[derive(Drop)]
+#[derive(Debug, Drop)]
 pub struct Farm {
     variables: FarmView,
 }

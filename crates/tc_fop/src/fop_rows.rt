@@ -2,7 +2,7 @@
 
 /// The rows P1 to P16 of the state table (CCSDS 232.1-B, 5.3); P16 is a word that is not valid. A row that removes
 /// acknowledged requests carries how many.
-#[derive(Clone, Copy, PartialEq, Eq)]
+#[derive(Clone, Copy, Debug, PartialEq, Eq)]
 pub enum FopRow {
     /// No flag, and nothing is out.
     P1,

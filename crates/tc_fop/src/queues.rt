@@ -9,7 +9,7 @@ use std::alloc::Allocator;
 use tc_types::{Frame, Payload, RequestNumber};
 
 /// A request that waits for its first transmission.
-#[derive(Clone, Copy, PartialEq, Eq)]
+#[derive(Clone, Copy, Debug, PartialEq, Eq)]
 pub struct Offer {
     /// Its number.
     pub request: RequestNumber,
@@ -18,7 +18,7 @@ pub struct Offer {
 }
 
 /// A request that was transmitted and is not acknowledged.
-#[derive(Clone, Copy, PartialEq, Eq)]
+#[derive(Clone, Copy, Debug, PartialEq, Eq)]
 pub struct Outstanding {
     /// The number of its frame, which stays when the frame is sent again.
     pub ns: u8,

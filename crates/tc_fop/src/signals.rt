@@ -38,7 +38,7 @@ pub enum AlertKind {
 }
 
 /// What the FOP indicates of a request, or of itself.
-#[derive(Clone, Copy, PartialEq, Eq)]
+#[derive(Clone, Copy, Debug, PartialEq, Eq)]
 pub enum Indication {
     /// The request was transmitted for the first time.
     Sent(RequestNumber),

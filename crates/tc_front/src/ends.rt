@@ -25,7 +25,7 @@ pub(crate) fn skip_ends(text: &[u8]) -> &[u8]
 }
 
 /// What stands before the bytes that are looked at next.
-#[derive(Clone, Copy)]
+#[derive(Clone, Copy, Debug)]
 pub(crate) enum Before {
     /// Nothing but CR and LF bytes: the head has not begun.
     Nothing,
@@ -72,7 +72,7 @@ fn behind(byte: u8) -> Before
 }
 
 /// A search for the end of a head, which goes on where it stood when more bytes have come.
-#[derive(Clone, Copy)]
+#[derive(Clone, Copy, Debug)]
 pub(crate) struct HeadSearch {
     /// How many bytes were looked at.
     place: usize,

@@ -8,7 +8,7 @@ ghost use Rattle.tc_front.specs.Fields.{IsDecimal, found_of, found_view, values}
 use httparse::spans::HeaderSpan;
 
 /// The values of the fields of one name.
-#[derive(Clone, Copy)]
+#[derive(Clone, Copy, Debug)]
 pub(crate) enum FieldValues<'a> {
     /// There is no such field.
     Absent,

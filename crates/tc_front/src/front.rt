@@ -14,7 +14,7 @@ use tc_types::Query;
 const LARGEST_HEAD: usize = 8_192;
 
 /// What a front of the input decides: what is asked, or why nothing is.
-#[derive(Clone, Copy)]
+#[derive(Clone, Copy, Debug)]
 pub enum Decision<'a> {
     /// The request is refused.
     Refused(Refused),

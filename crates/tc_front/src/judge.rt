@@ -18,7 +18,7 @@ use tc_types::Query;
 const LARGEST_BODY: usize = 65_536;
 
 /// Why a request is refused by its front alone.
-#[derive(Clone, Copy, PartialEq, Eq)]
+#[derive(Clone, Copy, Debug, PartialEq, Eq)]
 pub enum Refused {
     /// It is not let in (403, RFC 9110, section 15.5.4).
     Foreign,
@@ -35,7 +35,7 @@ pub enum Refused {
 }
 
 /// What a head asks.
-#[derive(Clone, Copy)]
+#[derive(Clone, Copy, Debug)]
 pub(crate) enum Judgement {
     /// It is refused.
     Refused(Refused),

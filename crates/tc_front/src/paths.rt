@@ -1,7 +1,7 @@
 //! What a path of the desk names.
 
 /// What is posted to the desk, each to a path of its own.
-#[derive(Clone, Copy, PartialEq, Eq)]
+#[derive(Clone, Copy, Debug, PartialEq, Eq)]
 pub enum Post {
     /// `/acts`: an act or a question.
     Acts,
@@ -12,7 +12,7 @@ pub enum Post {
 }
 
 /// A path that asks a question, with the texts in it, none of which is empty.
-#[derive(Clone, Copy)]
+#[derive(Clone, Copy, Debug)]
 pub enum Question<'a> {
     /// `/places`
     Places,
@@ -31,7 +31,7 @@ pub enum Question<'a> {
 }
 
 /// A path that the desk serves.
-#[derive(Clone, Copy)]
+#[derive(Clone, Copy, Debug)]
 pub enum Path<'a> {
     /// Something is posted to it.
     Posts(Post),

@@ -17,7 +17,7 @@ use tc_types::{Counted, Refusal};
 pub const MOST_READS: u64 = 73_728;
 
 /// Why no request was read.
-#[derive(Clone, Copy, PartialEq, Eq)]
+#[derive(Clone, Copy, Debug, PartialEq, Eq)]
 pub enum FrontFault {
     /// The reader failed or ended before a front of the input decided.
     Unread,

@@ -10,7 +10,7 @@ use crate::routes::Routes;
 /// What is known of a text that grows at its end: its head is searched from where the last search stopped, and is parsed
 /// once it has ended, and once more when its body is there. So the work is in line with the text's length, however few
 /// bytes come at a time.
-#[derive(Clone, Copy)]
+#[derive(Clone, Copy, Debug)]
 pub(crate) struct Watch {
     /// Where the search for the end of its head stands.
     search: HeadSearch,

@@ -6,7 +6,7 @@ use std::io::Write;
 use tc_types::{Counted, Refusal};
 
 /// A write failed, or took nothing.
-#[derive(Clone, Copy, PartialEq, Eq)]
+#[derive(Clone, Copy, Debug, PartialEq, Eq)]
 pub struct Unwritten;
 
 impl From<io::Error> for Unwritten {

@@ -8,7 +8,7 @@ use tc_closed::ScriptFault;
 use tc_copy::Unpaired;
 
 /// Why something cannot be used.
-#[derive(Clone, Copy, PartialEq, Eq)]
+#[derive(Clone, Copy, Debug, PartialEq, Eq)]
 pub enum Because {
     /// There is no file of this name.
     Missing,
@@ -124,7 +124,7 @@ impl Because {
 }
 
 /// A fault, and why it came, where that was told as it came.
-#[derive(Clone, Copy, PartialEq, Eq)]
+#[derive(Clone, Copy, Debug, PartialEq, Eq)]
 pub struct Unusable {
     pub fault: ScriptFault,
     pub because: Option<Because>,

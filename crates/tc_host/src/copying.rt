@@ -10,7 +10,7 @@ use tc_closed::{PathFault, ScriptFault};
 use tc_copy::{Unpaired, is_one_state, why_unpaired};
 
 /// A file by its name: that of a database, or what stands beside it.
-#[derive(Clone, Copy, PartialEq, Eq)]
+#[derive(Clone, Copy, Debug, PartialEq, Eq)]
 pub enum Beside {
     Database,
     Log,
@@ -29,7 +29,7 @@ impl Beside {
 }
 
 /// Why a desk is not copied.
-#[derive(Clone, Copy, PartialEq, Eq)]
+#[derive(Clone, Copy, Debug, PartialEq, Eq)]
 pub enum CopyFault {
     /// Its file cannot be read, is not one of its own log, or holds no desk that opens; and why, where that was told.
     Desk(Option<Because>),

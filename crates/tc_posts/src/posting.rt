@@ -19,7 +19,7 @@ const MOST_ACT: usize = 201;
 const MOST_NAME: usize = 17;
 
 /// What is sent for the MOMENT of a line.
-#[derive(Clone, Copy, PartialEq, Eq)]
+#[derive(Clone, Copy, Debug, PartialEq, Eq)]
 pub enum PostedMoment {
     /// A number.
     Number(u32),

@@ -22,7 +22,7 @@ pub struct Told {
 }
 
 /// Why a response says nothing.
-#[derive(Clone, Copy, PartialEq, Eq)]
+#[derive(Clone, Copy, Debug, PartialEq, Eq)]
 pub enum Untellable {
     /// It is no response of a desk.
     NoResponse,

@@ -3,7 +3,7 @@ use std::alloc::AllocError;
 use tc_types::Refusal;
 
 /// Why nothing is opened over tables that were left.
-#[derive(Clone, Copy, PartialEq, Eq)]
+#[derive(Clone, Copy, Debug, PartialEq, Eq)]
 pub enum ReopenFault {
     /// The tables hold what no desk could have written.
     Unsound,

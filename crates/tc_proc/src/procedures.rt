@@ -6,7 +6,7 @@ use std::marker::Model;
 use tc_types::StepText;
 
 /// A step of a procedure.
-#[derive(Clone, Copy, PartialEq, Eq)]
+#[derive(Clone, Copy, Debug, PartialEq, Eq)]
 pub struct Step {
     /// What is done.
     pub text: StepText,
@@ -18,7 +18,7 @@ pub struct Step {
 }
 
 /// A procedure: 1 to 100 steps, in order. A contract sees it as the list of them.
-#[derive(Drop)]
+#[derive(Debug, Drop)]
 pub struct Procedure {
     steps: Vec<Step>,
 }

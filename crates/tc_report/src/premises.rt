@@ -3,7 +3,7 @@ ghost use Rattle.std.specs.Prelude.{◌≡◌};
 ghost use Rattle.tc_report.specs.ShiftReport.{premise_text};
 
 /// Whether every start of the link so far was good, so that what the desk says of the link holds.
-#[derive(Clone, Copy, PartialEq, Eq)]
+#[derive(Clone, Copy, Debug, PartialEq, Eq)]
 pub enum Premise {
     /// Each was.
     Kept,

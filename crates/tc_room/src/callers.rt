@@ -3,7 +3,7 @@ use tc_store::CallNumber;
 use tc_types::Person;
 
 /// Who asks, and under which number of its own.
-#[derive(Clone, Copy, PartialEq, Eq)]
+#[derive(Clone, Copy, Debug, PartialEq, Eq)]
 pub struct Caller {
     /// The person.
     pub by: Person,

@@ -14,7 +14,7 @@ use tc_store::Tables;
 use tc_types::PLACES;
 
 /// How many requests were entered, and how many stand at each place.
-#[derive(Clone, Copy, PartialEq, Eq)]
+#[derive(Clone, Copy, Debug, PartialEq, Eq)]
 pub struct PlaceCounts {
     /// How many were entered.
     pub entered: u32,

@@ -11,7 +11,7 @@ use tc_lines::{cut, read_line};
 use tc_types::Refusal;
 
 /// Why a line is none that a run takes. Words are numbered from 1.
-#[derive(Clone, Copy, PartialEq, Eq)]
+#[derive(Clone, Copy, Debug, PartialEq, Eq)]
 pub enum LineFault {
     /// All behind its second space is more than 200 bytes.
     TooLong,

@@ -2,7 +2,7 @@
 use crate::sorts::Sort;
 
 /// A place of a line.
-#[derive(Clone, Copy, PartialEq, Eq)]
+#[derive(Clone, Copy, Debug, PartialEq, Eq)]
 pub enum Slot {
     /// When.
     Moment,

@@ -5,7 +5,7 @@ ghost use Rattle.tc_script.specs.Sorts.{is_schedule_sort, scheduled, sort_of};
 use crate::verbs::same;
 
 /// What a command is, by its service and its subtype.
-#[derive(Clone, Copy, PartialEq, Eq)]
+#[derive(Clone, Copy, Debug, PartialEq, Eq)]
 pub enum Sort {
     /// An insert, TC[11,4].
     Insert,

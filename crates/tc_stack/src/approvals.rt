@@ -8,7 +8,7 @@ use std::marker::Model;
 use tc_types::{Name, Refusal};
 
 /// Who approved so far.
-#[derive(Clone, Copy, PartialEq, Eq)]
+#[derive(Clone, Copy, Debug, PartialEq, Eq)]
 enum Given {
     /// Nobody.
     Nobody,
@@ -20,7 +20,7 @@ enum Given {
 
 /// The approval of a request: its author, whether two persons are wanted, and who approved, never more than are wanted, no
 /// person twice, and not the author. A contract sees the persons as a list. It takes no memory.
-#[derive(Drop)]
+#[derive(Debug, Drop)]
 pub struct Approvals {
     author: Name,
     critical: bool,

@@ -6,7 +6,7 @@ use std::marker::Model;
 use tc_types::Entry;
 
 /// A row of a stack. Rows are numbered from 1: a line.
-#[derive(Clone, Copy, PartialEq, Eq)]
+#[derive(Clone, Copy, Debug, PartialEq, Eq)]
 pub struct StackRow {
     /// What is entered. Where its command names a request, it is the line of one here.
     pub entry: Entry,
@@ -15,7 +15,7 @@ pub struct StackRow {
 }
 
 /// A stack: 1 to 200 rows, in order, each of which names earlier lines only. A contract sees it as the list of them.
-#[derive(Drop)]
+#[derive(Debug, Drop)]
 pub struct Stack {
     rows: Vec<StackRow>,
 }

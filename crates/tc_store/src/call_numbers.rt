@@ -5,7 +5,7 @@ ghost use Rattle.tc_store.specs.CallNumbers.{IsCallNumber};
 use std::marker::Model;
 
 /// The number that a caller gives an act or a load: 1 to 4,294,967,295. A contract sees it as the number itself.
-#[derive(Clone, Copy, PartialEq, Eq)]
+#[derive(Clone, Copy, Debug, PartialEq, Eq)]
 pub struct CallNumber {
     number: u32,
 }

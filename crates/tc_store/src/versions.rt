@@ -1,7 +1,7 @@
 //! The versions of a desk's tables, and the orders in which they stand.
 
 /// Which schema tables are of.
-#[derive(Clone, Copy, PartialEq, Eq)]
+#[derive(Clone, Copy, Debug, PartialEq, Eq)]
 pub enum Version {
     /// With no table of replies and none of cargo.
     First,
@@ -12,7 +12,7 @@ pub enum Version {
 }
 
 /// In which order tables stand, with the index of the moves.
-#[derive(Clone, Copy, PartialEq, Eq)]
+#[derive(Clone, Copy, Debug, PartialEq, Eq)]
 pub enum Layout {
     /// As a desk makes them: the index stands behind the moves.
     Made,

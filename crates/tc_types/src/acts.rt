@@ -8,7 +8,7 @@ use crate::persons::Person;
 use crate::verdicts::Verdict;
 
 /// A question, which changes nothing.
-#[derive(Clone, Copy, PartialEq, Eq)]
+#[derive(Clone, Copy, Debug, PartialEq, Eq)]
 pub enum Query {
     /// How many requests stand at each place.
     Places,
@@ -35,7 +35,7 @@ pub enum Query {
 }
 
 /// An act on the book alone: it asks nothing of the link.
-#[derive(Clone, Copy, PartialEq, Eq)]
+#[derive(Clone, Copy, Debug, PartialEq, Eq)]
 pub enum BookAct {
     /// A request is written down.
     Enter(Entry),
@@ -52,7 +52,7 @@ pub enum BookAct {
 }
 
 /// An act on the link, or on the rehearsal spacecraft behind it.
-#[derive(Clone, Copy, PartialEq, Eq)]
+#[derive(Clone, Copy, Debug, PartialEq, Eq)]
 pub enum LinkAct {
     /// A request leaves the desk: it is offered to the FOP.
     Release { request: u32 },
@@ -77,7 +77,7 @@ pub enum LinkAct {
 }
 
 /// What is recorded of a step of an execution. Where the step is done and names a request, that is released.
-#[derive(Clone, Copy, PartialEq, Eq)]
+#[derive(Clone, Copy, Debug, PartialEq, Eq)]
 pub struct StepAct {
     /// The execution.
     pub execution: u32,
@@ -90,7 +90,7 @@ pub struct StepAct {
 }
 
 /// An act of a person at the desk.
-#[derive(Clone, Copy, PartialEq, Eq)]
+#[derive(Clone, Copy, Debug, PartialEq, Eq)]
 pub enum Act {
     /// An act on the book alone.
     Book(BookAct),
@@ -103,7 +103,7 @@ pub enum Act {
 }
 
 /// A script line: who asks what, and when.
-#[derive(Clone, Copy, PartialEq, Eq)]
+#[derive(Clone, Copy, Debug, PartialEq, Eq)]
 pub struct Line {
     /// When, as the line says: no clock is read.
     pub moment: Moment,

@@ -6,7 +6,7 @@ use std::io;
 use std::io::{Read, Write};
 
 /// What was counted.
-#[derive(Clone, Copy, Default, PartialEq, Eq)]
+#[derive(Clone, Copy, Debug, Default, PartialEq, Eq)]
 pub struct Counts {
     /// How many reads were made.
     pub reads: u64,

@@ -10,7 +10,7 @@ use std::marker::Model;
 /// What a person says of a request when it is entered: a form whose numbers are in their ranges, and that keeps the rule of
 /// the on-board schedule's commands. Each of them asks for the report of its completion and completes, for by that report
 /// alone the desk knows the schedule (this desk's own). A contract sees the form.
-#[derive(Clone, Copy, PartialEq, Eq)]
+#[derive(Clone, Copy, Debug, PartialEq, Eq)]
 pub struct Entry {
     form: Form,
 }

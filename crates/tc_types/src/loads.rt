@@ -8,7 +8,7 @@ use crate::persons::Person;
 use crate::verbs::Verb;
 
 /// What a file holds.
-#[derive(Clone, Copy, PartialEq, Eq)]
+#[derive(Clone, Copy, Debug, PartialEq, Eq)]
 pub enum LoadKind {
     /// A stack of requests.
     Stack,
@@ -29,7 +29,7 @@ impl LoadKind {
 }
 
 /// A script line that loads a stack or a procedure: who loads which file under which name, and when.
-#[derive(Clone, Copy, PartialEq, Eq)]
+#[derive(Clone, Copy, Debug, PartialEq, Eq)]
 pub struct Load<'a> {
     /// When, as the line says: no clock is read.
     pub moment: Moment,

@@ -12,7 +12,7 @@ pub const LONGEST_NAME: usize = 16;
 /// A name of a person, a stack or a procedure: 1 to 16 of the characters `a-z0-9`.
 ///
 /// The name `desk` is the desk's own: no person has it (`Person`).
-#[derive(Clone, Copy, PartialEq, Eq)]
+#[derive(Clone, Copy, Debug, PartialEq, Eq)]
 pub struct Name {
     bytes: [u8; 16],
     len: u8,

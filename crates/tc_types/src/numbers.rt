@@ -8,7 +8,7 @@ use std::marker::Model;
 pub const LARGEST_MOMENT: u32 = 4_102_444_799;
 
 /// A moment or a release time: whole Unix seconds, 0 to 4,102,444,799.
-#[derive(Clone, Copy, PartialEq, Eq)]
+#[derive(Clone, Copy, Debug, PartialEq, Eq)]
 pub struct Moment {
     seconds: u32,
 }
@@ -48,7 +48,7 @@ impl Moment {
 pub const LARGEST_OFFSET: i64 = 4_102_444_799;
 
 /// A time offset: -4,102,444,799 to 4,102,444,799 seconds.
-#[derive(Clone, Copy, PartialEq, Eq)]
+#[derive(Clone, Copy, Debug, PartialEq, Eq)]
 pub struct Offset {
     seconds: i64,
 }
@@ -88,7 +88,7 @@ impl Offset {
 pub const MOST_REQUESTS: u32 = 65_535;
 
 /// The number of an entered request: 1 to 65,535, in order of entry.
-#[derive(Clone, Copy, PartialEq, Eq)]
+#[derive(Clone, Copy, Debug, PartialEq, Eq)]
 pub struct RequestNumber {
     number: u32,
 }
@@ -125,7 +125,7 @@ impl RequestNumber {
 }
 
 /// An application process identifier (CCSDS 133.0-B, 4.1.3.3.4): 0 to 2,047.
-#[derive(Clone, Copy, PartialEq, Eq)]
+#[derive(Clone, Copy, Debug, PartialEq, Eq)]
 pub struct Apid {
     number: u16,
 }
@@ -162,7 +162,7 @@ impl Apid {
 }
 
 /// A packet sequence count (CCSDS 133.0-B, 4.1.3.4.3): 0 to 16,383.
-#[derive(Clone, Copy, PartialEq, Eq)]
+#[derive(Clone, Copy, Debug, PartialEq, Eq)]
 pub struct SequenceCount {
     number: u16,
 }
@@ -199,7 +199,7 @@ impl SequenceCount {
 }
 
 /// A number of progress steps: 1 to 9 (this desk's own).
-#[derive(Clone, Copy, PartialEq, Eq)]
+#[derive(Clone, Copy, Debug, PartialEq, Eq)]
 pub struct Steps {
     number: u8,
 }
@@ -236,7 +236,7 @@ impl Steps {
 }
 
 /// The code of a failure report: 16 to 255 (this desk's own).
-#[derive(Clone, Copy, PartialEq, Eq)]
+#[derive(Clone, Copy, Debug, PartialEq, Eq)]
 pub struct FailureCode {
     number: u8,
 }
@@ -273,7 +273,7 @@ impl FailureCode {
 }
 
 /// A service type of a plain request (ECSS-E-ST-70-41C, 5.3.3.1): 1 to 255 without 11, the on-board schedule's.
-#[derive(Clone, Copy, PartialEq, Eq)]
+#[derive(Clone, Copy, Debug, PartialEq, Eq)]
 pub struct Service {
     number: u8,
 }
@@ -310,7 +310,7 @@ impl Service {
 }
 
 /// A message subtype of a plain request (ECSS-E-ST-70-41C, 5.3.3.1): 1 to 255.
-#[derive(Clone, Copy, PartialEq, Eq)]
+#[derive(Clone, Copy, Debug, PartialEq, Eq)]
 pub struct Subtype {
     number: u8,
 }

@@ -7,7 +7,7 @@ use crate::names::{DESK, Name};
 use std::marker::Model;
 
 /// Who acts at the desk: any name but `desk`, which is the desk itself.
-#[derive(Clone, Copy, PartialEq, Eq)]
+#[derive(Clone, Copy, Debug, PartialEq, Eq)]
 pub struct Person {
     name: Name,
 }

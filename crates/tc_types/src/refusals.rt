@@ -150,7 +150,7 @@ impl Refusal {
 }
 
 /// What was answered, where there was no memory for the text of the reply. What the reply tells of was done all the same.
-#[derive(Clone, Copy, PartialEq, Eq)]
+#[derive(Clone, Copy, Debug, PartialEq, Eq)]
 pub struct Untold {
     /// What the reply refuses with, if it is a refusal.
     pub refusal: Option<Refusal>,

@@ -14,7 +14,7 @@ use crate::rides::Rides;
 use std::alloc::{AllocError, Allocator};
 
 /// Which success reports a request asks for (ECSS-E-ST-70-41C, 5.4.11.2.1): failures are always reported.
-#[derive(Clone, Copy, PartialEq, Eq)]
+#[derive(Clone, Copy, Debug, PartialEq, Eq)]
 pub struct Ack {
     /// Acceptance, TM[1,1].
     pub acceptance: bool,
@@ -27,7 +27,7 @@ pub struct Ack {
 }
 
 /// How the rehearsal spacecraft will behave (this desk's own).
-#[derive(Clone, Copy, PartialEq, Eq)]
+#[derive(Clone, Copy, Debug, PartialEq, Eq)]
 pub enum Outcome {
     /// Accepted, started, completed.
     Completes,
@@ -44,7 +44,7 @@ pub enum Outcome {
 }
 
 /// What a request commands. The on-board schedule's are those of ECSS-E-ST-70-41C, service 11.
-#[derive(Clone, Copy, PartialEq, Eq)]
+#[derive(Clone, Copy, Debug, PartialEq, Eq)]
 pub enum Command {
     /// Any service but 11.
     Plain { service: Service, subtype: Subtype },
@@ -67,7 +67,7 @@ pub enum Command {
 }
 
 /// By what a request is named on board: its application process and its count there.
-#[derive(Clone, Copy, PartialEq, Eq)]
+#[derive(Clone, Copy, Debug, PartialEq, Eq)]
 pub struct Identity {
     /// The application process.
     pub apid: Apid,
@@ -76,7 +76,7 @@ pub struct Identity {
 }
 
 /// What a person writes down of a request: the form of an entry, whether or not it may be entered.
-#[derive(Clone, Copy, PartialEq, Eq)]
+#[derive(Clone, Copy, Debug, PartialEq, Eq)]
 pub struct Form {
     /// The application process.
     pub apid: Apid,
@@ -91,7 +91,7 @@ pub struct Form {
 }
 
 /// What a person asks for with a request, and its name on board.
-#[derive(Clone, Copy, PartialEq, Eq)]
+#[derive(Clone, Copy, Debug, PartialEq, Eq)]
 pub struct Body {
     /// Its name on board.
     pub identity: Identity,
@@ -104,7 +104,7 @@ pub struct Body {
 }
 
 /// Which row of which stack a request was loaded with.
-#[derive(Clone, Copy, PartialEq, Eq)]
+#[derive(Clone, Copy, Debug, PartialEq, Eq)]
 pub struct Origin {
     /// The stack.
     pub stack: Name,
@@ -115,7 +115,7 @@ pub struct Origin {
 }
 
 /// A request that was entered. It never changes; where it stands is read from the history.
-#[derive(Clone, Copy, PartialEq, Eq)]
+#[derive(Clone, Copy, Debug, PartialEq, Eq)]
 pub struct Request {
     /// Its number, in order of entry.
     pub number: RequestNumber,

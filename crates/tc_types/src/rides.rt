@@ -9,7 +9,7 @@ use crate::numbers::Moment;
 use std::marker::Model;
 
 /// One of the activities that an insert names: a request, and when it is released on board.
-#[derive(Clone, Copy, PartialEq, Eq)]
+#[derive(Clone, Copy, Debug, PartialEq, Eq)]
 pub struct Ride {
     /// The request; in a stack, the line of it.
     pub target: u32,
@@ -20,7 +20,7 @@ pub struct Ride {
 /// The 1 to 8 activities that an insert names, in its order.
 ///
 /// The places behind the last hold the first once more, so that equal lists are equal values.
-#[derive(Clone, Copy, PartialEq, Eq)]
+#[derive(Clone, Copy, Debug, PartialEq, Eq)]
 pub struct Rides {
     places: [Ride; 8],
     count: u8,

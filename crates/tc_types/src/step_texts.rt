@@ -10,7 +10,7 @@ use std::str;
 pub const LONGEST_STEP_TEXT: usize = 80;
 
 /// What is done at a step: 1 to 80 printable characters of ASCII, from the space to `~`.
-#[derive(Clone, Copy, PartialEq, Eq)]
+#[derive(Clone, Copy, Debug, PartialEq, Eq)]
 pub struct StepText {
     bytes: [u8; 80],
     len: u8,

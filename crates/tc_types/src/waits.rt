@@ -5,7 +5,7 @@ ghost use Rattle.tc_types.specs.WaitingLines.{given, wanted};
 use crate::names::Name;
 
 /// How far an approval has come that is not complete.
-#[derive(Clone, Copy, PartialEq, Eq)]
+#[derive(Clone, Copy, Debug, PartialEq, Eq)]
 pub struct Wanting {
     /// Who entered or loaded what is to be approved, and so may not approve it.
     pub author: Name,
@@ -32,7 +32,7 @@ impl Wanting {
 }
 
 /// A line of a stack that has to be completed before a request is released.
-#[derive(Clone, Copy, PartialEq, Eq)]
+#[derive(Clone, Copy, Debug, PartialEq, Eq)]
 pub struct Lock {
     /// The stack.
     pub stack: Name,
@@ -41,7 +41,7 @@ pub struct Lock {
 }
 
 /// What waits for a person.
-#[derive(Clone, Copy, PartialEq, Eq)]
+#[derive(Clone, Copy, Debug, PartialEq, Eq)]
 pub enum Waiting {
     /// A request that came by itself stands at Entered.
     Request {

@@ -1,7 +1,7 @@
 //! How the link stands, as its three lines tell it.
 
 /// The states of FOP-1 (CCSDS 232.1-B, 5.1.2).
-#[derive(Clone, Copy)]
+#[derive(Clone, Copy, Debug)]
 pub enum FopWord {
     /// S1 Active.
     Active,
@@ -18,7 +18,7 @@ pub enum FopWord {
 }
 
 /// The states of FARM-1 (CCSDS 232.1-B, 6.1.2).
-#[derive(Clone, Copy)]
+#[derive(Clone, Copy, Debug)]
 pub enum FarmWord {
     /// S1 Open.
     Open,
@@ -29,7 +29,7 @@ pub enum FarmWord {
 }
 
 /// What the line of the FOP tells.
-#[derive(Clone, Copy)]
+#[derive(Clone, Copy, Debug)]
 pub struct FopLine {
     /// The state.
     pub state: FopWord,
@@ -54,7 +54,7 @@ pub struct FopLine {
 }
 
 /// What the line of the FARM tells.
-#[derive(Clone, Copy)]
+#[derive(Clone, Copy, Debug)]
 pub struct FarmLine {
     /// The state.
     pub state: FarmWord,
@@ -73,7 +73,7 @@ pub struct FarmLine {
 }
 
 /// What the three lines of the link tell.
-#[derive(Clone, Copy)]
+#[derive(Clone, Copy, Debug)]
 pub struct LinkLines {
     /// The FOP.
     pub fop: FopLine,

@@ -18,7 +18,7 @@ pub const MOST_MOVES: usize = 50;
 pub const MOST_STAGES: usize = 12;
 
 /// What waits, and the text of the step where it is one.
-#[derive(Clone, Copy)]
+#[derive(Clone, Copy, Debug)]
 pub struct Wait {
     /// What waits.
     pub waiting: Waiting,
@@ -27,7 +27,7 @@ pub struct Wait {
 }
 
 /// The way of a request that is open.
-#[derive(Clone, Copy)]
+#[derive(Clone, Copy, Debug)]
 pub struct Way<'a> {
     /// What was entered.
     pub request: Request,
@@ -40,7 +40,7 @@ pub struct Way<'a> {
 }
 
 /// The on-board schedule, as the reports that were read tell it.
-#[derive(Clone, Copy)]
+#[derive(Clone, Copy, Debug)]
 pub struct ShownSchedule<'a> {
     /// Whether it is enabled.
     pub enabled: bool,
@@ -51,7 +51,7 @@ pub struct ShownSchedule<'a> {
 }
 
 /// What is told of a desk that is open.
-#[derive(Clone, Copy)]
+#[derive(Clone, Copy, Debug)]
 pub struct Live<'a> {
     /// When the desk was opened.
     pub since: Moment,
@@ -64,7 +64,7 @@ pub struct Live<'a> {
 }
 
 /// What the wall shows of a desk.
-#[derive(Clone, Copy)]
+#[derive(Clone, Copy, Debug)]
 pub struct Wall<'a> {
     /// How many requests were entered.
     pub entered: u32,

@@ -8,7 +8,7 @@ use tc_world::Config;
 use thiserror::Error;
 
 /// What is told of the lines of a script besides what they are answered.
-#[derive(Clone, Copy, PartialEq, Eq)]
+#[derive(Clone, Copy, Debug, PartialEq, Eq)]
 pub struct Telling {
     /// Whether each line is shown before its answer.
     pub echo: bool,
@@ -17,7 +17,7 @@ pub struct Telling {
 }
 
 /// How a desk is served over HTTP.
-#[derive(Clone, Copy, PartialEq, Eq)]
+#[derive(Clone, Copy, Debug, PartialEq, Eq)]
 pub struct Service<'a> {
     /// The port of 127.0.0.1, 1 to 65,535.
     pub port: u16,
@@ -43,7 +43,7 @@ impl Service<'_> {
 }
 
 /// What the words of a command line ask the program to do.
-#[derive(Clone, Copy, PartialEq, Eq)]
+#[derive(Clone, Copy, Debug, PartialEq, Eq)]
 pub enum CommandLine<'a> {
     /// Run the script at this path, or the standard input where it is `-`, on a new desk with this window, channel and links.
     Run {

@@ -6,7 +6,7 @@ ghost use Rattle.tc_world.specs.Config.{IsConfig, IsRing};
 pub const GREATEST_RING: u32 = 4_096;
 
 /// The window of the FARM, the channel of the link, and how its two directions hold what is in flight.
-#[derive(Clone, Copy, PartialEq, Eq)]
+#[derive(Clone, Copy, Debug, PartialEq, Eq)]
 pub struct Config {
     /// W, the FARM's window width: even, 2 to 254.
     pub window: u16,

@@ -4,7 +4,7 @@ use tc_fop::signals;
 use tc_types::{Directive, Frame, Payload, Report, RequestNumber, Telemetry};
 
 /// What happens to the link. Control words come from its own FARM alone, but those that are heard from outside.
-#[derive(Clone, Copy, PartialEq, Eq)]
+#[derive(Clone, Copy, Debug, PartialEq, Eq)]
 pub enum Event {
     /// A request is offered to the FOP.
     Offer {
@@ -38,7 +38,7 @@ pub enum Event {
 }
 
 /// What the link tells of an event.
-#[derive(Clone, Copy, PartialEq, Eq)]
+#[derive(Clone, Copy, Debug, PartialEq, Eq)]
 pub enum LinkIndication {
     /// What the FOP tells.
     Fop(signals::Indication),

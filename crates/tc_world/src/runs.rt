@@ -2,7 +2,7 @@
 use tc_types::Refusal;
 
 /// How far a run went: so many events, and why the next one was refused, where one was.
-#[derive(Clone, Copy, PartialEq, Eq)]
+#[derive(Clone, Copy, Debug, PartialEq, Eq)]
 pub struct RunEnd {
     /// How many events happened.
     pub done: usize,

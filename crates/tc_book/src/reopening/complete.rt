@@ -19,7 +19,7 @@ use tc_stack::Approvals;
 use tc_types::{Cause, Move, Name, Request, StackApproval, is_same_name};
 
 /// A stack, and whether as many approved it as are wanted.
-#[derive(Clone, Copy, PartialEq, Eq)]
+#[derive(Clone, Copy, Debug, PartialEq, Eq)]
 struct Asked {
     /// The stack.
     stack: Name,
@@ -87,7 +87,7 @@ fn stack_with(requests: &[Request], n: u32) -> Option<Name>
 }
 
 /// Whether a row has all approvers that are wanted, and the last stack that was asked for.
-#[derive(Clone, Copy, PartialEq, Eq)]
+#[derive(Clone, Copy, Debug, PartialEq, Eq)]
 struct Looked {
     /// Whether the row has them, or wants none.
     is_complete: bool,

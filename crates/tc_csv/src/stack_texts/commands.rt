@@ -18,7 +18,7 @@ use tc_lines::read::readers::{number, offset, service, subtype};
 use tc_types::{Command, Service, Subtype};
 
 /// What a command is, but for its target and its time.
-#[derive(Clone, Copy, PartialEq, Eq)]
+#[derive(Clone, Copy, Debug, PartialEq, Eq)]
 pub(crate) enum CommandKind {
     /// Any service but 11.
     Plain { service: Service, subtype: Subtype },

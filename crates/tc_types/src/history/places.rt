@@ -8,7 +8,7 @@ ghost use Rattle.tc_types.specs.Lines.{place_name};
 pub const PLACES: usize = 15;
 
 /// Where a request stands. Completed, Failed, Withdrawn, Deleted and Closed are final.
-#[derive(Clone, Copy, PartialEq, Eq)]
+#[derive(Clone, Copy, Debug, PartialEq, Eq)]
 pub enum Place {
     /// Written down, and not yet approved.
     Entered,

@@ -6,7 +6,7 @@ use crate::requests::{Ack, Identity, Outcome};
 pub const MOST_ACTIVITIES: usize = 64;
 
 /// An activity of the on-board schedule: a request, and when it is released.
-#[derive(Clone, Copy, PartialEq, Eq)]
+#[derive(Clone, Copy, Debug, PartialEq, Eq)]
 pub struct Activity {
     /// The request.
     pub request: RequestNumber,
@@ -21,7 +21,7 @@ pub struct Activity {
 }
 
 /// What a summary tells of an activity.
-#[derive(Clone, Copy, PartialEq, Eq)]
+#[derive(Clone, Copy, Debug, PartialEq, Eq)]
 pub struct ListedActivity {
     /// The request.
     pub request: RequestNumber,
@@ -33,7 +33,7 @@ pub struct ListedActivity {
 
 /// What TM[11,13] carries: the status of the schedule (this desk's own) and its activities. There are as many places as
 /// the schedule holds activities, and an empty place tells nothing.
-#[derive(Clone, Copy, PartialEq, Eq)]
+#[derive(Clone, Copy, Debug, PartialEq, Eq)]
 pub struct Summary {
     /// Whether the schedule is enabled.
     pub enabled: bool,

@@ -4,7 +4,7 @@ use crate::link::telecommands::Payload;
 use crate::numbers::RequestNumber;
 
 /// A frame on the uplink.
-#[derive(Clone, Copy, PartialEq, Eq)]
+#[derive(Clone, Copy, Debug, PartialEq, Eq)]
 pub enum Frame {
     /// A type-AD frame with its frame sequence number N(S) (CCSDS 232.0-B, 4.1.2.8).
     Ad {

@@ -11,7 +11,7 @@ pub const MOST_INSERTED: usize = 8;
 /// The 1 to 8 activities that an insert carries, in its order.
 ///
 /// The places behind the last hold the first once more, so that equal lists are equal values.
-#[derive(Clone, Copy, PartialEq, Eq)]
+#[derive(Clone, Copy, Debug, PartialEq, Eq)]
 pub struct Activities {
     places: [Activity; 8],
     count: u8,

@@ -10,7 +10,7 @@ use crate::requests::Identity;
 
 /// What a report of request verification tells (ECSS-E-ST-70-41C, service 1). A code says why something failed; a
 /// step counts from 1.
-#[derive(Clone, Copy, PartialEq, Eq)]
+#[derive(Clone, Copy, Debug, PartialEq, Eq)]
 pub enum Verification {
     /// TM[1,1]: accepted.
     Accepted,
@@ -31,7 +31,7 @@ pub enum Verification {
 }
 
 /// A report of the spacecraft. It carries the request's number beside its identity (this desk's own).
-#[derive(Clone, Copy, PartialEq, Eq)]
+#[derive(Clone, Copy, Debug, PartialEq, Eq)]
 pub enum Telemetry {
     /// How a request fares, service 1.
     Verification {
@@ -44,7 +44,7 @@ pub enum Telemetry {
 }
 
 /// What flies on the downlink.
-#[derive(Clone, Copy, PartialEq, Eq)]
+#[derive(Clone, Copy, Debug, PartialEq, Eq)]
 pub enum Report {
     /// The 32 bits of a control word (CCSDS 232.0-B, 4.2).
     Word(u32),

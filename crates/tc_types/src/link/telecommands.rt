@@ -5,7 +5,7 @@ use crate::requests::{Ack, Identity, Outcome};
 
 /// A command of the on-board schedule, as it flies (ECSS-E-ST-70-41C, 8.11). An activity is found by the number of its
 /// request (this desk's own).
-#[derive(Clone, Copy, PartialEq, Eq)]
+#[derive(Clone, Copy, Debug, PartialEq, Eq)]
 pub enum ScheduleCommand {
     /// TC[11,1]: enable the schedule.
     Enable,
@@ -26,7 +26,7 @@ pub enum ScheduleCommand {
 }
 
 /// What a request asks of the spacecraft.
-#[derive(Clone, Copy, PartialEq, Eq)]
+#[derive(Clone, Copy, Debug, PartialEq, Eq)]
 pub enum Task {
     /// Something that behaves so.
     Plain(Outcome),
@@ -35,7 +35,7 @@ pub enum Task {
 }
 
 /// The part of a request that flies.
-#[derive(Clone, Copy, PartialEq, Eq)]
+#[derive(Clone, Copy, Debug, PartialEq, Eq)]
 pub struct Payload {
     /// Its name on board.
     pub identity: Identity,
@@ -46,7 +46,7 @@ pub struct Payload {
 }
 
 /// A request on board.
-#[derive(Clone, Copy, PartialEq, Eq)]
+#[derive(Clone, Copy, Debug, PartialEq, Eq)]
 pub struct Telecommand {
     /// Its number.
     pub request: RequestNumber,

@@ -4,7 +4,7 @@ use crate::rides::Ride;
 
 /// A row of the table `cargo`: what an insert names at one of the positions behind the first. The first stands in the row of the
 /// request itself.
-#[derive(Clone, Copy, PartialEq, Eq)]
+#[derive(Clone, Copy, Debug, PartialEq, Eq)]
 pub struct Cargo {
     /// The insert.
     pub request: RequestNumber,

@@ -9,7 +9,7 @@ use crate::tables::cargo::Cargo;
 use crate::verdicts::Verdict;
 
 /// A row of the table `request`: a request, and where it stands.
-#[derive(Clone, Copy, PartialEq, Eq)]
+#[derive(Clone, Copy, Debug, PartialEq, Eq)]
 pub struct PlacedRequest {
     /// What was entered.
     pub request: Request,
@@ -18,7 +18,7 @@ pub struct PlacedRequest {
 }
 
 /// A row of the table `tally`: how many requests stand at a place.
-#[derive(Clone, Copy, PartialEq, Eq)]
+#[derive(Clone, Copy, Debug, PartialEq, Eq)]
 pub struct Tally {
     /// The place.
     pub place: Place,
@@ -27,7 +27,7 @@ pub struct Tally {
 }
 
 /// A row of the table `request_approval`: who approved a request.
-#[derive(Clone, Copy, PartialEq, Eq)]
+#[derive(Clone, Copy, Debug, PartialEq, Eq)]
 pub struct Approval {
     /// The request.
     pub request: RequestNumber,
@@ -36,7 +36,7 @@ pub struct Approval {
 }
 
 /// A row of the table `stack`: a stack that was loaded.
-#[derive(Clone, Copy, PartialEq, Eq)]
+#[derive(Clone, Copy, Debug, PartialEq, Eq)]
 pub struct LoadedStack {
     /// Its name.
     pub name: Name,
@@ -47,7 +47,7 @@ pub struct LoadedStack {
 }
 
 /// A row of the table `stack_approval`: who approved a stack.
-#[derive(Clone, Copy, PartialEq, Eq)]
+#[derive(Clone, Copy, Debug, PartialEq, Eq)]
 pub struct StackApproval {
     /// The stack.
     pub stack: Name,
@@ -56,7 +56,7 @@ pub struct StackApproval {
 }
 
 /// A row of the table `procedure`: a procedure that was loaded.
-#[derive(Clone, Copy, PartialEq, Eq)]
+#[derive(Clone, Copy, Debug, PartialEq, Eq)]
 pub struct LoadedProcedure {
     /// Its name.
     pub name: Name,
@@ -65,7 +65,7 @@ pub struct LoadedProcedure {
 }
 
 /// A row of the table `step`: a step of a procedure.
-#[derive(Clone, Copy, PartialEq, Eq)]
+#[derive(Clone, Copy, Debug, PartialEq, Eq)]
 pub struct ProcedureStep {
     /// The procedure.
     pub procedure: Name,
@@ -80,7 +80,7 @@ pub struct ProcedureStep {
 }
 
 /// A row of the table `execution`: a procedure was begun.
-#[derive(Clone, Copy, PartialEq, Eq)]
+#[derive(Clone, Copy, Debug, PartialEq, Eq)]
 pub struct BegunExecution {
     /// The number of the execution, from 1 in order.
     pub execution: u32,
@@ -93,7 +93,7 @@ pub struct BegunExecution {
 }
 
 /// A row of the table `record`: what became of a step of an execution.
-#[derive(Clone, Copy, PartialEq, Eq)]
+#[derive(Clone, Copy, Debug, PartialEq, Eq)]
 pub struct StepRecord {
     /// The execution.
     pub execution: u32,
@@ -110,7 +110,7 @@ pub struct StepRecord {
 }
 
 /// One row that an act writes. A batch is a list of rows, all written or none.
-#[derive(Clone, Copy, PartialEq, Eq)]
+#[derive(Clone, Copy, Debug, PartialEq, Eq)]
 pub enum Row {
     /// A new row of the table `request`: a request that was entered stands at Entered.
     Entered(Request),
