@@ -1,6 +1,6 @@
 -- Lemmas of requests that wait in their order.
 use Rattle.std.proofs.Common.{List, ◌≡◌, ◌++◌, ◌∷◌, [], Result, Ok, Err, is_ok}
-use Rattle.std.specs.Prelude.{All}
+use Rattle.std.specs.Prelude.{All, if◌then◌else◌}
 use Rattle.std.proofs.lemmas.List.Elements.{All-push, All-same}
 
 -- what holds of each one holds still after one was added, or refused memory
