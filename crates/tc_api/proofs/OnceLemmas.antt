@@ -108,6 +108,7 @@ stands_acts false b is = absurd cc
 done_is : (e : Ending) → is_done e ≡ true → e ≡ ending.Done
 done_is ending.Done is = refl
 done_is (ending.Refused refusal) is = absurd cc
+done_is ending.Foreign is = absurd cc
 done_is ending.NoPath is = absurd cc
 done_is ending.OtherMethod is = absurd cc
 
@@ -118,6 +119,7 @@ grants reply e ends is = subst (λ (given : Ending). EndsWith reply given) is en
 ends_done : (reply : Reply) (e : Ending) → EndsWith reply e → is_refused reply ≡ false → e ≡ ending.Done
 ends_done reply ending.Done ends granted = refl
 ends_done reply (ending.Refused refusal) ends granted = not_both (is_refused reply) (ap is_refused ends ∙ are_refused refusal) granted
+ends_done reply ending.Foreign ends granted = absurd ends
 ends_done reply ending.NoPath ends granted = absurd ends
 ends_done reply ending.OtherMethod ends granted = absurd ends
 

@@ -1,5 +1,5 @@
 -- What the wall shows of a book, and of a desk; and the pages of both.
-use Rattle.std.specs.Prelude.{◌≡◌, ℕ, None, IsSomeAnd, List, length, map, take}
+use Rattle.std.specs.Prelude.{◌≡◌, ℕ, None, Some, IsSomeAnd, List, length, map, take}
 use Rattle.tc_types.specs.declared.link.frames.Frame.{Frame}
 use Rattle.tc_types.specs.declared.link.reports.Report.{Report}
 use Rattle.tc_types.specs.History.{counts_of}
@@ -10,6 +10,7 @@ use Rattle.tc_desk.specs.State.{State}
 use Rattle.tc_desk.specs.StatusLines.{status_of}
 use Rattle.tc_wall.specs.declared.walls.Wall.{Wall}
 use Rattle.tc_wall.specs.declared.walls.Live.{Live}
+use Rattle.tc_wall.specs.declared.walls.Opening.{Opening}
 use Rattle.tc_wall.specs.declared.walls.TheConstants.{MOST_OPEN, MOST_WAITS}
 use Rattle.tc_wall.specs.Page.{wall_page}
 use Rattle.tc_view.specs.Links.{IsScheduleOf, link_of}
@@ -28,26 +29,21 @@ pub record ShowsBook (book : Book) (wall : Wall) : Type 0 where
   pub moves : wall.moves.now ≡ book.history
   pub moved : wall.moved ≡ length book.history
 
--- how a desk was opened: when, and how many moves stood then
-pub record Opening : Type 0 where
-  pub since : ℕ
-  pub stood : ℕ
-
--- what is told of a desk that is open: how it was opened, and what the questions `link` and `schedule` are answered
-pub record ShowsLive {U D : Type 0} (up : Kind U Frame) (down : Kind D Report) (opening : Opening) (desk : State U D) (live : Live) : Type 0 where
-  pub since : live.since ≡ opening.since
-  pub stood : live.stood ≡ opening.stood
+-- what is told of a desk that is open: what the questions `link` and `schedule` are answered
+pub record ShowsLive {U D : Type 0} (up : Kind U Frame) (down : Kind D Report) (desk : State U D) (live : Live) : Type 0 where
   pub link : live.link ≡ link_of (status_of up down desk)
   pub schedule : IsScheduleOf desk.mirror live.schedule
 
--- a wall shows a desk that is open
+-- a wall shows a desk that is open, and how it was opened
 pub record ShowsDesk {U D : Type 0} (up : Kind U Frame) (down : Kind D Report) (opening : Opening) (desk : State U D) (wall : Wall) : Type 0 where
   pub shown : ShowsBook desk.book wall
-  pub live : IsSomeAnd wall.live (ShowsLive up down opening desk)
+  pub opening : wall.opening ≡ Some opening
+  pub live : IsSomeAnd wall.live (ShowsLive up down desk)
 
 -- a wall shows the book of a file that nobody has open
 pub record ShowsFile (book : Book) (wall : Wall) : Type 0 where
   pub shown : ShowsBook book wall
+  pub opening : wall.opening ≡ None
   pub live : wall.live ≡ None
 
 -- the page of an open desk, and that of a file that nobody has open

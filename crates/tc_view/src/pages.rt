@@ -14,16 +14,17 @@ use std::alloc::{AllocError, Allocator};
 use tc_book::Records;
 use tc_desk::Desk;
 use tc_types::{Frame, Moment, Report};
-use tc_wall::{Live, MOST_BYTES, ShownSchedule, Wall, wall_text};
+use tc_wall::{Live, MOST_BYTES, Opening, ShownSchedule, Wall, wall_text};
 use tc_world::Carrier;
 
-/// The page of a book, with what is told of a desk that has it open. Fails where memory is refused.
+/// The page of a book, with how a desk that has it open was opened, and what is told of it. Fails where memory is refused.
 fn page_of<A: Allocator + Copy + Drop>(
     alloc: A,
     records: &Records<A>,
+    opening: Option<Opening>,
     live: Option<Live<'_>>,
 ) -> Result<String<A>, AllocError>
-    ensures page { IfOk result (λ t. (wall : SomeWall) × ShowsBook records.now.book wall × (wall.live ≡ live.entry) × (string_bytes t ≡ wall_page wall)) }
+    ensures page { IfOk result (λ t. (wall : SomeWall) × ShowsBook records.now.book wall × (wall.opening ≡ opening) × (wall.live ≡ live.entry) × (string_bytes t ≡ wall_page wall)) }
     ensures few { IfOk result (λ t. string_len t ≤ MOST_BYTES) }
 {
     // read for the proof alone: the book is good
@@ -41,6 +42,7 @@ fn page_of<A: Allocator + Copy + Drop>(
         counts: &counts,
         waits: &waits,
         waiting: waiting.len(),
+        opening,
         live,
         ways: &ways,
         opened: found.count,
@@ -58,7 +60,7 @@ pub fn file_page<A: Allocator + Copy + Drop>(
     ensures page { IfOk result (λ t. IsFilePage records.now.book (string_bytes t)) }
     ensures few { IfOk result (λ t. string_len t ≤ MOST_BYTES) }
 {
-    page_of(alloc, records, None)
+    page_of(alloc, records, None, None)
 }
 
 /// The page of a desk that was opened at this moment. Fails where memory is refused.
@@ -72,8 +74,6 @@ pub fn desk_page<U: Carrier<Frame> + Drop, D: Carrier<Report> + Drop, A: Allocat
 {
     let schedule = desk.schedule()?;
     let live = Live {
-        since,
-        stood: desk.opened(),
         link: link_of(&desk.link()),
         schedule: ShownSchedule {
             enabled: schedule.enabled,
@@ -81,5 +81,9 @@ pub fn desk_page<U: Carrier<Frame> + Drop, D: Carrier<Report> + Drop, A: Allocat
             laid_in: schedule.activities.len(),
         },
     };
-    page_of(alloc, desk.records(), Some(live))
+    let opening = Opening {
+        since,
+        stood: desk.opened(),
+    };
+    page_of(alloc, desk.records(), Some(opening), Some(live))
 }

@@ -17,6 +17,7 @@ use Rattle.tc_types.specs.declared.waits.Waiting.TheVariants as waiting
 use Rattle.tc_wall.specs.declared.axes.Mark.{Mark}
 use Rattle.tc_wall.specs.declared.walls.Way.{Way}
 use Rattle.tc_wall.specs.declared.walls.Live.{Live}
+use Rattle.tc_wall.specs.declared.walls.Opening.{Opening}
 use Rattle.tc_wall.specs.declared.walls.ShownSchedule.{ShownSchedule}
 use Rattle.tc_wall.specs.declared.walls.Wall.{Wall}
 use Rattle.tc_wall.specs.declared.walls.TheConstants.{MOST_OPEN, MOST_STAGES, MOST_WAITS, MOST_MOVES, MOST_SHOWN_ACTIVITIES}
@@ -41,7 +42,7 @@ use Rattle.tc_wall.specs.Bars.{stage_parts, begin_of, end_of, bar_parts}
 use Rattle.tc_wall.specs.WayParts as ways
 use Rattle.tc_wall.specs.MoveParts.{move_parts, moves_parts}
 use Rattle.tc_wall.specs.Page.{laid_in, size_word, refresh_parts, head_parts, live_parts, page, wall_page}
-use Rattle.tc_wall.specs.Ranges.{IsShort, IsMoveInRange, IsWantingInRange, IsWaitingInRange, IsWaitInRange, IsOriginInRange, IsWayInRange, AreQueuesInRange, AreCountersInRange, IsFopInRange, IsFarmInRange, IsLinkInRange, IsActivityInRange, IsScheduleInRange, IsLiveInRange, IsWallInRange}
+use Rattle.tc_wall.specs.Ranges.{IsShort, IsMoveInRange, IsWantingInRange, IsWaitingInRange, IsWaitInRange, IsOriginInRange, IsWayInRange, AreQueuesInRange, AreCountersInRange, IsFopInRange, IsFarmInRange, IsLinkInRange, IsActivityInRange, IsScheduleInRange, IsLiveInRange, IsOpeningInRange, IsWallInRange}
 use Rattle.tc_wall.proofs.ListLemmas.{flat_map-append}
 use Rattle.tc_wall.proofs.SizeLemmas.{size, of_nothing, of_text, of_words, of_u16, of_u32, of_u64, of_place, of_name, chosen_size, entered_size, moved_size, opened_size, tile_begins_size, tile_label_size, count_size, request_begins_size, stack_begins_size, approvals_size, rows_size, author_size, free_size, locked_size, doubt_size, work_size, worded_size, number_size, share_size, flies_size, section_size, premise_size, enabled_size, activity_size, row_begins_size, identity_size, command_size, way_author_size, bar_begins_size, place_size, label_size, tick_size, ticks_begin_size, who_size, what_size}
 use Rattle.tc_wall.proofs.AxisLemmas.{IsOnAxis, axis_small, x_small, lines_small, lines_few, all_reversed}
@@ -81,19 +82,19 @@ none_size : (count : ℕ) (said : List ℕ) → length said ≤ 19 → size (non
 unfolding none_parts
 none_size count said few = chosen (nat_lt 0 count) _ _ 40 (more [] 0 40 (omega arith) of_nothing) (of_text _ _ 24 (of_words said 19 _ 5 few (of_text _ _ 0 of_nothing)))
 
-file_size : (live : Option Live) → IfSome live IsLiveInRange → size (file_parts live) ≤ 88
+file_size : (opening : Option Opening) → IfSome opening IsOpeningInRange → size (file_parts opening) ≤ 88
 unfolding file_parts
-file_size (Some live) h = opened_size live.since live.stood h.stood
+file_size (Some opening) h = opened_size opening h.stood
 file_size None h = more _ 32 88 (omega arith) (of_text _ _ 0 of_nothing)
 
 last_size : (last : Option Move) → IfSome last (λ row. row.seq < 2 ^ 32) → size (last_parts last) ≤ 69
 last_size (Some row) small = moved_size row small
 last_size None h = fixed_size _ 69 (lit≤ tt)
 
-heading_size : (b : Wall) → b.entered < 2 ^ 32 → IfSome b.live IsLiveInRange → IfSome (slice_get b.moves.now (length b.moves.now - 1)) (λ row. row.seq < 2 ^ 32) → size (heading_parts b) ≤ 400
+heading_size : (b : Wall) → b.entered < 2 ^ 32 → IfSome b.opening IsOpeningInRange → IfSome (slice_get b.moves.now (length b.moves.now - 1)) (λ row. row.seq < 2 ^ 32) → size (heading_parts b) ≤ 400
 unfolding heading_parts
-heading_size b entered live last =
-    both _ _ 390 10 (both _ _ 321 69 (both _ _ 288 33 (both _ _ 200 88 (fixed_size HEADING.now 200 (lit≤ tt)) (file_size b.live live)) (entered_size b.entered entered)) (last_size _ last)) (fixed_size _ 10 (lit≤ tt))
+heading_size b entered opening last =
+    both _ _ 390 10 (both _ _ 321 69 (both _ _ 288 33 (both _ _ 200 88 (fixed_size HEADING.now 200 (lit≤ tt)) (file_size b.opening opening)) (entered_size b.entered entered)) (last_size _ last)) (fixed_size _ 10 (lit≤ tt))
 
 -- ---- the tiles
 
@@ -358,7 +359,7 @@ head_size b =
 whole_size : (b : Wall) → IsWallInRange b → size (page b) ≤ 442451
 unfolding page
 whole_size b h =
-    both _ _ 442151 300 (both _ _ 429032 13119 (both _ _ 165298 263734 (both _ _ 160900 4398 (both _ _ 23181 137719 (both _ _ 21600 1581 (both _ _ 21200 400 (head_size b) (heading_size b h.entered h.live h.last)) (tiles_size b.counts.now h.counts))
+    both _ _ 442151 300 (both _ _ 429032 13119 (both _ _ 165298 263734 (both _ _ 160900 4398 (both _ _ 23181 137719 (both _ _ 21600 1581 (both _ _ 21200 400 (head_size b) (heading_size b h.entered h.opening h.last)) (tiles_size b.counts.now h.counts))
     (waits_size b h.waits h.waits_count)) (live_size b.live h.live)) (ways_size b h.ways h.ways_count)) (moves_size b h.moves h.moves_count)) (fixed_size FOOT.now 300 (lit≤ tt))
 
 pub page_size : (b : Wall) → IsWallInRange b → length (wall_page b) ≤ MOST_BYTES

@@ -22,6 +22,7 @@ use Rattle.tc_wall.specs.declared.links.FarmLine.{FarmLine}
 use Rattle.tc_wall.specs.declared.links.LinkLines.{LinkLines}
 use Rattle.tc_wall.specs.Parts.{Part, fixed}
 use Rattle.tc_wall.specs.Bounds.{last_of, left_out_parts, none_parts}
+use Rattle.tc_wall.specs.declared.walls.Opening.{Opening}
 use Rattle.tc_wall.specs.Heading.{file_parts, opened_parts, entered_parts, moved_parts, last_parts, heading_parts}
 use Rattle.tc_wall.specs.Tiles.{count_at, tile_begins, tile_label, tile_head_parts, count_parts, next_parts, counts_parts, tile_parts, open_tiles_parts, final_tiles_parts, tiles_parts}
 use Rattle.tc_wall.specs.Waits.{critical_parts, request_begins, stack_begins, marked_parts, approvals_parts, rows_parts, other_parts, author_parts, barred_parts, request_parts, stack_parts, free_parts, locked_parts, doubt_parts, work_parts, waiting_parts, wait_parts, text_of, waits_parts}
@@ -74,13 +75,13 @@ of_none : (count : ℕ) (said : List ℕ) → Tells (none_parts count said) []
 unfolding none_parts
 of_none count said = of_choice (nat_lt 0 count) _ _ (record { is = refl }) (record { is = refl })
 
-of_opened : (since stood : ℕ) → Tells (opened_parts since stood) []
+of_opened : (opening : Opening) → Tells (opened_parts opening) []
 unfolding opened_parts
-of_opened since stood = record { is = refl }
+of_opened opening = record { is = refl }
 
-of_file : (live : Option Live) → Tells (file_parts live) []
+of_file : (opening : Option Opening) → Tells (file_parts opening) []
 unfolding file_parts
-of_file (Some live) = of_opened live.since live.stood
+of_file (Some opening) = of_opened opening
 of_file None = record { is = refl }
 
 of_entered : (entered : ℕ) → Tells (entered_parts entered) []
@@ -97,7 +98,7 @@ of_last None = of_fixed _
 
 of_heading : (b : Wall) → Tells (heading_parts b) []
 unfolding heading_parts
-of_heading b = quiet _ _ (quiet _ _ (quiet _ _ (quiet _ _ (of_fixed _) (of_file b.live)) (of_entered b.entered)) (of_last _)) (of_fixed _)
+of_heading b = quiet _ _ (quiet _ _ (quiet _ _ (quiet _ _ (of_fixed _) (of_file b.opening)) (of_entered b.entered)) (of_last _)) (of_fixed _)
 
 -- ---- the tiles
 

@@ -12,6 +12,7 @@ use Rattle.tc_wall.specs.declared.walls.Wait.{Wait}
 use Rattle.tc_wall.specs.declared.walls.Way.{Way}
 use Rattle.tc_wall.specs.declared.walls.ShownSchedule.{ShownSchedule}
 use Rattle.tc_wall.specs.declared.walls.Live.{Live}
+use Rattle.tc_wall.specs.declared.walls.Opening.{Opening}
 use Rattle.tc_wall.specs.declared.walls.Wall.{Wall}
 use Rattle.tc_wall.specs.declared.walls.TheConstants.{MOST_OPEN, MOST_WAITS, MOST_MOVES, MOST_SHOWN_ACTIVITIES}
 use Rattle.tc_wall.specs.declared.links.FopLine.{FopLine}
@@ -99,8 +100,10 @@ pub record IsScheduleInRange (s : ShownSchedule) : Type 0 where
   pub activities : AllByRecursion IsActivityInRange (take MOST_SHOWN_ACTIVITIES s.activities.now)
   pub laid_in : s.laid_in < 2 ^ 64
 
+pub record IsOpeningInRange (opening : Opening) : Type 0 where
+  pub stood : opening.stood < 2 ^ 64
+
 pub record IsLiveInRange (live : Live) : Type 0 where
-  pub stood : live.stood < 2 ^ 64
   pub link : IsLinkInRange live.link
   pub schedule : IsScheduleInRange live.schedule
 
@@ -109,6 +112,7 @@ pub record IsWallInRange (b : Wall) : Type 0 where
   pub counts : AllByRecursion (λ n. n < 2 ^ 32) b.counts.now
   pub waits : AllByRecursion IsWaitInRange (take MOST_WAITS b.waits.now)
   pub waits_count : b.waiting < 2 ^ 64
+  pub opening : IfSome b.opening IsOpeningInRange
   pub live : IfSome b.live IsLiveInRange
   pub ways : AllByRecursion IsWayInRange (take MOST_OPEN b.ways.now)
   pub ways_count : b.opened < 2 ^ 64

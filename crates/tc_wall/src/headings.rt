@@ -7,21 +7,18 @@ ghost use Rattle.tc_wall.specs.Heading.{file_parts, opened_parts, entered_parts,
 use crate::bounds::add_fixed;
 use crate::fixed::HEADING;
 use crate::times::time_text;
-use crate::walls::{Live, Wall};
+use crate::walls::{Opening, Wall};
 use std::alloc::{AllocError, Allocator};
 use std::fmt::Write;
-use tc_types::{Moment, Move};
+use tc_types::Move;
 
 /// Adds when the desk was opened, and how many moves stood then.
 #[tactic(auto, unfolding(crate::specs::Heading::opened_parts))]
-fn add_opened<A: Allocator + Copy>(
-    page: &mut String<A>,
-    since: Moment,
-    stood: usize,
-) -> Result<(), AllocError>
-    ensures { OnOk result (Adds (opened_parts since stood) (string_bytes page.old) (string_bytes page.new)) }
+fn add_opened<A: Allocator + Copy>(page: &mut String<A>, opening: Opening) -> Result<(), AllocError>
+    ensures { OnOk result (Adds (opened_parts opening) (string_bytes page.old) (string_bytes page.new)) }
 {
-    let time = time_text(since);
+    let stood = opening.stood;
+    let time = time_text(opening.since);
     let time = time.as_str();
     write!(
         page,
@@ -33,12 +30,12 @@ fn add_opened<A: Allocator + Copy>(
 #[tactic(auto, unfolding(crate::specs::Heading::file_parts))]
 fn add_file<A: Allocator + Copy>(
     page: &mut String<A>,
-    live: &Option<Live>,
+    opening: Option<Opening>,
 ) -> Result<(), AllocError>
-    ensures { OnOk result (Adds (file_parts live.now) (string_bytes page.old) (string_bytes page.new)) }
+    ensures { OnOk result (Adds (file_parts opening) (string_bytes page.old) (string_bytes page.new)) }
 {
-    match live {
-        Some(live) => add_opened(page, live.since, live.stood),
+    match opening {
+        Some(opening) => add_opened(page, opening),
         None => page.push_str("<p class=\"file\">closed file</p>\n"),
     }
 }
@@ -81,7 +78,7 @@ pub(crate) fn add_heading<A: Allocator + Copy>(
     ensures { OnOk result (Adds (heading_parts wall.now) (string_bytes page.old) (string_bytes page.new)) }
 {
     add_fixed(page, HEADING)?;
-    add_file(page, &wall.live)?;
+    add_file(page, wall.opening)?;
     add_entered(page, wall.entered)?;
     add_last(page, wall.moves)?;
     add_fixed(page, "</header>\n")

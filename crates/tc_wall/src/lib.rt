@@ -29,6 +29,6 @@ mod ways;
 pub use links::{FarmLine, FarmWord, FopLine, FopWord, LinkLines};
 pub use pages::{MOST_BYTES, wall_text};
 pub use walls::{
-    Live, MOST_MOVES, MOST_OPEN, MOST_SHOWN_ACTIVITIES, MOST_STAGES, MOST_WAITS, ShownSchedule,
-    Wait, Wall, Way,
+    Live, MOST_MOVES, MOST_OPEN, MOST_SHOWN_ACTIVITIES, MOST_STAGES, MOST_WAITS, Opening,
+    ShownSchedule, Wait, Wall, Way,
 };

@@ -1,13 +1,14 @@
 //! What the types of a wall keep. These functions do nothing: their clauses are what the types know.
 ghost use Rattle.std.specs.Prelude.{◌<◌, ◌≤◌, ◌^◌, IfSome, length};
 ghost use Rattle.std.specs.List.{AllByRecursion};
-ghost use Rattle.tc_wall.specs.Ranges.{IsShort, IsMoveInRange, IsWantingInRange, IsWaitingInRange, IsWaitInRange, IsOriginInRange, IsRequestInRange, IsWayInRange, AreQueuesInRange, AreCountersInRange, IsFopInRange, IsFarmInRange, IsLinkInRange, IsActivityInRange, IsScheduleInRange, IsLiveInRange, IsWallInRange};
+ghost use Rattle.tc_wall.specs.Ranges.{IsShort, IsMoveInRange, IsWantingInRange, IsWaitingInRange, IsWaitInRange, IsOriginInRange, IsRequestInRange, IsWayInRange, AreQueuesInRange, AreCountersInRange, IsFopInRange, IsFarmInRange, IsLinkInRange, IsActivityInRange, IsScheduleInRange, IsLiveInRange, IsOpeningInRange, IsWallInRange};
 ghost use Rattle.tc_wall.specs.Waits.{text_of};
 
 use crate::bounds::{first_of, last_of};
 use crate::links::{FarmLine, FopLine, LinkLines};
 use crate::walls::{
-    Live, MOST_MOVES, MOST_OPEN, MOST_SHOWN_ACTIVITIES, MOST_WAITS, ShownSchedule, Wait, Wall, Way,
+    Live, MOST_MOVES, MOST_OPEN, MOST_SHOWN_ACTIVITIES, MOST_WAITS, Opening, ShownSchedule, Wait,
+    Wall, Way,
 };
 use crate::way_rows::kind;
 use tc_types::{ListedActivity, Move, Name, Origin, PLACES, Request, StepText, Waiting, Wanting};
@@ -237,12 +238,20 @@ fn keep_schedule(schedule: &ShownSchedule)
     keep_activities(first_of(schedule.activities, MOST_SHOWN_ACTIVITIES));
 }
 
+/// How a desk was opened.
+fn keep_opening(opening: &Option<Opening>)
+    ensures { IfSome opening.now IsOpeningInRange }
+{
+    if let Some(opening) = opening {
+        let _stood = opening.stood;
+    }
+}
+
 /// What is told of a desk that is open.
 fn keep_live(live: &Option<Live>)
     ensures { IfSome live.now IsLiveInRange }
 {
     if let Some(live) = live {
-        let _stood = live.stood;
         keep_link(&live.link);
         keep_schedule(&live.schedule);
     }
@@ -277,6 +286,7 @@ pub(crate) fn keep_wall(wall: &Wall)
     let _moved = wall.moved;
     keep_counts(wall.counts);
     keep_waits(first_of(wall.waits, MOST_WAITS));
+    keep_opening(&wall.opening);
     keep_live(&wall.live);
     keep_ways(first_of(wall.ways, MOST_OPEN));
     keep_last(wall.moves.last().copied());

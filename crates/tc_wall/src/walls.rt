@@ -50,13 +50,18 @@ pub struct ShownSchedule<'a> {
     pub laid_in: usize,
 }
 
-/// What is told of a desk that is open.
-#[derive(Clone, Copy, Debug)]
-pub struct Live<'a> {
-    /// When the desk was opened.
+/// How a desk was opened.
+#[derive(Clone, Copy)]
+pub struct Opening {
+    /// When.
     pub since: Moment,
     /// How many moves stood then.
     pub stood: usize,
+}
+
+/// What is told of a desk that is open.
+#[derive(Clone, Copy, Debug)]
+pub struct Live<'a> {
     /// How the link stands.
     pub link: LinkLines,
     /// The on-board schedule.
@@ -74,6 +79,8 @@ pub struct Wall<'a> {
     pub waits: &'a [Wait],
     /// How many wait.
     pub waiting: usize,
+    /// How an open desk was opened; `None` of a file that nobody has open.
+    pub opening: Option<Opening>,
     /// What is told of an open desk; `None` of a file that nobody has open.
     pub live: Option<Live<'a>>,
     /// The requests that are open. At most the first `MOST_OPEN` are shown.
