@@ -6,7 +6,7 @@ ghost use Rattle.tc_copy.specs.Pairs.{HasOneName, HaveOneName, IsPair, is_log_he
 use crate::marks::{LogMark, Marks};
 
 /// Why a database file and what stands beside it are not one desk's two files.
-#[derive(Clone, Copy, PartialEq, Eq)]
+#[derive(Clone, Copy, Debug, PartialEq, Eq)]
 pub enum Unpaired {
     /// One of the two has another name too, beside which a log of its own may stand.
     Named,

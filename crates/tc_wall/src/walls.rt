@@ -51,7 +51,7 @@ pub struct ShownSchedule<'a> {
 }
 
 /// How a desk was opened.
-#[derive(Clone, Copy)]
+#[derive(Clone, Copy, Debug)]
 pub struct Opening {
     /// When.
     pub since: Moment,
