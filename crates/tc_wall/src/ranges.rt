@@ -239,11 +239,18 @@ fn keep_schedule(schedule: &ShownSchedule)
 }
 
 /// How a desk was opened.
+fn keep_opened(opening: &Opening)
+    ensures { IsOpeningInRange opening.now }
+{
+    let _stood = opening.stood;
+}
+
+/// So is that of a desk that may be closed.
 fn keep_opening(opening: &Option<Opening>)
     ensures { IfSome opening.now IsOpeningInRange }
 {
     if let Some(opening) = opening {
-        let _stood = opening.stood;
+        keep_opened(opening);
     }
 }
 
