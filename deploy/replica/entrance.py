@@ -18,12 +18,12 @@ from desk import Ended
 from etcd import Unanswered
 from health import Health
 from machine import Carried, NotDone, Told, give_up, say
-from words import BAD, FULL, LONG, NEWEST, NUMBER, Answer, of_body, of_head, shortened
+from words import BAD, FULL, LONG, NEWEST, NUMBER, Answer, hosts_of, of_body, of_head, shortened
 
 SHARE = 0.8  # of the time that a sender is told to wait: a post is carried out for the first time within it, or never
 SLOWEST = 30.0  # seconds for a request to come
 BEAT, STILL = 0.2, 1.0  # seconds between two beats of the entrance; one that has not beaten for the second time stood still, and refuses posts for as long after it
-PHRASES = {200: "OK", 400: "Bad Request", 404: "Not Found", 405: "Method Not Allowed", 409: "Conflict", 413: "Payload Too Large", 500: "Internal Server Error",
+PHRASES = {200: "OK", 400: "Bad Request", 403: "Forbidden", 404: "Not Found", 405: "Method Not Allowed", 409: "Conflict", 413: "Payload Too Large", 500: "Internal Server Error",
            503: "Service Unavailable", 504: "Gateway Timeout"}
 PLAIN = (("Content-Type", "text/plain; charset=utf-8"),)
 Reply = Union[Answer, Carried]
@@ -100,7 +100,7 @@ class Entrance(threading.Thread):
         super().__init__(daemon=True)
         self.address, self.appender, self.machine, self.health, self.patience = address, appender, appender.machine, health, patience
         self.listens = threading.Event()
-        self.port, self.beaten, self.closed_until = 0, now(), 0.0
+        self.port, self.hosts, self.beaten, self.closed_until = 0, frozenset[bytes](), now(), 0.0
 
     def run(self) -> None:
         """For ever."""
@@ -114,6 +114,7 @@ class Entrance(threading.Thread):
         door = Door(self.answered, access_log=None, auto_decompress=False, lingering_time=1.0)
         server = await asyncio.get_running_loop().create_server(door, *self.address, backlog=1024)
         self.port = server.sockets[0].getsockname()[1]
+        self.hosts = hosts_of(self.address[0], self.port)
         self.listens.set()
         while True:
             self.beat()
@@ -140,7 +141,8 @@ class Entrance(threading.Thread):
         if is_get and path in ("/healthz", "/metrics"):
             is_well, text = self.health.told()
             return response_of(Answer(200 if is_well else 503, text) if path == "/healthz" else Answer(200, self.health.metrics(), PLAIN))
-        bad = BAD if tuple(request.version) not in ((1, 0), (1, 1)) else of_head(request.method, path.removesuffix(NEWEST) if is_get else path, request.raw_headers)
+        bare = path.removesuffix(NEWEST) if is_get else path
+        bad = BAD if tuple(request.version) not in ((1, 0), (1, 1)) else of_head(request.method, bare, request.raw_headers, self.hosts)
         if bad:
             return response_of(bad, closes=True)
         if is_get:

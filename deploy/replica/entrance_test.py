@@ -13,8 +13,9 @@ from health import MOST_POSTS
 from log import Wanted
 from model.http import Refused as RefusedByModel
 from model.http import answer_to
+from model.http import hosts_of as model_hosts
 from stand_ins import LONG, DeskInMemory, Served, StandIn, entry, log_of, quick, whole
-from words import MOST_BODY, of_body, of_head, shortened
+from words import MOST_BODY, hosts_of, of_body, of_head, shortened
 
 SOON = 3.0  # seconds after which somebody is told that nothing is known, where a test waits for that
 
@@ -82,8 +83,11 @@ class Entrances(ServedAlone):
             self.assertEqual(400, self.served.ask("POST", "/acts", b"x", Content_Length=length)[0], length)
         self.assertEqual(400, self.served.ask("POST", "/acts", None)[0])
         self.assertEqual(400, self.served.ask("POST", "/acts", act("x"), Transfer_Encoding="chunked")[0])
-        for path in ("//places", "/none", "/acts/", "/acts?x", "/requests", "http://x/places"):
+        for path in ("//places", "/none", "/acts/", "/acts?x", "/requests", "http://localhost/places"):
             self.assertEqual(404, self.served.ask("GET", path)[0], path)
+        self.assertEqual(403, self.served.ask("GET", "http://x/places")[0])
+        for name, value in (("Origin", "https://evil.example"), ("Origin", "null"), ("Sec_Fetch_Site", "cross-site"), ("Host", "evil.example")):
+            self.assertEqual(403, self.served.ask("POST", "/acts", act("x"), Content_Type="text/plain", **{name: value})[0], value)
         for method in ("PUT", "DELETE", "OPTIONS", "PATCH", "GET"):
             self.assertEqual(405, self.served.ask(method, "/acts", None)[0], method)
         for body in (b"", b"x", b"[]", b"{}", act("x", 0), act("x", 4294967296), act("x", by="desk"), act("x", by="Ann"), act("x")[:-1], b"\xff" + act("x")):
@@ -195,7 +199,7 @@ class Unknown(ServedAlone):
         self.etcd.is_away = True
         with socket.create_connection(("127.0.0.1", self.served.entrance.port)) as peer:
             body = act("1")
-            peer.sendall(b"POST /acts HTTP/1.1\r\nHost: x\r\nContent-Length: %d\r\n\r\n" % len(body) + body)
+            peer.sendall(b"POST /acts HTTP/1.1\r\nHost: localhost\r\nContent-Length: %d\r\n\r\n" % len(body) + body)
             self.served.wait(lambda: len(self.served.machine.waiting) > 0)
         self.served.wait(lambda: not self.served.machine.waiting)
         self.etcd.is_away = False
@@ -233,12 +237,16 @@ class Words(unittest.TestCase):
         methods, lengths = ("GET", "POST", "PUT", "HEAD", "get"), ("0", "5", "05", "65536", "65537", "99999999999", "-1", "")
         paths = ("/places", "/acts", "/stacks", "/procedures", "/procedures/x", "/procedures/X", "/requests/1", "/requests/01", "/requests/4294967296", "/history/1/2",
                  "/history/1", "/report/0/4102444799", "/report/0/4102444800", "/waiting", "/moves/0", "/board", "/", "//places", "/moves/x")
-        for _ in range(4000):
+        hosts = [b"127.0.0.1", b"LocalHost:8080", b"10.0.0.1:8080", b"10.0.0.1:8081", b"evil.example", b"", b"10.0.0.10"]
+        doors = {b"Host": hosts, b"oRIGIN": [b"null", b"", b"HTTP://127.0.0.1", b"http://", *(it + host for it in (b"http://", b"https://", b"ftp://") for host in hosts)],
+                 b"Sec-Fetch-Site": [b"same-origin", b"none", b"same-site", b"cross-site", b"None", b""]}
+        for _ in range(20_000):
             method, path = dice.choice(methods), dice.choice(paths)
             fields = [(b"Content-Length", dice.choice(lengths).encode()) for _ in range(dice.choice((0, 1, 1, 1, 2)))] + [(b"transfer-encoding", b"x")] * (
                 dice.randrange(9) == 0)
+            fields += [(name, dice.choice(texts)) for name, texts in doors.items() for _ in range(dice.choice((0, 0, 0, 0, 0, 1, 1, 2)))]
             head = f"{method} {path} HTTP/1.1\r\n".encode() + b"".join(name + b": " + value + b"\r\n" for name, value in fields) + b"\r\n"
-            want, found = answer_to(head + b"x" * 65_536), of_head(method, path, fields)
+            want, found = answer_to(head + b"x" * 65_536, model_hosts(8080, "10.0.0.1")), of_head(method, path, fields, hosts_of("10.0.0.1", 8080))
             refused = want if isinstance(want, RefusedByModel) and not (method == "POST" and found is None) else None
             self.assertEqual(refused and refused.status, found and found.status, head)
 

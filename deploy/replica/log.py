@@ -54,6 +54,7 @@ class Log:
         """Nothing was seen of it yet."""
         self.etcd, self.root, self.seal, self.clock = etcd, f"/tcdesk/{name}", seal, clock or Clock()
         self.free = 1
+        self.first_own = 0  # the place of the first entry that this process put; 0 where it has put none
         self.done: Callable[[], int] = lambda: 0  # up to which place this machine carried it out in time
 
     def key(self, place: int) -> str:
@@ -97,6 +98,7 @@ class Log:
         self.free = max(self.free, place + (len(still) if there is None else there.amount))
         for it in still:
             it.found(marks.get(it.entry.mark, 0))
+        self.first_own = self.first_own or min((it.place for it in still if it.place), default=0)
 
     def tried(self, place: int, entries: Sequence[Entry], skips: int) -> Optional[Found]:
         """Puts entries at these places, where they are free, and all before are not. Gives what stands there, where they are not."""

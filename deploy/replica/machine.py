@@ -190,7 +190,7 @@ class Machine:
             raise Left(f"the follower ended in the midst of place {begun.place}")
         self.begun, self.order, self.held = begun, Order(begun.decided + 1, skips), set(range(begun.done + 1, begun.carried + 1))
         self.mark, self.most, self.leaves_for, self.own, self.at_hand = opening.mark, opening.most, None, set(), 0
-        self.compares_again, self.ticks_again, self.ticked, self.before = 0.0, 0.0, 0, begun.carried
+        self.compares_again, self.ticks_again, self.ticked, self.before = 0.0, 0.0, 0, max(begun.carried, begun.place)
         say(f"a desk at port {opening.port}, from place {begun.carried + 1} on")
 
     def leave(self, opening: Opening, why: str) -> None:
@@ -235,7 +235,7 @@ class Machine:
     def walk(self, opening: Opening, is_end: bool) -> None:
         """Carries out the places that are read: those of which the log has said what is to be done, and at its end those that are in time."""
         while item := self.order.items.get(self.begun.carried + 1):
-            if not item.verdict and not (is_end and self.is_in_time(item)):
+            if not item.verdict and not (is_end and self.may_begin(item)):
                 return
             self.carry_out(opening, item)
             self.leave_if_it_has_to()
@@ -245,6 +245,11 @@ class Machine:
     def is_in_time(self, item: Item) -> bool:
         """Whether a post may be carried out for the first time."""
         return item.entry is not None and self.log.clock.now() <= item.entry.latest
+
+    def may_begin(self, item: Item) -> bool:
+        """Whether this machine may carry out a post of which the log says nothing yet. What stands before the first entry of this process may have been there
+        for any time: a clock that is slow does not tell, once nobody else writes."""
+        return 0 < self.log.first_own <= item.place and self.is_in_time(item)
 
     def carry_out(self, opening: Opening, item: Item) -> None:
         """The next place."""

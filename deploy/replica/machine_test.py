@@ -322,6 +322,28 @@ class InTime(Followed):
         self.goes()
         self.assertEqual((22, 24), (self.machine.place, self.machine.done))
 
+    def test_after_silence(self) -> None:
+        """A follower whose clock is slow, and which begins while the log is silent, carries out first nothing that stands before the first entry of its own."""
+        self.log = log_of(self.etcd, Hand(0).clock())
+        machine = self.begun(True)
+        self.goes()
+        self.assertTrue(machine.is_in_time(machine.order.open[0]))
+        self.assertEqual((21, 20, []), (machine.place, len(self.desk.posts), self.wants()))
+        self.write(entry(22))
+        self.said(22)
+        self.write(entry(23))
+        self.goes()
+        self.assertEqual((22, 25, 23), (machine.place, machine.done, len(self.desk.posts)))
+
+    def test_in_the_midst(self) -> None:
+        """A follower that begins anew in the midst of a post that is void has a desk that may have carried it out: that is ended."""
+        self.begun(True)
+        self.goes()
+        self.desk.begin("mark", self.machine.begun._replace(carried=21))
+        self.begun(True)
+        self.said(0, b"22")
+        self.assertRaises(Left, self.goes)
+
     def test_restart(self) -> None:
         """A follower that begins anew after a post that it has carried out in time says so still, and posts it no more."""
         self.begun(True)

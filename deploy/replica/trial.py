@@ -3,7 +3,7 @@
 while ten clients send random posts, and three more leave after 1 to 4 seconds.
 
     deploy/replica/trial.py [--program PATH] [--seed N] [--posts N]      the long form; as root each machine has a network of its own, and is cut off too
-    deploy/replica/trial.py --seconds 300                                the same, and posts until so many seconds went by
+    deploy/replica/trial.py --seconds 300                                the same, and then random ones of the faults, until so many seconds went by
     deploy/replica/trial.py --short                                      some faults, on 127.0.0.1
     deploy/replica/trial.py --rates                                      acts a second of a desk alone, of one machine, of three, and of two of three
 
@@ -37,9 +37,10 @@ from tests.runs import quick_folder  # noqa: E402
 from trial_checks import carried_out, done_wrongly, items_of, too_late, wrong_answers, wrong_files  # noqa: E402
 from trial_clients import AT_ONCE, Client, Dealer, Leaver, Script, Try, Watcher, random_script  # noqa: E402
 from trial_faults import LONGEST, NAME, Planned, plan  # noqa: E402
-from trial_machines import CutNet, Member, Net, Unit, make_keys, wait_for  # noqa: E402
+from trial_machines import AS_SET_UP, CutNet, Member, Net, Unit, make_keys, wait_for  # noqa: E402
 
 LEAVERS = 3
+POSTS_A_SECOND = 60  # more than the faults of a second let go
 
 
 def first_tables(program: str, folder: str) -> Tables:
@@ -61,6 +62,7 @@ class Trial:
         counts = [*first_counts, *[1_000_000] * count]
         self.members = [Member(net, at, folder, asked.program, asked.every, counts[at]) for at in range(count)]
         self.passed, self.failed, self.posts = 0, 0, 0
+        self.waited: list[tuple[float, str]] = []  # in each fault of one machine: the longest that a client was without an answer
         self.clients: list[Client] = []
         self.leavers: list[Client] = []
         self.tries: list[Try] = []
@@ -149,8 +151,8 @@ class Trial:
         took, longest = time.monotonic() - began, self.longest(began)
         print(f"{planned.what}: at place {max(it.told[-1].place for it in self.clients if it.told)}, nobody was answered for {self.silence(began):.1f} s, "
               f"a client for {longest:.1f} s, all were in again after {took:.1f} s{more or ''}", flush=True)
-        if planned.is_of_one and longest > LONGEST:
-            self.tell(f"no client waits for {LONGEST:.0f} s", [f"{planned.what}: {longest:.1f} s"])
+        if planned.is_of_one:
+            self.waited.append((longest, planned.what))
         self.broken()
 
     # ---- what is looked at in the end
@@ -170,6 +172,9 @@ class Trial:
     def look(self) -> None:
         """Everything."""
         self.end_of_posts()
+        longest, what = max(self.waited, default=(0.0, "nothing"))
+        self.tell(f"in {len(self.waited)} faults of one machine of three no client waited for {LONGEST:.0f} s; the longest was {longest:.1f} s ({what})",
+                  [f"{why}: {took:.1f} s" for took, why in self.waited if took >= LONGEST])
         everybody = [*self.clients, *self.leavers]
         told, looks = [it for client in everybody for it in client.told], [it for client in everybody for it in client.looks]
         items = items_of(self.members[0], NAME)
@@ -215,17 +220,18 @@ def faults(asked: argparse.Namespace, folder: str) -> int:
         net = CutNet(3)
     elif not asked.short:
         print("not tried: machines that are cut from each other (root and iproute2 are wanted for that)")
+    net.times = AS_SET_UP if asked.as_set_up else net.times
     print(f"replica: seed {asked.seed}", flush=True)
     with Trial(asked, folder, net, 3, [asked.stage // 2]) as trial:
-        trial.send(random_script(asked.seed, asked.posts * 2, trial.first))
+        trial.send(random_script(asked.seed, asked.posts * 2 + asked.seconds * POSTS_A_SECOND, trial.first))
         trial.send_and_leave()
         began = time.monotonic()
-        for it in [Planned(f"a desk ends after its COUNT, {asked.stage // 2}", lambda: None, True), *plan(trial)]:
-            if asked.only in it.what:
-                trial.fault(it, asked.stage)
+        planned = [it for it in [Planned(f"a desk ends after its COUNT, {asked.stage // 2}", lambda: None, True), *plan(trial)] if asked.only in it.what]
+        for it in planned:
+            trial.fault(it, asked.stage)
         trial.let_go(max(0, asked.posts - trial.answered()))
-        while time.monotonic() - began < asked.seconds and trial.answered() < len(trial.dealer.posts):
-            trial.let_go(asked.stage // 4)
+        while planned[1:] and time.monotonic() - began < asked.seconds and trial.answered() < len(trial.dealer.posts) - 4 * asked.stage:
+            trial.fault(trial.dice.choice(planned[1:]), asked.stage)
         print(f"{trial.answered()} posts in {time.monotonic() - began:.0f} s, and {sum(len(it.tries) for it in trial.leavers)} of who leave, "
               f"of which {sum(len(it.told) for it in trial.leavers)} were answered", flush=True)
         trial.look()
@@ -293,8 +299,9 @@ def main() -> int:
     parser.add_argument("--program", metavar="PATH", help="the program that is run")
     parser.add_argument("--seed", type=int, default=1, metavar="N", help="of the posts and the faults (1)")
     parser.add_argument("--posts", type=int, metavar="N", help="at least so many (20,000; short 1,100; rates 3,000)")
-    parser.add_argument("--seconds", type=int, default=0, metavar="N", help="posts go on until so many seconds went by (0)")
-    parser.add_argument("--away", type=int, default=30, metavar="N", help="etcd is away for so many seconds more (30)")
+    parser.add_argument("--seconds", type=int, default=0, metavar="N", help="faults go on until so many seconds went by (0)")
+    parser.add_argument("--away", type=int, default=120, metavar="N", help="etcd is away for so many seconds, the first time (120; short: no longer than anybody waits)")
+    parser.add_argument("--as-set-up", action="store_true", help="a replica has the times that it has where none are named, and not shorter ones")
     parser.add_argument("--only", default="", metavar="TEXT", help="those faults alone whose names have this text")
     parser.add_argument("--folder", metavar="PATH", help="a folder on the disk that is used (short: memory)")
     parser.add_argument("--short", action="store_true", help="some faults, on 127.0.0.1, in memory")

@@ -9,7 +9,7 @@ from typing import NamedTuple, Optional, Sequence
 from generate.http_days import posted_day
 from generate.http_words import body_of
 from model.rows import Tables
-from trial_machines import PATIENCE, Member
+from trial_machines import Member
 
 AT_ONCE = 10
 LIMIT = 4.0  # seconds that a client waits for an answer
@@ -125,7 +125,7 @@ class Client(threading.Thread):
         tries, began = 0, time.monotonic()
         while True:
             tries += 1
-            self.tries.append(Try(post, self.members[self.at].name, time.monotonic(), PATIENCE))
+            self.tries.append(Try(post, self.members[self.at].name, time.monotonic(), self.members[self.at].net.times.patience))
             told = self.ask(self.at, "POST", post.path, post.body)
             if told and told[0] not in (502, 503, 504):
                 return Told(post, *told, tries, began, time.monotonic())
@@ -145,7 +145,6 @@ class Client(threading.Thread):
         told = self.ask(self.dice.randrange(len(self.members)), "GET", path + NEWEST * is_newest, None, 2.0)
         if told and told[0] not in (502, 503, 504):
             self.looks.append(Look(path, *told, place * is_newest))
-
 
 
 

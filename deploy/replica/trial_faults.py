@@ -1,5 +1,6 @@
 """The faults of the trial: programs that are killed, stand still or are away, machines that are cut off, and what comes into the log that should not."""
 import os
+import secrets
 import shutil
 import signal
 import time
@@ -11,7 +12,7 @@ from log import Log, Wanted
 from tests.http_peer import Fault, free_port
 from tests.runs import made_shim
 from trial_clients import AT_ONCE, LIMIT, Post, Try
-from trial_machines import LEASE, PATIENCE, CutNet, Member, Unit, wait_for
+from trial_machines import CutNet, Member, Unit, wait_for
 
 if TYPE_CHECKING:
     from trial import Trial
@@ -34,6 +35,7 @@ class Faults:
     def __init__(self, trial: "Trial") -> None:
         """In this one."""
         self.trial, self.members, self.dice, self.asked, self.net = trial, trial.members, trial.dice, trial.asked, trial.net
+        self.times, self.away = trial.net.times, 0 if trial.asked.short else trial.asked.away
 
     def any(self) -> Member:
         """Some machine."""
@@ -67,7 +69,7 @@ class Faults:
         it.each(lambda unit: unit.signal(signal.SIGSTOP))
         began = time.monotonic()
         self.trial.let_go(self.asked.stage // 4)
-        time.sleep(max(0.0, began + 3 * LEASE - time.monotonic()))
+        time.sleep(max(0.0, began + 3 * self.times.lease - time.monotonic()))
         it.each(lambda unit: unit.signal(signal.SIGCONT))
 
     def hang_desk(self) -> str:
@@ -86,15 +88,27 @@ class Faults:
             it.units["desk"].signal(signal.SIGKILL)
             time.sleep(1)
 
-    def cut(self) -> None:
-        """The machine whose etcd leads is cut from the others, and its clients go on to reach it."""
-        assert isinstance(self.net, CutNet)
-        at = self.leader().at
-        self.net.cut(at, True)
+    def stop_leader(self) -> None:
+        """The etcd that leads stands still, and what was sent to it is read long after that."""
+        it = self.leader().units["etcd"]
+        it.signal(signal.SIGSTOP)
         began = time.monotonic()
         self.trial.let_go(self.asked.stage // 4)
-        time.sleep(max(0.0, began + 4 * LEASE - time.monotonic()))
-        self.net.cut(at, False)
+        time.sleep(max(0.0, began + self.times.patience + 4 - time.monotonic()))
+        it.signal(signal.SIGCONT)
+
+    def cut(self, kinds: str) -> Callable[[], None]:
+        """The machine whose etcd leads is cut from the others, and from its clients or not."""
+        def does() -> None:
+            """For longer than its lease."""
+            assert isinstance(self.net, CutNet)
+            at = self.leader().at
+            self.net.cut(at, True, kinds)
+            began = time.monotonic()
+            self.trial.let_go(self.asked.stage // 4)
+            time.sleep(max(0.0, began + 4 * self.times.lease - time.monotonic()))
+            self.net.cut(at, False, kinds)
+        return does
 
     def fail_disk(self) -> str:
         """A desk begins anew on a disk that fails some acts later: it is told 31."""
@@ -125,17 +139,18 @@ class Faults:
         assert isinstance(self.net, CutNet)
         for at in range(self.net.count):
             self.net.cut(at, True)
-        time.sleep(2 * LEASE)
+        time.sleep(2 * self.times.lease)
         for at in range(self.net.count):
             self.net.cut(at, False)
 
     def etcd_away(self) -> str:
-        """All etcds are killed, and away for longer than anybody waits. Once that is known a post is refused at once."""
+        """All etcds are killed, and away for longer than anybody waits; the first time for minutes. Once that is known a post is refused at once."""
         for it in self.members:
             it.units["etcd"].hold()
-        time.sleep(PATIENCE + 4)
+        time.sleep(self.times.patience + 4)
         told = [self.timed(it) for it in self.members]
-        time.sleep(0 if self.asked.short else self.asked.away)
+        time.sleep(self.away)
+        self.away = 0
         for it in self.members:
             it.go()
         self.trial.tell("while etcd is away a post is refused at once", [f"{status} after {took:.1f} s" for status, took in told if status != 503 or took > 1])
@@ -146,7 +161,7 @@ class Faults:
         self.trial.posts += 1
         post = Post("/acts", b'{"act":"enter 5 a--c no 8 1 - - ok","by":"tri","moment":1,"number":%d}' % self.trial.posts)
         began = time.monotonic()
-        self.trial.tries.append(Try(post, member.name, began, PATIENCE))
+        self.trial.tries.append(Try(post, member.name, began, self.times.patience))
         told = self.trial.clients[0].ask(member.at, "POST", post.path, post.body, LIMIT)
         return told[0] if told else 0, time.monotonic() - began
 
@@ -173,13 +188,17 @@ class Faults:
 
     def poison(self) -> str:
         """A sealed entry at which each machine fails: all stay out, `status` says why, and they go on once it is skipped."""
-        log, wanted = self.log(), Wanted(Entry(f"poison-{self.trial.posts}", "/acts\x01", b"", FAR))
+        log, wanted = self.log(), Wanted(Entry(f"poison-{secrets.token_hex(4)}", "/acts\x01", b"", FAR))
         while not wanted.place:
             log.put([wanted])
-        wait_for("all machines stay out", lambda: all(it.said(f"at place {wanted.place}") and it.said("stays out") for it in self.members))
-        told = self.members[0].does("status")
-        wants = [f"machine {it.name} stays out" for it in self.members] + [f"failed 3 times in a row at place {wanted.place}"]
-        self.trial.tell("`status` says at which place all machines stay out", [f"{it} is not in {told}" for it in wants if it not in told])
+        line = f"failed 3 times in a row at place {wanted.place}\n"
+        wait_for("all machines stay out", lambda: all(it.said(f"stays out: its desks {line}") for it in self.members))
+        end = time.monotonic() + 3  # a machine tells of itself each second
+        while (told := self.members[0].does("status")).count(line) < len(self.members) and time.monotonic() < end:
+            time.sleep(0.2)
+        wants = [f"machine {it.name} stays out" for it in self.members]
+        self.trial.tell("`status` says at which place all machines stay out",
+                        [f"{it} is not in {told}" for it in wants if it not in told] + [told] * (told.count(line) != len(self.members)))
         self.members[1].does("skip", "--place", str(wanted.place))
         return f" (place {wanted.place})"
 
@@ -251,9 +270,10 @@ def plan(trial: "Trial") -> list[Planned]:
         return told + ones
     more = [Planned("a wanted restart of a desk", it.kill("desk", signal.SIGTERM), True), Planned("a desk hangs, and the two others are killed", it.hang_and_kill),
             Planned("a desk is told 31", it.fail_disk, True), Planned("a desk is posted something beside the log", it.post_beside_the_log, True),
-            Planned("etcd's quota is full", it.full_quota)]
+            Planned("the etcd that leads stands still", it.stop_leader, True), Planned("etcd's quota is full", it.full_quota)]
     if trial.net.can_cut:
-        more += [Planned("the machine that leads is cut from the others", it.cut, True), Planned("all machines are cut from each other", it.cut_all)]
+        more += [Planned("the machine that leads is cut from the others", it.cut("p"), True),
+                 Planned("the machine that leads is cut off, from its clients too", it.cut("pc"), True), Planned("all machines are cut from each other", it.cut_all)]
     return told + ones + more + [Planned("the etcd that leads is killed", it.kill_leader, True), Planned("all programs are killed at once", it.kill_all)]
 
 

@@ -8,7 +8,7 @@ import sys
 import threading
 import time
 from http.client import HTTPConnection, HTTPException
-from typing import Callable, Optional, Sequence
+from typing import Callable, NamedTuple, Optional, Sequence
 
 from entry import Seal
 from etcd import Etcd, Login, Unanswered
@@ -17,11 +17,21 @@ from tests.http_peer import Fault, free_port
 HERE = os.path.dirname(os.path.realpath(__file__))
 REPLICA = f"{HERE}/replica.py"
 RESTART = 0.5  # seconds between an end and the next beginning
-LEASE, PATIENCE, PROGRESS, DIGESTS = 3, 5, 4, 10
 ASK = """import http.client, sys
 peer = http.client.HTTPConnection("127.0.0.1", int(sys.argv[1]))
 peer.request("POST", "/acts", sys.argv[2])
 print(peer.getresponse().read().decode())"""
+
+
+class Times(NamedTuple):
+    """Options of a replica, in seconds."""
+    lease: int
+    patience: int
+    progress: int
+    digests: int
+
+
+QUICK, AS_SET_UP = Times(3, 5, 4, 10), Times(10, 20, 15, 30)  # the second are those of who names none
 
 
 class Unit:
@@ -74,7 +84,7 @@ class Unit:
 
 class Net:
     """All machines at ports of 127.0.0.1."""
-    can_cut = False
+    can_cut, times = False, QUICK
 
     def __init__(self, count: int) -> None:
         """So many machines."""
@@ -133,9 +143,10 @@ class CutNet(Net):
         """An address in each network."""
         return f"10.77.0.{at + 1}", f"10.78.0.{at + 1}"
 
-    def cut(self, at: int, is_cut: bool) -> None:
-        """Cuts a machine from the others, or no longer; its clients reach it all the while."""
-        self.ip(f"link set {self.mark}p{at} {'down' if is_cut else 'up'}")
+    def cut(self, at: int, is_cut: bool, kinds: str = "p") -> None:
+        """Cuts a machine from the others (p), from its clients (c), or from both; or no longer."""
+        for kind in kinds:
+            self.ip(f"link set {self.mark}{kind}{at} {'down' if is_cut else 'up'}")
 
     def end(self) -> None:
         """Takes it away."""
@@ -207,9 +218,9 @@ class Member:
 
     def run_words(self, folder: str, port: int) -> list[str]:
         """Begins a follower and an entrance under the name of this machine."""
+        times = [word for name, value in self.net.times._asdict().items() for word in (f"--{name}", str(value))]
         return [*self.net.words(self.at), sys.executable, REPLICA, "run", "--name", self.name, *self.ways(), "--folder", folder,
-                "--listen", f"{self.host}:{port}", "--lease", str(LEASE), "--patience", str(PATIENCE), "--progress", str(PROGRESS), "--digests", str(DIGESTS),
-                "--every", str(self.every)]
+                "--listen", f"{self.host}:{port}", "--every", str(self.every), *times]
 
     def does(self, *words: str) -> str:
         """What `replica.py` prints on this machine."""
@@ -248,7 +259,7 @@ class Member:
         except (OSError, HTTPException):
             return False
 
-    def ask(self, method: str, path: str, body: Optional[bytes] = None, patience: float = PATIENCE + 3, waits: int = 0) -> tuple[int, bytes, int]:
+    def ask(self, method: str, path: str, body: Optional[bytes] = None, patience: float = AS_SET_UP.patience + 3, waits: int = 0) -> tuple[int, bytes, int]:
         """What its entrance answers: the status, the body, and the place, 0 where it tells none. It may be told for how long is waited."""
         peer = HTTPConnection(self.host, self.entrance_port, timeout=patience)
         try:

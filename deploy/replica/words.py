@@ -36,24 +36,46 @@ def refused(status: int, line: str, refusal: int) -> Answer:
 
 
 BAD, LONG, FULL = refused(400, "BadText", 1), refused(413, "TooLong", 17), refused(409, "DeskFull", 18)
-NO_PATH, OTHER_METHOD = BAD._replace(status=404), BAD._replace(status=405)
+FOREIGN, NO_PATH, OTHER_METHOD = BAD._replace(status=403), BAD._replace(status=404), BAD._replace(status=405)
+Fields = Sequence[tuple[bytes, bytes]]
 
 
-def of_head(method: str, path: str, fields: Sequence[tuple[bytes, bytes]]) -> Optional[Answer]:
-    """What a head is refused; none where its body says more, or it asks a question."""
+def hosts_of(address: str, port: int) -> frozenset[bytes]:
+    """The hosts by which a desk is called that listens there."""
+    return frozenset(f"{name}{end}".lower().encode() for name in ("127.0.0.1", "localhost", address) for end in ("", f":{port}"))
+
+
+def values_of(fields: Fields, wanted: bytes) -> list[bytes]:
+    """The values of all lines of this name."""
+    return [value.strip(b" \t") for name, value in fields if name.lower() == wanted]
+
+
+def is_foreign(method: str, fields: Fields, hosts: frozenset[bytes]) -> bool:
+    """Whether the desk is called by another host, or a page of another site sends a POST, as its browser says."""
+    called, origins, site = (values_of(fields, name) for name in (b"host", b"origin", b"sec-fetch-site"))
+    is_called = not called or len(called) == 1 and called[0].lower() in hosts
+    scheme, _, host = b"".join(origins[:1]).partition(b"//")
+    is_from = not origins or len(origins) == 1 and scheme in (b"http:", b"https:") and host.lower() in hosts
+    return not is_called or method == "POST" and not (is_from and site in ([], [b"same-origin"], [b"none"]))
+
+
+def of_head(method: str, path: str, fields: Fields, hosts: frozenset[bytes]) -> Optional[Answer]:
+    """What a head is refused by a desk that these hosts call; none where its body says more, or it asks a question."""
     size = len(method) + len(path.encode("utf-8", "surrogateescape")) + 13 + sum(len(name) + len(value) + 4 for name, value in fields)
     if size > MOST_HEAD or len(fields) > MOST_LINE_ENDS - 2:
         return LONG
     if "\udc80" <= max(path) <= "\udcff":
         return BAD
+    if is_foreign(method, fields, hosts):
+        return FOREIGN
     question = next(((found.groups(), last) for form, last in QUESTIONS if (found := form.fullmatch(path))), None)
     if path not in POSTS and not question:
         return NO_PATH
     if method != ("POST" if path in POSTS else "GET"):
         return OTHER_METHOD
-    if any(name.lower() == b"transfer-encoding" for name, _ in fields):
+    if values_of(fields, b"transfer-encoding"):
         return BAD
-    lengths = [value.strip(b" \t").decode("latin-1") for name, value in fields if name.lower() == b"content-length"]
+    lengths = [value.decode("latin-1") for value in values_of(fields, b"content-length")]
     if not question:
         return of_length(lengths)
     return None if lengths in ([], ["0"]) and all(is_asked(text, question[1]) for text in question[0]) else BAD
