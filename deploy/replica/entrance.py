@@ -18,7 +18,7 @@ from desk import Ended
 from etcd import Unanswered
 from health import Health
 from machine import Carried, NotDone, Told, give_up, say
-from words import BAD, FULL, LONG, NEWEST, NUMBER, Answer, hosts_of, of_body, of_head, shortened
+from words import BAD, FOREIGN, FULL, LONG, NEWEST, NUMBER, Answer, hosts_of, of_body, of_head, shortened
 
 SHARE = 0.8  # of the time that a sender is told to wait: a post is carried out for the first time within it, or never
 SLOWEST = 30.0  # seconds for a request to come
@@ -81,7 +81,8 @@ class Peer(web.RequestHandler):
         if status >= 500:
             say(f"a request failed: {exc!r}")
             return response_of(UNKNOWN, closes=True)
-        return response_of(LONG if isinstance(exc, LineTooLong) or "Too many" in str(message) else BAD, closes=True)
+        why = str(message)
+        return response_of(LONG if isinstance(exc, LineTooLong) or "Too many" in why else FOREIGN if "Duplicate 'host'" in why.lower() else BAD, closes=True)
 
 
 class Door(web.Server):

@@ -110,19 +110,19 @@ class CutNet(Net):
     def __init__(self, count: int) -> None:
         """Makes it."""
         super().__init__(count)
-        self.mark = f"r{os.getpid() % 100000}"
+        self.mark, self.own = f"r{os.getpid() % 100000}", os.getpid() % 250  # another trial has other names and addresses
         self.ports = [[2379, 2380, 8080, 8081] for _ in range(count)]
         try:
             for kind, side in (("p", 77), ("c", 78)):
                 self.ip(f"link add {self.mark}{kind} type bridge", f"link set {self.mark}{kind} up")
                 if kind == "c":
-                    self.ip(f"addr add 10.{side}.0.254/24 dev {self.mark}{kind}")
+                    self.ip(f"addr add 10.{side}.{self.own}.254/24 dev {self.mark}{kind}")
                 for at in range(count):
                     if kind == "p":
                         self.ip(f"netns add {self.mark}{at}", f"-n {self.mark}{at} link set lo up")
                     self.ip(f"link add {self.mark}{kind}{at} type veth peer name {kind} netns {self.mark}{at}",
                             f"link set {self.mark}{kind}{at} master {self.mark}{kind}", f"link set {self.mark}{kind}{at} up",
-                            f"-n {self.mark}{at} addr add 10.{side}.0.{at + 1}/24 dev {kind}", f"-n {self.mark}{at} link set {kind} up")
+                            f"-n {self.mark}{at} addr add 10.{side}.{self.own}.{at + 1}/24 dev {kind}", f"-n {self.mark}{at} link set {kind} up")
         except BaseException:
             self.end()
             raise
@@ -141,7 +141,7 @@ class CutNet(Net):
 
     def hosts(self, at: int) -> tuple[str, str]:
         """An address in each network."""
-        return f"10.77.0.{at + 1}", f"10.78.0.{at + 1}"
+        return f"10.77.{self.own}.{at + 1}", f"10.78.{self.own}.{at + 1}"
 
     def cut(self, at: int, is_cut: bool, kinds: str = "p") -> None:
         """Cuts a machine from the others (p), from its clients (c), or from both; or no longer."""
