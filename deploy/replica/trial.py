@@ -40,7 +40,7 @@ from trial_faults import LONGEST, NAME, Planned, plan  # noqa: E402
 from trial_machines import AS_SET_UP, CutNet, Member, Net, Unit, make_keys, wait_for  # noqa: E402
 
 LEAVERS = 3
-POSTS_A_SECOND = 60  # more than the faults of a second let go
+POSTS_A_SECOND = 30  # more than random faults let go
 
 
 def first_tables(program: str, folder: str) -> Tables:
@@ -70,6 +70,15 @@ class Trial:
 
     def __enter__(self) -> "Trial":
         """All machines are in."""
+        try:
+            self.begin()
+        except BaseException:
+            self.__exit__()
+            raise
+        return self
+
+    def begin(self) -> None:
+        """Begins all machines, and waits until they are in."""
         if self.net.count:
             make_keys(self.net, self.folder)
             for it in self.members:
@@ -80,7 +89,6 @@ class Trial:
             it.go()
         wait_for("all machines in", self.are_in)
         self.watcher.start()
-        return self
 
     def __exit__(self, *_: object) -> None:
         """Nothing runs any more."""
@@ -298,7 +306,7 @@ def main() -> int:
     parser = argparse.ArgumentParser(prog="trial.py", description=__doc__, formatter_class=argparse.RawDescriptionHelpFormatter)
     parser.add_argument("--program", metavar="PATH", help="the program that is run")
     parser.add_argument("--seed", type=int, default=1, metavar="N", help="of the posts and the faults (1)")
-    parser.add_argument("--posts", type=int, metavar="N", help="at least so many (20,000; short 1,100; rates 3,000)")
+    parser.add_argument("--posts", type=int, metavar="N", help="at least so many (10,000; short 1,100; rates 3,000)")
     parser.add_argument("--seconds", type=int, default=0, metavar="N", help="faults go on until so many seconds went by (0)")
     parser.add_argument("--away", type=int, default=120, metavar="N", help="etcd is away for so many seconds, the first time (120; short: no longer than anybody waits)")
     parser.add_argument("--as-set-up", action="store_true", help="a replica has the times that it has where none are named, and not shorter ones")
@@ -313,7 +321,7 @@ def main() -> int:
         print(f"not tried: {', '.join(missing)} is not installed (Debian: etcd-server, etcd-client, openssl)")
         return 0
     asked.program = program_of(asked.program)
-    asked.posts = asked.posts or (1100 if asked.short else 3000 if asked.rates else 20_000)
+    asked.posts = asked.posts or (1100 if asked.short else 3000 if asked.rates else 10_000)
     asked.stage, asked.every = asked.posts // (11 if asked.short else 22), max(50, asked.posts // 20)
     within = asked.folder or quick_folder() if asked.short else asked.folder
     with tempfile.TemporaryDirectory(prefix="replica-", dir=within) as folder:
