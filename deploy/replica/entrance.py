@@ -34,7 +34,7 @@ def not_done(why: str) -> Answer:
     return Answer(503, json.dumps({"replica": f"not done: {why}: send it to another machine, with the same number"}).encode())
 
 
-UNKNOWN = Answer(504, b'{"replica":"may be done: it was done, or will be, or was not: send it to another machine, with the same number"}')
+UNKNOWN = Answer(504, b'{"replica":"may be done: it was done, or will be within its time, or was not: send it to another machine, with the same number"}')
 
 
 class Bare(web.Response):
