@@ -145,9 +145,9 @@ class Trial:
         times = sorted([since, *(it.at for client in self.clients for it in client.told if it.at > since)])
         return max((late - early for early, late in zip(times, times[1:])), default=0.0)
 
-    def longest(self, since: float) -> float:
-        """The longest time that a client was without an answer, of what was answered from then on."""
-        return max((it.at - max(it.sent, since) for client in self.clients for it in client.told if it.at > since), default=0.0)
+    def longest(self, since: float) -> tuple[float, str]:
+        """The longest time that a client was without an answer, of what was answered from then on, and what its tries came to."""
+        return max(((it.at - max(it.sent, since), it.history) for client in self.clients for it in client.told if it.at > since), default=(0.0, ""))
 
     def fault(self, planned: Planned, stage: int) -> None:
         """Half a stage of posts, a fault, and the other half; and then few posts, until all machines are in again."""
@@ -156,11 +156,11 @@ class Trial:
         more = planned.does()
         self.let_go(stage - stage // 2)
         wait_for("all machines in again", self.are_in)
-        took, longest = time.monotonic() - began, self.longest(began)
+        took, (longest, history) = time.monotonic() - began, self.longest(began)
         print(f"{planned.what}: at place {max(it.told[-1].place for it in self.clients if it.told)}, nobody was answered for {self.silence(began):.1f} s, "
               f"a client for {longest:.1f} s, all were in again after {took:.1f} s{more or ''}", flush=True)
         if planned.is_of_one:
-            self.waited.append((longest, planned.what))
+            self.waited.append((longest, f"{planned.what}: {history}"))
         self.broken()
 
     # ---- what is looked at in the end

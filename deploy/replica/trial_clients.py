@@ -24,7 +24,7 @@ class Post(NamedTuple):
 
 
 class Told(NamedTuple):
-    """A post, its answer, the place as of which that is, how often it was sent, when first, and when it was answered."""
+    """A post, its answer, the place as of which that is, how often it was sent, when first, and when it was answered; and each try with its outcome, in words."""
     post: Post
     status: int
     answer: bytes
@@ -32,6 +32,7 @@ class Told(NamedTuple):
     tries: int
     sent: float
     at: float
+    history: str = ""
 
 
 class Try(NamedTuple):
@@ -122,13 +123,14 @@ class Client(threading.Thread):
 
     def send(self, post: Post) -> Told:
         """Sends a post until something is known of it."""
-        tries, began = 0, time.monotonic()
+        tries, began, history = 0, time.monotonic(), ""
         while True:
             tries += 1
             self.tries.append(Try(post, self.members[self.at].name, time.monotonic(), self.members[self.at].net.times.patience))
             told = self.ask(self.at, "POST", post.path, post.body)
             if told and told[0] not in (502, 503, 504):
-                return Told(post, *told, tries, began, time.monotonic())
+                return Told(post, *told, tries, began, time.monotonic(), f"{history}{self.members[self.at].name} {told[0]}")
+            history = history[:300] + f"{self.members[self.at].name} {told[0] if told else 'nothing'} after {time.monotonic() - began:.1f} s, "
             self.at = (self.at + 1) % len(self.members)
             time.sleep(0.05)
 
