@@ -23,7 +23,8 @@ from words import MEMORY_OR_DISK, Answer
 IDLE = 0.25  # seconds after which it looks into the log again, where nobody calls
 AGAIN = 30.0  # seconds after which a machine that is out asks for a comparison once more
 WORD_AFTER = 0.5  # seconds after which a machine says of a post of another one that it was carried out, where nobody has said so
-VOID_AFTER = 1.0  # seconds for which a post that is late has to be known before a machine says that it is void: whoever was in time says so before
+VOID_AFTER = 1.0  # seconds for which a post has to be late and known, and etcd to answer, before a machine says that it is void: whoever was in time says so before
+TAKE_OVER = 1.0  # seconds after which the reserve carries out a post of which the log says nothing
 MOST_REPEATS = 3  # failures in a row at one place after which a machine stays out
 
 
@@ -95,6 +96,8 @@ class Machine:
         self.asking_since: Optional[float] = None
         self.compares_again, self.ticks_again, self.ticked, self.before = 0.0, 0.0, 0, 0
         self.passed_over = dict.fromkeys(Verdict, 0)
+        self.name, self.reserve = "", ""  # of this machine, and of the one that leaves it to the others to be first; none while nobody is
+        self.unheard = 0.0  # when etcd was last silent
         log.done = lambda: self.done if self.mark else 0
 
     # ---- what other threads call
@@ -215,7 +218,7 @@ class Machine:
         self.settle(opening)
         self.asks_for_words(is_end)
         if self.order.next == before:
-            self.called.wait(IDLE if self.place == self.begun.carried else PAUSE)
+            self.called.wait(PAUSE if self.order.open else IDLE)
             self.called.clear()
             self.answer_questions(opening)
             self.leave_if_it_has_to()
@@ -246,10 +249,19 @@ class Machine:
         """Whether a post may be carried out for the first time."""
         return item.entry is not None and self.log.clock.now() <= item.entry.latest
 
+    def was_in_time(self, item: Item) -> bool:
+        """Whether a post that was begun in time is answered before its sender was told to wait no more: the fifth part of that is left."""
+        return item.entry is not None and self.log.clock.now() <= item.entry.latest + max(0, item.entry.latest - item.entry.sent) // 4
+
     def may_begin(self, item: Item) -> bool:
         """Whether this machine may carry out a post of which the log says nothing yet. What stands before the first entry of this process may have been there
         for any time: a clock that is slow does not tell, once nobody else writes."""
-        return 0 < self.log.first_own <= item.place and self.is_in_time(item)
+        waits = self.is_reserve() and now() - item.since < TAKE_OVER
+        return not waits and 0 < self.log.first_own <= item.place and self.is_in_time(item)
+
+    def is_reserve(self) -> bool:
+        """Whether this machine leaves it to the others to carry a post out first: so its desk goes on if the log says that the post is void."""
+        return self.name != "" and self.name == self.reserve
 
     def carry_out(self, opening: Opening, item: Item) -> None:
         """The next place."""
@@ -259,7 +271,7 @@ class Machine:
                 self.post(opening, item, entry)
             elif entry.path == SKIP and entry.named() not in self.order.skips and 0 < entry.named() < place:
                 raise Left(f"place {entry.named()} is to be skipped, by place {place}, and was not")
-        if not item.verdict and not self.is_in_time(item):
+        if not item.verdict and not self.was_in_time(item):
             self.held.add(place)  # it took too long: another machine may have been faster
         self.begun = self.begun._replace(carried=place)
         if entry and entry.is_post():
@@ -301,17 +313,27 @@ class Machine:
         if not is_end or not self.writer:
             return
         first = self.order.open[0] if self.order.open else None
+        if self.log.etcd.silent() > 2 * VOID_AFTER:
+            self.unheard = now()
         if first and first.place <= self.done:
-            is_own = self.done > self.ticked and any(it.entry and it.entry.mark in self.waiting for it in self.order.open)
+            is_own = self.done > self.ticked and any(it.entry and self.speaks_of(it.entry) for it in self.order.open)
             if is_own or now() - first.since > WORD_AFTER and now() > self.ticks_again:
                 self.ticked, self.ticks_again = self.done, now() + WORD_AFTER
                 self.writer.tick()
-        elif first and first.place > self.done and not self.is_in_time(first) and now() - first.since > VOID_AFTER:
+        elif first and first.place > self.done and self.is_late(first) and now() - max(first.since, self.unheard) > VOID_AFTER:
             first.since = now()
             self.writer.void(first)
         if not self.is_in and now() > self.compares_again:
             self.compares_again = now() + AGAIN
             self.own.add(self.writer.compare())
+
+    def is_late(self, item: Item) -> bool:
+        """Whether a post may be said to be void."""
+        return item.entry is not None and self.log.clock.now() > item.entry.latest + int(VOID_AFTER * 1000)
+
+    def speaks_of(self, entry: Entry) -> bool:
+        """Whether this machine says at once that it has carried out a post: somebody waits for it here, or at the reserve."""
+        return entry.mark in self.waiting or self.reserve not in ("", self.name) and entry.mark.startswith(f"{self.reserve}-")
 
     def leave_if_it_has_to(self) -> None:
         """Leaves, where another thread found that it has to."""

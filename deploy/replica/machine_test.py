@@ -3,6 +3,7 @@ import unittest
 from concurrent.futures import TimeoutError as Late
 from queue import Empty
 
+from clock import now
 from desk import Begun, Ended
 from entry import COMPARE, TICK, VOID, Entry
 from log import Wanted
@@ -271,11 +272,18 @@ class InTime(Followed):
         for is_void in (True, False):
             machine = self.begun(True)
             told = machine.waiting[self.post.mark] = Told()
-            self.hand.go(11)
+            self.hand.go(10.5)
             self.goes()
             self.assertEqual((21, 20), (machine.place, len(self.desk.posts)))
             self.assertEqual([], self.wants())
             machine.order.open[0].since -= 2
+            self.goes()
+            self.assertEqual([], self.wants())
+            self.hand.go(1)
+            machine.unheard = now()
+            self.goes()
+            self.assertEqual([], self.wants())
+            machine.unheard -= 2
             self.goes()
             self.assertEqual(["void 22"], self.wants())
             self.said(0 if is_void else 22, b"22" if is_void else b"")
@@ -289,7 +297,7 @@ class InTime(Followed):
 
     def test_void(self) -> None:
         """A desk that has carried out what the log says is void is ended, also where its follower began anew, or was not in time."""
-        for begins, took in ((False, 0), (True, 0), (False, 11), (True, 11)):
+        for begins, took in ((False, 0), (True, 0), (False, 13), (True, 13)):
             self.begun(True)
             self.desk.step = lambda: self.hand.go(took) if len(self.desk.posts) == 21 and self.hand.passed < took else None
             self.goes()
@@ -310,7 +318,7 @@ class InTime(Followed):
     def test_took_too_long(self) -> None:
         """A machine whose desk took too long does not say that it was in time. Another one that was decides."""
         self.begun(True)
-        self.desk.step = lambda: self.hand.go(11) if len(self.desk.posts) == 21 and self.hand.passed < 11 else None
+        self.desk.step = lambda: self.hand.go(13) if len(self.desk.posts) == 21 and self.hand.passed < 13 else None
         self.goes()
         self.write(entry(22))
         self.goes()
@@ -321,6 +329,28 @@ class InTime(Followed):
         self.said(22)
         self.goes()
         self.assertEqual((22, 24), (self.machine.place, self.machine.done))
+
+    def test_last_fifth(self) -> None:
+        """A post that was begun in time counts if it is answered before its sender was told to wait no more."""
+        machine = self.begun(True)
+        self.desk.step = lambda: self.hand.go(12) if len(self.desk.posts) == 21 and self.hand.passed < 12 else None
+        self.goes()
+        self.assertEqual((21, 22, 21), (machine.place, machine.done, len(self.desk.posts)))
+
+    def test_reserve(self) -> None:
+        """The reserve leaves a post to the others for a while. They say at once that they have carried out one of the reserve's."""
+        machine = self.begun(True)
+        machine.name, machine.reserve = "b", "a"
+        self.goes()
+        self.assertEqual((22, ["tick"]), (machine.done, self.wants()))
+        self.desk.another("another")
+        machine = self.begun(True)
+        machine.name, machine.reserve = "b", "b"
+        self.goes()
+        self.assertEqual((21, 21, 20, []), (machine.place, machine.done, len(self.desk.posts), self.wants()))
+        machine.order.open[0].since -= 2
+        self.goes()
+        self.assertEqual((21, 22, 21), (machine.place, machine.done, len(self.desk.posts)))
 
     def test_after_silence(self) -> None:
         """A follower whose clock is slow, and which begins while the log is silent, carries out first nothing that stands before the first entry of its own."""

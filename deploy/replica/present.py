@@ -87,6 +87,11 @@ class Present:
         """All machines."""
         return {name: there_of(text) for name, text in self.etcd.below(self.root).items()}
 
+    def reserve(self) -> str:
+        """The last machine, by its name, of those that are in; none of fewer than two."""
+        names = sorted(name for name, it in self.all().items() if it.state.is_in)
+        return names[-1] if len(names) > 1 else ""
+
     def may_leave(self) -> bool:
         """Whether this machine may leave because it wants to. Then it has told that it is out, while all others that there are were in: no two leave so."""
         there = self.all()

@@ -75,11 +75,13 @@ def keep_lease(health: "Health") -> None:
     """Tells that this machine is there, and how it stands, for ever; has it leave where its name is another one's, and, while all others are in, where its desk is
     near its end."""
     machine, present, was_taken = health.machine, health.present, False
+    machine.name = present.name
     while True:
         with suppress(Unanswered):
             if machine.is_spent() and present.may_leave():
                 machine.has_to_leave(machine.mark, "its desk has served nearly all of its COUNT")
             present.tell(health.state())
+            machine.reserve = present.reserve()
             if present.is_taken and not was_taken:
                 say(f"another machine is called {present.name}: this one is out as long as that is so")
                 machine.has_to_leave(machine.mark, f"another machine is called {present.name}")
