@@ -82,7 +82,7 @@ class Peer(web.RequestHandler):
             say(f"a request failed: {exc!r}")
             return response_of(UNKNOWN, closes=True)
         why = str(message)
-        return response_of(LONG if isinstance(exc, LineTooLong) or "Too many" in why else FOREIGN if "Duplicate 'host'" in why.lower() else BAD, closes=True)
+        return response_of(LONG if isinstance(exc, LineTooLong) or "Too many" in why else FOREIGN if "duplicate 'host'" in why.lower() else BAD, closes=True)
 
 
 class Door(web.Server):
@@ -171,7 +171,7 @@ class Entrance(threading.Thread):
         self.machine.waiting[mark] = told
         wanted = self.appender.post(mark, path, body, self.appender.log.clock.now() + int(seconds * SHARE * 1000))
         try:
-            reply = await self.waited(told, peer, seconds)
+            reply = await self.waited(told, peer, seconds, True)
             return reply or (UNKNOWN if wanted.give_up() else not_done("the log did not take it in time"))
         except NotDone as why_not:
             return not_done(str(why_not))
@@ -190,12 +190,12 @@ class Entrance(threading.Thread):
         try:
             loop, log = asyncio.get_running_loop(), self.appender.log
             least = await loop.run_in_executor(None, log.newest, self.machine.place) if is_newest else 0
-            return await self.waited(self.machine.ask(path.removesuffix(NEWEST), least), peer, self.patience) or not_done("it was not answered in time")
+            return await self.waited(self.machine.ask(path.removesuffix(NEWEST), least), peer, self.patience, False) or not_done("it was not answered in time")
         except (Ended, Unanswered) as why_not:
             return not_done(str(why_not))
 
-    async def waited(self, told: Told, peer: Peer, seconds: float) -> Optional[Carried]:
-        """What is told in time, while its sender is there; none where nothing is."""
+    async def waited(self, told: Told, peer: Peer, seconds: float, is_post: bool) -> Optional[Carried]:
+        """What is told in time, while its sender is there, and for a post while etcd is heard; none where nothing is."""
         loop = asyncio.get_running_loop()
         peer.wakes.clear()
 
@@ -204,7 +204,8 @@ class Entrance(threading.Thread):
             loop.call_soon_threadsafe(peer.wakes.set)
 
         told.add_done_callback(wake)
-        if peer.transport is not None:
+        end = loop.time() + seconds
+        while peer.transport is not None and not peer.wakes.is_set() and loop.time() < end and not (is_post and self.health.is_silent()):
             with suppress(asyncio.TimeoutError):
-                await asyncio.wait_for(peer.wakes.wait(), seconds)
+                await asyncio.wait_for(peer.wakes.wait(), min(BEAT, end - loop.time()))
         return told.result() if told.done() else None
