@@ -160,7 +160,8 @@ def parsed(words: list[str]) -> argparse.Namespace:
     parser.add_argument("--first", metavar="PATH", help="desk: it begins with a copy of this file, the same on all machines (with an empty one)")
     parser.add_argument("--port", type=int, default=8081, metavar="PORT", help="desk: where it listens on 127.0.0.1 (8081)")
     parser.add_argument("--count", type=int, default=1_000_000, metavar="N", help="desk: it ends after so many connections (1,000,000)")
-    parser.add_argument("--listen", default="127.0.0.1:8080", metavar="HOST:PORT", help="run: where the entrance listens (127.0.0.1:8080)")
+    parser.add_argument("--listen", default="127.0.0.1:8080", metavar="HOST:PORT",
+                        help="run: where the entrance listens; requests call it by this host, 127.0.0.1 or localhost (127.0.0.1:8080)")
     parser.add_argument("--lease", type=int, default=10, metavar="SECONDS", help="run: who is not heard for so long counts as gone (10)")
     parser.add_argument("--patience", type=float, default=20.0, metavar="SECONDS", help="run: who asks is told something in this time (20)")
     parser.add_argument("--progress", type=float, default=15.0, metavar="SECONDS", help="run: a desk that answers nothing for so long is ended (15)")
