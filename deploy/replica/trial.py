@@ -17,6 +17,7 @@ import argparse
 import json
 import os
 import random
+import re
 import shutil
 import signal
 import sys
@@ -234,7 +235,7 @@ def faults(asked: argparse.Namespace, folder: str) -> int:
         trial.send(random_script(asked.seed, asked.posts * 2 + asked.seconds * POSTS_A_SECOND, trial.first))
         trial.send_and_leave()
         began = time.monotonic()
-        planned = [it for it in [Planned(f"a desk ends after its COUNT, {asked.stage // 2}", lambda: None, True), *plan(trial)] if asked.only in it.what]
+        planned = [it for it in [Planned(f"a desk ends after its COUNT, {asked.stage // 2}", lambda: None, True), *plan(trial)] if re.search(asked.only, it.what)]
         for it in planned:
             trial.fault(it, asked.stage)
         trial.let_go(max(0, asked.posts - trial.answered()))
@@ -310,7 +311,7 @@ def main() -> int:
     parser.add_argument("--seconds", type=int, default=0, metavar="N", help="faults go on until so many seconds went by (0)")
     parser.add_argument("--away", type=int, default=120, metavar="N", help="etcd is away for so many seconds, the first time (120; short: no longer than anybody waits)")
     parser.add_argument("--as-set-up", action="store_true", help="a replica has the times that it has where none are named, and not shorter ones")
-    parser.add_argument("--only", default="", metavar="TEXT", help="those faults alone whose names have this text")
+    parser.add_argument("--only", default="", metavar="PATTERN", help="those faults alone whose names match it")
     parser.add_argument("--folder", metavar="PATH", help="a folder on the disk that is used (short: memory)")
     parser.add_argument("--short", action="store_true", help="some faults, on 127.0.0.1, in memory")
     parser.add_argument("--rates", action="store_true", help="acts a second, without faults")
