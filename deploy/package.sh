@@ -37,7 +37,7 @@ paged() {
         s,(^|[^/])docs/(OPERATORS|SCALE)\.md,\1/usr/share/doc/tcdesk/\2.md.gz,g
         s,(^|[^/])deploy/README\.md,\1/usr/share/doc/tcdesk/README.Debian.gz,g
         s,(^|[^/])deploy/(nginx|postgres|backup|replica)/README\.md,\1/usr/share/doc/tcdesk/\2.md.gz,g
-        s,(^|[^/])deploy/(nginx/authority|nginx/\{|nginx`|postgres/tables|postgres/load|postgres`|replica/systemd/|replica/replica\.py|replica`),\1/usr/share/tcdesk/\2,g
+        s,(^|[^/])deploy/(nginx/authority|nginx/\{|nginx`|postgres/tables|postgres/load|postgres`|replica/systemd/|replica/replica\.py|replica/[a-z]*\.sh|replica`),\1/usr/share/tcdesk/\2,g
         s,(^|[^/])deploy/backup`,\1/usr/share/doc/tcdesk/backup.md.gz`,g' "$1" >"$work/page" || exit 2
     packed "$work/page" "$2"
 }
@@ -96,7 +96,10 @@ for file in "$top"/examples/*; do put 644 "$file" "$doc/examples/${file##*/}"; d
 for file in "$top"/deploy/nginx/{authority.cnf,conf.d/*,html/*,njs/*,sites-available/*,snippets/*}; do put 644 "$file" "usr/share/tcdesk/${file#"$top/deploy/"}"; done
 for file in "$top"/deploy/postgres/*.sql; do put 644 "$file" "usr/share/tcdesk/postgres/${file##*/}"; done
 put 755 "$top/deploy/postgres/load.sh" usr/share/tcdesk/postgres/load.sh
-for file in compare desk entrance etcd log machine replica tables; do put 644 "$top/deploy/replica/$file.py" "usr/share/tcdesk/replica/$file.py"; done
+for file in appender clock compare desk entrance entry etcd health log machine order present replica tables words; do
+    put 644 "$top/deploy/replica/$file.py" "usr/share/tcdesk/replica/$file.py"
+done
+for file in auth certificates lab; do put 755 "$top/deploy/replica/$file.sh" "usr/share/tcdesk/replica/$file.sh"; done
 for file in "$top"/deploy/replica/systemd/{*.default,*.conf}; do put 644 "$file" "usr/share/tcdesk/replica/systemd/${file##*/}"; done
 page >"$work/page" && packed "$work/page" usr/share/man/man1/tcdesk.1.gz
 changelog >"$work/changelog" && packed "$work/changelog" "$doc/changelog.gz"

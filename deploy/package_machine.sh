@@ -201,13 +201,14 @@ replica_cases() {
     cp "${parts[@]}" "$root/root/page"
     parts=("${parts[@]##*/}")
     in_machine "cd page; set -e; . ./${parts[0]}; . ./${parts[1]}; . ./${parts[2]}
-        sed -i 's,10\.0\.0\.1,127.0.0.1,; s,^ETCD_INITIAL_CLUSTER=.*,ETCD_INITIAL_CLUSTER=a=https://127.0.0.1:2380,' /etc/default/etcd; . ./${parts[3]}"
+        sed -i 's,10\.0\.0\.1,127.0.0.1,; s,^ETCD_INITIAL_CLUSTER=.*,ETCD_INITIAL_CLUSTER=a=https://127.0.0.1:2380,' /etc/default/etcd
+        . ./${parts[3]}; . ./${parts[4]}; . ./${parts[5]}"
     tell "a machine that keeps a desk with others is set up by the page"
     machine_says "systemd reads its units" "" "systemd-analyze verify tcdesk-desk.service tcdesk-replica.service"
     in_machine "systemd-analyze security --no-pager --threshold=20 tcdesk-desk.service tcdesk-replica.service"
     tell "systemd finds its units exposed by 2 of 10 at most"
     machine_says "it is in" "machine a in" "till '$status | grep -q \"machine a in\"'; $status | grep machine"
-    in_machine "cd page; . ./${parts[5]}" && grep -q '^Tcdesk-Place: ' "$work/out" && grep -qF '{"lines":["ok request 1 5/0"' "$work/out"
+    in_machine "cd page; . ./${parts[7]}" && grep -q '^Tcdesk-Place: ' "$work/out" && grep -qF '{"lines":["ok request 1 5/0"' "$work/out"
     tell "an act is carried out"
     machine_says "of the disk it has a folder of its own" $'700 tcdesk:tcdesk /var/lib/tcdesk-replica\n600 tcdesk:tcdesk /var/lib/tcdesk-replica/desk.db' \
         "stat -c '%a %U:%G %n' /var/lib/tcdesk-replica /var/lib/tcdesk-replica/desk.db; ls -A /var/lib/tcdesk"
@@ -215,10 +216,10 @@ replica_cases() {
         in_machine "$name; till '$ask | grep -q \"places 1: 1 0\"' && $ask"
         tell "it goes on behind: $name"
     done
-    in_machine "cd page; . ./${parts[7]} && . ./${parts[8]}; till '$ask | grep -q \"places 1: 1 0\"' && grep -qx LOG=desk2 /etc/default/tcdesk-replica"
+    in_machine "cd page; . ./${parts[9]} && . ./${parts[10]}; till '$ask | grep -q \"places 1: 1 0\"' && grep -qx LOG=desk2 /etc/default/tcdesk-replica"
     tell "another log begins with the file of the one before"
     in_machine "systemctl disable --now etcd tcdesk-desk tcdesk-replica; apt-get purge -y etcd-server tcdesk; ls -A /usr/share/tcdesk
-        rm -r page /etc/tcdesk-first.db /etc/default/etcd /etc/default/tcdesk-replica /etc/etcd /etc/systemd/system/etcd.service.d /var/lib/tcdesk-replica
+        rm -r page /etc/tcdesk-first.db /etc/default/etcd /etc/default/tcdesk-replica /etc/tcdesk-replica /etc/etcd /etc/systemd/system/etcd.service.d /var/lib/tcdesk-replica
         userdel tcdesk; systemctl daemon-reload"
     [[ $(<"$work/err") == *"cannot access '/usr/share/tcdesk'"* ]]
     tell "nothing is left in the folder of its program"

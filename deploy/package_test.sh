@@ -143,9 +143,9 @@ file_cases() {
         cmp "$name" "$work/files/usr/lib/systemd/system/${name##*/}" >"$work/out" 2>"$work/err"
         tell "${name#"$top/"}"
     done
-    for name in "$top"/deploy/replica/systemd/{*.default,*.conf} "$top"/deploy/replica/*.py; do
+    for name in "$top"/deploy/replica/systemd/{*.default,*.conf} "$top"/deploy/replica/*.{py,sh}; do
         case ${name##*/} in
-        trial*.py | replica_test.py) [[ ! -e $work/files/usr/share/tcdesk/${name#"$top/deploy/"} ]] ;;
+        trial*.py | *_test.py | stand_ins.py) [[ ! -e $work/files/usr/share/tcdesk/${name#"$top/deploy/"} ]] ;;
         *) cmp "$name" "$work/files/usr/share/tcdesk/${name#"$top/deploy/"}" >"$work/out" 2>"$work/err" ;;
         esac
         tell "${name#"$top/"}"

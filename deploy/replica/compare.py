@@ -1,7 +1,4 @@
-"""How machines compare their tables: each tells a digest of them at the same place of the log. One whose digest is not that of most has to begin anew.
-
-Which machines there are, and which of them are in, is told by keys that last as long as a lease.
-"""
+"""How machines compare their tables: each tells a digest of them at the same place of the log. One whose digest is not that of most has to begin anew."""
 import hashlib
 import os
 import shutil
@@ -10,10 +7,11 @@ import sys
 from contextlib import suppress
 from typing import NamedTuple, Optional, Protocol
 
-from etcd import Etcd, Unanswered, holds, put, span
+from clock import now
+from etcd import Etcd, Unanswered, put
+from present import Present
 
 TABLES = f"{os.path.dirname(os.path.realpath(__file__))}/tables.py"
-IN, OUT = b"in", b"out"
 
 
 class Comparison(NamedTuple):
@@ -31,6 +29,10 @@ class Judged(Protocol):
     """What is told of a machine."""
     mark: str
 
+    @property
+    def place(self) -> int:
+        """The last place that was carried out there, and counts."""
+
     def comes_in(self, mark: str) -> None:
         """The tables of the desk of this mark were found to be those of the others."""
 
@@ -46,44 +48,14 @@ def digest_of(it: Comparison) -> bytes:
     return hashlib.sha256(tables + it.link).hexdigest().encode()
 
 
-class Present:
-    """The machines that there are, by their names, and whether each is in."""
-
-    def __init__(self, etcd: Etcd, root: str, name: str, seconds: int) -> None:
-        """This one is not there yet."""
-        self.etcd, self.root, self.name, self.seconds = etcd, f"{root}/machine/", name, seconds
-        self.leased, self.told = "", b""
-
-    def tell(self, is_in: bool) -> None:
-        """Keeps the lease of this machine, and tells whether it is in, where that is not told yet."""
-        if not self.leased or not self.etcd.keep(self.leased):
-            self.leased, self.told = self.etcd.lease(self.seconds), b""
-        state = IN if is_in else OUT
-        if self.told != state:
-            self.etcd.write([], [put(self.root + self.name, state, self.leased)])
-            self.told = state
-
-    def all(self) -> dict[str, bytes]:
-        """All machines."""
-        return self.etcd.below(self.root)
-
-    def may_leave(self) -> bool:
-        """Whether this machine may leave because it wants to. Then it has told that it is out, while all others that there are were in: no two leave so."""
-        others = [it for it in self.all() if it != self.name]
-        if not others or self.etcd.write([holds(self.root + it, IN) for it in others], [put(self.root + self.name, OUT, self.leased)]):
-            return False
-        self.told = OUT
-        return True
-
-
 class Judge:
-    """Tells the digests of one machine, and judges them beside those of the others."""
+    """Tells the digests of one machine, and judges them beside those of the others. Nobody is waited for without end: who is late with his digest has no voice."""
 
-    def __init__(self, machine: Judged, etcd: Etcd, root: str, present: Present) -> None:
-        """Nothing is to be judged yet."""
-        self.machine, self.etcd, self.root, self.present = machine, etcd, f"{root}/same/", present
+    def __init__(self, machine: Judged, etcd: Etcd, root: str, present: Present, patience: float = 30.0) -> None:
+        """Nothing is to be judged yet. It waits so many seconds for the digests of others."""
+        self.machine, self.etcd, self.root, self.present, self.patience = machine, etcd, f"{root}/same/", present, patience
         self.digests: dict[Comparison, bytes] = {}  # that are not judged yet
-        self.told: set[Comparison] = set()
+        self.told: dict[Comparison, float] = {}  # and since when they are told
 
     def look(self, it: Optional[Comparison]) -> None:
         """Takes one comparison more, where there is one, and judges what may be judged by now."""
@@ -94,9 +66,11 @@ class Judge:
                 self.judge(other)
 
     def judge(self, it: Comparison) -> None:
-        """Judges one comparison, which then stands for those before it. One of a desk that has ended is nobody's any more."""
+        """Judges one comparison, which then stands for those before it. One of a desk that has ended is nobody's any more. It waits for the name of this machine, and
+        until what the desk had carried out counts."""
         if it.mark != self.machine.mark:
             self.digests.pop(it, None)
+        if it not in self.digests or not self.present.is_owned or self.machine.place < it.place:
             return
         is_same = self.is_same(it)
         if is_same is None:
@@ -108,13 +82,13 @@ class Judge:
         self.digests = {other: digest for other, digest in self.digests.items() if other.place > it.place}
 
     def is_same(self, it: Comparison) -> Optional[bool]:
-        """Whether the digest of this machine is that of most, once all that are in have told theirs, and who asked has; until then None."""
+        """Whether the digest of this machine is that of most, once all that are in have told theirs, and who asked has, or the time is over; until then None."""
         front, own = f"{self.root}{it.place:012d}/", self.digests[it]
         if it not in self.told:
             self.etcd.write([], [put(front + self.present.name, own)])
-            self.told = {it, *(other for other in self.told if other in self.digests)}
-        awaited = [name for name, state in self.present.all().items() if state == IN or name == it.asker]
+            self.told = {it: now(), **{other: at for other, at in self.told.items() if other in self.digests}}
+        awaited = [name for name, there in self.present.all().items() if there.state.is_in or name == it.asker]
         told = self.etcd.below(front)
-        if not all(name in told for name in awaited):
+        if not all(name in told for name in awaited) and now() - self.told[it] < self.patience:
             return None
         return 2 * sum(digest == own for digest in told.values()) > len(told)

@@ -11,25 +11,26 @@ import time
 from contextlib import suppress
 from typing import Callable, NamedTuple, NoReturn, Optional, Sequence
 
-PATIENCE = 60.0  # seconds that a desk has for an answer
+from clock import now
+from words import Answer
+
 QUESTION = {"by": "replica", "moment": 0, "number": 4294967295}
-MEMORY_OR_DISK = 503  # what a desk answers that was refused memory (30), or whose file failed (31, 32)
 OWN = ("connection", "content-length")  # header lines of a connection, and not of what is answered
 
 
-class Answer(NamedTuple):
-    """What a desk answered, with the header lines that belong to it."""
-    status: int
-    body: bytes
-    headers: tuple[tuple[str, str], ...] = (("Content-Type", "application/json"),)
-
-    def has_failed(self) -> bool:
-        """Whether it says that the desk's file failed. A question that was refused memory left the desk as it was."""
-        return self.status == MEMORY_OR_DISK and not self.body.endswith(b'"refusal":30}')
-
-
 class Ended(Exception):
-    """The desk that was asked is there no more."""
+    """The desk that was asked is there no more, or makes no progress."""
+
+
+class Begun(NamedTuple):
+    """What a follower wrote down of its desk: the place that was begun last, how often the desk was asked by then, and how many posts it was given; the last place
+    that was carried out, the last of which the log had said what is to be done, and the last of which this machine says that it was carried out in time."""
+    place: int = 0
+    asked: int = 0
+    posts: int = 0
+    carried: int = 0
+    decided: int = 0
+    done: int = 0
 
 
 class Opening(NamedTuple):
@@ -43,9 +44,9 @@ class Opening(NamedTuple):
 class Desk:
     """What a folder has of the desk of this machine: `desk.db`, its file; `opening`, which the process that has it open holds locked; and `begun`."""
 
-    def __init__(self, folder: str) -> None:
-        """Nothing is begun yet."""
-        self.folder = folder
+    def __init__(self, folder: str, patience: float = 15.0) -> None:
+        """Nothing is begun yet. A desk that does not answer for so many seconds makes no progress."""
+        self.folder, self.patience = folder, patience
 
     def path(self, name: str) -> str:
         """The path of a file of the folder."""
@@ -71,8 +72,11 @@ class Desk:
     def ask(self, opening: Opening, method: str, path: str, body: Optional[bytes] = None) -> Answer:
         """What this desk answers. Where no answer comes it is asked again, as long as it runs: it takes connections in their order, so what came before is done
         before what comes again. It is sent nothing before it is known that it runs still, and that it is no other one which took the connection."""
+        end = now() + self.patience
         while self.opening() == opening:
-            peer = http.client.HTTPConnection("127.0.0.1", opening.port, timeout=PATIENCE)
+            if now() >= end:
+                raise Ended(f"the desk has not answered for {self.patience:.0f} s")
+            peer = http.client.HTTPConnection("127.0.0.1", opening.port, timeout=max(0.1, end - now()))
             try:
                 peer.connect()
                 if self.opening() != opening:
@@ -97,21 +101,52 @@ class Desk:
             if os.path.exists(self.path(name)):
                 shutil.copyfile(self.path(name), f"{folder}/{name}")
 
-    def begin(self, place: int, asked: int, mark: str) -> None:
-        """Writes down that this place is begun, and how often the desk was asked by then. It has to outlive this process alone: a machine that stops has no
-        desk any more."""
+    def begin(self, mark: str, begun: Begun) -> None:
+        """Writes down what became of the desk of this mark. It has to outlive this process alone: a machine that stops has no desk any more."""
         file = os.open(self.path("begun"), os.O_WRONLY | os.O_CREAT, 0o640)
-        os.pwrite(file, f"{mark} {place:12d} {asked:12d}\n".encode(), 0)
+        os.pwrite(file, " ".join([mark, *(f"{it:12d}" for it in begun)]).encode() + b"\n", 0)
         os.close(file)
 
-    def begun(self, mark: str) -> tuple[int, int]:
-        """The place that was begun last at the desk of this mark, and how often it was asked by then."""
+    def begun(self, mark: str) -> Optional[Begun]:
+        """What is written down of the desk of this mark; none where nothing is."""
+        words = self.words("begun")
+        return Begun(*map(int, words[1:])) if words[:1] == [mark] and len(words) == 7 else None
+
+    def words(self, name: str) -> list[str]:
+        """The words of a small file; none where there is no such file."""
         try:
-            with open(self.path("begun"), encoding="ascii") as file:
-                words = file.read().split()
+            with open(self.path(name), encoding="ascii") as file:
+                return file.read().split()
         except FileNotFoundError:
-            words = []
-        return (int(words[1]), int(words[2])) if words[:1] == [mark] else (1, 0)
+            return []
+
+    def write(self, name: str, *words: object) -> None:
+        """Puts words into a small file."""
+        with open(self.path(name + ".new"), "w", encoding="ascii") as file:
+            print(*words, file=file)
+        os.replace(self.path(name + ".new"), self.path(name))
+
+    def skips(self, mark: str) -> Optional[frozenset[int]]:
+        """The places that the desk of this mark skips, from its beginning on; none where that is not written down."""
+        words = self.words("skips")
+        return frozenset(map(int, words[1:])) if words[:1] == [mark] else None
+
+    def repeats(self) -> tuple[int, int]:
+        """The place at which desks of this machine failed last, and how often in a row."""
+        words = self.words("repeats")
+        return (int(words[0]), int(words[1])) if len(words) == 2 else (0, 0)
+
+    def failed(self, place: int) -> int:
+        """A desk failed at this place, so many times in a row by now."""
+        before, count = self.repeats()
+        count = count + 1 if before == place else 1
+        self.write("repeats", place, count)
+        return count
+
+    def forget_repeats(self) -> None:
+        """None is counted any more."""
+        with suppress(FileNotFoundError):
+            os.remove(self.path("repeats"))
 
     def end(self, opening: Opening) -> None:
         """Ends this desk, if it runs."""

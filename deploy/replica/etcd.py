@@ -1,15 +1,42 @@
-"""What a replica asks of etcd, by its gateway for HTTP and JSON: each key is a text, each value is bytes."""
+"""What a replica asks of etcd, by its gateway for HTTP and JSON: each key is a text, each value is bytes. It speaks TLS with a certificate of its own, and logs in."""
 import base64
 import http.client
 import json
+import re
+import ssl
 import threading
 from typing import Any, NamedTuple, Optional, Sequence
 
+from clock import now
+
 JSON = dict[str, Any]
+LONG = 10.0  # seconds for a login
+NO_TOKEN, NO_ROOM = 16, 8  # codes of gRPC: a token that is none or outdated, and no room (a quota that is full)
 
 
 class Unanswered(Exception):
     """etcd did not answer, or said that it could not: what was asked was done, or was not."""
+
+
+class Refused(Unanswered):
+    """etcd has no room, and so has done nothing."""
+
+
+class Login(NamedTuple):
+    """Who asks: the folder with `clients.pem`, the authority of the servers; `replica.pem` and `replica.key`; and `password`, that of the user `replica`."""
+    folder: str
+    user: str = "replica"
+
+    def tls(self) -> ssl.SSLContext:
+        """TLS with these."""
+        context = ssl.create_default_context(cafile=f"{self.folder}/clients.pem")
+        context.load_cert_chain(f"{self.folder}/replica.pem", f"{self.folder}/replica.key")
+        return context
+
+    def told(self) -> JSON:
+        """What etcd is told for a token."""
+        with open(f"{self.folder}/password", encoding="ascii") as file:
+            return {"name": self.user, "password": file.read().strip()}
 
 
 class Pair(NamedTuple):
@@ -54,32 +81,111 @@ def span(first: str, end: str, limit: int = 0, is_newest: bool = True) -> JSON:
     return {"key": spelled(first.encode()), "range_end": spelled(end.encode()), "limit": str(limit), "serializable": not is_newest}
 
 
+def read(status: int, body: bytes) -> tuple[int, JSON]:
+    """An answer of the gateway, whose body is JSON."""
+    try:
+        told: JSON = json.loads(body)
+    except ValueError:
+        raise Unanswered(f"{status} {body[:100]!r}") from None
+    return status, told
+
+
 def found_in(told: JSON) -> Found:
     """What a question for a span is answered."""
     pairs = [Pair(base64.b64decode(it["key"]).decode(), base64.b64decode(it.get("value", ""))) for it in told.get("kvs", [])]
     return Found(pairs, int(told.get("count", "0")))
 
 
+class Room(NamedTuple):
+    """Bytes that etcd takes on the disk, and may take (0: it is not told); and its alarms, `NOSPACE` say."""
+    bytes: int
+    quota: int
+    alarms: list[str]
+
+    def is_nearly_full(self) -> bool:
+        """Whether nine tenths are taken."""
+        return self.quota > 0 and self.bytes * 10 > self.quota * 9
+
+
 class Etcd:
-    """One member of etcd, that of this machine. Each thread has a connection of its own."""
+    """One member of etcd, that of this machine. Each thread has a connection of its own, and all have one token."""
 
-    def __init__(self, port: int, patience: float = 2.0, host: str = "127.0.0.1") -> None:
-        """It listens there; whoever asks waits for so many seconds."""
-        self.host, self.port, self.patience, self.own = host, port, patience, threading.local()
+    def __init__(self, port: int, patience: float = 2.0, host: str = "127.0.0.1", login: Optional[Login] = None) -> None:
+        """It listens there; whoever asks waits for so many seconds. Without a login it is asked without TLS, for tests."""
+        self.host, self.port, self.patience, self.login, self.own = host, port, patience, login, threading.local()
+        self.tls = login.tls() if login else None
+        self.token, self.heard, self.refused, self.logging = "", now(), -1e9, threading.Lock()
 
-    def call(self, path: str, asked: JSON) -> JSON:
-        """What the gateway answers."""
-        peer: http.client.HTTPConnection = self.own.__dict__.setdefault("peer", http.client.HTTPConnection(self.host, self.port, timeout=self.patience))
+    def silent(self) -> float:
+        """For how many seconds most members of etcd were not heard."""
+        return now() - self.heard
+
+    def opened(self, patience: float) -> http.client.HTTPConnection:
+        """A connection."""
+        if self.tls:
+            return http.client.HTTPSConnection(self.host, self.port, timeout=patience, context=self.tls)
+        return http.client.HTTPConnection(self.host, self.port, timeout=patience)
+
+    def exchange(self, method: str, path: str, body: Optional[str] = None) -> tuple[int, bytes]:
+        """The status and the body of an answer, by the connection of this thread."""
+        peer: http.client.HTTPConnection = self.own.__dict__.setdefault("peer", None) or self.opened(self.patience)
+        self.own.peer = peer
+        return self.answered(peer, method, path, body, {"Authorization": self.token} if self.token else {})
+
+    @staticmethod
+    def answered(peer: http.client.HTTPConnection, method: str, path: str, body: Optional[str], head: dict[str, str]) -> tuple[int, bytes]:
+        """The status and the body of an answer."""
         try:
-            peer.request("POST", path, json.dumps(asked))
+            peer.request(method, path, body, head)
             answer = peer.getresponse()
-            told: JSON = json.loads(answer.read())
-        except (OSError, http.client.HTTPException, ValueError) as why:
+            return answer.status, answer.read()
+        except (OSError, http.client.HTTPException) as why:
             peer.close()
             raise Unanswered(f"{type(why).__name__} {why}") from None
-        if answer.status != 200:
-            raise Unanswered(str(told.get("error", answer.status)))
+
+    def told(self, path: str, asked: JSON) -> tuple[int, JSON]:
+        """The status and the JSON of an answer of the gateway."""
+        return read(*self.exchange("POST", path, json.dumps(asked)))
+
+    def call(self, path: str, asked: JSON) -> JSON:
+        """What the gateway answers, after a login where it asks for one."""
+        token = self.token
+        if self.login and not token:
+            self.log_in(token)
+        status, told = self.told(path, asked)
+        if self.login and status != 200 and (told.get("code") == NO_TOKEN or "auth store is old" in str(told)):
+            self.log_in(token)
+            status, told = self.told(path, asked)
+        if status != 200 and told.get("code") == NO_ROOM and "space" in str(told):
+            self.refused = now()
+            raise Refused(str(told.get("error")))
+        if status != 200:
+            raise Unanswered(str(told.get("error", status)))
+        if path.startswith(("/v3/kv", "/v3/lease")) and not asked.get("serializable"):
+            self.heard = now()  # which takes most members
         return told
+
+    def log_in(self, before: str) -> None:
+        """Gets a token, unless another thread has got one since. It takes etcd long, so one thread at a time does so. An etcd whose auth is not on gives none."""
+        assert self.login
+        with self.logging:
+            if self.token != before:
+                return
+            peer = self.opened(LONG)
+            try:
+                status, told = read(*self.answered(peer, "POST", "/v3/auth/authenticate", json.dumps(self.login.told()), {}))
+            finally:
+                peer.close()
+            if status != 200:
+                raise Unanswered(str(told.get("error", status)))
+            self.token = told["token"]
+
+    def room(self) -> Room:
+        """How much of its room is taken, and its alarms."""
+        told = self.call("/v3/maintenance/status", {})
+        alarms = self.call("/v3/maintenance/alarm", {"action": "GET"}).get("alarms", [])
+        quota = re.search(r"^etcd_server_quota_backend_bytes ([0-9.e+]+)$", self.exchange("GET", "/metrics")[1].decode(), re.M)
+        return Room(int(told.get("dbSize", "0")), int(float(quota[1])) if quota else 0, sorted({str(it.get("alarm")) for it in alarms}))
 
     def ask(self, asked: JSON) -> Found:
         """The pairs of a span."""

@@ -1,19 +1,23 @@
-#!/usr/bin/env python3
+#!/usr/bin/python3
 """Three machines that keep one desk, tried on one real machine: three etcd, three desks and three replicas, which are killed, stopped and cut from each other
-while ten clients send random posts.
+while ten clients send random posts, and three more leave after 1 to 4 seconds.
 
     deploy/replica/trial.py [--program PATH] [--seed N] [--posts N]      the long form; as root each machine has a network of its own, and is cut off too
+    deploy/replica/trial.py --seconds 300                                the same, and then random ones of the faults, until so many seconds went by
     deploy/replica/trial.py --short                                      some faults, on 127.0.0.1
     deploy/replica/trial.py --rates                                      acts a second of a desk alone, of one machine, of three, and of two of three
 
 At its end the plain desk of tools/model carries the log out. Each answer that a client got has to be the plain desk's at its place, byte for byte; what was
 accepted stands once on each machine; `link` and `schedule` are answered alike by all; and the tables of all files are those of the plain desk, row by row.
+No post was given to any desk for the first time when its sender was told to wait no more. While one machine of three is down, cut off or hangs, no client that
+waits for 4 seconds is without an answer for 6.
 What could not be tried is told in a line `not tried: ..`; the last line is `N passed, N failed`.
 """
 import argparse
 import json
 import os
 import random
+import re
 import shutil
 import signal
 import sys
@@ -21,20 +25,23 @@ import tempfile
 import time
 from typing import Callable, Optional, Sequence
 
+sys.dont_write_bytecode = True
 sys.path[1:1] = [f"{os.path.dirname(os.path.realpath(__file__))}/../../tools"]
 
 from run import program_of  # noqa: E402
 from model.rows import Tables, empty_tables  # noqa: E402
+from order import Verdict  # noqa: E402
 from tests.asked import TOP  # noqa: E402
 from tests.http_peer import Fault, run  # noqa: E402
 from tests.plain_runs import kept_tables  # noqa: E402
-from tests.runs import made_shim, quick_folder  # noqa: E402
-from trial_checks import carried_out, done_wrongly, entries_of, wrong_answers, wrong_files  # noqa: E402
-from trial_clients import AT_ONCE, Client, Dealer, Script, random_script  # noqa: E402
-from trial_machines import LEASE, CutNet, Member, Net, Unit, wait_for  # noqa: E402
+from tests.runs import quick_folder  # noqa: E402
+from trial_checks import carried_out, done_wrongly, items_of, too_late, wrong_answers, wrong_files  # noqa: E402
+from trial_clients import AT_ONCE, Client, Dealer, Leaver, Script, Try, Watcher, random_script  # noqa: E402
+from trial_faults import LONGEST, NAME, Planned, plan  # noqa: E402
+from trial_machines import AS_SET_UP, CutNet, Member, Net, Unit, make_keys, wait_for  # noqa: E402
 
-NAME = "desk"
-Planned = tuple[str, Callable[[], Optional[str]]]
+LEAVERS = 3
+POSTS_A_SECOND = 30  # more than random faults let go
 
 
 def first_tables(program: str, folder: str) -> Tables:
@@ -55,20 +62,39 @@ class Trial:
         self.first = first_tables(asked.program, folder)
         counts = [*first_counts, *[1_000_000] * count]
         self.members = [Member(net, at, folder, asked.program, asked.every, counts[at]) for at in range(count)]
-        self.passed, self.failed = 0, 0
+        self.passed, self.failed, self.posts = 0, 0, 0
+        self.waited: list[tuple[float, str]] = []  # in each fault of one machine: the longest that a client was without an answer
         self.clients: list[Client] = []
-        self.dealer = Dealer(Script([], []))
+        self.leavers: list[Client] = []
+        self.tries: list[Try] = []
+        self.dealer, self.watcher = Dealer(Script([], [])), Watcher(self.members)
 
     def __enter__(self) -> "Trial":
         """All machines are in."""
+        try:
+            self.begin()
+        except BaseException:
+            self.__exit__()
+            raise
+        return self
+
+    def begin(self) -> None:
+        """Begins all machines, and waits until they are in."""
+        if self.net.count:
+            make_keys(self.net, self.folder)
+            for it in self.members:
+                it.opened()
+                it.units["etcd"].goes.set()
+            wait_for("etcd's auth", self.members[0].turns_auth_on, 120)
         for it in self.members:
             it.go()
         wait_for("all machines in", self.are_in)
-        return self
+        self.watcher.start()
 
     def __exit__(self, *_: object) -> None:
         """Nothing runs any more."""
         self.dealer.end()
+        self.watcher.is_over = True
         for it in self.members:
             it.each(lambda unit: unit.end())
         self.net.end()
@@ -93,6 +119,12 @@ class Trial:
         for it in self.clients:
             it.start()
 
+    def send_and_leave(self) -> None:
+        """Has clients that send each post once, and leave soon."""
+        self.leavers = [Leaver(self.dealer, self.members, at) for at in range(LEAVERS)]
+        for it in self.leavers:
+            it.start()
+
     def answered(self) -> int:
         """How many posts were answered."""
         return sum(len(it.told) for it in self.clients)
@@ -114,109 +146,30 @@ class Trial:
         times = sorted([since, *(it.at for client in self.clients for it in client.told if it.at > since)])
         return max((late - early for early, late in zip(times, times[1:])), default=0.0)
 
-    # ---- faults
+    def longest(self, since: float) -> tuple[float, str]:
+        """The longest time that a client was without an answer, of what was answered from then on, and what its tries came to."""
+        return max(((it.at - max(it.sent, since), it.history) for client in self.clients for it in client.told if it.at > since), default=(0.0, ""))
 
-    def fault(self, what: str, does: Callable[[], Optional[str]], stage: int) -> None:
+    def fault(self, planned: Planned, stage: int) -> None:
         """Half a stage of posts, a fault, and the other half; and then few posts, until all machines are in again."""
         self.let_go(stage // 2)
         began = time.monotonic()
-        more = does()
+        more = planned.does()
         self.let_go(stage - stage // 2)
         wait_for("all machines in again", self.are_in)
-        took = time.monotonic() - began
-        print(f"{what}: at place {max(it.told[-1].place for it in self.clients if it.told)}, nobody was answered for {self.silence(began):.1f} s, "
-              f"all were in again after {took:.1f} s{more or ''}", flush=True)
+        took, (longest, history) = time.monotonic() - began, self.longest(began)
+        print(f"{planned.what}: at place {max(it.told[-1].place for it in self.clients if it.told)}, nobody was answered for {self.silence(began):.1f} s, "
+              f"a client for {longest:.1f} s, all were in again after {took:.1f} s{more or ''}", flush=True)
+        if planned.is_of_one:
+            self.waited.append((longest, f"{planned.what}: {history}"))
         self.broken()
-
-    def leader(self) -> Member:
-        """The machine whose etcd leads, once one does."""
-        wait_for("a leader", lambda: any(it.leads() for it in self.members))
-        return next(it for it in self.members if it.leads())
-
-    def kill_leader(self) -> None:
-        """The etcd that leads is killed."""
-        self.leader().units["etcd"].signal(signal.SIGKILL)
-
-    def kill(self, unit: str, number: int = signal.SIGKILL) -> Callable[[], None]:
-        """A program of some machine gets a signal."""
-        return lambda: self.dice.choice(self.members).units[unit].signal(number)
-
-    def kill_machine(self) -> None:
-        """All programs of a machine are killed, and begin some seconds later."""
-        it = self.dice.choice(self.members)
-        it.each(lambda unit: unit.hold())
-        self.let_go(self.asked.stage // 4)
-        it.go()
-
-    def kill_all(self) -> None:
-        """All programs of all machines are killed at once."""
-        for it in self.members:
-            it.each(lambda unit: unit.hold())
-        time.sleep(1)
-        for it in self.members:
-            it.go()
-
-    def stop_machine(self) -> None:
-        """All programs of a machine stand still for longer than its lease."""
-        it = self.dice.choice(self.members)
-        it.each(lambda unit: unit.signal(signal.SIGSTOP))
-        began = time.monotonic()
-        self.let_go(self.asked.stage // 4)
-        time.sleep(max(0.0, began + 3 * LEASE - time.monotonic()))
-        it.each(lambda unit: unit.signal(signal.SIGCONT))
-
-    def stop_desk(self) -> None:
-        """A desk stands still for a while."""
-        it = self.dice.choice(self.members).units["desk"]
-        it.signal(signal.SIGSTOP)
-        time.sleep(2 * LEASE)
-        it.signal(signal.SIGCONT)
-
-    def cut(self) -> None:
-        """The machine whose etcd leads is cut from the others, and its clients go on to reach it."""
-        assert isinstance(self.net, CutNet)
-        at = self.leader().at
-        self.net.cut(at, True)
-        began = time.monotonic()
-        self.let_go(self.asked.stage // 4)
-        time.sleep(max(0.0, began + 4 * LEASE - time.monotonic()))
-        self.net.cut(at, False)
-
-    def cut_all(self) -> None:
-        """All machines are cut from each other."""
-        assert isinstance(self.net, CutNet)
-        for at in range(self.net.count):
-            self.net.cut(at, True)
-        time.sleep(2 * LEASE)
-        for at in range(self.net.count):
-            self.net.cut(at, False)
-
-    def post_beside_the_log(self) -> str:
-        """A desk is posted something that is not in the log. It has a row more than the others from then on, which no answer shows."""
-        it = self.dice.choice(self.members)
-        before = it.said("not those of most")
-        it.ask_desk({"act": "loseup 4294967295", "by": "replica", "moment": 0, "number": 4_000_000_000})
-        self.let_go(self.asked.every + AT_ONCE)
-        took = wait_for("the other tables found", lambda: it.said("not those of most") > before)
-        return f" (found {took:.1f} s behind the next comparison)"
-
-    def fail_disk(self) -> str:
-        """A desk begins anew on a disk that fails some acts later: it is told 31."""
-        it = self.dice.choice(self.members)
-        before = it.said("31 Store")
-        calls = 3 * max(client.told[-1].place for client in self.clients)
-        it.desk_env = {"LD_PRELOAD": made_shim("stop_io", self.folder), "STOP_FILE": f"{it.folder}/desk/desk.db", "FAIL_FROM": str(calls)}
-        it.units["desk"].signal(signal.SIGKILL)
-        self.let_go(self.asked.stage // 2)
-        wait_for("a desk told 31", lambda: it.said("31 Store") > before)
-        return ""
 
     # ---- what is looked at in the end
 
     def end_of_posts(self) -> None:
         """No more posts; all machines have carried out the whole log, and their followers end."""
         self.dealer.end()
-        for client in self.clients:
+        for client in [*self.clients, *self.leavers]:
             client.join()
         self.broken()
         wait_for("all machines in", self.are_in)
@@ -228,14 +181,23 @@ class Trial:
     def look(self) -> None:
         """Everything."""
         self.end_of_posts()
-        told, looks = [it for client in self.clients for it in client.told], [it for client in self.clients for it in client.looks]
-        entries = entries_of(self.members[0], NAME)
-        marks = {it.mark for it in entries}
-        self.tell("each entry of the log has a mark of its own", ["one mark comes twice"] * (len(marks) != len(entries)))
-        carried = carried_out(entries, self.first, looks)
+        longest, what = max(self.waited, default=(0.0, "nothing"))
+        self.tell(f"in {len(self.waited)} faults of one machine of three no client waited for {LONGEST:.0f} s; the longest was {longest:.1f} s ({what})",
+                  [f"{why}: {took:.1f} s" for took, why in self.waited if took >= LONGEST])
+        everybody = [*self.clients, *self.leavers]
+        told, looks = [it for client in everybody for it in client.told], [it for client in everybody for it in client.looks]
+        items = items_of(self.members[0], NAME)
+        marks = [it.entry.mark for it in items if it.entry]
+        self.tell("each entry of the log has a mark of its own", ["one mark comes twice"] * (len(marks) != len(set(marks))))
+        self.tell("the log says of each place what is to be done", [f"place {it.place}" for it in items if not it.verdict])
+        tries = [*self.tries, *(it for client in everybody for it in client.tries)]
+        void = sum(it.verdict is Verdict.LATE for it in items)
+        print(f"{void} posts are void; the time of each post is known within {self.watcher.gap:.2f} s")
+        self.tell("no post was carried out when its sender was told to wait no more", too_late(items, self.watcher.seen, tries))
+        carried = carried_out(items, self.first, looks)
         self.tell("each answer is the plain desk's at its place", wrong_answers(carried, told))
         self.tell(f"{len(looks)} questions by GET are answered as the plain desk answers at their places", carried.wrong_looks + ["there are none"] * (not looks))
-        newest = [it for it in looks if it.least]
+        newest = [it for it in looks if it.least and it.place]
         self.tell(f"{len(newest)} of them for the newest, none as of an older place than the post before", [f"{it}" for it in newest if it.place < it.least])
         self.look_at_links(carried.desk.acts)
         for it in self.members:
@@ -260,20 +222,6 @@ class Trial:
         self.tell("link, schedule and places are answered alike by all", faults)
 
 
-def plan(trial: Trial) -> list[Planned]:
-    """The faults, in their order."""
-    told: list[Planned] = [("the etcd that leads is killed", trial.kill_leader), ("a desk is killed", trial.kill("desk")),
-                           ("a replica is killed", trial.kill("replica"))]
-    if trial.asked.short:
-        return told + [("a machine is killed", trial.kill_machine), ("a machine stands still", trial.stop_machine)]
-    more = [("a replica is killed", trial.kill("replica")), ("a wanted restart of a desk", trial.kill("desk", signal.SIGTERM)),
-            ("a desk stands still", trial.stop_desk), ("a machine is killed", trial.kill_machine), ("a machine stands still", trial.stop_machine),
-            ("a desk is told 31", trial.fail_disk), ("a desk is posted something beside the log", trial.post_beside_the_log)]
-    if trial.net.can_cut:
-        more += [("the machine that leads is cut from the others", trial.cut), ("all machines are cut from each other", trial.cut_all)]
-    return told + more + [("the etcd that leads is killed", trial.kill_leader), ("all programs are killed at once", trial.kill_all)]
-
-
 def faults(asked: argparse.Namespace, folder: str) -> int:
     """The trial with faults."""
     net = Net(3)
@@ -281,16 +229,20 @@ def faults(asked: argparse.Namespace, folder: str) -> int:
         net = CutNet(3)
     elif not asked.short:
         print("not tried: machines that are cut from each other (root and iproute2 are wanted for that)")
+    net.times = AS_SET_UP if asked.as_set_up else net.times
     print(f"replica: seed {asked.seed}", flush=True)
     with Trial(asked, folder, net, 3, [asked.stage // 2]) as trial:
-        told = plan(trial)
-        trial.send(random_script(asked.seed, asked.posts * 2, trial.first))
+        trial.send(random_script(asked.seed, asked.posts * 2 + asked.seconds * POSTS_A_SECOND, trial.first))
+        trial.send_and_leave()
         began = time.monotonic()
-        trial.fault(f"a desk ends after its COUNT, {asked.stage // 2}", lambda: None, asked.stage)
-        for what, does in told:
-            trial.fault(what, does, asked.stage)
+        planned = [it for it in [Planned(f"a desk ends after its COUNT, {asked.stage // 2}", lambda: None, True), *plan(trial)] if re.search(asked.only, it.what)]
+        for it in planned:
+            trial.fault(it, asked.stage)
         trial.let_go(max(0, asked.posts - trial.answered()))
-        print(f"{trial.answered()} posts in {time.monotonic() - began:.0f} s", flush=True)
+        while planned[1:] and time.monotonic() - began < asked.seconds and trial.answered() < len(trial.dealer.posts) - 4 * asked.stage:
+            trial.fault(trial.dice.choice(planned[1:]), asked.stage)
+        print(f"{trial.answered()} posts in {time.monotonic() - began:.0f} s, and {sum(len(it.tries) for it in trial.leavers)} of who leave, "
+              f"of which {sum(len(it.told) for it in trial.leavers)} were answered", flush=True)
         trial.look()
     print(f"{trial.passed} passed, {trial.failed} failed")
     return int(trial.failed > 0)
@@ -355,18 +307,23 @@ def main() -> int:
     parser = argparse.ArgumentParser(prog="trial.py", description=__doc__, formatter_class=argparse.RawDescriptionHelpFormatter)
     parser.add_argument("--program", metavar="PATH", help="the program that is run")
     parser.add_argument("--seed", type=int, default=1, metavar="N", help="of the posts and the faults (1)")
-    parser.add_argument("--posts", type=int, metavar="N", help="at least so many (20,000; short 700; rates 3,000)")
+    parser.add_argument("--posts", type=int, metavar="N", help="at least so many (10,000; short 1,100; rates 3,000)")
+    parser.add_argument("--seconds", type=int, default=0, metavar="N", help="faults go on until so many seconds went by (0)")
+    parser.add_argument("--away", type=int, default=120, metavar="N", help="etcd is away for so many seconds, the first time (120; short: no longer than anybody waits)")
+    parser.add_argument("--as-set-up", action="store_true", help="a replica has the times that it has where none are named, and not shorter ones")
+    parser.add_argument("--only", default="", metavar="PATTERN", help="those faults alone whose names match it")
     parser.add_argument("--folder", metavar="PATH", help="a folder on the disk that is used (short: memory)")
     parser.add_argument("--short", action="store_true", help="some faults, on 127.0.0.1, in memory")
     parser.add_argument("--rates", action="store_true", help="acts a second, without faults")
     asked = parser.parse_args()
     signal.signal(signal.SIGTERM, lambda *_: sys.exit(2))  # so that all that runs is ended
-    if not shutil.which("etcd"):
-        print("not tried: etcd is not installed (Debian: etcd-server)")
+    missing = [name for name in ("etcd", "etcdctl", "openssl") if not shutil.which(name)]
+    if missing:
+        print(f"not tried: {', '.join(missing)} is not installed (Debian: etcd-server, etcd-client, openssl)")
         return 0
     asked.program = program_of(asked.program)
-    asked.posts = asked.posts or (700 if asked.short else 3000 if asked.rates else 20_000)
-    asked.stage, asked.every = asked.posts // (7 if asked.short else 15), asked.posts // 20
+    asked.posts = asked.posts or (1100 if asked.short else 3000 if asked.rates else 10_000)
+    asked.stage, asked.every = asked.posts // (11 if asked.short else 22), max(50, asked.posts // 20)
     within = asked.folder or quick_folder() if asked.short else asked.folder
     with tempfile.TemporaryDirectory(prefix="replica-", dir=within) as folder:
         return rates(asked, folder) if asked.rates else faults(asked, folder)

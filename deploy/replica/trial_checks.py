@@ -1,19 +1,22 @@
 """What the trial looks at behind its faults: the log, each answer, and all rows of all files, beside the plain desk of tools/model, which carries out the log."""
 import json
 from collections import defaultdict
-from typing import Iterable, NamedTuple, Sequence
+from typing import Iterable, NamedTuple, Optional, Sequence
 
-from etcd import Etcd, span
+from entry import Entry
+from etcd import span
 from generate.http_words import get, post
-from log import COMPARE, Entry, Log, entry_of
+from log import Log
 from model.calls import Calls
 from model.desk import QUESTIONS, Desk
 from model.http import Refused, answer_to
 from model.rows import Tables
 from tables import digest_of
 from tests.plain_runs import kept_tables, unlike
-from trial_clients import Look, Told
+from order import Item, Order, Verdict
+from trial_clients import Look, Told, Try
 from trial_machines import Member
+from words import shortened
 
 SHOWN = 200  # lines of a reply that an answer shows
 
@@ -22,37 +25,56 @@ Answer = tuple[int, bytes]  # a status, and a body
 
 
 class Carried(NamedTuple):
-    """A log that the plain desk has carried out: each entry with its answer, the desk in the end, and what was wrong of questions on the way."""
-    entries: list[Entry]
-    answers: list[Answer]
+    """A log that the plain desk has carried out: each place, and its answer if it was carried out, the desk in the end, and what was wrong of questions on the way."""
+    items: list[Item]
+    answers: list[Optional[Answer]]
     desk: Desk
     wrong_looks: list[str]
 
 
-def entries_of(member: Member, name: str) -> list[Entry]:
-    """The whole log, as of now."""
-    etcd = Etcd(member.etcd_port, 30.0, member.host)
-    log, entries = Log(etcd, name), list[Entry]()
-    while True:
-        found = etcd.ask(span(log.key(len(entries) + 1), log.end, 500))
-        for it in found.pairs:
-            assert it.key == log.key(len(entries) + 1), f"the log has a gap before {it.key}"
-            entries.append(entry_of(it.value))
-        if not found.pairs:
-            return entries
+def items_of(member: Member, name: str) -> list[Item]:
+    """The whole log, as of now, with what it says of each place."""
+    log = Log(member.opened(), name, member.seal())
+    order, entries = Order(1, log.skips()), list[Optional[Entry]]()
+    while more := log.entries(len(entries) + 1, log.etcd.ask(span(log.key(len(entries) + 1), log.end, 500))):
+        entries += more
+    for it in entries:
+        order.take(it)
+    return [order.items[place] for place in range(1, len(entries) + 1)]
 
 
-def carried_out(entries: Sequence[Entry], first: Tables, looks: Iterable[Look]) -> Carried:
+def counts(item: Item) -> bool:
+    """Whether it is a post that is to be carried out."""
+    return item.entry is not None and item.entry.is_post() and item.verdict is Verdict.GOOD
+
+
+def carried_out(items: Sequence[Item], first: Tables, looks: Iterable[Look]) -> Carried:
     """What the plain desk makes of a log, opened over the tables with which all desks begin. Each question is asked of it at the place of its answer."""
-    calls, answers, faults, looks_at = Calls(Desk.opened(first, 0)), list[Answer](), list[str](), defaultdict[int, list[Look]](list)
+    calls, answers, faults, looks_at = Calls(Desk.opened(first, 0)), list[Optional[Answer]](), list[str](), defaultdict[int, list[Look]](list)
     for look in looks:
         looks_at[look.place].append(look)
-    for place, it in enumerate(entries, 1):
-        answers.append(answer_by(calls, post(it.path, it.body)) if it.path != COMPARE else (200, b""))
-        faults += [f"place {place}: {look.path} was answered {look.status} {look.answer[:200]!r}" for look in looks_at.pop(place, [])
+    for it in [Item(0, None, Verdict.GOOD, 0.0), *items]:
+        answers.append(answer_by(calls, post(it.entry.path, it.entry.body)) if it.entry and counts(it) else None)
+        faults += [f"place {it.place}: {look.path} was answered {look.status} {look.answer[:200]!r}" for look in looks_at.pop(it.place, [])
                    if (look.status, look.answer) != answer_by(calls, get(look.path))]
-    faults += [f"place {it.place} is none: {it.path} was answered {it.status}" for more in looks_at.values() for it in more]
-    return Carried(list(entries), answers, calls.desk, faults)
+    faults += [f"place {look.place} is none: {look.path} was answered {look.status}" for more in looks_at.values() for look in more]
+    return Carried(list(items), answers[1:], calls.desk, faults)
+
+
+def too_late(items: Sequence[Item], seen: Sequence[tuple[float, float]], tries: Iterable[Try]) -> list[str]:
+    """Posts that were first given to a desk when nobody was told to wait any more, of those that were sent to the machine that put them into the log."""
+    sent, faults = defaultdict[tuple[str, str, bytes], list[Try]](list), list[str]()
+    for it in tries:
+        sent[it.machine, it.post.path, shortened(*it.post)].append(it)
+    for item in items:
+        if not item.entry or not counts(item):
+            continue
+        least, most = seen[item.place] if item.place < len(seen) else (0.0, 0.0)
+        mine = sent[item.entry.mark.split("-")[0], item.entry.path, item.entry.body]
+        if not any(it.at <= most and least <= it.at + it.seconds for it in mine):
+            faults.append(f"place {item.place}: it was begun {[f'{least - it.at:.1f} to {most - it.at:.1f}' for it in mine]} s after it was sent, and "
+                          f"{[it.seconds for it in mine]} s were told")
+    return faults
 
 
 def answer_by(calls: Calls, request: bytes) -> Answer:
@@ -64,15 +86,16 @@ def answer_by(calls: Calls, request: bytes) -> Answer:
 
 
 def wrong_answers(carried: Carried, told: Iterable[Told]) -> list[str]:
-    """Answers that are not those of the plain desk at their places, and those of posts that are not there."""
+    """Answers that are not those of the plain desk at their places, or of a place that is not carried out; and those of posts that are not there."""
     faults = []
     for it in told:
         if it.place == 0:
             asked = answer_to(post(it.post.path, it.post.body))
-            is_right = it.status == 413 and isinstance(asked, Refused) and asked.status == 413
+            is_right = isinstance(asked, Refused) and answer_by(Calls(Desk()), post(it.post.path, it.post.body)) == (it.status, it.answer)
         else:
-            entry = carried.entries[it.place - 1]
-            is_right = (entry.path, entry.body) == it.post and carried.answers[it.place - 1] == (it.status, it.answer)
+            entry = carried.items[it.place - 1].entry
+            is_right = (entry is not None and (entry.path, entry.body) == (it.post.path, shortened(*it.post))
+                        and carried.answers[it.place - 1] == (it.status, it.answer))
         if not is_right:
             faults.append(f"place {it.place}: {it.post.body[:200]!r} was answered {it.status} {it.answer[:200]!r}")
     return faults

@@ -8,19 +8,30 @@ import sys
 import threading
 import time
 from http.client import HTTPConnection, HTTPException
-from typing import Callable, Optional, Sequence
+from typing import Callable, NamedTuple, Optional, Sequence
 
-from etcd import Etcd, Unanswered
+from entry import Seal
+from etcd import Etcd, Login, Unanswered
 from tests.http_peer import Fault, free_port
 
 HERE = os.path.dirname(os.path.realpath(__file__))
 REPLICA = f"{HERE}/replica.py"
 RESTART = 0.5  # seconds between an end and the next beginning
-LEASE, PATIENCE = 3, 5
 ASK = """import http.client, sys
 peer = http.client.HTTPConnection("127.0.0.1", int(sys.argv[1]))
 peer.request("POST", "/acts", sys.argv[2])
 print(peer.getresponse().read().decode())"""
+
+
+class Times(NamedTuple):
+    """Options of a replica, in seconds."""
+    lease: int
+    patience: int
+    progress: int
+    digests: int
+
+
+QUICK, AS_SET_UP = Times(3, 5, 4, 10), Times(10, 20, 15, 30)  # the second are those of who names none
 
 
 class Unit:
@@ -73,7 +84,7 @@ class Unit:
 
 class Net:
     """All machines at ports of 127.0.0.1."""
-    can_cut = False
+    can_cut, times = False, QUICK
 
     def __init__(self, count: int) -> None:
         """So many machines."""
@@ -99,19 +110,19 @@ class CutNet(Net):
     def __init__(self, count: int) -> None:
         """Makes it."""
         super().__init__(count)
-        self.mark = f"r{os.getpid() % 100000}"
+        self.mark, self.own = f"r{os.getpid() % 100000}", os.getpid() % 250  # another trial has other names and addresses
         self.ports = [[2379, 2380, 8080, 8081] for _ in range(count)]
         try:
             for kind, side in (("p", 77), ("c", 78)):
                 self.ip(f"link add {self.mark}{kind} type bridge", f"link set {self.mark}{kind} up")
                 if kind == "c":
-                    self.ip(f"addr add 10.{side}.0.254/24 dev {self.mark}{kind}")
+                    self.ip(f"addr add 10.{side}.{self.own}.254/24 dev {self.mark}{kind}")
                 for at in range(count):
                     if kind == "p":
                         self.ip(f"netns add {self.mark}{at}", f"-n {self.mark}{at} link set lo up")
                     self.ip(f"link add {self.mark}{kind}{at} type veth peer name {kind} netns {self.mark}{at}",
                             f"link set {self.mark}{kind}{at} master {self.mark}{kind}", f"link set {self.mark}{kind}{at} up",
-                            f"-n {self.mark}{at} addr add 10.{side}.0.{at + 1}/24 dev {kind}", f"-n {self.mark}{at} link set {kind} up")
+                            f"-n {self.mark}{at} addr add 10.{side}.{self.own}.{at + 1}/24 dev {kind}", f"-n {self.mark}{at} link set {kind} up")
         except BaseException:
             self.end()
             raise
@@ -130,11 +141,12 @@ class CutNet(Net):
 
     def hosts(self, at: int) -> tuple[str, str]:
         """An address in each network."""
-        return f"10.77.0.{at + 1}", f"10.78.0.{at + 1}"
+        return f"10.77.{self.own}.{at + 1}", f"10.78.{self.own}.{at + 1}"
 
-    def cut(self, at: int, is_cut: bool) -> None:
-        """Cuts a machine from the others, or no longer; its clients reach it all the while."""
-        self.ip(f"link set {self.mark}p{at} {'down' if is_cut else 'up'}")
+    def cut(self, at: int, is_cut: bool, kinds: str = "p") -> None:
+        """Cuts a machine from the others (p), from its clients (c), or from both; or no longer."""
+        for kind in kinds:
+            self.ip(f"link set {self.mark}{kind}{at} {'down' if is_cut else 'up'}")
 
     def end(self) -> None:
         """Takes it away."""
@@ -142,11 +154,18 @@ class CutNet(Net):
             subprocess.run(["ip", *line.split()], capture_output=True, check=False)
 
 
+def make_keys(net: Net, folder: str) -> None:
+    """The keys of all machines, as the page has them made."""
+    names = [f"{'abc'[at]}={','.join(dict.fromkeys(net.hosts(at)))}" for at in range(net.count)]
+    subprocess.run([f"{HERE}/certificates.sh", f"{folder}/keys", *names], check=True)
+
+
 class Member:
     """A machine."""
 
     def __init__(self, net: Net, at: int, folder: str, program: str, every: int, first_count: int = 1_000_000) -> None:
-        """Its desk serves so many connections, the first time. It begins with a copy of `first.db` of the folder, where there is one."""
+        """Its desk serves so many connections, the first time. It begins with a copy of `first.db` of the folder, where there is one. Its keys are in `keys`."""
+        self.keys, self.quota = f"{folder}/keys/{'abc'[at]}", 0
         self.net, self.at, self.name, self.folder, self.program, self.every = net, at, "abc"[at], f"{folder}/{'abc'[at]}", program, every
         self.first = ["--first", f"{folder}/first.db"] if os.path.exists(f"{folder}/first.db") else []
         os.makedirs(f"{self.folder}/desk")
@@ -154,31 +173,75 @@ class Member:
         self.desk_env: dict[str, str] = {}
         self.peer, self.host = net.hosts(at)
         self.etcd_port, self.peer_port, self.entrance_port, self.desk_port = net.ports[at]
-        self.etcd = Etcd(self.etcd_port, 5.0, self.host)
+        self.etcd: Etcd
         self.units = {"etcd": Unit(self.etcd_words, f"{self.folder}/etcd.log"), "desk": Unit(self.desk_words, f"{self.folder}/desk.log"),
                       "replica": Unit(self.replica_words, f"{self.folder}/replica.log")}
 
+    def opened(self) -> Etcd:
+        """Its etcd, with a login, once there are keys."""
+        self.etcd = Etcd(self.etcd_port, 5.0, self.host, Login(f"{self.keys}/replica"))
+        return self.etcd
+
+    def seal(self) -> Seal:
+        """The seal of its desk."""
+        with open(f"{self.keys}/replica/seal.key", "rb") as file:
+            return Seal(file.read())
+
     def etcd_words(self) -> list[str]:
         """Begins its etcd."""
-        members = ",".join(f"{'abc'[at]}=http://{self.net.hosts(at)[0]}:{self.net.ports[at][1]}" for at in range(self.net.count))
-        clients = ",".join(f"http://{it}:{self.etcd_port}" for it in dict.fromkeys(["127.0.0.1", self.host]))
+        members = ",".join(f"{'abc'[at]}=https://{self.net.hosts(at)[0]}:{self.net.ports[at][1]}" for at in range(self.net.count))
+        clients = ",".join(f"https://{it}:{self.etcd_port}" for it in dict.fromkeys(["127.0.0.1", self.host]))
+        keys = f"{self.keys}/etcd"
         return [*self.net.words(self.at), "etcd", "--name", self.name, "--data-dir", f"{self.folder}/etcd", "--listen-client-urls", clients,
-                "--advertise-client-urls", f"http://127.0.0.1:{self.etcd_port}", "--listen-peer-urls", f"http://{self.peer}:{self.peer_port}",
-                "--initial-advertise-peer-urls", f"http://{self.peer}:{self.peer_port}", "--initial-cluster", members, "--initial-cluster-state", "new",
-                "--auto-compaction-retention", "1", "--logger", "zap", "--log-level", "error"]
+                "--advertise-client-urls", f"https://127.0.0.1:{self.etcd_port}", "--listen-peer-urls", f"https://{self.peer}:{self.peer_port}",
+                "--initial-advertise-peer-urls", f"https://{self.peer}:{self.peer_port}", "--initial-cluster", members, "--initial-cluster-state", "new",
+                "--peer-trusted-ca-file", f"{keys}/authority.pem", "--peer-cert-file", f"{keys}/peer.pem", "--peer-key-file", f"{keys}/peer.key",
+                "--peer-client-cert-auth", "--trusted-ca-file", f"{keys}/clients.pem", "--cert-file", f"{keys}/server.pem", "--key-file", f"{keys}/server.key",
+                "--client-cert-auth", "--bcrypt-cost", "4", "--auto-compaction-retention", "1",
+                "--quota-backend-bytes", str(self.quota), "--logger", "zap", "--log-level", "error"]
 
     def desk_words(self) -> list[str]:
         """Begins its desk, with what was set for this beginning alone."""
         count = self.counts.pop() if self.counts else 1_000_000
         env = ["env", *(f"{name}={value}" for name, value in self.desk_env.items())]
         self.desk_env = {}
-        return [*env, *self.net.words(self.at), sys.executable, REPLICA, "desk", "--etcd", str(self.etcd_port), "--folder", f"{self.folder}/desk",
+        return [*env, *self.net.words(self.at), sys.executable, REPLICA, "desk", *self.ways(), "--folder", f"{self.folder}/desk",
                 "--program", self.program, "--port", str(self.desk_port), "--count", str(count), *self.first]
+
+    def ways(self) -> list[str]:
+        """How a program of this machine comes to its etcd."""
+        return ["--etcd", str(self.etcd_port), "--keys", f"{self.keys}/replica"]
 
     def replica_words(self) -> list[str]:
         """Begins its follower and entrance."""
-        return [*self.net.words(self.at), sys.executable, REPLICA, "run", "--name", self.name, "--etcd", str(self.etcd_port), "--folder", f"{self.folder}/desk",
-                "--listen", f"{self.host}:{self.entrance_port}", "--lease", str(LEASE), "--patience", str(PATIENCE), "--every", str(self.every)]
+        return self.run_words(f"{self.folder}/desk", self.entrance_port)
+
+    def run_words(self, folder: str, port: int) -> list[str]:
+        """Begins a follower and an entrance under the name of this machine."""
+        times = [word for name, value in self.net.times._asdict().items() for word in (f"--{name}", str(value))]
+        return [*self.net.words(self.at), sys.executable, REPLICA, "run", "--name", self.name, *self.ways(), "--folder", folder,
+                "--listen", f"{self.host}:{port}", "--every", str(self.every), *times]
+
+    def does(self, *words: str) -> str:
+        """What `replica.py` prints on this machine."""
+        ran = subprocess.run([*self.net.words(self.at), sys.executable, REPLICA, *words, *self.ways()], capture_output=True, text=True, check=False)
+        return ran.stdout + ran.stderr
+
+    def turns_auth_on(self) -> bool:
+        """Turns etcd's auth on, for all machines, once most of them are there. Whether it is on."""
+        with open(f"{self.keys}/../authority/root.password", encoding="ascii") as root, open(f"{self.keys}/replica/password", encoding="ascii") as own:
+            told = root.read() + own.read()
+        words = [*self.net.words(self.at), f"{HERE}/auth.sh", f"{self.keys}/replica", f"127.0.0.1:{self.etcd_port}"]
+        return subprocess.run(words, input=told, text=True, capture_output=True, check=False).returncode == 0
+
+    def as_root(self, *words: str) -> None:
+        """What etcd's root does, by etcdctl."""
+        with open(f"{self.keys}/../authority/root.password", encoding="ascii") as file:
+            password = file.read().strip()
+        keys = f"{self.keys}/replica"
+        subprocess.run([*self.net.words(self.at), "env", "ETCDCTL_API=3", "etcdctl", "--endpoints", f"https://127.0.0.1:{self.etcd_port}", "--cacert",
+                        f"{keys}/clients.pem", "--cert", f"{keys}/replica.pem", "--key", f"{keys}/replica.key", "--user", f"root:{password}", *words],
+                       check=True, stdout=subprocess.DEVNULL)
 
     def each(self, what: Callable[[Unit], None]) -> None:
         """Does something to all its programs."""
@@ -196,11 +259,11 @@ class Member:
         except (OSError, HTTPException):
             return False
 
-    def ask(self, method: str, path: str, body: Optional[bytes] = None, patience: float = PATIENCE + 3) -> tuple[int, bytes, int]:
-        """What its entrance answers: the status, the body, and the place, 0 where it tells none."""
+    def ask(self, method: str, path: str, body: Optional[bytes] = None, patience: float = AS_SET_UP.patience + 3, waits: int = 0) -> tuple[int, bytes, int]:
+        """What its entrance answers: the status, the body, and the place, 0 where it tells none. It may be told for how long is waited."""
         peer = HTTPConnection(self.host, self.entrance_port, timeout=patience)
         try:
-            peer.request(method, path, body)
+            peer.request(method, path, body, {"Prefer": f"wait={waits}"} if waits else {})
             answer = peer.getresponse()
             return answer.status, answer.read(), int(answer.headers.get("Tcdesk-Place", "0"))
         finally:
@@ -230,8 +293,20 @@ class Member:
 
     def said(self, text: str) -> int:
         """How many lines of its replica have this text."""
+        return sum(text in it for it in self.lines())
+
+    def lines(self) -> list[str]:
+        """All lines of its replica."""
         with open(f"{self.folder}/replica.log", encoding="utf-8") as file:
-            return sum(text in it for it in file)
+            return file.readlines()
+
+    def begun(self, word: int = 1) -> int:
+        """The last post that its follower gave its desk, by its place; or another number that is written there, 3 for how many posts that were."""
+        try:
+            with open(f"{self.folder}/desk/begun", encoding="ascii") as told:
+                return int(told.read().split()[word])
+        except (OSError, IndexError, ValueError):
+            return 0
 
 
 def wait_for(what: str, is_so: Callable[[], bool], seconds: float = 900.0) -> float:
