@@ -14,8 +14,7 @@ from generate.http_words import NOTHING, Case
 from model.calls import Calls
 from model.desk import Desk
 from model.facts import status_of
-from model.http import Asks, Called, Loads, Refused, Shows, answer_to, fault_of, page_response, refusal_in, refused_response, reply_response
-from model.wall import board_page
+from model.http import Acts, Asks, Called, Loads, Refused, answer_to, fault_of, refusal_in, reply_response
 from tests.new_desks import said_first, said_then, without_beside
 from tests.runs import Ended
 
@@ -220,10 +219,7 @@ class Expected:
         self.disputed: list[tuple[Case, object]] = []
         for at, case in enumerate(cases):
             asked = answer_to(case.raw)
-            if isinstance(asked, Shows):
-                self.add(case, page_response(board_page(self.calls.desk, False)))
-            else:
-                self.add(case, b"" if asked is None else refused_response(asked) if isinstance(asked, Refused) else self.answer(asked, folder, at))
+            self.add(case, b"" if asked is None else self.answer(asked, folder, at) if isinstance(asked, (Asks, Acts, Loads)) else self.calls.response(asked))
 
     def answer(self, asked: Union[Asks, Called], folder: str, at: int) -> bytes:
         """The response of the desk."""
