@@ -246,11 +246,11 @@ def doors() -> Iterator[Case]:
             ("127.0.0.1", 0), ("localhost", 0), ("LocalHost", 0), ("\t127.0.0.1 ", 0), ("", FOREIGN), ("desk", FOREIGN), ("evil.example", FOREIGN), ("127.0.0.1:1", FOREIGN),
             ("127.0.0.1:", FOREIGN), ("127.0.0.10", FOREIGN), ("[::1]", FOREIGN), ("localhost.", FOREIGN), ("127.0.0.1, evil.example", FOREIGN), ("x127.0.0.1", FOREIGN)]
     for host, want in hosts:
-        line = f"Host: {host}".encode()
-        yield Case(f"a GET of host {host!r}", get("/places").replace(b"Host: 127.0.0.1", line), want)
-        yield Case(f"the opening asked of host {host!r}", get("/opening").replace(b"Host: 127.0.0.1", line), want)
-        yield Case(f"a POST to host {host!r}", post("/acts", BODY).replace(b"Host: 127.0.0.1", line), want)
-        yield Case(f"a GET of no path of host {host!r}", get("/none").replace(b"Host: 127.0.0.1", line), want or NO_PATH)
+        called = f"Host: {host}".encode()
+        yield Case(f"a GET of host {host!r}", get("/places").replace(b"Host: 127.0.0.1", called), want)
+        yield Case(f"the opening asked of host {host!r}", get("/opening").replace(b"Host: 127.0.0.1", called), want)
+        yield Case(f"a POST to host {host!r}", post("/acts", BODY).replace(b"Host: 127.0.0.1", called), want)
+        yield Case(f"a GET of no path of host {host!r}", get("/none").replace(b"Host: 127.0.0.1", called), want or NO_PATH)
     yield Case("no host", get("/places").replace(b"Host: 127.0.0.1\r\n", b""), 0)
     yield Case("a POST with no host", post("/acts", BODY).replace(b"Host: 127.0.0.1\r\n", b""), 0)
     yield Case("two hosts", get("/places", "Host: 127.0.0.1"), FOREIGN)

@@ -52,11 +52,10 @@ def free_port() -> int:
 class Server:
     """The program as it serves a desk in a file, for so many connections. It is killed at the end of the block, if it has not ended."""
 
-    def __init__(self, program: str, folder: str, database: str, count: Optional[int], words: Sequence[str] = (),
-                 env: Optional[dict[str, str]] = None, first: Optional[Callable[[], None]] = None, port: Optional[int] = None, told: Optional[str] = None) -> None:
-        """Starts it, without a word for how many connections where that is None, with these variables beside those of this process, after that
-        call. What it writes to descriptor 9 comes into the file
-        `told`."""
+    def __init__(self, program: str, folder: str, database: str, count: Optional[int], words: Sequence[str] = (), env: Optional[dict[str, str]] = None,
+                 first: Optional[Callable[[], None]] = None, port: Optional[int] = None, told: Optional[str] = None, stdin: int = subprocess.DEVNULL) -> None:
+        """Starts it in a session of its own, without a word for how many connections where that is None, with these variables beside those of this process,
+        after that call, and with that standard input. What it writes to descriptor 9 comes into the file `told`."""
         def begin() -> None:
             if told:
                 os.dup2(os.open(told, os.O_WRONLY | os.O_CREAT | os.O_TRUNC), 9)
@@ -66,8 +65,8 @@ class Server:
         self.first = said_first(folder, ["serve", database])
         self.files = [open(f"{folder}/served.{it}", "w+b") for it in ("out", "err")]
         words = [program, "serve", database, str(self.port), *([] if count is None else [str(count)]), *words]
-        self.process = subprocess.Popen(words, cwd=folder, stdin=subprocess.DEVNULL, stdout=self.files[0], stderr=self.files[1], close_fds=False,
-                                        preexec_fn=begin, env={**os.environ, **(env or {})})
+        self.process = subprocess.Popen(words, cwd=folder, stdin=stdin, stdout=self.files[0], stderr=self.files[1], close_fds=False,
+                                        preexec_fn=begin, env={**os.environ, **(env or {})}, start_new_session=True)
 
     def __enter__(self) -> "Server":
         return self
