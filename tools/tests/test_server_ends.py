@@ -182,10 +182,11 @@ class Ends(Served):
     def test_opening(self) -> None:
         """Before and after a kill: what moved since nothing tells of the opening, and the next one counts its own moves."""
         folder, desk = self.cases.folder(), Desk()
-        raws = [act(ENTRY, number=1), act("approve 1", "bob", number=2), act("initiate none", number=3), act("release 1", number=4)]
         for turn, moment in enumerate((0, 500, 900)):
             desk = Desk.opened(desk.tables(), moment) if turn else desk
-            asked = [get("/opening"), *(it.replace(b'"number":', b'"number":%d' % (turn + 1)) for it in raws), get("/opening"), get("/board")]
+            texts = (ENTRY, "approve 1", "initiate none", "release 1")
+            raws = [act(it, "bob" if it == "approve 1" else "ann", number=10 * turn + at) for at, it in enumerate(texts, 1)]
+            asked = [get("/opening"), *raws, get("/opening"), get("/board")]
             made = self.cases.expected(folder, [Case("", it) for it in asked], desk)
             line = f'"opening {desk.stood} at {moment}"'.encode()
             self.cases.tell(f"the opening {turn}, as it is due", [True, True], [line in made.responses[at] for at in (0, -2)])
