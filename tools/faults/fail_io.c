@@ -6,6 +6,7 @@
 //   READ_MOST         each read gives so many bytes at most
 //   READ_FAIL_AT      the read of this number, from 1, fails
 //   READ_LINE_ENDS    1: each read gives LF bytes, without end, whatever the descriptor holds
+// A read of a socket for which nothing is there yet is not counted, and fails as it does.
 //   WRITE_MOST        each write to the standard output takes so many bytes at most
 //   WRITE_FAIL_AT     the write of this number, from 1, fails
 //   WRITE_NOTHING_AT  the write of this number, from 1, takes nothing and does not fail
@@ -54,6 +55,15 @@ static size_t at_most(size_t size, unsigned long most) {
     return most != 0 && most < size ? most : size;
 }
 
+// Whether a socket has nothing to be read yet, nor an end: so a server that waits for many sockets reads each until it holds no more.
+static int is_empty(int descriptor) {
+    char byte;
+    if (read_line_ends) {
+        return 0;
+    }
+    return syscall(SYS_recvfrom, descriptor, &byte, 1, MSG_PEEK | MSG_DONTWAIT, NULL, NULL) < 0 && errno == EAGAIN;
+}
+
 // Counts a read of so many bytes at most. The answer of one that fails, or that gives LF bytes; else -2, with the size that it may have.
 static ssize_t before_read(void *buffer, size_t *size) {
     reads += 1;
@@ -91,7 +101,7 @@ ssize_t write(int descriptor, const void *buffer, size_t size) {
 }
 
 ssize_t recv(int descriptor, void *buffer, size_t size, int flags) {
-    ssize_t answer = sockets ? before_read(buffer, &size) : -2;
+    ssize_t answer = sockets && !is_empty(descriptor) ? before_read(buffer, &size) : -2;
     return answer != -2 ? answer : syscall(SYS_recvfrom, descriptor, buffer, size, flags, NULL, NULL);
 }
 

@@ -132,6 +132,8 @@ PATHS: Sequence[tuple[str, Want]] = [
     ("/waitings", NO_PATH), ("//waiting", NO_PATH), ("waiting", NO_PATH),
     ("/board", 0), ("/board/", NO_PATH), ("/board/1", NO_PATH), ("/board?", NO_PATH), ("/board?x=1", NO_PATH), ("/Board", NO_PATH), ("/boards", NO_PATH),
     ("/boar", NO_PATH), ("//board", NO_PATH), ("board", NO_PATH),
+    ("/opening", 0), ("/opening/", NO_PATH), ("/opening/1", NO_PATH), ("/opening?", NO_PATH), ("/opening?x=1", NO_PATH), ("/Opening", NO_PATH),
+    ("/openings", NO_PATH), ("/openin", NO_PATH), ("/open", NO_PATH), ("//opening", NO_PATH), ("opening", NO_PATH), ("/opening#x", NO_PATH),
     ("/moves/0", 0), ("/moves/1", 0), ("/moves/2", 0), ("/moves/4294967295", 0), ("/moves/4294967296", 1), ("/moves/" + "1" * 300, 1), ("/moves/00", 1),
     ("/moves/01", 1), ("/moves/-1", 1), ("/moves/+1", 1), ("/moves/1.0", 1), ("/moves/one", 1), ("/moves/%31", 1), ("/moves/1?", 1), ("/moves/{after}", 1),
     ("/moves/١", 1), ("/moves", NO_PATH), ("/moves/", NO_PATH), ("/moves/1/", NO_PATH), ("/moves/1/2", NO_PATH), ("/moves//1", NO_PATH),
@@ -154,7 +156,7 @@ def routes() -> Iterator[Case]:
 def methods() -> Iterator[Case]:
     """Methods that a path does not have, and that none has."""
     for method in "PUT POST DELETE HEAD OPTIONS PATCH TRACE CONNECT get Get GETT GE X !".split():
-        for path in ("/places", "/requests/1", "/requests/x", "/history/1/0", "/report/0/1", "/waiting", "/board", "/moves/0", "/moves/x", "/procedures/p1",
+        for path in ("/places", "/requests/1", "/requests/x", "/history/1/0", "/report/0/1", "/waiting", "/board", "/opening", "/moves/0", "/moves/x", "/procedures/p1",
                      "/procedures/P1"):
             yield Case(f"{method} {path}", get(path).replace(b"GET", method.encode(), 1), OTHER_METHOD)
         yield Case(f"{method} /none", get("/none").replace(b"GET", method.encode(), 1), NO_PATH)
@@ -233,7 +235,8 @@ def lines_beside() -> Iterator[Case]:
         yield Case(f"beside its length {line!r}", post("/acts", BODY, line), want)
         at_front = post("/acts", BODY).replace(b"Host: 127.0.0.1\r\n", f"{line}\r\nHost: 127.0.0.1\r\n".encode())
         yield Case(f"before its length {line!r}", at_front, want)
-        yield Case(f"a GET with {line!r}", get("/places", line), 0 if line == "Content-Length: 0" else want)
+        for path in ("/places", "/opening"):
+            yield Case(f"a GET of {path} with {line!r}", get(path, line), 0 if line == "Content-Length: 0" else want)
     yield Case("a coding and no length", bare().replace(b"Host: 127.0.0.1", b"Transfer-Encoding: chunked"), 1)
 
 
@@ -245,6 +248,7 @@ def doors() -> Iterator[Case]:
     for host, want in hosts:
         called = f"Host: {host}".encode()
         yield Case(f"a GET of host {host!r}", get("/places").replace(b"Host: 127.0.0.1", called), want)
+        yield Case(f"the opening asked of host {host!r}", get("/opening").replace(b"Host: 127.0.0.1", called), want)
         yield Case(f"a POST to host {host!r}", post("/acts", BODY).replace(b"Host: 127.0.0.1", called), want)
         yield Case(f"a GET of no path of host {host!r}", get("/none").replace(b"Host: 127.0.0.1", called), want or NO_PATH)
     yield Case("no host", get("/places").replace(b"Host: 127.0.0.1\r\n", b""), 0)
@@ -271,6 +275,7 @@ def lengths_of_gets() -> Iterator[Case]:
                         ("65537", 1), ("9" * 40, 1)]:
         yield Case(f"a GET with Content-Length {value[:40]!r}", get("/places", f"Content-Length:{value}"), want)
         yield Case(f"a GET of a request with Content-Length {value[:40]!r}", get("/requests/77", f"Content-Length:{value}"), want or 2)
+        yield Case(f"a GET of the opening with Content-Length {value[:40]!r}", get("/opening", f"Content-Length:{value}"), want)
     yield Case("a GET with two lengths of 0", get("/places", "Content-Length: 0", "Content-Length: 0"), 1)
     yield Case("a GET with a coding and a length of 0", get("/places", "Content-Length: 0", "Transfer-Encoding: chunked"), 1)
 

@@ -30,6 +30,10 @@ class Shows(NamedTuple):
     """The board."""
 
 
+class Tells(NamedTuple):
+    """How the desk was opened."""
+
+
 class Acts(NamedTuple):
     """An act, or a question, that a person posts under a number of the person's own; the moment is none where it is out of form."""
     by: str
@@ -55,7 +59,7 @@ class Post(NamedTuple):
 
 
 Called = Union[Acts, Loads]
-Asked = Union[Refused, Asks, Shows, Called]
+Asked = Union[Refused, Asks, Shows, Tells, Called]
 Headers = Sequence[tuple[bytes, bytes]]
 BAD, LARGE = (Refused(status_of(it), it) for it in (Refusal.BAD_TEXT, Refusal.TOO_LONG))
 FOREIGN, NO_PATH, OTHER_METHOD = (Refused(it, Refusal.BAD_TEXT) for it in (FOREIGN_STATUS, NO_PATH_STATUS, OTHER_METHOD_STATUS))
@@ -88,7 +92,8 @@ QUESTIONS: list[tuple[re.Pattern[bytes], str, Callable[[bytes], bool]]] = [
     (re.compile(rb"/history/([^/]+)/([^/]+)"), "history", IS_NUMBER), (re.compile(rb"/report/([^/]+)/([^/]+)"), "report", IS_MOMENT),
     (re.compile(rb"/waiting"), "waiting", IS_NUMBER), (re.compile(rb"/moves/([^/]+)"), "moves", IS_NUMBER),
     (re.compile(rb"/procedures/([^/]+)"), "steps", lambda text: is_name(text.decode("utf-8")))]
-BOARD = (re.compile(rb"/board"), "", IS_NUMBER)  # which no act asks for
+# What no act asks for.
+VIEWS: dict[bytes, Union[Shows, Tells]] = {b"/board": Shows(), b"/opening": Tells()}
 
 
 def head_end(text: bytes) -> Optional[int]:
@@ -119,29 +124,33 @@ def posted_to(kind: str, lengths: list[bytes]) -> Union[Refused, Post]:
     return LARGE if is_large else Post(kind, int(lengths[0]))
 
 
-def asked(word: str, texts: Sequence[bytes], is_right: Callable[[bytes], bool], lengths: list[bytes]) -> Union[Refused, Asks, Shows]:
-    """What a head asks that gets the board, or a question with these texts, each of which has to be right, and has these Content-Lengths."""
-    if lengths not in ([], [b"0"]) or not all(is_right(it) for it in texts):
-        return BAD
-    return Asks(" ".join([word] + [it.decode() for it in texts])) if word else Shows()
+def got(target: bytes) -> Union[None, Refused, Asks, Shows, Tells]:
+    """What a path asks by a GET: the board, how the desk was opened, or a question with texts, each of which has to be right; none where it is no such path."""
+    for form, word, is_right in QUESTIONS:
+        found = form.fullmatch(target)
+        if found:
+            return Asks(" ".join([word] + [it.decode() for it in found.groups()])) if all(is_right(it) for it in found.groups()) else BAD
+    return VIEWS.get(target)
 
 
-def judged(head: bytes) -> Union[Refused, Asks, Shows, Post]:
+def judged(head: bytes) -> Union[Refused, Asks, Shows, Tells, Post]:
     """What a head text asks, in the order of the tests."""
     found = HEAD.fullmatch(head)
     fields = re.findall(FIELD, found[3]) if found else []
     if not found or len(fields) > MOST_FIELDS or not is_utf8(found[2]):
         return LARGE if head.count(b"\n") > MOST_LINE_ENDS else BAD
     method, target = found[1], found[2]
-    question = next(((word, match.groups(), is_right) for form, word, is_right in [*QUESTIONS, BOARD] for match in [form.fullmatch(target)] if match), None)
-    if target not in POSTS and not question:
+    question = got(target)
+    if target not in POSTS and question is None:
         return NO_PATH
     if method != (b"POST" if target in POSTS else b"GET"):
         return OTHER_METHOD
     if values(fields, b"transfer-encoding"):
         return BAD
     lengths = values(fields, b"content-length")
-    return asked(*question, lengths) if question else posted_to(POSTS[target], lengths)
+    if question is None:
+        return posted_to(POSTS[target], lengths)
+    return question if lengths in ([], [b"0"]) else BAD
 
 
 # The hosts by which a desk is called, whatever its port.

@@ -102,6 +102,7 @@ WORDS = [Case(f"{command} --at {word}", 2, "", f"{AT}{word}\n")
          for word in ("now", "2026-11-28", "4102444800", "01", "2026-11-28T10:00:00.5Z", "2100-01-01T00:00:00Z")]
 WORDS += [Case("check shift none.tc", 2, "", "tcdesk: KIND is script, stack or procedure: shift\n")]
 BEFORE = "tcdesk: opened at {}, before the last move at 86400\n"
+NEW_LINK = "tcdesk: opened at {} after 1 moves: the link is new\n"
 MOMENTS = [
     Case("run --db late.db none.tc", 0, None, BEFORE.format(0)),
     Case("run --db late.db --at 86399 none.tc", 0, None, BEFORE.format(86399)),
@@ -110,6 +111,9 @@ MOMENTS = [
     Case("run --db late.db --at 1970-01-02T01:00:00+02:00 none.tc", 0, None, BEFORE.format(82800)),
     Case("run --at 2026-11-28T10:00:00Z none.tc", 0, NONE, ""),
     Case("loop late.db none.tc --at 5", 0, None, BEFORE.format(5)),
+    Case("loop late.db none.tc --at 5 --verbose", 0, None, BEFORE.format(5) + NEW_LINK.format(5)),
+    Case("loop late.db none.tc --at 86400 --verbose", 0, None, NEW_LINK.format(86400)),
+    Case("loop late.db none.tc --at 86400", 0, None, ""),
 ]
 
 
