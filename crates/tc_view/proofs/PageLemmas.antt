@@ -24,7 +24,7 @@ desk_made up down opening desk book stated live told (Ok t) same opens is shows 
   wall = wall;
   shows = record {
     shown = subst (λ b. ShowsBook b wall) same shown;
-    opening = opened ∙ opens;
+    opened = opened ∙ opens;
     live = subst (λ (l : Option Live). IsSomeAnd l (ShowsLive up down desk)) (sym (lives ∙ is)) shows;
   };
   bytes = wrote;
@@ -32,5 +32,5 @@ desk_made up down opening desk book stated live told (Ok t) same opens is shows 
 desk_made up down opening desk book stated live told (Err e) same opens is shows made = tt
 
 pub file_made : {A E : Type 0} (book : Book) (r : Result (String A) E) → IfOk r (λ t. (x : Wall) × ShowsBook book x × (x.opening ≡ None) × (x.live ≡ None) × (string_bytes t ≡ wall_page x)) → IfOk r (λ t. IsFilePage book (string_bytes t))
-file_made book (Ok t) (wall, shown, opened, lives, wrote) = record { wall = wall; shows = record { shown = shown; opening = opened; live = lives }; bytes = wrote }
+file_made book (Ok t) (wall, shown, opened, lives, wrote) = record { wall = wall; shows = record { shown = shown; opened = opened; live = lives }; bytes = wrote }
 file_made book (Err e) made = tt

@@ -37,13 +37,13 @@ pub record ShowsLive {U D : Type 0} (up : Kind U Frame) (down : Kind D Report) (
 -- a wall shows a desk that is open, and how it was opened
 pub record ShowsDesk {U D : Type 0} (up : Kind U Frame) (down : Kind D Report) (opening : Opening) (desk : State U D) (wall : Wall) : Type 0 where
   pub shown : ShowsBook desk.book wall
-  pub opening : wall.opening ≡ Some opening
+  pub opened : wall.opening ≡ Some opening
   pub live : IsSomeAnd wall.live (ShowsLive up down desk)
 
 -- a wall shows the book of a file that nobody has open
 pub record ShowsFile (book : Book) (wall : Wall) : Type 0 where
   pub shown : ShowsBook book wall
-  pub opening : wall.opening ≡ None
+  pub opened : wall.opening ≡ None
   pub live : wall.live ≡ None
 
 -- the page of an open desk, and that of a file that nobody has open
