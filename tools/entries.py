@@ -17,8 +17,8 @@ C_COMPILER = "a C compiler (Debian: gcc, libc6-dev)"
 # In the order in which the gate runs them.
 ENTRIES = (
     Entry("edits-test", "the tool for edits, on a small crate of wrong, harmless and unreadable ones", command=("edits/edits_test.py",), needs="rt"),
-    Entry("edits", "whether the prover refuses the edits of crates/NAME/wrong/ that tools/edits.tried does not have", command=("edits/edits.py",),
-          needs="rt"),
+    Entry("edits", "whether the prover refuses the edits of crates/NAME/wrong/ that tools/edits.tried does not have",
+          command=("edits/edits.py", "--few", "9"), needs="rt"),
     Entry("types", "whether the types in all signatures of tools/ fit, by mypy", modules=("tests.test_types",), needs="mypy, or that is not tried"),
     Entry("notice", "whether NOTICE lists all parts of the toolchain that the program links, with the licences that these state",
           modules=("tests.test_notice",), needs="rt, or that is not tried"),
