@@ -210,10 +210,10 @@ ends_told g (Err why) input left old new before after done = end_told g why left
 -- what was read is served
 pub exchange_read : {S : Type 0} {hosts : List (List ℕ)} {since : ℕ} (g : Ghosts S) (sent : Sent) (input left : Stream) (old new : Standing S) (before after : Stream) → Exchanges hosts since g sent input left old new before after
     → (asked : Option Asked) × ServesRead g old asked new
-exchange_read {S} {hosts} {since} g (Ok u) input left old new before after done = (Some done.answered.asked, (since, (done.answered.outcome, done.answered.serves)))
+exchange_read {S} {hosts} {since} g (Ok u) input left old new before after done = (Some done.answered.asked, (since, done.answered.outcome, done.answered.serves))
 exchange_read {S} {hosts} {since} g (Err why) input left old new before after done = by_end done.failed
   where
     by_end : EndsUnread why left.counts input.bytes left.bytes old new after.counts before.bytes after.bytes ⊎ EndsUnanswered hosts since g why input.bytes left.bytes old new after.counts before.bytes after.bytes
         → (asked : Option Asked) × ServesRead g old asked new
     by_end (inl unread) = (None, unread.room)
-    by_end (inr ended) = (Some ended.asked, (since, (ended.outcome, ended.serves)))
+    by_end (inr ended) = (Some ended.asked, (since, ended.outcome, ended.serves))

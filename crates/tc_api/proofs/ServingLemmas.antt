@@ -111,11 +111,11 @@ body_unread g old post body refusal outcome (inr bad) so = record { served = inr
 
 -- ---- what is asked
 
-pub asks_nothing : {S : Type 0} {since : ℕ} (g : Ghosts S) (old : Standing S) (given : Decision) (why : Refused) (outcome : Outcome) → given ≡ decision.Refused why → outcome ≡ refused_front why → Serves since g old (asked_of given) outcome old
-asks_nothing g old given why outcome is so = rw is (so, refl)
+pub asks_nothing : {S : Type 0} (since : ℕ) (g : Ghosts S) (old : Standing S) (given : Decision) (why : Refused) (outcome : Outcome) → given ≡ decision.Refused why → outcome ≡ refused_front why → Serves since g old (asked_of given) outcome old
+asks_nothing since g old given why outcome is so = rw is (so, refl)
 
-pub asks_query : {S : Type 0} {since : ℕ} (g : Ghosts S) (old new : Standing S) (given : Decision) (query : Query) (outcome : Outcome) → given ≡ decision.Asks query → ServesQuery g old query outcome new → Serves since g old (asked_of given) outcome new
-asks_query g old new given query outcome is h = rw is h
+pub asks_query : {S : Type 0} (since : ℕ) (g : Ghosts S) (old new : Standing S) (given : Decision) (query : Query) (outcome : Outcome) → given ≡ decision.Asks query → ServesQuery g old query outcome new → Serves since g old (asked_of given) outcome new
+asks_query since g old new given query outcome is h = rw is h
 
 pub asks_wall : {S : Type 0} {since : ℕ} (g : Ghosts S) (old new : Standing S) (given : Decision) (outcome : Outcome) → given ≡ decision.ShowsWall → ServesWall since old outcome new → Serves since g old (asked_of given) outcome new
 asks_wall g old new given outcome is h = rw is h
@@ -123,5 +123,5 @@ asks_wall g old new given outcome is h = rw is h
 pub asks_opening : {S : Type 0} {since : ℕ} (g : Ghosts S) (old new : Standing S) (given : Decision) (outcome : Outcome) → given ≡ decision.TellsOpening → TellsOpening since old outcome new → Serves since g old (asked_of given) outcome new
 asks_opening g old new given outcome is h = rw is h
 
-pub asks_post : {S : Type 0} {since : ℕ} (g : Ghosts S) (old new : Standing S) (given : Decision) (post : Post) (body : Bor (List ℕ)) (outcome : Outcome) → given ≡ decision.Posts post body → ServesPost g old post body.now outcome new → Serves since g old (asked_of given) outcome new
-asks_post g old new given post body outcome is h = rw is h
+pub asks_post : {S : Type 0} (since : ℕ) (g : Ghosts S) (old new : Standing S) (given : Decision) (post : Post) (body : Bor (List ℕ)) (outcome : Outcome) → given ≡ decision.Posts post body → ServesPost g old post body.now outcome new → Serves since g old (asked_of given) outcome new
+asks_post since g old new given post body outcome is h = rw is h

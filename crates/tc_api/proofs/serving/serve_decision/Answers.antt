@@ -6,11 +6,11 @@ use Rattle.tc_api.proofs.serving.serve_decision.Goals as goal
 
 pub returns-in-Refused : goal.returns-in-Refused
 returns-in-Refused g c =
-    record { reply = refusal_reply (front_refusal c.in-Refused.why); makes = asks_nothing g.S.Store _ _ _ _ c.in-Refused.is c.serve_refused.ensures.0; text = c.serve_refused.ensures.1; opened = refl }
+    record { reply = refusal_reply (front_refusal c.in-Refused.why); makes = asks_nothing _ g.S.Store _ _ _ _ c.in-Refused.is c.serve_refused.ensures.0; text = c.serve_refused.ensures.1; opened = refl }
 
 pub returns-in-Asks : goal.returns-in-Asks
 returns-in-Asks g c =
-    let made = c.serve_query.ensures in record { reply = made.reply; makes = asks_query g.S.Store _ _ _ _ _ c.in-Asks.is made.makes; text = made.text; opened = made.opened }
+    let made = c.serve_query.ensures in record { reply = made.reply; makes = asks_query _ g.S.Store _ _ _ _ _ c.in-Asks.is made.makes; text = made.text; opened = made.opened }
 
 pub returns-in-ShowsWall : goal.returns-in-ShowsWall
 returns-in-ShowsWall g c =
@@ -22,4 +22,4 @@ returns-in-TellsOpening g c =
 
 pub returns-in-Posts : goal.returns-in-Posts
 returns-in-Posts g c =
-    let made = c.serve_post.ensures in record { reply = made.reply; makes = asks_post g.S.Store _ _ _ _ _ _ c.in-Posts.is made.makes; text = made.text; opened = made.opened }
+    let made = c.serve_post.ensures in record { reply = made.reply; makes = asks_post _ g.S.Store _ _ _ _ _ _ c.in-Posts.is made.makes; text = made.text; opened = made.opened }
