@@ -89,12 +89,12 @@ head_one book a b one two live =
     let waiting : a.waiting ≡ b.waiting = one.waiting ∙ sym two.waiting in
     rw (opened, waiting, live) refl
 
-heading_one : (book : Book) (a b : Wall) → ShowsBook book a → ShowsBook book b → a.live ≡ b.live → heading_parts a ≡ heading_parts b
+heading_one : (book : Book) (a b : Wall) → ShowsBook book a → ShowsBook book b → a.opening ≡ b.opening → heading_parts a ≡ heading_parts b
 unfolding heading_parts
-heading_one book a b one two live =
+heading_one book a b one two opening =
     let entered : a.entered ≡ b.entered = one.entered ∙ sym two.entered in
     let moves : a.moves.now ≡ b.moves.now = one.moves ∙ sym two.moves in
-    rw (entered, moves, live) refl
+    rw (entered, moves, opening) refl
 
 waits_one : (book : Book) (a b : Wall) → ShowsBook book a → ShowsBook book b → waits_parts a ≡ waits_parts b
 unfolding waits_parts
@@ -121,11 +121,11 @@ joined_one foot a b c d e f g a' b' c' d' e' f' g' p q r s t u v =
     ap (λ x. joined foot x b c d e f g) p ∙ ap (λ x. joined foot a' x c d e f g) q ∙ ap (λ x. joined foot a' b' x d e f g) r ∙ ap (λ x. joined foot a' b' c' x e f g) s
     ∙ ap (λ x. joined foot a' b' c' d' x f g) t ∙ ap (λ x. joined foot a' b' c' d' e' x g) u ∙ ap (λ x. joined foot a' b' c' d' e' f' x) v
 
-page_one : (book : Book) (a b : Wall) → ShowsBook book a → ShowsBook book b → a.live ≡ b.live → wall_page a ≡ wall_page b
+page_one : (book : Book) (a b : Wall) → ShowsBook book a → ShowsBook book b → a.opening ≡ b.opening → a.live ≡ b.live → wall_page a ≡ wall_page b
 unfolding wall_page page
-page_one book a b one two live = ap shown_all (joined_one _ _ _ _ _ _ _ _ _ _ _ _ _ _ _ (head_one book a b one two live) (heading_one book a b one two live) (ap tiles_parts (one.counts ∙ sym two.counts)) (waits_one book a b one two)
+page_one book a b one two opening live = ap shown_all (joined_one _ _ _ _ _ _ _ _ _ _ _ _ _ _ _ (head_one book a b one two live) (heading_one book a b one two opening) (ap tiles_parts (one.counts ∙ sym two.counts)) (waits_one book a b one two)
     (ap live_parts live) (ways_one book a b one two) (moves_one book a b one two))
 
 pub file_one : (book : Book) (one two : List ℕ) → IsFilePage book one → IsFilePage book two → one ≡ two
 file_one book one two first second =
-    first.bytes ∙ page_one book first.wall second.wall first.shows.shown second.shows.shown (first.shows.live ∙ sym second.shows.live) ∙ sym second.bytes
+    first.bytes ∙ page_one book first.wall second.wall first.shows.shown second.shows.shown (first.shows.opened ∙ sym second.shows.opened) (first.shows.live ∙ sym second.shows.live) ∙ sym second.bytes
