@@ -98,6 +98,7 @@ class Ends(Served):
             os.close(theirs)
             desk = Desk()
             right = self.cases.expected(folder, [Case("", act(ENTRY))], desk).responses[0]
+            server.exchange(PLACES)  # a port takes connections before the desk is open
             with server.connect() as late, server.connect() as silent:
                 send(late, act(ENTRY)[:-1])
                 send(silent, PLACES[:-1])
