@@ -121,7 +121,8 @@ def kept(cases: Cases) -> None:
     """Peers that keep their connections open behind their answers, one after the other: each costs the next nothing. Were they waited for, it would be
     half a second each."""
     none, folder = cases.places(), cases.folder()
-    with cases.server(folder, CROWD) as server, ExitStack() as open_ones:
+    with cases.server(folder, CROWD + 1) as server, ExitStack() as open_ones:
+        cases.tell("a peer before them", none, server.exchange(PLACES))
         began = time.monotonic()
         for at in range(CROWD):
             peer = open_ones.enter_context(server.connect())

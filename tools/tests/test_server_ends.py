@@ -16,7 +16,7 @@ from model.desk import Desk
 from model.http import reply_response
 from tests.asked import ASKED, TOP
 from tests.http_cases import Served
-from tests.http_peer import Ended, Server, received, send
+from tests.http_peer import Ended, Server, received, run, send
 from tests.plain_runs import kept_tables, unlike
 
 LAST, SLACK = 5.0, 4.0  # seconds that what is on its way has at most, and that a busy machine may add
@@ -98,6 +98,7 @@ class Ends(Served):
             os.close(theirs)
             desk = Desk()
             right = self.cases.expected(folder, [Case("", act(ENTRY))], desk).responses[0]
+            server.exchange(PLACES)  # a port takes connections before the desk is open
             with server.connect() as late, server.connect() as silent:
                 send(late, act(ENTRY)[:-1])
                 send(silent, PLACES[:-1])
@@ -172,6 +173,7 @@ class Ends(Served):
         """A desk that has stopped, served by the script: 31 is answered, and it ends with status 3, which tells why; with a count it answers 32 on."""
         for count, ends in ((None, True), (4, False)):
             folder = self.cases.folder()
+            run(ASKED.program, folder, [], "--db", "desk.db")
             with Server(self.script, folder, "desk.db", count, first=small_files) as server:
                 told = [server.exchange(it) for it in (act(ENTRY, number=1), *([] if ends else [PLACES, get("/board"), get("/opening")]))]
                 ended = server.end()
