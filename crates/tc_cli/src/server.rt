@@ -14,7 +14,8 @@ use tc_room::Room;
 use tc_types::{Counted, Moment, Refusal};
 use tc_words::Service;
 
-/// How many connections are open at most. A request has 73,728 bytes at most, and up to 4,095 that came with its last: so all of them hold 20 MB.
+/// How many connections are open at most. Each holds a request, of 73,728 bytes at most and up to 4,095 that came with its last, or an answer, of 450,000 bytes at
+/// most and a head. So all of them hold 115 MB, or twice as much if room grows.
 const MOST_PEERS: usize = 256;
 
 /// How many events one wait gives at most.
@@ -63,8 +64,9 @@ pub(crate) struct Server<'a> {
     queue: Queue,
     /// How many connections were taken.
     taken: u32,
-    /// How many tries failed to take the next.
+    /// How many tries failed to take the next, and when the last did.
     tries: u32,
+    failed: Option<Instant>,
     /// Why no more are taken, and since when.
     ending: Option<(End, Instant)>,
 }
@@ -101,6 +103,7 @@ impl<'a> Server<'a> {
             queue: Queue::new(alloc),
             taken: 0,
             tries: 0,
+            failed: None,
             ending: None,
         })
     }
@@ -150,8 +153,14 @@ impl<'a> Server<'a> {
         self.peers.iter().position(|peer| peer.is_none())
     }
 
-    /// Takes the connections that wait, as many as there are places for and as are asked for.
+    /// Takes the connections that wait, as many as there are places for and as are asked for. After a try that failed it is paused.
     fn take_all(&mut self, now: Instant) {
+        let pause = Duration::from_millis(PAUSE_MILLISECONDS);
+        if let Some(at) = self.failed
+            && now.duration_since(at) < pause
+        {
+            return;
+        }
         for _ in 0..MOST_PEERS {
             if self.ending.is_some() {
                 return;
@@ -172,6 +181,7 @@ impl<'a> Server<'a> {
         match self.listener.accept() {
             Ok((mut stream, _)) => {
                 self.tries = 0;
+                self.failed = None;
                 self.taken = self.taken.saturating_add(1);
                 let both = Interest::READABLE | Interest::WRITABLE;
                 let registered = self
@@ -187,6 +197,7 @@ impl<'a> Server<'a> {
             Err(error) if error.kind() == io::ErrorKind::WouldBlock => false,
             Err(error) => {
                 self.tries += 1;
+                self.failed = Some(now);
                 if self.tries >= MOST_TRIES {
                     let _ = eprintln!(self.rt; "tcdesk: no connection can be taken: {error}");
                     self.ending = Some((End::Port, now));
