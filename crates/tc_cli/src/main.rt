@@ -79,7 +79,7 @@ fn borrowed<'a>(alloc: Global, args: &'a [String]) -> Result<Vec<&'a str>, Alloc
 
 fn run_words(rt: &HostRuntime, words: &[&str]) -> u8 {
     match read_words(rt.alloc(), words) {
-        Ok(line) => run_line(rt, line),
+        Ok(line) => run_line(rt, &line),
         Err(UsageFault::Words(error)) => match error.print(rt) {
             Ok(()) => error.exit_code() as u8,
             Err(_) => cannot_use(rt, "output"),
@@ -91,37 +91,49 @@ fn run_words(rt: &HostRuntime, words: &[&str]) -> u8 {
     }
 }
 
-fn run_line(rt: &HostRuntime, line: CommandLine<'_>) -> u8 {
+fn run_line(rt: &HostRuntime, line: &CommandLine<'_>) -> u8 {
     match line {
         CommandLine::Run {
             script,
             config,
             telling,
-        } => run_new(rt, script, config, telling),
+        } => run_new(rt, *script, *config, *telling),
         CommandLine::RunKept {
             script,
             config,
             database,
             moment,
             telling,
-        } => run_kept_in(rt, script, database, &Opening { config, moment }, telling),
+        } => {
+            let opening = Opening {
+                config: *config,
+                moment: *moment,
+            };
+            run_kept_in(rt, *script, *database, &opening, *telling)
+        }
         CommandLine::Report { database, from, to } => {
-            report_status(rt, print_report(rt, database, from, to), database)
+            report_status(rt, print_report(rt, *database, *from, *to), *database)
         }
         CommandLine::Backup { database, copy } => {
-            copy_status(rt, backup(rt, database, copy), database, copy)
+            copy_status(rt, backup(rt, *database, *copy), *database, *copy)
         }
-        CommandLine::Wall { database } => { report_status(rt, print_wall(rt, database), database) }
-        CommandLine::Check { kind, file } => check_in(rt, kind, file),
-        CommandLine::CheckScript { file } => check_script_in(rt, file),
+        CommandLine::Wall { database } => {
+            report_status(rt, print_wall(rt, *database), *database)
+        }
+        CommandLine::Check { kind, file } => check_in(rt, *kind, *file),
+        CommandLine::CheckScript { file } => check_script_in(rt, *file),
         CommandLine::Serve {
             database,
-            ref service,
+            service,
             config,
             moment,
         } => {
-            let served = serve(rt, database, &Opening { config, moment }, service);
-            service_status(rt, served.map(|()| 0), database, database)
+            let opening = Opening {
+                config: *config,
+                moment: *moment,
+            };
+            let served = serve(rt, *database, &opening, service);
+            service_status(rt, served.map(|()| 0), *database, *database)
         }
         CommandLine::Loop {
             database,
@@ -131,10 +143,13 @@ fn run_line(rt: &HostRuntime, line: CommandLine<'_>) -> u8 {
             first,
             telling,
         } => {
-            tell_waiting(rt, script);
-            let opening = Opening { config, moment };
-            let ended = send_to_file(rt, script, database, &opening, first, telling);
-            service_status(rt, ended, script, database)
+            tell_waiting(rt, *script);
+            let opening = Opening {
+                config: *config,
+                moment: *moment,
+            };
+            let ended = send_to_file(rt, *script, *database, &opening, *first, *telling);
+            service_status(rt, ended, *script, *database)
         }
     }
 }
