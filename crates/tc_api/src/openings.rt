@@ -10,8 +10,10 @@ use tc_room::Room;
 use tc_types::Moment;
 
 /// The line that tells how many moves stood once a desk was opened, and when that was.
+#[tactic(auto, using(crate::proofs::OpeningLemmas::opening_lines))]
 fn opening_line(alloc: Global, moves: usize, since: Moment) -> Result<String, AllocError>
-    ensures { IfOk result (λ line. string_bytes line ≡ opening_line moves since) }
+    ensures line { IfOk result (λ line. string_bytes line ≡ opening_line moves since) }
+    ensures lines { IfOk result (λ line. AreLines (opening_line moves since ∷ [])) }
 {
     let seconds = since.get();
     format!(in alloc; "opening {moves} at {seconds}")

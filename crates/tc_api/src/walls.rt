@@ -8,7 +8,7 @@ use std::alloc::Global;
 use tc_room::Room;
 use tc_types::{Moment, Refusal};
 use tc_view::desk_page;
-use tc_wall::MOST_BYTES;
+use tc_wall::{MOST_BYTES, Opening};
 
 /// The page of the wall of a room that was opened at this moment. The desk says it: no table is read. `Stopped` where the room has stopped, else `Memory` where that is refused.
 pub(crate) fn wall_page<S: Alter + Drop>(
@@ -23,5 +23,9 @@ pub(crate) fn wall_page<S: Alter + Drop>(
     if room.stopped() {
         return Err(Refusal::Stopped);
     }
-    Ok(desk_page(alloc, room.desk(), since)?)
+    let opening = Opening {
+        since,
+        stood: room.opened(),
+    };
+    Ok(desk_page(alloc, room.desk(), opening)?)
 }

@@ -13,7 +13,7 @@ use crate::waits::waits_of;
 use std::alloc::{AllocError, Allocator};
 use tc_book::Records;
 use tc_desk::Desk;
-use tc_types::{Frame, Moment, Report};
+use tc_types::{Frame, Report};
 use tc_wall::{Live, MOST_BYTES, Opening, ShownSchedule, Wall, wall_text};
 use tc_world::Carrier;
 
@@ -63,13 +63,13 @@ pub fn file_page<A: Allocator + Copy + Drop>(
     page_of(alloc, records, None, None)
 }
 
-/// The page of a desk that was opened at this moment. Fails where memory is refused.
+/// The page of a desk that was opened so. Fails where memory is refused.
 pub fn desk_page<U: Carrier<Frame> + Drop, D: Carrier<Report> + Drop, A: Allocator + Copy + Drop>(
     alloc: A,
     desk: &Desk<U, D, A>,
-    since: Moment,
+    opening: Opening,
 ) -> Result<String<A>, AllocError>
-    ensures page { IfOk result (λ t. IsDeskPage U.kind D.kind (record { since = since; stood = desk.now.opened }) desk.now.parts (string_bytes t)) }
+    ensures page { IfOk result (λ t. IsDeskPage U.kind D.kind opening desk.now.parts (string_bytes t)) }
     ensures few { IfOk result (λ t. string_len t ≤ MOST_BYTES) }
 {
     let schedule = desk.schedule()?;
@@ -80,10 +80,6 @@ pub fn desk_page<U: Carrier<Frame> + Drop, D: Carrier<Report> + Drop, A: Allocat
             activities: &schedule.activities,
             laid_in: schedule.activities.len(),
         },
-    };
-    let opening = Opening {
-        since,
-        stood: desk.opened(),
     };
     page_of(alloc, desk.records(), Some(opening), Some(live))
 }

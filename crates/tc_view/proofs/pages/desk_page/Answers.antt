@@ -1,5 +1,5 @@
 -- What is told of the desk is what it says of the link and of the schedule.
-use Rattle.std.proofs.Common.{rules, ◌≡◌, ◌∙◌, ℕ, Some, length, refl, ap, subst, sym}
+use Rattle.std.proofs.Common.{rules, ◌≡◌, ◌∙◌, length, refl, ap, subst, sym}
 use Rattle.std.specs.Prelude.{vec_len, IsPermutation, IsSortedBy}
 use Rattle.std.proofs.lemmas.List.Sorted.{length_permutation}
 use Rattle.tc_board.specs.Schedule.{is_before}
@@ -12,7 +12,7 @@ returns-clause-page g c =
     let known = c.in_ok-schedule.schedule in
     let counted : vec_len known.activities ≡ length known.activities.items = search rules in
     let all = c.in_ok-schedule.ensures.all in
-    desk_made g.U.Carrier.kind g.D.Carrier.kind (record { since = c.args.since; stood = c.args.desk.now.opened }) c.args.desk.now.parts _ _ _ _ c.page_of.result c.records.ensures (ap (λ (n : ℕ). Some (record { since = c.args.since; stood = n })) c.opened.ensures.opened) refl (record {
+    desk_made g.U.Carrier.kind g.D.Carrier.kind c.args.opening c.args.desk.now.parts _ _ _ _ c.page_of.result c.records.ensures refl refl (record {
       link = c.link_of.ensures ∙ ap link_of c.link.ensures;
       schedule = record {
         enabled = c.in_ok-schedule.ensures.enabled;
