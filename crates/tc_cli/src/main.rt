@@ -40,8 +40,8 @@ use tc_host::{
     print_report, print_wall, text_at, text_of,
 };
 use tc_run::{Opening, run_kept, run_script};
-use tc_types::{Counted, LoadKind};
-use tc_words::{CommandLine, Telling, UsageFault, read_words};
+use tc_types::{Counted, LoadKind, Moment};
+use tc_words::{CommandLine, Service, Telling, UsageFault, read_words};
 use tc_world::Config;
 
 /// The words where none are given.
@@ -91,6 +91,14 @@ fn run_words(rt: &HostRuntime, words: &[&str]) -> u8 {
     }
 }
 
+/// How a desk is opened by these words.
+fn opening_of(config: &Config, moment: &Moment) -> Opening {
+    Opening {
+        config: *config,
+        moment: *moment,
+    }
+}
+
 fn run_line(rt: &HostRuntime, line: &CommandLine<'_>) -> u8 {
     match line {
         CommandLine::Run {
@@ -104,22 +112,20 @@ fn run_line(rt: &HostRuntime, line: &CommandLine<'_>) -> u8 {
             database,
             moment,
             telling,
-        } => {
-            let opening = Opening {
-                config: *config,
-                moment: *moment,
-            };
-            run_kept_in(rt, *script, *database, &opening, *telling)
-        }
+        } => run_kept_in(
+            rt,
+            *script,
+            *database,
+            &opening_of(config, moment),
+            *telling,
+        ),
         CommandLine::Report { database, from, to } => {
             report_status(rt, print_report(rt, *database, *from, *to), *database)
         }
         CommandLine::Backup { database, copy } => {
             copy_status(rt, backup(rt, *database, *copy), *database, *copy)
         }
-        CommandLine::Wall { database } => {
-            report_status(rt, print_wall(rt, *database), *database)
-        }
+        CommandLine::Wall { database } => report_status(rt, print_wall(rt, *database), *database),
         CommandLine::Check { kind, file } => check_in(rt, *kind, *file),
         CommandLine::CheckScript { file } => check_script_in(rt, *file),
         CommandLine::Serve {
@@ -127,14 +133,7 @@ fn run_line(rt: &HostRuntime, line: &CommandLine<'_>) -> u8 {
             service,
             config,
             moment,
-        } => {
-            let opening = Opening {
-                config: *config,
-                moment: *moment,
-            };
-            let served = serve(rt, *database, &opening, service);
-            service_status(rt, served.map(|()| 0), *database, *database)
-        }
+        } => serve_in(rt, *database, &opening_of(config, moment), service),
         CommandLine::Loop {
             database,
             script,
@@ -142,16 +141,35 @@ fn run_line(rt: &HostRuntime, line: &CommandLine<'_>) -> u8 {
             moment,
             first,
             telling,
-        } => {
-            tell_waiting(rt, *script);
-            let opening = Opening {
-                config: *config,
-                moment: *moment,
-            };
-            let ended = send_to_file(rt, *script, *database, &opening, *first, *telling);
-            service_status(rt, ended, *script, *database)
-        }
+        } => loop_in(
+            rt,
+            *script,
+            *database,
+            &opening_of(config, moment),
+            *first,
+            *telling,
+        ),
     }
+}
+
+/// Serves the desk that a file keeps.
+fn serve_in(rt: &HostRuntime, database: &str, opening: &Opening, service: &Service<'_>) -> u8 {
+    let served = serve(rt, database, opening, service);
+    service_status(rt, served.map(|()| 0), database, database)
+}
+
+/// Sends the lines of a script to the desk that a file keeps.
+fn loop_in(
+    rt: &HostRuntime,
+    script: &str,
+    database: &str,
+    opening: &Opening,
+    first: u32,
+    telling: Telling,
+) -> u8 {
+    tell_waiting(rt, script);
+    let ended = send_to_file(rt, script, database, opening, first, telling);
+    service_status(rt, ended, script, database)
 }
 
 /// Says that a script is waited for, and how it is ended, where it comes from a terminal.
