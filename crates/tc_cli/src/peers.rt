@@ -1,8 +1,11 @@
 //! A connection of a server, and how far it has come.
+ghost use Rattle.std.specs.Prelude.{IfOk, IfSome, MatchBool, ⊤};
+ghost use Rattle.tc_front.specs.Front.{Asked, IsDecided};
 
 use mio::net::TcpStream;
 use std::alloc::Global;
 use std::io::{ErrorKind, Read, Write};
+use std::mem;
 use std::net::Shutdown;
 use std::time::{Duration, Instant};
 use tc_front::{Arriving, Routes};
@@ -84,12 +87,39 @@ impl Peer {
         Some(for_a_byte.min(for_all))
     }
 
-    /// Reads what came of its request. Says whether that is whole. Fails with `ReadFault` if the peer ended or the connection failed before, and with `Memory`
-    /// if that is refused.
-    pub(crate) fn take_in(&mut self, routes: &Routes, now: Instant) -> Result<bool, Refusal> {
-        let Stage::Arriving(request) = &mut self.stage else {
-            return Ok(false);
+    /// Reads what came of its request, and hands that out once it is whole; it waits for the server then. Fails with `ReadFault` if the peer ended or the
+    /// connection failed before, and with `Memory` if that is refused.
+    pub(crate) fn take_in(
+        &mut self,
+        routes: &Routes,
+        now: Instant,
+    ) -> Result<Option<Arriving>, Refusal>
+        ensures { IfOk result (λ whole. IfSome whole (λ request. (asked : Asked) × IsDecided request asked)) }
+    {
+        let mut request = match mem::replace(&mut self.stage, Stage::Waiting) {
+            Stage::Arriving(request) => request,
+            other => {
+                self.stage = other;
+                return Ok(None);
+            }
         };
+        if self.read_on(routes, &mut request, now)? {
+            self.enter(Stage::Waiting, now);
+            return Ok(Some(request));
+        }
+        self.stage = Stage::Arriving(request);
+        Ok(None)
+    }
+
+    /// Reads on a request. Says whether it is whole.
+    fn read_on(
+        &mut self,
+        routes: &Routes,
+        request: &mut Arriving,
+        now: Instant,
+    ) -> Result<bool, Refusal>
+        ensures { IfOk result (λ whole. MatchBool whole ((asked : Asked) × IsDecided request.new asked) ⊤) }
+    {
         let mut bytes = [0; 4096];
         for _ in 0..MOST_CALLS {
             match self.stream.read(&mut bytes) {

@@ -1,4 +1,5 @@
 //! The loop of a server: connections are read beside each other, and their requests are served one at a time, in the order in which they became whole.
+ghost use Rattle.tc_front.specs.Front.{Asked, IsDecided};
 
 use crate::peers::{Peer, Stage};
 use mio::net::TcpListener;
@@ -9,7 +10,7 @@ use std::alloc::Global;
 use std::io::{self, Read};
 use std::time::{Duration, Instant};
 use tc_api::serve_one;
-use tc_front::{Door, Queue, Routes, Whole};
+use tc_front::{Arriving, Door, Queue, Routes, Whole};
 use tc_room::Room;
 use tc_types::{Counted, Moment, Refusal};
 use tc_words::Service;
@@ -69,6 +70,21 @@ pub(crate) struct Server<'a> {
     failed: Option<Instant>,
     /// Why no more are taken, and since when.
     ending: Option<(End, Instant)>,
+}
+
+/// The connection at this place, if one is there.
+fn peer_in(peers: &mut [Option<Peer>], place: usize) -> Option<&mut Peer> {
+    match peers.get_mut(place) {
+        Some(Some(peer)) => Some(peer),
+        _ => None,
+    }
+}
+
+/// Puts a connection at this place, or none.
+fn put_peer(peers: &mut [Option<Peer>], place: usize, peer: Option<Peer>) {
+    if let Some(at) = peers.get_mut(place) {
+        *at = peer;
+    }
 }
 
 impl<'a> Server<'a> {
@@ -190,13 +206,13 @@ impl<'a> Server<'a> {
                     .register(&mut stream, Token(place), both);
                 if registered.is_ok() {
                     let peer = Peer::new(self.rt.alloc(), stream, self.taken, now);
-                    self.peers[place] = Some(peer);
+                    put_peer(&mut self.peers, place, Some(peer));
                 }
                 true
             }
             Err(error) if error.kind() == io::ErrorKind::WouldBlock => false,
             Err(error) => {
-                self.tries += 1;
+                self.tries = self.tries.saturating_add(1);
                 self.failed = Some(now);
                 if self.tries >= MOST_TRIES {
                     let _ = eprintln!(self.rt; "tcdesk: no connection can be taken: {error}");
@@ -239,7 +255,7 @@ impl<'a> Server<'a> {
 
     /// Goes on with the connection at this place.
     fn go_on_with(&mut self, place: usize, now: Instant) {
-        let Some(peer) = &mut self.peers[place] else {
+        let Some(peer) = peer_in(&mut self.peers, place) else {
             return;
         };
         let stays = match peer.stage {
@@ -249,32 +265,26 @@ impl<'a> Server<'a> {
             Stage::Leaving => peer.lets_go(now),
         };
         if !stays {
-            self.peers[place] = None;
+            put_peer(&mut self.peers, place, None);
         }
     }
 
     /// Reads on the request at this place, and queues it once it is whole. Says whether the connection stays.
     fn take_in(&mut self, place: usize, now: Instant) -> bool {
-        let Some(peer) = &mut self.peers[place] else {
+        let Some(peer) = peer_in(&mut self.peers, place) else {
             return false;
         };
         match peer.take_in(&self.routes, now) {
-            Ok(false) => true,
-            Ok(true) => self.enqueue(place, now),
+            Ok(None) => true,
+            Ok(Some(request)) => self.enqueue(place, request),
             Err(refusal) => self.tell_end(place, Err(refusal)),
         }
     }
 
-    /// Queues the request at this place, which is whole. Says whether the connection stays.
-    fn enqueue(&mut self, place: usize, now: Instant) -> bool {
-        let Some(peer) = &mut self.peers[place] else {
-            return false;
-        };
-        let stage = std::mem::replace(&mut peer.stage, Stage::Waiting);
-        peer.enter(Stage::Waiting, now);
-        let Stage::Arriving(request) = stage else {
-            return true;
-        };
+    /// Queues a request that came whole by the connection at this place. Says whether the connection stays.
+    fn enqueue(&mut self, place: usize, request: Arriving) -> bool
+        requires { (asked : Asked) × IsDecided request asked }
+    {
         match self.queue.push(place, request) {
             Ok(()) => true,
             Err(_) => self.tell_end(place, Err(Refusal::Memory)),
@@ -283,7 +293,7 @@ impl<'a> Server<'a> {
 
     /// Writes on the response at this place. Says whether the connection stays.
     fn give_out(&mut self, place: usize, now: Instant) -> bool {
-        let Some(peer) = &mut self.peers[place] else {
+        let Some(peer) = peer_in(&mut self.peers, place) else {
             return false;
         };
         match peer.give_out(now) {
@@ -323,7 +333,7 @@ impl<'a> Server<'a> {
             &mut writer,
             room,
         );
-        let Some(peer) = &mut self.peers[whole.peer] else {
+        let Some(peer) = peer_in(&mut self.peers, whole.peer) else {
             return;
         };
         let stays = match served {
@@ -335,7 +345,7 @@ impl<'a> Server<'a> {
             Err(refusal) => self.tell_end(whole.peer, Err(refusal)),
         };
         if !stays {
-            self.peers[whole.peer] = None;
+            put_peer(&mut self.peers, whole.peer, None);
         }
     }
 
@@ -348,7 +358,7 @@ impl<'a> Server<'a> {
             _ => false,
         };
         for place in 0..self.peers.len() {
-            let Some(peer) = &self.peers[place] else {
+            let Some(Some(peer)) = self.peers.get(place) else {
                 continue;
             };
             let is_over = peer
@@ -363,7 +373,7 @@ impl<'a> Server<'a> {
                 if let Some(refusal) = refusal {
                     let _ = self.tell_end(place, Err(refusal));
                 }
-                self.peers[place] = None;
+                put_peer(&mut self.peers, place, None);
             }
         }
     }
@@ -373,9 +383,9 @@ impl<'a> Server<'a> {
         if !self.service.verbose {
             return false;
         }
-        let number = match &self.peers[place] {
-            Some(peer) => peer.number,
-            None => return false,
+        let number = match self.peers.get(place) {
+            Some(Some(peer)) => peer.number,
+            _ => return false,
         };
         let _ = match served {
             Ok(()) => eprintln!(self.rt; "tcdesk: connection {number}: answered"),
