@@ -157,6 +157,7 @@ class Unknown(ServedAlone):
 
     def test_silent(self) -> None:
         """While etcd is silent nothing is known of what was sent; after three seconds a post is refused at once, and never put."""
+        self.served.wait(lambda: not self.served.health.is_silent())
         self.etcd.is_away = True
         self.assertEqual((504, "may be done"), self.given_up("POST", "/acts", act("1")))
         began = time.monotonic()
@@ -172,7 +173,7 @@ class Unknown(ServedAlone):
         """Where etcd has no room a post is told at once that it is not done, and is never put."""
         def full(asked: JSON) -> JSON:
             """It has none."""
-            self.etcd.refused = self.etcd.heard + 1
+            self.etcd.refused = self.etcd.heard + 60
             raise Refused("no space")
 
         setattr(self.etcd, "done", full)

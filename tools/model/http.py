@@ -163,7 +163,8 @@ def is_foreign(head: bytes, hosts: Sequence[str]) -> bool:
     origins = {scheme + it for scheme in (b"http://", b"https://") for it in own}
     called, origin, site = (values(fields, name) for name in (b"host", b"origin", b"sec-fetch-site"))
     is_called = not called or len(called) == 1 and called[0].lower() in own
-    is_from = not origin or len(origin) == 1 and origin[0][:origin[0].find(b"//") + 2] + origin[0][origin[0].find(b"//") + 2:].lower() in origins
+    scheme, slashes, host = origin[0].partition(b"//") if origin else (b"", b"", b"")
+    is_from = not origin or len(origin) == 1 and scheme + slashes + host.lower() in origins
     is_own = is_from and (not site or site in ([b"same-origin"], [b"none"]))
     return not is_called or found[1] == b"POST" and not is_own
 
@@ -184,8 +185,8 @@ def decided(front: bytes, hosts: Optional[Sequence[str]] = None) -> Optional[Ask
 
 
 def answer_to(text: bytes, hosts: Optional[Sequence[str]] = None) -> Optional[Asked]:
-    """What is served, at a door if hosts are given, of the shortest front of an input that decides anything; none where no front does. A longer front of the same input decides what a
-    shorter one has decided: the tests try that on all fronts of some inputs."""
+    """What is served, at a door if hosts are given, of the shortest front of an input that decides anything; none where no front does. A longer front of the same
+    input decides what a shorter one has decided: the tests try that on all fronts of some inputs."""
     return decided(text, hosts)
 
 
