@@ -1,0 +1,125 @@
+-- CLTUs (CCSDS 231.0-B), as they are sent and as they are found.
+use Rattle.std.specs.Prelude.{◌≡◌, ℕ, zero, suc, ◌+◌, ◌*◌, ◌/◌, ◌%◌, ◌^◌, ◌-◌, ◌≤◌, ◌==◌, nat_lt, if◌then◌else◌, ◌&&◌, Bool, true, false, List, [], ◌∷◌, ◌++◌, length, take, drop, replicate, Option, Some, None}
+use Rattle.std.specs.List.{fold}
+use Rattle.tc_octets.specs.Bits.{pair_at}
+use Rattle.tc_octets.specs.Codeblocks.{codeblock_of, sent_of}
+use Rattle.tc_octets.specs.Randomizer.{randomized}
+use Rattle.tc_octets.specs.declared.codeblocks.Mode.{Mode}
+
+-- octets with as many octets of fill after them as make a whole number of sevens
+abbrev pub filled_to : List ℕ → List ℕ
+filled_to octets = octets ++ replicate ((7 - length octets % 7) % 7) 0x55
+
+-- octets with the randomizer's sequence laid over them, where the link has one; doing it twice undoes it
+abbrev pub turned_by : Bool → List ℕ → List ℕ
+turned_by randomizer octets = if randomizer then randomized octets else octets
+
+-- The fill is not randomized.
+abbrev pub filled_of : Bool → List ℕ → List ℕ
+filled_of randomizer frame = filled_to (turned_by randomizer frame)
+
+-- so many codeblocks, each of the next 7 octets
+abbrev pub codeblocks_of : ℕ → List ℕ → List ℕ
+codeblocks_of zero octets = []
+codeblocks_of (suc blocks) octets = codeblock_of (take 7 octets) ++ codeblocks_of blocks (drop 7 octets)
+
+abbrev pub start_sequence : List ℕ
+start_sequence = 0xeb ∷ 0x90 ∷ []
+
+abbrev pub tail_sequence : List ℕ
+tail_sequence = 0xc5 ∷ 0xc5 ∷ 0xc5 ∷ 0xc5 ∷ 0xc5 ∷ 0xc5 ∷ 0xc5 ∷ 0x79 ∷ []
+
+-- the codeblocks of octets that are a whole number of sevens
+abbrev pub all_codeblocks_of : List ℕ → List ℕ
+all_codeblocks_of octets = codeblocks_of (length octets / 7) octets
+
+-- the CLTU of a frame
+abbrev pub cltu_of : Bool → List ℕ → List ℕ
+cltu_of randomizer frame = start_sequence ++ all_codeblocks_of (filled_of randomizer frame) ++ tail_sequence
+
+-- ---- the receiver, octet by octet
+
+-- Where a receiver is: looking for a start sequence, of which the first octet may just have come; or within a CLTU, with the information of its codeblocks
+-- so far and the octets of the next block.
+pub data Place : Type 0 where
+  searching : (begun : Bool) → Place
+  within : (information waiting : List ℕ) → Place
+
+-- the most octets of information of a CLTU: 147 codeblocks of 7
+abbrev pub most_information : ℕ
+most_information = 1029
+
+-- An octet comes: it belongs to the next block, or a start sequence is looked for.
+abbrev pub come : Place → ℕ → Place
+come (searching begun) octet = if begun && (octet == 0x90) then within [] [] else searching (octet == 0xeb)
+come (within information waiting) octet = within information (waiting ++ octet ∷ [])
+
+-- where the receiver is after an octet, and the information of a CLTU that ended with it
+pub record Found : Type 0 where
+  pub place : Place
+  pub ended : Option (List ℕ)
+
+-- A block that reads as a codeblock goes on, unless there were 147. Any other ends the CLTU, and the next start sequence is looked for from that block's
+-- first octet on.
+abbrev pub after_block : List ℕ → List ℕ → Option (List ℕ) → Found
+after_block information block (Some codeblock) = record { place = within (information ++ take 7 codeblock) []; ended = None }
+after_block information block None = record { place = fold come (searching false) block; ended = Some information }
+
+abbrev pub codeblock_in : Mode → List ℕ → List ℕ → Option (List ℕ)
+codeblock_in mode information block = if nat_lt (length information) most_information then sent_of mode block else None
+
+-- once eight octets wait, they are a block
+abbrev pub whole_block : Mode → Place → Found
+whole_block mode (searching begun) = record { place = searching begun; ended = None }
+whole_block mode (within information waiting) =
+    if nat_lt (length waiting) 8
+    then record { place = within information waiting; ended = None }
+    else after_block information waiting (codeblock_in mode information waiting)
+
+-- the next octet
+unfoldable pub received : Mode → Place → ℕ → Found
+received mode place octet = whole_block mode (come place octet)
+
+-- what a call says of where the receiver is, and of what ended
+pub record Takes (next : Found) (place : Place) (ended : Option (List ℕ)) : Type 0 where
+  pub place_is : place ≡ next.place
+  pub ended_is : ended ≡ next.ended
+
+-- a receiver, and one that has seen nothing
+pub record Receiver : Type 0 where
+  pub mode : Mode
+  pub place : Place
+
+abbrev pub fresh : Mode → Receiver
+fresh mode = record { mode = mode; place = searching false }
+
+-- a place by its parts
+abbrev pub place_of : Bool → Bool → List ℕ → List ℕ → Place
+place_of inside begun information waiting = if inside then within information waiting else searching begun
+
+-- how many octets of the next block have come
+abbrev pub waits : Place → ℕ
+waits (searching begun) = 0
+waits (within information waiting) = length waiting
+
+-- how many octets of information are kept
+abbrev pub kept : Place → ℕ
+kept (searching begun) = 0
+kept (within information waiting) = length information
+
+-- ---- the frame in what a CLTU had
+
+-- how many octets the frame at the front has, as it says itself
+abbrev pub told_length : List ℕ → ℕ
+told_length octets = pair_at octets 2 % 2 ^ 10 + 1
+
+-- a frame stands at the front, and at most 6 octets of fill after it
+pub record HasFrame (octets : List ℕ) : Type 0 where
+  pub header : 5 ≤ length octets
+  pub whole : told_length octets ≤ length octets
+  pub fill : length octets ≤ told_length octets + 6
+
+-- this is the frame at the front of the octets
+pub record IsFrameIn (octets frame : List ℕ) : Type 0 where
+  pub has : HasFrame octets
+  pub is : frame ≡ take (told_length octets) octets

@@ -1,0 +1,12 @@
+pub mod Bits
+pub mod Crc
+pub mod CrcLaws
+pub mod Codeblocks
+pub mod CodeblockLaws
+pub mod Randomizer
+pub mod TcFrames
+pub mod TmFrames
+pub mod Markers
+pub mod Cltus
+pub mod CltuRuns
+pub mod CltuFrames

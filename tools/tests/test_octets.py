@@ -1,0 +1,41 @@
+"""The plain octets of a link: on the worked cases of tools/cases/octets, and on random values, damaged streams among them."""
+import unittest
+
+from tests.asked import ASKED
+from tests.octet_cases import CASES, OF_FILES, case_answers, cases
+from tests.octet_laws import LAWS, law_answers
+
+COUNT, SEED = 300, 1  # values of each law, and the first seed
+
+
+class WorkedCases(unittest.TestCase):
+    """What stands in the files."""
+
+    def test_cases(self) -> None:
+        """Each case is answered as it stands there."""
+        number = 0
+        for name in OF_FILES:
+            number += len(cases(name))
+            for it in case_answers(name):
+                with self.subTest(it.title):
+                    self.assertEqual(it.got, it.wanted)
+        print(f"octets: {number} worked cases in {len(OF_FILES)} files")
+        self.assertEqual(sorted(OF_FILES), sorted(it.name for it in CASES.iterdir()))
+
+
+class Laws(unittest.TestCase):
+    """What holds whatever is sent."""
+
+    def test_laws(self) -> None:
+        """Each law holds of so many values, or --count of them."""
+        first, count = ASKED.seed_or(SEED), ASKED.count_or(COUNT)
+        answers = 0
+        for law in LAWS:
+            for it in law_answers(law, first, first + count):
+                answers += 1
+                self.assertEqual(it.got, it.wanted, it.title)
+        print(f"octets: {len(LAWS)} laws of {count} values each, {answers} answers")
+
+
+if __name__ == "__main__":
+    unittest.main()
