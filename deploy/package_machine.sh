@@ -113,8 +113,35 @@ service_cases() {
     machine_says "its options are those of the file" "tcdesk: connection 1: answered" \
         "echo 'OPTIONS=\"--w 10 --verbose\"' >>/etc/default/tcdesk-one; systemctl restart tcdesk@one; curl -s http://127.0.0.1:8080/places >/dev/null
         till '$said | tail -n 1 | grep -q answered'; $said | tail -n 1"
+    end_cases_of_service
     copy_cases
     removed_cases
+}
+
+# end_cases_of_service: a HUP is nothing to a server; a stop brings the log into the file; and a full disk ends it, so that it comes back, and works once there
+# is room.
+end_cases_of_service() {
+    # shellcheck disable=SC2016
+    local id='systemctl show -P MainPID tcdesk@one' said='journalctl -t tcdesk -o cat -u' ask='curl -s --max-time 20 http://127.0.0.1:8080/places'
+    machine_says "a HUP is nothing to a server" $'the same\n{"lines":["places 1: 0 0 0 0 0 0 0 0 0 0 0 1 0 0 0"],"more":0,"refusal":0}' \
+        "before=\$($id); systemctl kill --signal=HUP tcdesk@one; sleep 1; systemctl kill --signal=HUP tcdesk@one; sleep 2
+        [[ \$($id) == \$before ]] && echo the same; $ask"
+    machine_says "a stop is told, and is quick; the file alone is the desk then" $'tcdesk: ended with the standard input\nsoon\nplaces 2: 1 0 0 0 0 0 0 0 0 0 0 1 0 0 0' \
+        "curl -s --json '{\"by\":\"ann\",\"number\":9,\"act\":\"enter 6 ---c no 8 1 - - ok\",\"moment\":8}' http://127.0.0.1:8080/acts >/dev/null
+        began=\$SECONDS; systemctl stop tcdesk@one; $said tcdesk@one | tail -n 1; ((SECONDS - began > 20)) || echo soon
+        cp /var/lib/tcdesk/one.db alone.db; tcdesk report alone.db 0 0 | grep '^places'; rm alone.db*"
+    # a disk of its own below the folder of the desks
+    machine_says "on a full disk it says what failed, and is started anew; with room it works" \
+        $'has stopped: its tables could not be written\nfailed and came back\nrefused no more' \
+        "mount -t tmpfs -o size=384k,mode=700,uid=\$(id -u tcdesk),gid=\$(id -g tcdesk) none /var/lib/tcdesk; echo PORT=8083 >/etc/default/tcdesk-full; systemctl start tcdesk@full
+        post() { curl -s --json \"{\\\"by\\\":\\\"ann\\\",\\\"number\\\":\$1,\\\"act\\\":\\\"enter 5 ---c no 8 1 - - ok\\\",\\\"moment\\\":9}\" http://127.0.0.1:8083/acts; }
+        for ((n = 1; n < 2000; n++)); do [[ \$(post \$n) != *'\"refusal\":31}' ]] || break; done
+        till '$said tcdesk@full | grep -q \"has stopped: its tables could not be written\"'
+        $said tcdesk@full | grep -m 1 -o 'has stopped: .*'
+        mount -o remount,size=8m /var/lib/tcdesk
+        till '((\$(systemctl show -P NRestarts tcdesk@full) > 0)) && systemctl -q is-active tcdesk@full' && echo failed and came back
+        [[ \$(post \$n) == *'\"refusal\":0}' ]] && echo refused no more
+        systemctl stop tcdesk@full; umount /var/lib/tcdesk; rm /etc/default/tcdesk-full; systemctl reset-failed; systemctl start tcdesk@one"
 }
 
 # copy_cases: the timer copies the desk of the service, and keeps as many copies as it is told.
@@ -125,7 +152,7 @@ copy_cases() {
     tell "systemd finds the unit of the copies exposed by 1.5 of 10 at most"
     machine_says "of a desk that is none no copy is made" "status 1" "systemctl start tcdesk-backup@none >/dev/null 2>&1; echo status \$?"
     in_machine "systemctl enable --now tcdesk-backup@one.timer; till '$copies | grep -q Z.db' && tcdesk report \$(ls /var/backups/tcdesk/one-*Z.db | tail -n 1) 0 0" &&
-        grep -q '^places 1: ' "$work/out"
+        grep -q '^places 2: ' "$work/out"
     tell "the timer makes a copy of a desk that is served"
     machine_says "whose it is" "600 tcdesk:tcdesk" "stat -c '%a %U:%G' /var/backups/tcdesk/one-*Z.db | sort -u"
     machine_says "as many are kept as it is told" $'2\n0' "echo KEEP=2 >>/etc/default/tcdesk-one

@@ -61,7 +61,7 @@ offered() (
 
 # options WORD..: the long options that the help of a command tells.
 options() {
-    "$kept/tcdesk" "$@" --help | grep -oE '^ +(-[hV], )?--[a-z]+' | grep -oE -- '--[a-z]+' | sort
+    "$kept/tcdesk" "$@" --help | grep -oE '^ +(-[hV], )?--[a-z-]+' | grep -oE -- '--[a-z-]+' | sort
 }
 
 bytes_cases() {

@@ -1,4 +1,5 @@
 """What tools/run.py can run: each entry with its name, what it looks for and what it needs installed."""
+import os
 from typing import NamedTuple
 
 
@@ -14,11 +15,12 @@ class Entry(NamedTuple):
 
 
 C_COMPILER = "a C compiler (Debian: gcc, libc6-dev)"
+HALF = str(max(1, (os.cpu_count() or 1) // 2))  # of the processors: other entries run beside the edits
 # In the order in which the gate runs them.
 ENTRIES = (
     Entry("edits-test", "the tool for edits, on a small crate of wrong, harmless and unreadable ones", command=("edits/edits_test.py",), needs="rt"),
-    Entry("edits", "whether the prover refuses the edits of crates/NAME/wrong/ that tools/edits.tried does not have", command=("edits/edits.py",),
-          needs="rt"),
+    Entry("edits", "whether the prover refuses the edits of crates/NAME/wrong/ that tools/edits.tried does not have",
+          command=("edits/edits.py", "--few", "9", "--cores", HALF), needs="rt"),
     Entry("types", "whether the types in all signatures of tools/ fit, by mypy", modules=("tests.test_types",), needs="mypy, or that is not tried"),
     Entry("notice", "whether NOTICE lists all parts of the toolchain that the program links, with the licences that these state",
           modules=("tests.test_notice",), needs="rt, or that is not tried"),
@@ -36,8 +38,8 @@ ENTRIES = (
     Entry("man-page", "whether docs/tcdesk.1 says what the manual and --help say", command=("pages/man_cases.sh", "PROGRAM"),
           needs="curl; mandoc or man, or that is not tried"),
     Entry("check", "each line of `check` on 796 texts that are judged by hand, and on random ones", modules=("tests.test_check",), takes_seed=True),
-    Entry("told", "what is told besides the answers: each line before its answer, refusals with their reason, why something cannot be used, moments that go back",
-          modules=("tests.test_told",)),
+    Entry("told", "what is told besides the answers: each line before its answer, refusals with their reason, why something cannot be used, moments that go back; files that may only be read",
+          modules=("tests.test_told", "tests.test_only_read")),
     Entry("kept", "desks that are kept in a file: made and told so, opened, copied, killed, two programs at once", command=("tests/kept_cases.sh", "PROGRAM"),
           needs="python3"),
     Entry("report", "the shift report beside a plain printer; files that are no desk's, and rows that do not read",
@@ -50,6 +52,8 @@ ENTRIES = (
           takes_seed=True),
     Entry("plain-link", "the link: each printed line beside the plain desk; each cell of FOP-1 and FARM-1; the promise by what is printed",
           modules=("tests.test_plain_link",), takes_seed=True),
+    Entry("octets", "the plain octets of a link: 186 worked cases, and 3,600 random values, with streams that are cut, joined, damaged and full of noise",
+          modules=("tests.test_octets",), takes_seed=True),
     Entry("written", "what lies in each column of each table, written out by hand", modules=("tests.test_written",)),
     Entry("views", "what the views of examples/views.sql tell of a file: what waits for a person, beside the plain desk and by hand",
           modules=("tests.test_views",), needs="sqlite3 for the stock shell, or that is not tried", takes_seed=True),
@@ -80,8 +84,12 @@ ENTRIES = (
           modules=("tests.test_calls",)),
     Entry("repeats", "3,000 random posts, or --count of them, of which a third repeat a call, over stops and openings, beside the plain desk",
           modules=("tests.test_repeats",), takes_seed=True),
-    Entry("http-stalls", "peers that say nothing or take nothing; no file handle left; a COUNT that is not given",
+    Entry("http-stalls", "good peers beside crowds that say nothing, drip, close half or keep their connections; the order of answers; no file handle or place left",
           modules=("tests.test_http_stalls",)),
+    Entry("door", "requests that foreign pages send, or that call the desk by another host: each is answered 403, and does nothing",
+          modules=("tests.test_door",)),
+    Entry("server-ends", "how a server ends: a desk that has stopped, the end of its input, signals to the start script; and what it tells of its opening",
+          modules=("tests.test_server_ends",)),
     Entry("http-faults", "the server's reads and writes failed, its memory refused, its disk full", modules=("faults.fail_http",), needs=C_COMPILER),
     Entry("loop", "whether `loop` prints what `run` prints, and leaves the same desk", command=("tests/loop_cases.sh", "PROGRAM")),
     Entry("curl", "the manual's lines for curl, and what a server says", command=("pages/curl_cases.sh", "PROGRAM"), needs="curl 7.82, python3"),

@@ -28,7 +28,7 @@ def places(count: int) -> Answer:
 def direct(port: int, method: str, path: str, body: Union[str, bytes, None] = None) -> Answer:
     """The answer of a desk without a login."""
     peer = HTTPConnection(HERE, port, timeout=60)
-    peer.request(method, path, body.encode() if isinstance(body, str) else body, {"Host": "desk"})
+    peer.request(method, path, body.encode() if isinstance(body, str) else body, {"Host": "127.0.0.1"})
     answer = peer.getresponse()
     text = answer.read().decode()
     peer.close()

@@ -70,8 +70,8 @@ class Desk:
         return Opening(words[0], *map(int, words[1:])) if len(words) == 4 else None
 
     def ask(self, opening: Opening, method: str, path: str, body: Optional[bytes] = None) -> Answer:
-        """What this desk answers. Where no answer comes it is asked again, as long as it runs: it takes connections in their order, so what came before is done
-        before what comes again. It is sent nothing before it is known that it runs still, and that it is no other one which took the connection."""
+        """What this desk answers. Where no answer comes it is asked again, as long as it runs: it serves requests in the order in which they were whole, so what
+        came before is not done after what comes next. It is sent nothing before it is known that it runs still, and that it is no other one which took the connection."""
         end = now() + self.patience
         while self.opening() == opening:
             if now() >= end:

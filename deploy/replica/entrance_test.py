@@ -83,7 +83,7 @@ class Entrances(ServedAlone):
             self.assertEqual(400, self.served.ask("POST", "/acts", b"x", Content_Length=length)[0], length)
         self.assertEqual(400, self.served.ask("POST", "/acts", None)[0])
         self.assertEqual(400, self.served.ask("POST", "/acts", act("x"), Transfer_Encoding="chunked")[0])
-        for path in ("//places", "/none", "/acts/", "/acts?x", "/requests", "http://localhost/places"):
+        for path in ("//places", "/none", "/acts/", "/acts?x", "/requests", "/opening", "http://localhost/places"):
             self.assertEqual(404, self.served.ask("GET", path)[0], path)
         self.assertEqual(403, self.served.ask("GET", "http://x/places")[0])
         for name, value in (("Origin", "https://evil.example"), ("Origin", "null"), ("Sec_Fetch_Site", "cross-site"), ("Host", "evil.example")):

@@ -1,7 +1,7 @@
 #!/bin/bash
 # A lab: three machines that keep one desk, each a namespace of the network on this one machine. It wants root, and what the page has installed, with iproute2.
 #
-#     lab.sh up FOLDER [PROGRAM]     makes it, and begins all programs; they are begun again when they end. PROGRAM is tcdesk (/usr/bin/tcdesk)
+#     lab.sh up FOLDER [PROGRAM]     makes it, and begins all programs; they are begun again when they end. PROGRAM is /usr/lib/tcdesk/x86_64-linux-gnu/tcdesk
 #     lab.sh down FOLDER             ends all of it; FOLDER stays
 #
 # The entrances are http://10.79.0.1:8080, .2 and .3; FOLDER/a/log has what the programs of machine a said. FOLDER/a/pids has them, for `kill`.
@@ -10,7 +10,7 @@ set -euo pipefail
 here=$(dirname "$(realpath "$0")")
 [[ $# -ge 2 && ($1 == up || $1 == down) ]] || { sed -n '2,8s/^# \{0,1\}//p' "$0" >&2; exit 2; }
 mkdir -p "$2"
-folder=$(realpath "$2") program=${3:-/usr/bin/tcdesk}
+folder=$(realpath "$2") program=${3:-/usr/lib/tcdesk/x86_64-linux-gnu/tcdesk}
 names=(a b c)
 members=a=https://10.79.0.1:2380,b=https://10.79.0.2:2380,c=https://10.79.0.3:2380
 

@@ -33,6 +33,8 @@ from present import Present, owner_of  # noqa: E402
 if TYPE_CHECKING:
     from health import Health
 
+# The program itself: its start script would stand between a desk that hangs and the signal that ends it, and would be what machines compare.
+PROGRAM = "/usr/lib/tcdesk/x86_64-linux-gnu/tcdesk"
 EVERY = 10_000
 SECOND = 1.0
 
@@ -156,7 +158,7 @@ def parsed(words: list[str]) -> argparse.Namespace:
     parser.add_argument("--keys", default="/etc/tcdesk-replica", metavar="PATH", help="where the certificate, the password and the seal lie (/etc/tcdesk-replica)")
     parser.add_argument("--folder", default="/var/lib/tcdesk-replica", metavar="PATH",
                         help="desk, run: where the file of the desk lies, which nothing else uses (/var/lib/tcdesk-replica)")
-    parser.add_argument("--program", default="/usr/bin/tcdesk", metavar="PATH", help="desk: the program (/usr/bin/tcdesk)")
+    parser.add_argument("--program", default=PROGRAM, metavar="PATH", help=f"desk: the program, and no script that starts it ({PROGRAM})")
     parser.add_argument("--first", metavar="PATH", help="desk: it begins with a copy of this file, the same on all machines (with an empty one)")
     parser.add_argument("--port", type=int, default=8081, metavar="PORT", help="desk: where it listens on 127.0.0.1 (8081)")
     parser.add_argument("--count", type=int, default=1_000_000, metavar="N", help="desk: it ends after so many connections (1,000,000)")

@@ -19,6 +19,7 @@ from trial_machines import Member
 from words import shortened
 
 SHOWN = 200  # lines of a reply that an answer shows
+OPENING, NO_PATH = "/opening", "/none"  # each machine's desk was opened by itself, so the entrance has no path for that
 
 
 Answer = tuple[int, bytes]  # a status, and a body
@@ -56,7 +57,7 @@ def carried_out(items: Sequence[Item], first: Tables, looks: Iterable[Look]) -> 
     for it in [Item(0, None, Verdict.GOOD, 0.0), *items]:
         answers.append(answer_by(calls, post(it.entry.path, it.entry.body)) if it.entry and counts(it) else None)
         faults += [f"place {it.place}: {look.path} was answered {look.status} {look.answer[:200]!r}" for look in looks_at.pop(it.place, [])
-                   if (look.status, look.answer) != answer_by(calls, get(look.path))]
+                   if (look.status, look.answer) != answer_by(calls, get(NO_PATH if look.path == OPENING else look.path))]
     faults += [f"place {look.place} is none: {look.path} was answered {look.status}" for more in looks_at.values() for look in more]
     return Carried(list(items), answers[1:], calls.desk, faults)
 

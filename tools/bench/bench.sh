@@ -1,36 +1,26 @@
 #!/bin/bash
-# What acts and questions cost: tools/bench/bench.sh [RUNS] prints the tables of docs/BENCH.md, of so many runs each (5): the least
-# wall time, the user and kernel time of the run with the least of both together, its acts a second in the first tenth and in
-# the last, and the most memory. Of the questions there is one run, in which each is asked 2,000 times.
+# What acts cost: tools/bench/bench.sh [RUNS] prints the table of docs/BENCH.md, of so many runs each (5): the least
+# wall time, the user and kernel time of the run with the least of both together, and the most memory.
 #
-# Scripts of short lines go through the built program. Beside it stand the bare store, which writes the same rows in the same
-# batches in memory and in a file (tc_bench), once more with the reply to each entry, and SQLite's own C library, which writes the rows
-# of entries by the same texts in memory and in a file (tools/bench/bench_sqlite.c), where its headers are installed (Debian's
+# Scripts of short lines go through the built program. Beside it stands SQLite's own C library, which writes the rows of entries
+# by the same texts in memory and in a file (tools/bench/bench_sqlite.c), where its headers are installed (Debian's
 # libsqlite3-dev). Each has to tell as many requests where they stand as were entered, or withdrawn. Times are given as
-# multiples of the user time of the bare store and of that of the C library in memory.
+# multiples of the user time of the C library in memory.
 #
 # Less is measured where these words are set: COUNTS, how many requests are entered; HALF, how many are entered and then
-# withdrawn; STORE_ROWS, of how many moves questions are asked on the bare store; REPLIES, of how many kept replies.
+# withdrawn.
 set -eu -o pipefail
 top=$(cd "$(dirname "$(readlink -f "$0")")/../.." && pwd)
 runs=${1:-5}
 counts=${COUNTS:-1000 10000 30000 60000}
 half=${HALF:-20000}
-store_rows=${STORE_ROWS:-1000 900000}
-replies=${REPLIES:-1000 1000000}
 began="$(date -u +%F), $(nproc) cores, a load of $(cut -d ' ' -f 1 /proc/loadavg) before it began"
 work=$(mktemp -d)
 trap 'rm -rf "$work"' EXIT
 
-# The two programs are built where they are missing or older than a source.
+# The program is built where it is missing or older than a source.
 program=$top/crates/tc_cli/out/tc_cli
 "$top/tcdesk" run - </dev/null >/dev/null
-bare=$top/crates/tc_bench/out/tc_bench
-newer=$(find "$top/crates.txt" "$top"/crates/*/src "$top"/crates/*/specs "$top"/crates/*/proofs -type f -newer "$bare" 2>&1 | head -n 1)
-if [[ -n $newer ]]; then
-    (cd "$top/crates/tc_bench" && rt run) >"$work/log" 2>&1 || { cat "$work/log" >&2; exit 1; }
-    touch "$bare"
-fi
 
 # The texts by which the store makes its tables, writes its rows and reads its tallies.
 mapfile -t texts < <(grep -ohE '"(CREATE|INSERT|SELECT) [^"]*"' "$top"/crates/tc_store/src/*.rt | tr -d '"')
@@ -52,10 +42,9 @@ withdraws() {
 }
 
 # timed NAME ACTS TOLD COMMAND..: runs the command so often, and writes down each run: its seconds, of the user and of the
-# kernel, its memory, the bytes of the file that it makes, 0 for none, and the two numbers of the last line of its output
-# that begins with `rates` or `reads`, 0 for none. TOLD has to be the last line of its output.
+# kernel, its memory, and the bytes of the file that it makes, 0 for none. TOLD has to be the last line of its output.
 timed() {
-    local name=$1 acts=$2 told=$3 run bytes times pair
+    local name=$1 acts=$2 told=$3 run bytes times
     shift 3
     for ((run = 0; run < runs; run++)); do
         rm -f "$work/file" "$work/file"-*
@@ -64,16 +53,14 @@ timed() {
         [[ $(tail -n 1 "$work/out") == "$told" ]] || { echo "bench: $name tells something else" >&2; exit 1; }
         bytes=$(stat -c %s "$work/file" 2>/dev/null || echo 0)
         times=$(<"$work/time")
-        pair=$(awk '$1 == "rates" || $1 == "reads" { pair = $2 "\t" $3 } END { print pair ? pair : "0\t0" }' "$work/out")
-        printf '%s\t%s\t%s\t%s\t%s\t%s\n' "$times" "$(<"$work/memory")" "$bytes" "$acts" "$name" "$pair" >>"$work/runs"
+        printf '%s\t%s\t%s\t%s\t%s\n' "$times" "$(<"$work/memory")" "$bytes" "$acts" "$name" >>"$work/runs"
     done
 }
 
-# Prints what was written down as rows of the first table, and forgets it.
+# Prints what was written down as rows of the table, and forgets it.
 rows() {
-    awk -F '\t' -v store="$1" 'function commas(n) { return n < 1000 ? n : commas(int(n / 1000)) sprintf(",%03d", n % 1000) }
+    awk -F '\t' 'function commas(n) { return n < 1000 ? n : commas(int(n / 1000)) sprintf(",%03d", n % 1000) }
         function times(of, to) { return to == "" ? "" : sprintf("%.1f", of / (to > 0 ? to : 0.001)) }
-        function rate(n) { return n > 0 ? commas(n) : "" }
         {
             acts = $6
             name = $7
@@ -82,8 +69,6 @@ rows() {
             if (!(name in user) || $2 + $3 < user[name] + kernel[name]) {
                 user[name] = $2
                 kernel[name] = $3
-                first[name] = $8
-                last[name] = $9
             }
             if ($4 > memory[name]) memory[name] = $4
             bytes[name] = $5
@@ -91,33 +76,21 @@ rows() {
         END {
             for (at = 1; at <= count; at++) {
                 name = names[at]
-                printf "| %s %s | %.2f | %.3f | %.2f | %s | %s | %s | %s | %s | %s | %.1f | %s |\n", commas(acts), name,
+                printf "| %s %s | %.2f | %.3f | %.2f | %s | %s | %.1f | %s |\n", commas(acts), name,
                     wall[name], user[name], kernel[name], commas(int(acts / (user[name] > 0 ? user[name] : 0.001))),
-                    times(user[name], user[store]), times(user[name], user["entries, the C library"]),
-                    rate(first[name]), rate(last[name]), (first[name] > 0 ? times(first[name], last[name]) : ""),
+                    times(user[name], user["entries, the C library"]),
                     memory[name] / 1024, bytes[name] ? sprintf("%.2f", bytes[name] / 1048576) : ""
             }
         }' "$work/runs"
     rm "$work/runs"
 }
 
-# Prints what was written down as a row of one of the tables of questions, and forgets it.
-read_row() {
-    awk -F '\t' 'function commas(n) { return n < 1000 ? n : commas(int(n / 1000)) sprintf(",%03d", n % 1000) }
-        { printf "| %s %s | %.1f | %.1f | %.1f |\n", commas($6), $7, $8 / 1000, $9 / 1000, $4 / 1024 }' "$work/runs"
-    rm "$work/runs"
-}
-
 echo "$began; of $runs runs each${library:+; SQLite $("$library" version), its file on $(findmnt -no FSTYPE -T "$work" || stat -f -c %T "$work")}"
 echo
-echo "| What | Wall s | User s | Kernel s | Acts a user second | Times the store | Times C | First tenth, acts a second | Last tenth | First by last | MB | File MB |"
-echo "|---|---|---|---|---|---|---|---|---|---|---|---|"
+echo "| What | Wall s | User s | Kernel s | Acts a user second | Times C | MB | File MB |"
+echo "|---|---|---|---|---|---|---|---|"
 zeros="0 0 0 0 0 0 0 0 0 0 0 0 0 0"
 for count in $counts; do
-    timed "entries, the bare store" "$count" "$count" "$bare" "$count" store
-    timed "entries, the bare store in a file" "$count" "$count" "$bare" "$count" store "$work/file"
-    timed "entries with their replies, the bare store" "$count" "$count" "$bare" "$count" store-kept
-    timed "entries with their replies, the bare store in a file" "$count" "$count" "$bare" "$count" store-kept "$work/file"
     enters "$count" >"$work/script"
     if (($(stat -c %s "$work/script") <= 1048576)); then
         timed '`enter`, a script' "$count" "places $count: $count $zeros" "$program" run "$work/script"
@@ -126,29 +99,10 @@ for count in $counts; do
         timed "entries, the C library" "$count" "$count" "$library" :memory: "$count" "${texts[@]}"
         timed "entries, the C library in a file" "$count" "$count" "$library" "$work/file" "$count" "${texts[@]}"
     fi
-    rows "entries, the bare store"
+    [[ ! -e $work/runs ]] || rows
 done
-timed "acts, half entries, then half withdrawals, the bare store" $((half * 2)) "$half" "$bare" "$half" store-moves
 { enters "$half"; withdraws "$half"; } >"$work/script"
 if (($(stat -c %s "$work/script") <= 1048576)); then
-    timed "the same, a script" $((half * 2)) "places $half: 0 0 0 0 0 0 0 0 0 0 0 0 $half 0 0" "$program" run "$work/script"
+    timed "acts, half entries, then half withdrawals, a script" $((half * 2)) "places $half: 0 0 0 0 0 0 0 0 0 0 0 0 $half 0 0" "$program" run "$work/script"
+    rows
 fi
-rows "acts, half entries, then half withdrawals, the bare store"
-
-echo
-echo '| Asked of | `places`, microseconds | `history`, microseconds | MB |'
-echo "|---|---|---|---|"
-# One run each: a question is asked 2,000 times in it.
-runs=1
-for count in $store_rows; do
-    timed "moves, the bare store, 51 told" "$count" 51 "$bare" "$count" store-reads
-    read_row
-done
-
-echo
-echo '| Asked of | a reply that is kept, microseconds | one that is not, microseconds | MB |'
-echo "|---|---|---|---|"
-for count in $replies; do
-    timed "kept replies, the bare store" "$count" "2000 0" "$bare" "$count" store-replies
-    read_row
-done

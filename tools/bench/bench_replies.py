@@ -5,16 +5,14 @@ A file of a desk with nothing but so many kept replies, of two lines each, as SQ
 `report`. What the kit takes of that is seen by a file with one table more, which is no desk's: the program says so once the kit has opened it, and goes no
 further. Each is done --turns times, turn by turn, and the least time of processors counts.
 
-Then tc_bench, which has to be built, asks the store of each file 2,000 times each for replies that are kept: for the same 1,000 of each file, as one who
-sends again what he sent last, and over all numbers; and for some that are not. And `serve` is sent as many posts under numbers of which the reply is kept,
-over all of them: each is answered by that reply. Its time of processors is told, without that of its opening.
+Then `serve` is sent 2,000 posts under numbers of which the reply is kept: of the same 1,000 of each file, as one who sends again what he sent last, and over
+all numbers. Each is answered by that reply. Its time of processors is told, without that of its opening.
 
-The files lie in memory, where the system has a folder there, so that no disk is waited for; or in --folder. The status is 1 where one of the same 1,000
-replies takes the store of the most more than 1.3 times what it takes that of the fewest.
+The files lie in memory, where the system has a folder there, so that no disk is waited for; or in --folder. The status is 1 where a post of one of the same
+1,000 replies takes the server of the most more than 1.3 times what it takes that of the fewest.
 """
 import argparse
 import os
-import subprocess
 import sys
 import tempfile
 import time
@@ -29,7 +27,7 @@ from bench.spent import Took, spent
 from generate.http_words import entry, get, post
 from model.kept import connect
 from model.rows import Reply, empty_tables
-from tests.asked import BUILT, TOP
+from tests.asked import BUILT
 from tests.http_peer import Server
 from tests.made_files import make_file
 from tests.runs import bytes_of, quick_folder
@@ -39,7 +37,6 @@ CALLS, STRIDE = 2000, 7919  # how many are asked for, and how far apart they sta
 SAME = 1000  # of how many replies the same are asked for in each file
 PERSON, FIRST = "a", "ok request 1 5/0"
 BODY = f"{FIRST}\nmove 1 100 a 1 - Entered enter\n"
-BARE = f"{TOP}/crates/tc_bench/out/tc_bench"
 NOBODYS = "the kit opens it, and nothing is read"
 OPENINGS = {
     "`run --db`": ("run", "--db", "{}.db", "/dev/null"),
@@ -49,16 +46,13 @@ OPENINGS = {
 
 
 class Asked(NamedTuple):
-    """What a question takes: of the store, in nanoseconds, for one of the same replies, for any that is kept, and for one that is not; of the server, in
-    milliseconds of processors."""
-    same: int
-    kept: int
-    other: int
-    served: float
+    """What a post that comes again takes the server, in milliseconds of processors: one of the same replies, and any that is kept."""
+    same: float
+    any: float
 
 
 def number_at(place: int) -> int:
-    """The number of the reply at this place, from 0: every second one, as tc_bench asks for them."""
+    """The number of the reply at this place, from 0: every second one."""
     return 2 * place + 2
 
 
@@ -84,9 +78,9 @@ def processors(pid: int) -> float:
     return sum(int(bytes_of(it).split()[0]) for it in glob(f"/proc/{pid}/task/*/schedstat")) / 1e6
 
 
-def served(program: str, folder: str, count: int) -> float:
-    """The milliseconds of processors that the server takes for each post of which the reply is kept."""
-    numbers = [number_at(turn * STRIDE % count) for turn in range(CALLS)]
+def served(program: str, folder: str, count: int, first: int) -> float:
+    """The milliseconds of processors that the server of the file with so many replies takes for each post of one of the first so many."""
+    numbers = [number_at(turn * STRIDE % first) for turn in range(CALLS)]
     raws = [post("/acts", entry(act="enter 5 ---- no 8 1 - - ok", by=PERSON, moment=100, number=number)) for number in numbers]
     with Server(program, folder, f"{count}.db", CALLS + 1) as server:
         server.exchange(get("/places"))
@@ -101,18 +95,9 @@ def served(program: str, folder: str, count: int) -> float:
     return took / (CALLS - 1)
 
 
-def of_store(folder: str, count: int, first: int) -> tuple[int, int]:
-    """What the store of the file with so many replies takes for one of the first so many of them, and for one that is not kept."""
-    ran = subprocess.run([BARE, str(first), "store-replies", f"{folder}/{count}.db"], capture_output=True, timeout=3600, check=False)
-    lines = [it.split() for it in ran.stdout.decode().splitlines()]
-    if ran.returncode or lines[1:] != [[str(CALLS), "0"]]:
-        sys.exit(f"bench_replies: tc_bench with {count} replies: {ran}")
-    return int(lines[0][1]), int(lines[0][2])
-
-
 def asked(program: str, folder: str, count: int) -> Asked:
-    """What questions to the file with so many replies take."""
-    return Asked(of_store(folder, count, min(count, SAME))[0], *of_store(folder, count, count), served(program, folder, count))
+    """What posts to the file with so many replies take."""
+    return Asked(served(program, folder, count, min(count, SAME)), served(program, folder, count, count))
 
 
 def print_openings(took: dict[tuple[int, str], list[Took]], folder: str) -> None:
@@ -124,11 +109,11 @@ def print_openings(took: dict[tuple[int, str], list[Took]], folder: str) -> None
 
 
 def print_questions(took: dict[int, Asked]) -> None:
-    """Prints what the questions took."""
-    print(f"\n| Kept replies in the file | `reply_of` of one of the same {SAME:,}, microseconds | of any | of one that is not kept | a post that comes again, ms |")
-    print("|---|---|---|---|---|")
+    """Prints what the posts took."""
+    print(f"\n| Kept replies in the file | a post that comes again, of the same {SAME:,}, ms | of any |")
+    print("|---|---|---|")
     for count, it in took.items():
-        print(f"| {count:,} | {it.same / 1000:.1f} | {it.kept / 1000:.1f} | {it.other / 1000:.1f} | {it.served:.3f} |")
+        print(f"| {count:,} | {it.same:.3f} | {it.any:.3f} |")
 
 
 def main() -> int:
@@ -152,11 +137,10 @@ def main() -> int:
                 questions[count].append(asked(program, folder, count))
         print(f"{time.strftime('%Y-%m-%d', time.gmtime())}, {os.cpu_count()} cores, a load of {load} before it began; the least of {words.turns}\n")
         print_openings(took, folder)
-    least = {count: Asked(min(it.same for it in them), min(it.kept for it in them), min(it.other for it in them), min(it.served for it in them))
-             for count, them in questions.items()}
+    least = {count: Asked(min(it.same for it in them), min(it.any for it in them)) for count, them in questions.items()}
     print_questions(least)
     times = least[words.counts[-1]].same / least[words.counts[0]].same
-    print(f"bench replies: the same reply of {words.counts[-1]:,} takes the store {times:.2f} times what it takes of {words.counts[0]:,}, wanted {MOST} at most")
+    print(f"bench replies: the same reply of {words.counts[-1]:,} takes the server {times:.2f} times what it takes of {words.counts[0]:,}, wanted {MOST} at most")
     return int(times > MOST)
 
 

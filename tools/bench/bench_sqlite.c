@@ -1,4 +1,4 @@
-// What SQLite's own C library needs for the rows that tc_bench writes: the same tables by the same texts, a batch of three
+// What SQLite's own C library needs for the rows of entries: the tables of a desk by the texts of its store, a batch of three
 // rows for each entry (the request, its move, a tally), in memory or in a file, and at the end how many requests stand at
 // Entered, read from the tallies.
 //

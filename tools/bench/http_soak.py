@@ -3,7 +3,7 @@ All is on this machine, and ends by itself, after five minutes or so many as --c
 
 A peer of each of three kinds is there at any time. Each good client enters requests, each under a number of its own, of which it sends some again, and asks
 for the places, a second after its last answer. A line a minute tells what was answered, the longest wait so far, and the server's memory and handles. In
-the end the file has to tell exactly the requests that were acknowledged, each once. It fails where a good request was not answered, waited more than 40 s, was
+the end the file has to tell exactly the requests that were acknowledged, each once. It fails where a good request was not answered, waited more than 5 s, was
 lost, or was answered otherwise as it was sent again.
 """
 import os
@@ -19,7 +19,7 @@ from generate.http_words import PLACES, act
 from tests.asked import ASKED
 from tests.http_peer import Server, received, reset, run, send
 
-GOOD, MOST_WAIT = 10, 40.0
+GOOD, MOST_WAIT = 10, 5.0
 HELLO = bytes.fromhex("160301008f0100008b0303") + bytes(132)  # the front of a TLS hello
 
 

@@ -5,7 +5,7 @@ An edit is a file crates/CRATE/wrong/NAME.edit that makes a crate wrong, in the 
 tried, and when it counts as refused.
 
 A crate that is not proved as it stands shows nothing of its edits. So each is checked first, whole, and its edits are tried over
-what that check proved. With --proved it is not, where `rt ci` has proved these very texts before; then each group proves what its
+what that check proved. With --proved, or with --few of a crate with few, it is not, where `rt ci` has proved these very texts before; then each group proves what its
 functions call anew, so that is shorter only for a crate with few edits.
 
 Where none is named, an edit is passed over that was refused on the very grounds that stand: tools/edits.tried has the digests, and
@@ -37,6 +37,7 @@ def asked() -> argparse.Namespace:
     to.add_argument("--cores", type=int, default=os.cpu_count() or 1, help="checks side by side (the processors)")
     to.add_argument("--trust", action="store_true", help="begin over what rt check kept in out/incremental (not in a gate)")
     to.add_argument("--proved", action="store_true", help="`rt ci` has proved these very texts: none is checked as it stands")
+    to.add_argument("--few", type=int, default=0, help="the same of a crate with at most so many edits to try (0)")
     to.add_argument("--most", type=int, default=1000, help="edits in one check (1000)")
     to.add_argument("--logs", help="a folder for what each check says")
     to.add_argument("--all", action="store_true", help="try all, whatever tools/edits.tried says")
@@ -109,10 +110,15 @@ def tell(chosen: Sequence[Chosen], sums: Mapping[str, str]) -> None:
                 say(f"     {name} {sums[name]}")
 
 
+def terms_of(it: Chosen, given: argparse.Namespace) -> argparse.Namespace:
+    """How the edits of a crate are tried: over what `rt ci` proved, if they are few."""
+    return argparse.Namespace(**{**vars(given), "proved": given.proved or len(it.edits) <= given.few})
+
+
 def tried(chosen: Sequence[Chosen], given: argparse.Namespace) -> list[Trial]:
     """Tries edits. The crates that stand highest have most to load, and those with most edits most to try: these come first."""
     cores, began = threading.Semaphore(given.cores), time.time()
-    trials = [Trial(it.crate, it.edits, given, cores) for it in chosen]
+    trials = [Trial(it.crate, it.edits, terms_of(it, given), cores) for it in chosen]
     with ThreadPoolExecutor(given.cores) as pool:
         weight = lambda it: len(it.edits) * (1 + len(it.crate.below()))
         list(pool.map(Trial.run, sorted(trials, key=weight, reverse=True)))

@@ -1,10 +1,11 @@
 """The server's reads and writes failed, its memory refused, its disk taken away.
 
-By fail_io.c the read of each number of a connection fails: nothing is written, no act is made, and 33 is told on standard error; the write of each
+By fail_io.c each read in turn of what has come fails: nothing is written, no act is made, and 33 is told on standard error; the write of each
 number fails, or takes nothing: a front of the response went out, the act stands once, and 34 is told; all come in short pieces: the response is the
 same. By fail_malloc.c each request for memory from the first connection on is refused, one a run, of a post, of a question behind it and of the post
 again: each response is right, or tells that there was no memory (30, and nothing has changed; or 31 where the database had none, and then 32), or is not
-there; an act that was answered stands, one that was refused 30 does not. By a limit on the size of files the database fails: 31, and from then on 32.
+there; an act that was answered stands, one that was refused 30 does not. By a limit on the size of files the database fails: 31, and from then on 32; where
+no count of connections is given, or it is asked for, the server ends then with status 3.
 After each run the same is sent again under its number, to a server that lacks nothing: it is answered as it would have been, and was done once in all.
 There is a line for each run that failed.
 """
@@ -22,12 +23,13 @@ from generate import http_posts as posts, http_requests as requests
 from generate.http_words import BODY, ENTRY, PLACES, Case, Want, act, get, load, post
 from model.http import LARGE, NO_PATH, OTHER_METHOD, Refused, answer_to, reply_response
 from tests.asked import ASKED
-from tests.http_peer import PATIENCE, SLOW, Ended, Expected, Fault, Server, parted, run
+from tests.http_peer import PATIENCE, SLOW, Ended, Expected, Fault, Server, parted, received, run, send
 from tests.plain_runs import kept_tables
 from tests.runs import made_shim, quick_folder
 
 MOST_BAD = 10
 MOST_BEHIND = 1000  # reads behind an answer
+MOST_ENDLESS = 4 * 73_728  # the same, where there is no end of what is read: so many in each of few turns
 READ_FAULT, NO_MEMORY, WRITE_FAULT = "33 ReadFault", "30 Memory", "34 WriteFault"  # what is told of a connection that was not answered
 MEMORY, STORE, STOPPED = (reply_response([it]) for it in ("refused 30 Memory", "refused 31 Store", "refused 32 Stopped"))
 
@@ -54,7 +56,7 @@ class Runs:
         if self.counts["bad"] >= MOST_BAD:
             raise Fault("too many runs were bad")
 
-    def server(self, connections: int, library: Optional[str] = None, words: Sequence[str] = (), first: Optional[Callable[[], None]] = None,
+    def server(self, connections: Optional[int], library: Optional[str] = None, words: Sequence[str] = (), first: Optional[Callable[[], None]] = None,
                settings: Optional[dict[str, int]] = None) -> Server:
         """The server of a copy of the desk that was left, with this library preloaded; what this tells by descriptor 9 is in the file `told`."""
         for end in ("", "-wal"):
@@ -92,10 +94,10 @@ class Wanted(NamedTuple):
     end: str = "answered"
 
 
-def is_counted(wanted: Counts, counts: tuple[int, int], connections: int) -> bool:
-    """Whether so often was read and written. Behind an answer a server may read a little more, so that its peer does not lose the answer."""
+def is_counted(wanted: Counts, counts: tuple[int, int], behind: int) -> bool:
+    """Whether so often was read and written. Behind its answers a server may read so much more, so that no peer loses its answer."""
     least, writes = wanted
-    return (least is None or least <= counts[0] <= least + MOST_BEHIND * connections) and writes in (None, counts[1])
+    return (least is None or least <= counts[0] <= least + behind) and writes in (None, counts[1])
 
 
 def stream(runs: Runs, name: str, raws: Sequence[bytes], wanted: Wanted, within: float = PATIENCE, **settings: int) -> None:
@@ -106,8 +108,8 @@ def stream(runs: Runs, name: str, raws: Sequence[bytes], wanted: Wanted, within:
         got = [server.exchange(it) for it in raws]
         took, (ended, ends) = time.monotonic() - began, parted(server.end())
     reads, writes = (int(it) for it in runs.told().split())
-    counts = (reads, writes)
-    found = Wanted(got, wanted.counts if is_counted(wanted.counts, counts, len(raws)) else counts, runs.entered(), ends[0])
+    counts, behind = (reads, writes), MOST_ENDLESS if "READ_LINE_ENDS" in settings else MOST_BEHIND * len(raws)
+    found = Wanted(got, wanted.counts if is_counted(wanted.counts, counts, behind) else counts, runs.entered(), ends[0])
     if found != wanted or ends[1:] != ["answered"] * (len(raws) - 1) or ended != Ended(0, "", server.says) or took > within:
         runs.bad(f"{name}, {settings}", found, wanted, ended, f"{took:.1f} s")
 
@@ -168,8 +170,9 @@ class Exchange:
                 [right, after, MEMORY], [right, after, STORE], [right, after, b""]]
 
     def untold(self, at: int, got: Sequence[bytes]) -> set[str]:
-        """What may be told of the connection at this place, which was not answered: 34 where an act stands that it asked, 30 where it changed nothing."""
-        if at == 1 or not self.keeps or at == 0 and got[1] == self.before != self.after:
+        """What may be told of the connection at this place, which was not answered: 34 where an act stands that it asked, 30 where it was not done. Of what
+        does nothing both may be: a response is written to memory before it is sent, and 34 is told where that finds none."""
+        if at == 0 and got[1] == self.before != self.after:
             return {NO_MEMORY}
         return {WRITE_FAULT} if at == 0 and got[1] == self.after != self.before else {NO_MEMORY, WRITE_FAULT}
 
@@ -274,6 +277,24 @@ def full_disk() -> list[Case]:
             Case("a long body", post("/acts", "", length=65537), LARGE), Case("a question in the end", PLACES, 32)]
 
 
+def stops(runs: Runs) -> None:
+    """The same, where the server is to end by that: what is on its way is answered, and it ends with status 3 and its reason, whatever count is left."""
+    it, late = Exchange(runs, act(ENTRY)), act(ENTRY, number=8)
+    says = "tcdesk: kept.db has stopped: its tables could not be written\n"
+    counts: tuple[tuple[Optional[int], list[str]], ...] = ((None, []), (None, ["--end-when-stopped"]), (9, ["--end-when-stopped"]))
+    for count, words in counts:
+        with runs.server(count, words=words, first=small_files(5000)) as server, server.connect() as waits:
+            send(waits, late[:-1])
+            got = [server.exchange(PLACES), server.exchange(act(ENTRY))]
+            send(waits, late[-1:])
+            got.append(received(waits))
+            ended = server.end()
+        runs.counts["disk"] += 1
+        if got != [it.before, STORE, STOPPED] or ended != Ended(3, "", server.listens + says):
+            runs.bad(f"a server that stops, {count} {words}", got, ended)
+        once(runs, it, f"a server that stopped, {count} {words}, and then longer files")
+
+
 def disk(runs: Runs) -> None:
     """The database cannot be written: 31, and then 32 of all that reaches the desk. The same number is done once, where there is room again."""
     told, it = full_disk(), Exchange(runs, act(ENTRY))
@@ -322,3 +343,4 @@ class HttpFaults(unittest.TestCase):
     def test_disk(self) -> None:
         """A disk that is full."""
         disk(self.runs)
+        stops(self.runs)

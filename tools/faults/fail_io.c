@@ -6,11 +6,13 @@
 //   READ_MOST         each read gives so many bytes at most
 //   READ_FAIL_AT      the read of this number, from 1, fails
 //   READ_LINE_ENDS    1: each read gives LF bytes, without end, whatever the descriptor holds
+// A read of a socket that does not wait, and for which nothing is there yet, is not counted: it fails, and the socket is not read.
 //   WRITE_MOST        each write to the standard output takes so many bytes at most
 //   WRITE_FAIL_AT     the write of this number, from 1, fails
 //   WRITE_NOTHING_AT  the write of this number, from 1, takes nothing and does not fail
 // At the program's end it writes to descriptor 9 how many reads and how many writes were asked for.
 #include <errno.h>
+#include <fcntl.h>
 #include <stdio.h>
 #include <stdlib.h>
 #include <string.h>
@@ -54,6 +56,15 @@ static size_t at_most(size_t size, unsigned long most) {
     return most != 0 && most < size ? most : size;
 }
 
+// Whether a socket has nothing to be read yet, nor an end: so a server that waits for many sockets reads each until it holds no more.
+static int is_empty(int descriptor) {
+    char byte;
+    if (read_line_ends) {
+        return 0;
+    }
+    return syscall(SYS_recvfrom, descriptor, &byte, 1, MSG_PEEK | MSG_DONTWAIT, NULL, NULL) < 0 && errno == EAGAIN;
+}
+
 // Counts a read of so many bytes at most. The answer of one that fails, or that gives LF bytes; else -2, with the size that it may have.
 static ssize_t before_read(void *buffer, size_t *size) {
     reads += 1;
@@ -91,7 +102,15 @@ ssize_t write(int descriptor, const void *buffer, size_t size) {
 }
 
 ssize_t recv(int descriptor, void *buffer, size_t size, int flags) {
-    ssize_t answer = sockets ? before_read(buffer, &size) : -2;
+    ssize_t answer = -2;
+    if (sockets) {
+        if (is_empty(descriptor) && fcntl(descriptor, F_GETFL) & O_NONBLOCK) {
+            // it is not read then: what comes in between would not be counted
+            errno = EAGAIN;
+            return -1;
+        }
+        answer = before_read(buffer, &size);
+    }
     return answer != -2 ? answer : syscall(SYS_recvfrom, descriptor, buffer, size, flags, NULL, NULL);
 }
 

@@ -78,7 +78,7 @@ class PostedDay(Day):
         """A question by a GET, now and then of what is none."""
         number, rows = self.pick(Place.ENTERED, Place.APPROVED), len(self.book.history)
         after = self.dice.choice([0, rows, max(0, rows - MOST_SHOWN), max(0, rows - MOST_SHOWN - 1), LAST_NUMBER, LAST_NUMBER + 1, "x"])
-        self.answer(None, get(self.dice.choice(["/places", "/waiting", "/waiting", "/board", f"/moves/{after}", f"/moves/{after}", f"/requests/{number}",
+        self.answer(None, get(self.dice.choice(["/places", "/waiting", "/waiting", "/board", "/opening", f"/moves/{after}", f"/moves/{after}", f"/requests/{number}",
                                                 f"/history/{number}/0", f"/procedures/{self.name(self.book.procedures)}"])))
 
     def load_many(self) -> None:

@@ -2,7 +2,7 @@
 from typing import Iterator, Sequence
 
 from generate.http_words import BODY, ENTRY, NOTHING, PLACES, Case, Want, act, get, post
-from model.http import LARGE, NO_PATH, OTHER_METHOD
+from model.http import FOREIGN, LARGE, NO_PATH, OTHER_METHOD
 
 
 def padded(size: int, *, front: bytes = b"", end: bytes = b"\r\n") -> bytes:
@@ -61,7 +61,7 @@ def heads() -> Iterator[Case]:
             (b"\r\nA: \x7f\r\n\r\n", 1), (b"\r\nA: \x01\r\n\r\n", 1), (b"\r\nA: \xff\xfe\r\n\r\n", 0), (b"\r\nA\xe9: b\r\n\r\n", 1),
             (b"\r\nA(): b\r\n\r\n", 1),
             (b"\r\n!#$%&'*+-.^_`|~09azAZ: b\r\n\r\n", 0), (b"\r\nA: b: c\r\n\r\n", 0), (b"\r\nA:: b\r\n\r\n", 0), (b"\r\nA: \"b\r\n\r\n", 0),
-            (b"\r\nExpect: 100-continue\r\n\r\n", 0), (b"\r\nConnection: keep-alive\r\n\r\n", 0), (b"\r\nHost: a\r\nHost: b\r\n\r\n", 0)]
+            (b"\r\nExpect: 100-continue\r\n\r\n", 0), (b"\r\nConnection: keep-alive\r\n\r\n", 0), (b"\r\nHost: a\r\nHost: b\r\n\r\n", FOREIGN)]
     for text, want in behind_first:
         yield Case(f"behind the first line {text!r}", first + text, want)
     before_first: Sequence[tuple[bytes, Want]] = [
@@ -132,6 +132,8 @@ PATHS: Sequence[tuple[str, Want]] = [
     ("/waitings", NO_PATH), ("//waiting", NO_PATH), ("waiting", NO_PATH),
     ("/board", 0), ("/board/", NO_PATH), ("/board/1", NO_PATH), ("/board?", NO_PATH), ("/board?x=1", NO_PATH), ("/Board", NO_PATH), ("/boards", NO_PATH),
     ("/boar", NO_PATH), ("//board", NO_PATH), ("board", NO_PATH),
+    ("/opening", 0), ("/opening/", NO_PATH), ("/opening/1", NO_PATH), ("/opening?", NO_PATH), ("/opening?x=1", NO_PATH), ("/Opening", NO_PATH),
+    ("/openings", NO_PATH), ("/openin", NO_PATH), ("/open", NO_PATH), ("//opening", NO_PATH), ("opening", NO_PATH), ("/opening#x", NO_PATH),
     ("/moves/0", 0), ("/moves/1", 0), ("/moves/2", 0), ("/moves/4294967295", 0), ("/moves/4294967296", 1), ("/moves/" + "1" * 300, 1), ("/moves/00", 1),
     ("/moves/01", 1), ("/moves/-1", 1), ("/moves/+1", 1), ("/moves/1.0", 1), ("/moves/one", 1), ("/moves/%31", 1), ("/moves/1?", 1), ("/moves/{after}", 1),
     ("/moves/١", 1), ("/moves", NO_PATH), ("/moves/", NO_PATH), ("/moves/1/", NO_PATH), ("/moves/1/2", NO_PATH), ("/moves//1", NO_PATH),
@@ -154,7 +156,7 @@ def routes() -> Iterator[Case]:
 def methods() -> Iterator[Case]:
     """Methods that a path does not have, and that none has."""
     for method in "PUT POST DELETE HEAD OPTIONS PATCH TRACE CONNECT get Get GETT GE X !".split():
-        for path in ("/places", "/requests/1", "/requests/x", "/history/1/0", "/report/0/1", "/waiting", "/board", "/moves/0", "/moves/x", "/procedures/p1",
+        for path in ("/places", "/requests/1", "/requests/x", "/history/1/0", "/report/0/1", "/waiting", "/board", "/opening", "/moves/0", "/moves/x", "/procedures/p1",
                      "/procedures/P1"):
             yield Case(f"{method} {path}", get(path).replace(b"GET", method.encode(), 1), OTHER_METHOD)
         yield Case(f"{method} /none", get("/none").replace(b"GET", method.encode(), 1), NO_PATH)
@@ -191,6 +193,7 @@ def lengths() -> Iterator[Case]:
     yield from lengths_of_posts()
     yield from lines_beside()
     yield from lengths_of_gets()
+    yield from doors()
     yield from lengths_of_bodies()
 
 
@@ -230,10 +233,40 @@ def lines_beside() -> Iterator[Case]:
             ("Transfer-Encodings: chunked", 0),
             ("Content-Encoding: gzip", 0), ("Content-Type: text/plain", 0), ("Expect: 100-continue", 0), ("Upgrade: h2c", 0)]:
         yield Case(f"beside its length {line!r}", post("/acts", BODY, line), want)
-        at_front = post("/acts", BODY).replace(b"Host: desk\r\n", f"{line}\r\nHost: desk\r\n".encode())
+        at_front = post("/acts", BODY).replace(b"Host: 127.0.0.1\r\n", f"{line}\r\nHost: 127.0.0.1\r\n".encode())
         yield Case(f"before its length {line!r}", at_front, want)
-        yield Case(f"a GET with {line!r}", get("/places", line), 0 if line == "Content-Length: 0" else want)
-    yield Case("a coding and no length", bare().replace(b"Host: desk", b"Transfer-Encoding: chunked"), 1)
+        for path in ("/places", "/opening"):
+            yield Case(f"a GET of {path} with {line!r}", get(path, line), 0 if line == "Content-Length: 0" else want)
+    yield Case("a coding and no length", bare().replace(b"Host: 127.0.0.1", b"Transfer-Encoding: chunked"), 1)
+
+
+def doors() -> Iterator[Case]:
+    """Hosts, and what browsers say of the page that sends a request."""
+    hosts: Sequence[tuple[str, Want]] = [
+            ("127.0.0.1", 0), ("localhost", 0), ("LocalHost", 0), ("\t127.0.0.1 ", 0), ("", FOREIGN), ("desk", FOREIGN), ("evil.example", FOREIGN), ("127.0.0.1:1", FOREIGN),
+            ("127.0.0.1:", FOREIGN), ("127.0.0.10", FOREIGN), ("[::1]", FOREIGN), ("localhost.", FOREIGN), ("127.0.0.1, evil.example", FOREIGN), ("x127.0.0.1", FOREIGN)]
+    for host, want in hosts:
+        called = f"Host: {host}".encode()
+        yield Case(f"a GET of host {host!r}", get("/places").replace(b"Host: 127.0.0.1", called), want)
+        yield Case(f"the opening asked of host {host!r}", get("/opening").replace(b"Host: 127.0.0.1", called), want)
+        yield Case(f"a POST to host {host!r}", post("/acts", BODY).replace(b"Host: 127.0.0.1", called), want)
+        yield Case(f"a GET of no path of host {host!r}", get("/none").replace(b"Host: 127.0.0.1", called), want or NO_PATH)
+    yield Case("no host", get("/places").replace(b"Host: 127.0.0.1\r\n", b""), 0)
+    yield Case("a POST with no host", post("/acts", BODY).replace(b"Host: 127.0.0.1\r\n", b""), 0)
+    yield Case("two hosts", get("/places", "Host: 127.0.0.1"), FOREIGN)
+    lines: Sequence[tuple[str, Want]] = [
+            ("Origin: http://127.0.0.1", 0), ("Origin: https://localhost", 0), ("Origin: http://LOCALHOST", 0), ("Origin: null", FOREIGN), ("Origin:", FOREIGN), ("Origin: http://", FOREIGN),
+            ("Origin: http://evil.example", FOREIGN), ("Origin: https://evil.example", FOREIGN), ("Origin: http://127.0.0.1:1", FOREIGN), ("Origin: ftp://127.0.0.1", FOREIGN),
+            ("Origin: HTTP://127.0.0.1", FOREIGN), ("Origin: 127.0.0.1", FOREIGN), ("Origin: http://127.0.0.1/", FOREIGN), ("Origin: http://127.0.0.1.evil.example", FOREIGN),
+            ("Origin: http://127.0.0.1\r\nOrigin: http://127.0.0.1", FOREIGN), ("oRIGIN: http://evil.example", FOREIGN), ("X-Origin: http://evil.example", 0),
+            ("Sec-Fetch-Site: same-origin", 0), ("Sec-Fetch-Site: none", 0), ("Sec-Fetch-Site: same-site", FOREIGN), ("Sec-Fetch-Site: cross-site", FOREIGN),
+            ("Sec-Fetch-Site: None", FOREIGN), ("Sec-Fetch-Site:", FOREIGN), ("Sec-Fetch-Site: none\r\nSec-Fetch-Site: none", FOREIGN),
+            ("Sec-Fetch-Site: same-origin\r\nOrigin: null", FOREIGN), ("Sec-Fetch-Site: cross-site\r\nOrigin: http://127.0.0.1", FOREIGN)]
+    for line, want in lines:
+        yield Case(f"a POST with {line!r}", post("/acts", BODY, line), want)
+        yield Case(f"a POST to no path with {line!r}", post("/none", BODY, line), want or NO_PATH)
+        yield Case(f"a GET with {line!r}", get("/places", line), 0)
+        yield Case(f"a DELETE with {line!r}", get("/acts", line).replace(b"GET", b"DELETE"), OTHER_METHOD)
 
 
 def lengths_of_gets() -> Iterator[Case]:
@@ -242,6 +275,7 @@ def lengths_of_gets() -> Iterator[Case]:
                         ("65537", 1), ("9" * 40, 1)]:
         yield Case(f"a GET with Content-Length {value[:40]!r}", get("/places", f"Content-Length:{value}"), want)
         yield Case(f"a GET of a request with Content-Length {value[:40]!r}", get("/requests/77", f"Content-Length:{value}"), want or 2)
+        yield Case(f"a GET of the opening with Content-Length {value[:40]!r}", get("/opening", f"Content-Length:{value}"), want)
     yield Case("a GET with two lengths of 0", get("/places", "Content-Length: 0", "Content-Length: 0"), 1)
     yield Case("a GET with a coding and a length of 0", get("/places", "Content-Length: 0", "Transfer-Encoding: chunked"), 1)
 

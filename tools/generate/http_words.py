@@ -28,14 +28,14 @@ def numbered(cases: Iterable[Case], behind: int = 0) -> list[Case]:
 
 def get(path: str, *lines: str, end: str = "\r\n") -> bytes:
     """A GET of this path, with these header lines."""
-    return "".join(f"{it}{end}" for it in (f"GET {path} HTTP/1.1", "Host: desk", *lines, "")).encode()
+    return "".join(f"{it}{end}" for it in (f"GET {path} HTTP/1.1", "Host: 127.0.0.1", *lines, "")).encode()
 
 
 def post(path: str, body: Union[str, bytes], *lines: str, length: object = None, end: str = "\r\n") -> bytes:
     """A POST of this body, with these header lines."""
     body = body.encode() if isinstance(body, str) else body
     length = len(body) if length is None else length
-    head = (f"POST {path} HTTP/1.1", "Host: desk", "Content-Type: application/json", f"Content-Length: {length}", *lines, "")
+    head = (f"POST {path} HTTP/1.1", "Host: 127.0.0.1", "Content-Type: application/json", f"Content-Length: {length}", *lines, "")
     return "".join(f"{it}{end}" for it in head).encode() + body
 
 

@@ -5,7 +5,7 @@ answered. It is written from the definitions, and asks no server.
 from typing import Optional, Union
 
 from model.desk import QUESTIONS, Desk
-from model.http import Acts, Asked, Asks, Called, Refused, Shows, fault_of, page_response, refused_response, reply_response
+from model.http import Acts, Asked, Asks, Called, Refused, Shows, Tells, fault_of, page_response, refused_response, reply_response
 from model.rows import Reply
 from model.wall import board_page
 
@@ -29,8 +29,10 @@ class Calls:
             return refused_response(asked)
         return page_response(board_page(self.desk, False)) if isinstance(asked, Shows) else reply_response(self.reply(asked))
 
-    def reply(self, asked: Union[Asks, Called]) -> list[str]:
+    def reply(self, asked: Union[Asks, Tells, Called]) -> list[str]:
         """What the desk replies to what is asked."""
+        if isinstance(asked, Tells):
+            return [f"opening {self.desk.stood} at {self.desk.since}"]
         if isinstance(asked, Asks):
             return self.desk.acts("zed", 0, asked.act)
         return self.kept_for(asked) or self.anew(asked)

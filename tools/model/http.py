@@ -30,6 +30,10 @@ class Shows(NamedTuple):
     """The board."""
 
 
+class Tells(NamedTuple):
+    """How the desk was opened."""
+
+
 class Acts(NamedTuple):
     """An act, or a question, that a person posts under a number of the person's own; the moment is none where it is out of form."""
     by: str
@@ -55,7 +59,7 @@ class Post(NamedTuple):
 
 
 Called = Union[Acts, Loads]
-Asked = Union[Refused, Asks, Shows, Called]
+Asked = Union[Refused, Asks, Shows, Tells, Called]
 Headers = Sequence[tuple[bytes, bytes]]
 BAD, LARGE = (Refused(status_of(it), it) for it in (Refusal.BAD_TEXT, Refusal.TOO_LONG))
 FOREIGN, NO_PATH, OTHER_METHOD = (Refused(it, Refusal.BAD_TEXT) for it in (FOREIGN_STATUS, NO_PATH_STATUS, OTHER_METHOD_STATUS))
@@ -88,7 +92,8 @@ QUESTIONS: list[tuple[re.Pattern[bytes], str, Callable[[bytes], bool]]] = [
     (re.compile(rb"/history/([^/]+)/([^/]+)"), "history", IS_NUMBER), (re.compile(rb"/report/([^/]+)/([^/]+)"), "report", IS_MOMENT),
     (re.compile(rb"/waiting"), "waiting", IS_NUMBER), (re.compile(rb"/moves/([^/]+)"), "moves", IS_NUMBER),
     (re.compile(rb"/procedures/([^/]+)"), "steps", lambda text: is_name(text.decode("utf-8")))]
-BOARD = (re.compile(rb"/board"), "", IS_NUMBER)  # which no act asks for
+# What no act asks for.
+VIEWS: dict[bytes, Union[Shows, Tells]] = {b"/board": Shows(), b"/opening": Tells()}
 
 
 def head_end(text: bytes) -> Optional[int]:
@@ -119,32 +124,36 @@ def posted_to(kind: str, lengths: list[bytes]) -> Union[Refused, Post]:
     return LARGE if is_large else Post(kind, int(lengths[0]))
 
 
-def asked(word: str, texts: Sequence[bytes], is_right: Callable[[bytes], bool], lengths: list[bytes]) -> Union[Refused, Asks, Shows]:
-    """What a head asks that gets the board, or a question with these texts, each of which has to be right, and has these Content-Lengths."""
-    if lengths not in ([], [b"0"]) or not all(is_right(it) for it in texts):
-        return BAD
-    return Asks(" ".join([word] + [it.decode() for it in texts])) if word else Shows()
+def got(target: bytes) -> Union[None, Refused, Asks, Shows, Tells]:
+    """What a path asks by a GET: the board, how the desk was opened, or a question with texts, each of which has to be right; none where it is no such path."""
+    for form, word, is_right in QUESTIONS:
+        found = form.fullmatch(target)
+        if found:
+            return Asks(" ".join([word] + [it.decode() for it in found.groups()])) if all(is_right(it) for it in found.groups()) else BAD
+    return VIEWS.get(target)
 
 
-def judged(head: bytes) -> Union[Refused, Asks, Shows, Post]:
+def judged(head: bytes) -> Union[Refused, Asks, Shows, Tells, Post]:
     """What a head text asks, in the order of the tests."""
     found = HEAD.fullmatch(head)
     fields = re.findall(FIELD, found[3]) if found else []
     if not found or len(fields) > MOST_FIELDS or not is_utf8(found[2]):
         return LARGE if head.count(b"\n") > MOST_LINE_ENDS else BAD
     method, target = found[1], found[2]
-    question = next(((word, match.groups(), is_right) for form, word, is_right in [*QUESTIONS, BOARD] for match in [form.fullmatch(target)] if match), None)
-    if target not in POSTS and not question:
+    question = got(target)
+    if target not in POSTS and question is None:
         return NO_PATH
     if method != (b"POST" if target in POSTS else b"GET"):
         return OTHER_METHOD
     if values(fields, b"transfer-encoding"):
         return BAD
     lengths = values(fields, b"content-length")
-    return asked(*question, lengths) if question else posted_to(POSTS[target], lengths)
+    if question is None:
+        return posted_to(POSTS[target], lengths)
+    return question if lengths in ([], [b"0"]) else BAD
 
 
-# A door before a desk, as the entrance of three machines has one: the hosts by which it is called, whatever its port.
+# The hosts by which a desk is called, whatever its port.
 OWN_HOSTS = ("127.0.0.1", "localhost")
 
 
@@ -169,8 +178,8 @@ def is_foreign(head: bytes, hosts: Sequence[str]) -> bool:
     return not is_called or found[1] == b"POST" and not is_own
 
 
-def decided(front: bytes, hosts: Optional[Sequence[str]] = None) -> Optional[Asked]:
-    """What is served of a front of an input by itself, at a door if hosts are given; none where it decides nothing."""
+def decided(front: bytes, hosts: Sequence[str] = OWN_HOSTS) -> Optional[Asked]:
+    """What is served of a front of an input by itself; none where it decides nothing."""
     end = head_end(front[:LONGEST_HEAD])
     if end is None:
         return LARGE if len(front) > LONGEST_HEAD else None
@@ -179,14 +188,14 @@ def decided(front: bytes, hosts: Optional[Sequence[str]] = None) -> Optional[Ask
     body = front[end:end + found.size] if isinstance(found, Post) else b""
     if isinstance(found, Post) and len(body) < found.size:
         return None
-    if hosts is not None and is_foreign(head, hosts):
+    if is_foreign(head, hosts):
         return FOREIGN
     return posted(found.kind, body) if isinstance(found, Post) else found
 
 
-def answer_to(text: bytes, hosts: Optional[Sequence[str]] = None) -> Optional[Asked]:
-    """What is served, at a door if hosts are given, of the shortest front of an input that decides anything; none where no front does. A longer front of the same
-    input decides what a shorter one has decided: the tests try that on all fronts of some inputs."""
+def answer_to(text: bytes, hosts: Sequence[str] = OWN_HOSTS) -> Optional[Asked]:
+    """What is served of the shortest front of an input that decides anything; none where no front does. A longer front of the same input decides what a
+    shorter one has decided: the tests try that on all fronts of some inputs."""
     return decided(text, hosts)
 
 

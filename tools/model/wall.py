@@ -83,10 +83,9 @@ def critical(holds: bool) -> str:
 # ---- the heading, and the tiles
 
 def heading(desk: Desk, closed: bool) -> Iterator[str]:
-    """The last move and its moment, and how many were entered; a closed file says so."""
+    """How the desk was opened, or that the file is closed; how many were entered; and the last move and its moment."""
     yield fixed("heading.html")
-    if closed:
-        yield '<p class="file">closed file</p>\n'
+    yield '<p class="file">closed file</p>\n' if closed else f"<p>opened at <b>{time_of(desk.since)}</b> UTC after <b>{desk.stood}</b> moves</p>\n"
     yield f"<p><b>{len(desk.book.requests)}</b> entered</p>\n"
     if desk.book.history:
         last = desk.book.history[-1]

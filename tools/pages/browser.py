@@ -28,7 +28,7 @@ from model.desk import Desk
 from model.facts import FINAL, PLACE_WORDS
 from model.wall import MOST_OPEN, board_page
 from tests.http_peer import HERE, free_port
-from tests.wall_desks import LONG, STEP_TEXT, busy, empty, full, in_doubt, quiet
+from tests.wall_desks import LONG, STEP_TEXT, busy, empty, in_doubt, longest, quiet
 
 WIDE, HIGH = 1920, 1080  # of the screen, in points
 OPENS = 1.0  # seconds in which a page has to be there
@@ -245,13 +245,14 @@ class Browsed(unittest.TestCase):
         self.look("closed", busy(), closed=True, texts=[STEP_TEXT])
 
     def test_full(self) -> None:
-        """The page of a full desk opens within a second, and counts what it leaves out."""
-        desk = full()
+        """The page of a full desk opens within a second, and counts what it leaves out. Its longest numbers and names stand out nowhere."""
+        desk = longest()
         url = self.page("full", desk)
         took = min(self.browser.opens(url) for _ in range(TRIES))
         print(f"browser: a page of {os.path.getsize(url.removeprefix('file://'))} bytes in {took:.2f} seconds")
         self.assertLess(took, OPENS)
         self.assertEqual([], faults_of(self.browser, wanted_of(desk, False, is_high=True)))
+        self.look("full, closed", desk, closed=True, is_high=True)
 
     def test_paper(self) -> None:
         """What is printed has all headings, and that of a long table on each of its pages."""

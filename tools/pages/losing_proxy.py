@@ -2,7 +2,7 @@
 """A proxy before a served desk, which loses answers: losing_proxy.py FRONT PORT SERVER WORD..
 
 It listens at FRONT of 127.0.0.1, says `ready`, and takes one connection after the other, a WORD for each. Every request that comes is done by the desk at
-PORT; what comes back of its answer is by the word:
+PORT, which it calls by the host 127.0.0.1, as each proxy has to; what comes back of its answer is by the word:
     pass   all of it
     cut    all but its last bytes
     close  nothing
@@ -11,12 +11,14 @@ PORT; what comes back of its answer is by the word:
 It ends behind the last, or where nobody comes for a while.
 """
 import os
+import re
 import signal
 import socket
 import sys
 import time
 
 HERE, LOST, PATIENCE = "127.0.0.1", 5, 20
+HOST = re.compile(rb"(?<=\r\n)Host: [^\r\n]*\r\n")
 TIMEOUT = b"HTTP/1.1 504 Gateway Time-out\r\nContent-Length: 2\r\n\r\nno"
 
 
@@ -52,7 +54,7 @@ def connection_to(port: int) -> socket.socket:
 def answer_to(request: bytes, port: int) -> bytes:
     """What the desk answers, as soon as there is one."""
     with connection_to(port) as desk:
-        desk.sendall(request)
+        desk.sendall(HOST.sub(f"Host: {HERE}\r\n".encode(), request, count=1))
         got = b""
         while piece := desk.recv(65536):
             got += piece

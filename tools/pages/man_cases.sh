@@ -95,7 +95,7 @@ section "$page" '.Sh SYNOPSIS' | sed 's/\\-/-/g' | awk '
     $1 == ".Ar" { print name, $2 }' >"$work/words.page"
 compare "commands and their options" "$work/words" "$work/words.page"
 
-grep -oE '^ +(-[hV], )?--[a-z]+' "$work/helps" | grep -oE -- '-+[a-zA-Z]+' | sort -u >"$work/options"
+grep -oE '^ +(-[hV], )?--[a-z-]+' "$work/helps" | grep -oE -- '-[a-zA-Z-]+' | sort -u >"$work/options"
 section "$page" '.Sh DESCRIPTION' | grep '^\.It Fl' | grep -oE 'Fl [^ ]+' | sed 's/\\-/-/g; s/^Fl /-/' >"$work/options.page"
 compare options "$work/options" "$work/options.page"
 echo "$commands" >"$work/commands"

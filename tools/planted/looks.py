@@ -6,7 +6,7 @@ import os
 import tempfile
 from collections import Counter
 from collections.abc import Iterator
-from itertools import zip_longest
+from itertools import chain, zip_longest
 
 from planted.recorded import Opening, Recorded, Rows, Script, Served
 
@@ -16,6 +16,8 @@ FULL = ("book identities run out", "book a desk that stacks fill")
 AGAIN = "insert-name-there"
 ORDERED = ("request", "move", "tally", "execution")
 OF_SERVED = ("model/calls.py", "model/http.py")  # what a desk alone that is served asks
+OF_OCTETS = ("model/octets.py", "model/profiles.py", "model/packets.py", "model/carriers.py")  # the octets of a link, which no desk asks
+MOST_VALUES = 40  # on which each law of the octets is tried
 OPENED = 500  # when the desks of tools/cases/days are opened again
 TOOLS = os.path.dirname(os.path.dirname(os.path.realpath(__file__)))
 
@@ -170,10 +172,25 @@ def served_faults(served: Served) -> Iterator[str]:
     yield table_fault(served.title, rows_by(desk.tables()), served.tables)
 
 
+# ---- the octets of a link
+
+def octet_faults() -> Iterator[str]:
+    """Returns what differs on the worked cases of octets, and on random values."""
+    from tests.octet_cases import OF_FILES, case_answers
+    from tests.octet_laws import LAWS, law_answers
+    answers = chain(*(case_answers(it) for it in OF_FILES), *(law_answers(it, 1, MOST_VALUES + 1) for it in LAWS))
+    for it in answers:
+        yield "" if it.got == it.wanted else f"{it.title}: {it.got!r:.120}, and not {it.wanted!r:.120}"
+
+
 # ---- all of it
 
 def differences(file: str, recorded: Recorded) -> Iterator[str]:
     """What differs, and what does not (nothing), where this file is changed; of no file, all."""
+    if file in ("", *OF_OCTETS):
+        yield from octet_faults()
+    if file in OF_OCTETS:
+        return
     if file not in ("model/check.py", *OF_SERVED):
         yield from case_faults(file)
         yield from day_faults()

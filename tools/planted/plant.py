@@ -28,7 +28,7 @@ TOOLS = os.path.dirname(os.path.dirname(os.path.realpath(__file__)))
 sys.path.insert(0, TOOLS)
 
 from planted.changes import changes_in, groups_in  # noqa: E402
-from planted.looks import files_of_readings, first_difference  # noqa: E402
+from planted.looks import OF_OCTETS, files_of_readings, first_difference  # noqa: E402
 from planted.recorded import Recorded  # noqa: E402
 from planted.trials import Trial, all_tried, done_apart  # noqa: E402
 
@@ -112,6 +112,13 @@ def put_down(program: str, seed: int) -> Recorded:
     return recorded_by(program, seed)
 
 
+def put_down_apart(program: str, seed: int) -> Recorded:
+    """The same, asked of another process."""
+    recorded = done_apart(lambda: put_down(program, seed))
+    assert isinstance(recorded, Recorded)
+    return recorded
+
+
 def main(words: Sequence[str]) -> int:
     """Plants the faults that are asked for."""
     asked = parsed(words)
@@ -120,10 +127,10 @@ def main(words: Sequence[str]) -> int:
     if asked.list:
         print("\n".join(it.name for it in trials))
         return 0
-    program = program_of(asked.program)
-    recorded = done_apart(lambda: put_down(program, asked.seed))
+    only_octets = all(it.file in OF_OCTETS for it in trials)
+    recorded = Recorded() if only_octets else put_down_apart(program_of(asked.program), asked.seed)
     began = time.monotonic()
-    fault = done_apart(lambda: first_difference("", recorded))
+    fault = done_apart(lambda: first_difference(OF_OCTETS[0] if only_octets else "", recorded))
     if fault:
         print(f"planted: with no fault in it, the plain desk differs: {fault}\nplanted: 0 found of 0\n0 passed, 1 failed")
         return 1

@@ -14,8 +14,7 @@ from generate.http_words import NOTHING, Case
 from model.calls import Calls
 from model.desk import Desk
 from model.facts import status_of
-from model.http import Asks, Called, Loads, Refused, Shows, answer_to, fault_of, page_response, refusal_in, refused_response, reply_response
-from model.wall import board_page
+from model.http import Acts, Asks, Called, Loads, Refused, answer_to, fault_of, refusal_in, reply_response
 from tests.new_desks import said_first, said_then, without_beside
 from tests.runs import Ended
 
@@ -53,11 +52,10 @@ def free_port() -> int:
 class Server:
     """The program as it serves a desk in a file, for so many connections. It is killed at the end of the block, if it has not ended."""
 
-    def __init__(self, program: str, folder: str, database: str, count: Optional[int], words: Sequence[str] = (),
-                 env: Optional[dict[str, str]] = None, first: Optional[Callable[[], None]] = None, port: Optional[int] = None, told: Optional[str] = None) -> None:
-        """Starts it, without a word for how many connections where that is None, with these variables beside those of this process, after that
-        call. What it writes to descriptor 9 comes into the file
-        `told`."""
+    def __init__(self, program: str, folder: str, database: str, count: Optional[int], words: Sequence[str] = (), env: Optional[dict[str, str]] = None,
+                 first: Optional[Callable[[], None]] = None, port: Optional[int] = None, told: Optional[str] = None, stdin: int = subprocess.DEVNULL) -> None:
+        """Starts it in a session of its own, without a word for how many connections where that is None, with these variables beside those of this process,
+        after that call, and with that standard input. What it writes to descriptor 9 comes into the file `told`."""
         def begin() -> None:
             if told:
                 os.dup2(os.open(told, os.O_WRONLY | os.O_CREAT | os.O_TRUNC), 9)
@@ -67,8 +65,8 @@ class Server:
         self.first = said_first(folder, ["serve", database])
         self.files = [open(f"{folder}/served.{it}", "w+b") for it in ("out", "err")]
         words = [program, "serve", database, str(self.port), *([] if count is None else [str(count)]), *words]
-        self.process = subprocess.Popen(words, cwd=folder, stdin=subprocess.DEVNULL, stdout=self.files[0], stderr=self.files[1], close_fds=False,
-                                        preexec_fn=begin, env={**os.environ, **(env or {})})
+        self.process = subprocess.Popen(words, cwd=folder, stdin=stdin, stdout=self.files[0], stderr=self.files[1], close_fds=False,
+                                        preexec_fn=begin, env={**os.environ, **(env or {})}, start_new_session=True)
 
     def __enter__(self) -> "Server":
         return self
@@ -220,10 +218,7 @@ class Expected:
         self.disputed: list[tuple[Case, object]] = []
         for at, case in enumerate(cases):
             asked = answer_to(case.raw)
-            if isinstance(asked, Shows):
-                self.add(case, page_response(board_page(self.calls.desk, False)))
-            else:
-                self.add(case, b"" if asked is None else refused_response(asked) if isinstance(asked, Refused) else self.answer(asked, folder, at))
+            self.add(case, b"" if asked is None else self.answer(asked, folder, at) if isinstance(asked, (Asks, Acts, Loads)) else self.calls.response(asked))
 
     def answer(self, asked: Union[Asks, Called], folder: str, at: int) -> bytes:
         """The response of the desk."""

@@ -10,6 +10,7 @@ from typing import Sequence
 from model.kept import connect, sqlite3
 
 BESIDE = re.compile(r"^tcdesk: (because .*|opened at [0-9]+, before the last move at [0-9]+)\n", re.MULTILINE)
+WHY = re.compile(r"^tcdesk: because (.*)$", re.MULTILINE)
 PAGE = 4096  # a file with no table has no more bytes than that
 
 
@@ -52,6 +53,11 @@ def said_first(folder: str, words: Sequence[str]) -> str:
 def without_beside(err: str) -> str:
     """What was said but for reasons and early openings."""
     return BESIDE.sub("", err)
+
+
+def why_in(err: str) -> str:
+    """Why something cannot be used, by what was said; nothing where that is not told."""
+    return "; ".join(WHY.findall(err))
 
 
 def said_then(first: str, status: int, err: str) -> str:

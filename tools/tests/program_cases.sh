@@ -1,7 +1,6 @@
 #!/bin/bash
 # Runs the built program on cases that only a built program meets: its words, its files, its statuses, and what it says
-# on standard error; and tc_bench, which has to write the moves that the desk does. Ends with how many passed; status 1
-# where one failed.
+# on standard error. Ends with how many passed; status 1 where one failed.
 set -u
 top=$(cd "$(dirname "${BASH_SOURCE[0]}")/../.." && pwd) || exit 1
 program=${1:-$top/crates/tc_cli/out/tc_cli}
@@ -370,20 +369,6 @@ if [[ $? == 2 ]] && grep -qF "tcdesk: cannot use output" err; then
 else
     failed=$((failed + 1))
     echo "program_cases: help that cannot be printed" >&2
-fi
-
-# The bare store of tc_bench tells the moves that the desk answers, for the same entries of ten APIDs in turn.
-bare=$top/crates/tc_bench/out/tc_bench
-for ((place = 0; place < 25; place++)); do
-    echo "0 a enter $((place % 10)) ---- no 8 1 - - ok"
-done >entries
-"$program" run entries | grep '^move ' >moves
-if "$bare" 25 history >out 2>err && [[ $(wc -l <moves) == 25 ]] && cmp moves out >>err 2>&1; then
-    passed=$((passed + 1))
-else
-    failed=$((failed + 1))
-    echo "program_cases: the moves of tc_bench, and standard error:" >&2
-    cat out err >&2
 fi
 
 # Each script of tools/cases, with the options of its .args where it has some, beside what it prints and, where that is not 0, its status; those that

@@ -10,15 +10,16 @@ from functools import partial
 from typing import Callable, Iterable, NamedTuple, Optional, Sequence
 
 from tests.asked import ASKED, TOOLS
-from tests.new_desks import said_first, said_then
+from tests.new_desks import said_first, said_then, why_in
 
 
 @dataclass
 class Ran:
-    """What a run of the program left: of its errors all but the line that it made a new desk, where that was due."""
+    """What a run of the program left: of its errors all but the line that it made a new desk, where that was due, and why something cannot be used, which stands by itself."""
     status: int
     lines: list[str]
     errors: str
+    why: str = ""
 
 
 class Ended(NamedTuple):
@@ -52,7 +53,8 @@ def run_kept(program: str, folder: str, path: str, moment: int, script: str) -> 
     words = ["run", "--db", path, "--at", str(moment), script]
     first = said_first(folder, words)
     done = subprocess.run([program, *words], cwd=folder, stdin=subprocess.DEVNULL, capture_output=True, timeout=900, check=False)
-    return Ran(done.returncode, done.stdout.decode("latin-1").splitlines(), said_then(first, done.returncode, done.stderr.decode("latin-1")))
+    said = done.stderr.decode("latin-1")
+    return Ran(done.returncode, done.stdout.decode("latin-1").splitlines(), said_then(first, done.returncode, said), why_in(said))
 
 
 def quick_folder() -> Optional[str]:

@@ -12,10 +12,52 @@ top=$(cd "$(dirname "${BASH_SOURCE[0]}")/../.." && pwd) || exit 1
 program=$(readlink -m "${1:-$top/crates/tc_cli/out/tc_cli}")
 [[ -x $program ]] || { echo "status_cases: $program is not built" >&2; exit 1; }
 work=$(mktemp -d) || exit 1
-trap 'umount "$work/disk" 2>/dev/null; rm -rf "$work"' EXIT
+trap '[[ -z $server ]] || kill -9 "$server" 2>/dev/null; umount "$work/disk" 2>/dev/null; rm -rf "$work"' EXIT
 cp -r "$top/examples" "$work" && cd "$work" || exit 1
 me=status_cases
 . "$top/tools/lib.sh"
+
+# post NUMBER: enters a request under this number at the server, and prints what it answers.
+post() {
+    local body='{"act":"enter 5 a--c no 8 1 - - ok","by":"ann","moment":100,"number":'$1'}'
+    exec 8<>"/dev/tcp/127.0.0.1/$port"
+    printf '%s' "POST /acts HTTP/1.1"$'\r\n'"Content-Length: ${#body}"$'\r\n\r\n'"$body" >&8
+    cat <&8
+    exec 8>&-
+}
+
+# served_full WANTED WORD..: serves a desk on a small disk, by these further words, until a post is refused 31; then one post more, where it goes on, is
+# refused 32. WANTED is the status in which it ends, and what it says then.
+served_full() {
+    local wanted=$1 turn n status
+    shift
+    mount -t tmpfs -o size=384k none disk
+    port=$(free_port)
+    "$program" serve disk/desk.db "$port" "$@" >out 2>err &
+    server=$!
+    for ((turn = 0; turn < 400; turn++)); do
+        ! grep -qxF "tcdesk: listening on 127.0.0.1:$port" err || break
+        sleep 0.05
+    done
+    for ((n = 1; n < 2000; n++)); do
+        post "$n" >answer
+        ! grep -q '"refusal":31}$' answer || break
+    done
+    same "a server on a full disk ($*): its answer" '{"lines":["refused 31 Store"],"more":0,"refusal":31}' "$(tail -n 1 answer)"
+    if [[ $wanted == "go on" ]]; then
+        same "a server on a full disk ($*): its next answer" '{"lines":["refused 32 Stopped"],"more":0,"refusal":32}' "$(post 2000 | tail -n 1)"
+        kill -9 "$server"
+        wait "$server" 2>/dev/null
+    else
+        wait "$server"
+        status=$?
+        same "a server on a full disk ($*): its end" "$wanted" "$status $(grep -v 'is a new desk$\|listening on' err | paste -sd '|')"
+    fi
+    server=
+    mount -o remount,size=4m disk
+    same "a server on a full disk ($*): what stands" "places $((n - 1)): $((n - 1)) 0 0 0 0 0 0 0 0 0 0 0 0 0 0" "$("$program" run --db disk/desk.db --at 100 /dev/null 2>&1)"
+    umount disk
+}
 
 # The commands that write to their output, in words.
 commands=(
@@ -109,7 +151,7 @@ small 100
 unopened "files of 100 KiB" $? "the disk failed"
 small 300
 filled "files of 300 KiB" $? "the disk failed"
-mounted="file systems of 96 and 384 KiB were filled"
+mounted="file systems of 64, 96 and 384 KiB were filled"
 if mount -t tmpfs -o size=8k none disk 2>/dev/null && umount disk; then
     on_disk 96
     unopened "a file system of 96 KiB" $? "the disk is full"
@@ -117,6 +159,16 @@ if mount -t tmpfs -o size=8k none disk 2>/dev/null && umount disk; then
     on_disk 384
     filled "a file system of 384 KiB" $? "the disk is full"
     umount disk
+    mount -t tmpfs -o size=64k none disk
+    full=$'tcdesk: cannot use disk/copy.db\ntcdesk: because the disk is full\n2'
+    same "a copy on a full disk" "$full" "$("$program" backup kept.db disk/copy.db 2>&1; echo $?)"
+    same "a copy on a full disk: what is left" "" "$(ls -A disk)"
+    umount disk
+    # the closing found room, so no reason is known any more
+    stopped='3 tcdesk: disk/desk.db has stopped: its tables could not be written'
+    served_full "$stopped"
+    served_full "$stopped" 100000 --end-when-stopped
+    served_full "go on" 100000
 else
     mounted="no file system may be mounted here, so none was filled"
 fi

@@ -15,7 +15,7 @@ import time
 from collections import Counter
 from concurrent.futures import ThreadPoolExecutor
 from contextlib import contextmanager
-from itertools import count
+from itertools import count, islice
 from pathlib import Path
 from typing import Callable, Iterator, Optional
 
@@ -30,6 +30,10 @@ COPIES, KILLS = 30, 40
 COPIES_A_DESK, POSTS_A_DESK = 25, 4000  # before another desk is made
 STEP = 7  # of the requests for memory that are refused, every so many
 NO_FAULT = ""
+# Why a desk is not copied.
+NO_DATABASE, JOURNAL = "it is no database, or a damaged one", "SQLite left a journal beside it, which sqlite3 has to play back"
+NAMES, UNLOGGED = "it has two names, or its log has", "another program may have it open, and its log is not beside it"
+UNOPENED = "the log beside it is of another file that a program has open"
 
 
 class Copies(Tried):
@@ -427,19 +431,43 @@ class Copies(Tried):
             Path(place.path, DESK).write_bytes(text)
             if beside:
                 Path(place.path, f"{DESK}{beside}").write_bytes(b"\xd9" * 41)
-            self.only_read(name, place)
+            self.only_read(name, place, JOURNAL if beside == "-journal" else NO_DATABASE)
         folder, _ = self.left(12, 3)
         with self.served(folder) as server:
             posted(server, posts(), lambda done: done == 1)
             Path(folder.path, f"{DESK}-journal").write_bytes(b"\xd9")
-            self.only_read("a served desk with a journal", folder)
+            self.only_read("a served desk with a journal", folder, JOURNAL)
+            folder.forget(f"{DESK}-journal")
+            os.link(f"{folder.path}/{DESK}", f"{folder.path}/hard.db")
+            self.only_read("a served desk, by its second name", folder, NAMES, "hard.db")
+            self.only_read("a served desk with a second name", folder, NAMES)
+            folder.forget("hard.db")
+            os.link(f"{folder.path}/{DESK}-wal", f"{folder.path}/hard.db-wal")
+            self.only_read("a served desk whose log has a second name", folder, NAMES)
 
-    def only_read(self, name: str, folder: Folder) -> None:
-        """A copy into another folder is refused for the desk with no reason, and the desk's own folder is as it was, by its time too."""
+    def test_moved(self) -> None:
+        """Beside a program that has the desk open its file gets another name, and the log does not; or another file gets its name."""
+        folder, _ = self.left(12, 0)
+        whole, raws = Path(folder.path, DESK).read_bytes(), islice(posts(), 12, None)
+        with self.served(folder) as server:
+            posted(server, raws, lambda done: done == 3)
+            os.rename(f"{folder.path}/{DESK}", f"{folder.path}/moved.db")
+            self.only_read("a served desk that was moved", folder, UNLOGGED, "moved.db")
+            Path(folder.path, "moved.db-wal").write_bytes(b"")
+            self.only_read("a served desk that was moved, with a log of nothing", folder, UNLOGGED, "moved.db")
+            folder.forget("moved.db-wal")
+            Path(folder.path, DESK).write_bytes(whole)
+            self.only_read("a file in the place of a served desk", folder, UNOPENED)
+            os.rename(f"{folder.path}/moved.db", f"{folder.path}/{DESK}")
+            self.told("a served desk that was moved back", why_not_told(folder, folder.copied()))
+            self.told("a served desk that was moved back", why_not_copy(folder, Follower(), 15, 15))
+
+    def only_read(self, name: str, folder: Folder, why: str, desk: str = DESK) -> None:
+        """A copy into another folder is refused for the desk, which is told, and the desk's own folder is as it was, by its time too."""
         before, time_before = {it: look(f"{folder.path}/{it}") for it in folder.names()}, os.stat(folder.path).st_mtime_ns
-        ran = subprocess.run([ASKED.program, "backup", DESK, f"{self.folder().path}/{COPY}"], cwd=folder.path, stdin=subprocess.DEVNULL, capture_output=True,
+        ran = subprocess.run([ASKED.program, "backup", desk, f"{self.folder().path}/{COPY}"], cwd=folder.path, stdin=subprocess.DEVNULL, capture_output=True,
                              timeout=900, check=False)
-        self.same(name, (2, b"", f"tcdesk: cannot use {DESK}\n".encode()), (ran.returncode, ran.stdout, ran.stderr))
+        self.same(name, (2, b"", f"tcdesk: cannot use {desk}\ntcdesk: because {why}\n".encode()), (ran.returncode, ran.stdout, ran.stderr))
         self.same(f"{name}: what is there", before, {it: look(f"{folder.path}/{it}") for it in folder.names()})
         self.same(f"{name}: when the folder changed", time_before, os.stat(folder.path).st_mtime_ns)
 

@@ -26,6 +26,7 @@ from tests.runs import Tried, bytes_of, run_kept
 
 SEED = 20311125
 LEAST_JUDGED = 1000
+DAMAGED = "it tells what no desk could have written"
 ROWS_A_COLUMN = 3
 VALUES_A_ROW = 3
 CARGO = 6  # rows of what requests name besides, one a change
@@ -159,7 +160,7 @@ def judge(program: str, work: str, job: tuple[Desk, Change]) -> Found:
         why = why_unsound(tables)
         ran = run_kept(program, folder, "desk.db", desk.moment, "/dev/null")
         if why:
-            fault = why_not_refused(ran, folder, before, tables)
+            fault = why_not_refused(ran, folder, before, tables) or ("" if ran.why == DAMAGED else f"told because {ran.why!r}")
             return Found("refused", fault and f"should be refused ({why}): {fault}")
         fault = why_not_opened(ran, folder, desk.moment, tables)
         return Found("taken", fault and f"should be taken: {fault}")

@@ -7,6 +7,7 @@ byte; a copy of that copy is taken again, and so is one by `tcdesk backup`. What
 Python's `iterdump` tells, by name and not as it was made, is none's when it is read back.
 """
 import os
+import re
 import shutil
 import subprocess
 from typing import Callable, NamedTuple
@@ -16,7 +17,7 @@ from model.kept import connect, sqlite3, statements_of
 from model.lines import script_lines
 from model.rows import Tables, move_line, places_line
 from model.tables import opened_moves, opened_tables
-from tests.asked import ASKED
+from tests.asked import ASKED, TOP
 from tests.changes import change_file, changed_by, why_not_opened
 from tests.made_files import FULL_OLDER, OLD_DAY, OLDER, as_version, make_file, two_days
 from tests.plain_runs import Plain
@@ -27,22 +28,25 @@ from tests.worked_desks import AGAIN, Worked, stored
 SHELL = shutil.which("sqlite3")
 UNUSABLE = "tcdesk: cannot use desk.db\n"
 FOREIGN = "tcdesk: because its tables are not a desk's\n"
-# How a command refuses a file whose tables are no desk's. Of one that cannot be copied nothing is opened to tell why.
+# How a command refuses a file whose tables are no desk's.
 REFUSED = (
     (["run", "--db", "desk.db", "/dev/null"], UNUSABLE + FOREIGN),
     (["report", "desk.db", "0", "1"], UNUSABLE + FOREIGN),
     (["board", "desk.db"], UNUSABLE + FOREIGN),
-    (["backup", "desk.db", "none.db"], UNUSABLE),
+    (["backup", "desk.db", "none.db"], UNUSABLE + FOREIGN),
 )
+# The line of the manual that takes away what ANALYZE left.
+MENDED = re.compile(r"`sqlite3 desk\.db '([^']*sqlite_stat1[^']*)'`")
 
 
 # ---- how a file is copied
 
 class Way(NamedTuple):
-    """A way to copy a file to a path at which none is, and whether it makes the tables anew."""
+    """A way to copy a file to a path at which none is; whether it makes the tables anew, and whether it copies what ANALYZE left."""
     name: str
     copies: Callable[[str, str], object]
     is_anew: bool = True
+    keeps_statistics: bool = True
 
 
 def vacuum_into(path: str, copy: str) -> None:
@@ -77,7 +81,7 @@ PYTHONS = (Way("VACUUM INTO", vacuum_into), Way("VACUUM", vacuum), Way("the inte
 SHELLS = (
     Way("the shell's VACUUM INTO", lambda path, copy: shell(path, f"VACUUM INTO '{copy}'")),
     Way("the shell's .dump", lambda path, copy: shell(copy, text=shell(path, ".dump"))),
-    Way("the shell's .clone", lambda path, copy: shell(path, f".clone {copy}")),
+    Way("the shell's .clone", lambda path, copy: shell(path, f".clone {copy}"), keeps_statistics=False),
     Way("the shell's .backup", lambda path, copy: shell(path, f".backup {copy}"), False),
 )
 WAYS = PYTHONS + (SHELLS if SHELL else ())
@@ -194,20 +198,31 @@ class Copied(Worked):
             faults.append("" if is_right else f"{words[0]}: {ran}")
         return faults
 
+    def mended(self, folder: str) -> None:
+        """Does what the manual says to a file that was analyzed, by the stock shell where it is there."""
+        with open(f"{TOP}/docs/OPERATORS.md", encoding="utf-8") as manual:
+            said = MENDED.findall(manual.read())
+        self.assertEqual(1, len(said), "the manual says it in one line")
+        if SHELL:
+            shell(f"{folder}/desk.db", said[0])
+        else:
+            change_file(f"{folder}/desk.db", changed_by(*said[0].split("; ")))
+
     def test_statistics(self) -> None:
-        """A file that was analyzed is refused; where the table of statistics is taken away, it is opened as it was."""
+        """A file that was analyzed is refused, and so is each copy that has what ANALYZE left; where the manual is followed, each is opened as it was."""
         for older in FULL_OLDER.values():
-            folder, tables = self.made(older)
-            change_file(f"{folder}/desk.db", changed_by("ANALYZE"))
-            self.tell(f"{older}, analyzed", *self.refused(folder))
-            if SHELL:
-                shell(f"{folder}/desk.db", "DROP TABLE sqlite_stat1")
-            else:
-                change_file(f"{folder}/desk.db", changed_by("DROP TABLE sqlite_stat1"))
-            self.tell(f"{older}, mended", *self.reported(folder, tables))
-            ran = run_kept(ASKED.program, folder, "desk.db", OLD_DAY, "/dev/null")
-            self.tell(f"{older}, mended", why_not_opened(ran, folder, OLD_DAY, tables), *self.again(folder, opened_tables(tables, OLD_DAY)))
-        self.settle(f"{len(FULL_OLDER)} files that were analyzed")
+            analyzed, tables = self.made(older)
+            change_file(f"{analyzed}/desk.db", changed_by("ANALYZE"))
+            copies = [(way.name, self.copy_of(f"{analyzed}/desk.db", way), way.keeps_statistics) for way in WAYS]
+            for way, folder, keeps in [("the file itself", analyzed, True), *copies]:
+                name = f"{older}, analyzed, {way}"
+                if keeps:
+                    self.tell(name, *self.refused(folder))
+                    self.mended(folder)
+                self.tell(f"{name}, mended", *self.reported(folder, tables))
+                ran = run_kept(ASKED.program, folder, "desk.db", OLD_DAY, "/dev/null")
+                self.tell(f"{name}, mended", why_not_opened(ran, folder, OLD_DAY, tables), *self.again(folder, opened_tables(tables, OLD_DAY)))
+        self.settle(f"{len(FULL_OLDER)} files that were analyzed, each copied in {len(WAYS)} ways")
 
     def test_by_name(self) -> None:
         """What Python's iterdump prints, read back: its tables stand by their names."""

@@ -196,21 +196,22 @@ class RudePeers(Served):
             cases.ended("acts that are sent again", server)
 
     def test_order(self) -> None:
-        """Two peers at once: the first to connect is served first, and the other meanwhile waits."""
+        """Two peers at once: the one whose request is whole first is served first, though the other connected before and has begun its own."""
         cases = self.cases
         folder = cases.folder()
-        made = cases.expected(folder, [Case("", act(ENTRY), 0), Case("", PLACES, 0)])
+        made = cases.expected(folder, [Case("", PLACES, 0), Case("", act(ENTRY), 0)])
         with cases.server(folder, 2) as server, server.connect() as first, server.connect() as second:
+            send(first, act(ENTRY)[:-1])
             send(second, PLACES)
-            second.settimeout(0.2)
+            cases.tell("the second of two peers, whose request is whole", made.responses[0], received(second))
+            first.settimeout(0.2)
             try:
-                cases.tell("a second peer, before the first is served", "no answer", second.recv(1))
+                cases.tell("the first peer, before its request is whole", "no answer", first.recv(1))
             except TimeoutError:
-                cases.tell("a second peer waits", "", "")
-            second.settimeout(PATIENCE)
-            send(first, act(ENTRY))
-            cases.tell("the first of two peers", made.responses[0], received(first))
-            cases.tell("the second of two peers", made.responses[1], received(second))
+                cases.tell("the first peer waits", "", "")
+            first.settimeout(PATIENCE)
+            send(first, act(ENTRY)[-1:])
+            cases.tell("the first of two peers", made.responses[1], received(first))
             cases.ended("two peers", server)
 
     def test_counts(self) -> None:
@@ -290,7 +291,8 @@ class WordsAndFiles(Served):
             file.write(random.Random(SEED).randbytes(8192))
         huge = "99999999999999999999"
         options = (["--w", "3"], ["--w", "0"], ["--w", "256"], ["--vc", "64"], ["--at", "4102444800"], ["--ring", "0"], ["--ring", "4097"],
-                   ["--ring", "x"], ["--ring"], ["--at", "-1"], ["--colour"], ["--db", "x.db"])
+                   ["--ring", "x"], ["--ring"], ["--at", "-1"], ["--colour"], ["--db", "x.db"], ["--host"], ["--host", "a", "--host", "b"],
+                   ["--until-eof=1"], ["--end-when-stopped=1"], ["--until"])
         words: list[list[str]] = [
             [], ["{db}"], ["{db}", port, "1", "x"],
             *(["{db}", it, "1"] for it in ("0", "65536", "-1", "x", "", "80.0", huge, "0x50")),

@@ -1,23 +1,32 @@
-"""What could stop a server, over real sockets: peers that say nothing, drip, send what is no request or take nothing, no file handle left, a COUNT that is
-not given, and how a server says that it listens and why it ended.
+"""What could stop a server, over real sockets: peers that say nothing, drip, send what is no request, close half or take nothing, one at a time and crowds
+of them; connections that are kept open; no file handle left, and no place; a COUNT that is not given; and how a server says that it listens and why it ended.
 
-Behind each bad peer a good one has to be answered, and within the time that the bad one may take; nothing that was not asked whole is done. The groups
-run side by side, each on a server of its own. There is a line for each case that failed.
+Beside each bad peer a good one has to be answered at once, and in the order in which requests were whole. The bad one has its own time, and nothing that was
+not asked whole is done. The groups run side by side, each on a server of its own. There is a line for each case that failed.
 """
 import errno
 import os
+import random
+import re
 import resource
+import signal
 import socket
+import threading
 import time
 from concurrent.futures import ThreadPoolExecutor
+from contextlib import ExitStack, contextmanager
 from functools import partial
-from typing import Callable, Optional
+from typing import Callable, Iterator, Optional, Sequence
 
 from generate.http_words import ENTRY, PLACES, Case, act, get
 from tests import http_cases
-from tests.http_peer import Ended, Fault, Server, received, reset, run, send
+from tests.http_peer import PATIENCE, Ended, Fault, Server, received, reset, run, send
 
 SILENCE, WHOLE, FAREWELL = 5.0, 30.0, 2.0  # seconds: without a byte, for a request, behind an answer
+WAIT = PATIENCE / 20  # seconds that a good peer waits at most, whoever is beside it: 1, where nobody asks for more patience
+CROWD, MOST_PEERS = 20, 256
+DRIP = b"GET /places HTTP/1.1\r\nX: " + b"a" * 100
+SEED = 20311127
 EARLY, SLACK = 0.5, 4.0  # seconds by which a peer's clock may begin later than the server's, and that a busy machine may add
 HELLO = bytes.fromhex("160301008f0100008b0303") + bytes(132)  # the front of a TLS hello
 
@@ -47,16 +56,35 @@ def hold(peer: socket.socket, raw: bytes, pause: float) -> float:
     return time.monotonic() - began
 
 
+@contextmanager
+def stopped(server: Server) -> Iterator[None]:
+    """The server stands still meanwhile, and then finds all at once what came."""
+    os.kill(server.process.pid, signal.SIGSTOP)
+    try:
+        yield
+    finally:
+        os.kill(server.process.pid, signal.SIGCONT)
+
+
+def answered_at_once(cases: Cases, name: str, server: Server, raw: bytes, right: bytes) -> None:
+    """A good peer is answered so, and waits for it no longer than it has to."""
+    began = time.monotonic()
+    got = server.exchange(raw)
+    took = time.monotonic() - began
+    cases.tell(name, right, got)
+    cases.tell(f"{name}: within {WAIT} s", "", "" if took <= WAIT else f"{took:.3f} s")
+
+
 def held(cases: Cases, name: str, raw: bytes, pause: float, least: float, most: float) -> None:
-    """A peer that sends these bytes so, and stays: it is let go in time, the good one behind it is answered, and no act was made."""
+    """A peer that sends these bytes so, and stays: it is let go in time, the good one beside it is answered at once, and no act was made."""
     none, folder = cases.places(), cases.folder()
-    with cases.server(folder, 2, "--verbose") as server, server.connect() as bad:
-        with server.connect() as good:
-            good.settimeout(2 * WHOLE)
-            send(good, PLACES)
-            cases.within(name, least, most, hold(bad, raw, pause))
-            cases.tell(f"{name}: the one behind it", none, received(good))
-        ended, told = server.end(), "tcdesk: connection 1: 33 ReadFault\ntcdesk: connection 2: answered\n"
+    with cases.server(folder, 2, "--verbose") as server, server.connect() as bad, ThreadPoolExecutor(1) as pool:
+        took = pool.submit(hold, bad, raw, pause)
+        time.sleep(EARLY)
+        answered_at_once(cases, f"{name}: the one beside it", server, PLACES, none)
+        cases.within(name, least, most, took.result())
+        ended = server.end()
+        told = "tcdesk: connection 2: answered\ntcdesk: connection 1: 33 ReadFault\n"
         cases.tell(f"{name}: how they ended", Ended(0, "", server.says.replace("tcdesk: ended", f"{told}tcdesk: ended")), ended)
 
 
@@ -68,12 +96,12 @@ def silent(cases: Cases) -> None:
 
 def foreign(cases: Cases) -> None:
     """A peer that speaks TLS, and waits for an answer to its hello."""
-    held(cases, "a TLS hello", HELLO, 0, 0, SILENCE)
+    held(cases, "a TLS hello", HELLO, 0, EARLY, SILENCE)
 
 
 def dripping(cases: Cases) -> None:
     """A peer that sends a byte each second."""
-    held(cases, "a peer that drips", b"GET /places HTTP/1.1\r\nX: " + b"a" * 100, 1, WHOLE, WHOLE)
+    held(cases, "a peer that drips", DRIP, 1, WHOLE, WHOLE)
 
 
 def behind(cases: Cases) -> None:
@@ -82,13 +110,123 @@ def behind(cases: Cases) -> None:
     with cases.server(folder, 2) as server, server.connect() as bad:
         send(bad, PLACES)
         cases.tell("a peer that drips behind its answer", none, received(bad))
-        with server.connect() as good:
-            send(good, PLACES)
-            began = time.monotonic()
-            hold(bad, b"x" * 100, 0.3)
-            cases.within("a peer that drips behind its answer", 0, FAREWELL, time.monotonic() - began)
-            cases.tell("the one behind it", none, received(good))
+        began = time.monotonic()
+        answered_at_once(cases, "the one beside a peer that drips behind its answer", server, PLACES, none)
+        hold(bad, b"x" * 100, 0.3)
+        cases.within("a peer that drips behind its answer", 0, FAREWELL, time.monotonic() - began)
         cases.ended("a peer that drips behind its answer", server)
+
+
+def kept(cases: Cases) -> None:
+    """Peers that keep their connections open behind their answers, one after the other: each costs the next nothing. Were they waited for, it would be
+    half a second each."""
+    none, folder = cases.places(), cases.folder()
+    with cases.server(folder, CROWD + 1) as server, ExitStack() as open_ones:
+        cases.tell("a peer before them", none, server.exchange(PLACES))
+        began = time.monotonic()
+        for at in range(CROWD):
+            peer = open_ones.enter_context(server.connect())
+            send(peer, PLACES)
+            cases.tell(f"a peer that keeps its connection, {at}", none, received(peer))
+        took = time.monotonic() - began
+        cases.tell(f"{CROWD} peers that keep their connections: within {CROWD / 4 * WAIT} s", "", "" if took <= CROWD / 4 * WAIT else f"{took:.3f} s")
+        cases.ended("peers that keep their connections", server)
+
+
+def dripped(peers: Sequence[socket.socket], done: threading.Event) -> None:
+    """Each of these peers sends a byte each 2 seconds, until all is done."""
+    for byte in DRIP:
+        for peer in peers:
+            try:
+                peer.sendall(bytes([byte]))
+            except OSError:
+                pass
+        if done.wait(2):
+            return
+
+
+def crowded(server: Server, open_ones: ExitStack) -> list[socket.socket]:
+    """A crowd of each kind: peers that say nothing; that shut their end in an act, or behind a whole question, and never read; and those that drip, which it
+    gives."""
+    for _ in range(CROWD):
+        open_ones.enter_context(server.connect())
+    for at in range(CROWD):
+        half = open_ones.enter_context(server.connect())
+        send(half, act(ENTRY)[:-1] if at % 2 else PLACES)
+        half.shutdown(socket.SHUT_WR)
+    return [open_ones.enter_context(server.connect()) for _ in range(CROWD)]
+
+
+def crowd(cases: Cases) -> None:
+    """Crowds of dripping, silent and half-closed peers at once, one after the other for longer than a whole request may take: each good one between them is
+    answered at once, and no act of theirs is made."""
+    none, folder, done = cases.places(), cases.folder(), threading.Event()
+    with cases.server(folder, None) as server, ExitStack() as open_ones, ThreadPoolExecutor(1) as pool:
+        drips = pool.submit(dripped, crowded(server, open_ones), done)
+        try:
+            for at in range(40):
+                if at and at % 10 == 0:
+                    crowded(server, open_ones)
+                answered_at_once(cases, f"a good peer beside crowds, {at}", server, PLACES, none)
+                time.sleep(WHOLE / 40)
+        finally:
+            done.set()
+            drips.result()
+
+
+def ordered(cases: Cases) -> None:
+    """Requests are served in the order in which they were whole, however their connections and their first bytes came; also where the server finds all of
+    them at once."""
+    dice, folder, count = random.Random(SEED), cases.folder(), 12
+    with cases.server(folder, 3 * count) as server:
+        for turn in range(3):
+            with ExitStack() as open_ones:
+                peers = [open_ones.enter_context(server.connect()) for _ in range(count)]
+                order = dice.sample(range(count), count)
+                raws = [act(ENTRY, number=100 * turn + at + 1) for at in range(count)]
+                for peer, raw in zip(peers, raws):
+                    send(peer, raw[:-1])
+                time.sleep(EARLY)
+                if turn:
+                    with stopped(server):
+                        for at in order:
+                            send(peers[at], raws[at][-1:])
+                else:
+                    for at in order:
+                        send(peers[at], raws[at][-1:])
+                told = [re.findall(rb"ok request (\d+) ", received(peers[at])) for at in order]
+                cases.tell(f"the order of requests that were whole one after the other, {turn}", [[b"%d" % (turn * count + at + 1)] for at in range(count)], told)
+        cases.ended("requests in their order", server)
+
+
+def crammed(cases: Cases) -> None:
+    """So many connections are open at most: the next one waits, and is answered once one of them goes. None of them is lost."""
+    none, folder = cases.places(), cases.folder()
+    with cases.server(folder, MOST_PEERS + 1) as server, ExitStack() as open_ones:
+        peers = [open_ones.enter_context(server.connect()) for _ in range(MOST_PEERS)]
+        for peer in peers:
+            send(peer, PLACES[:-1])
+        with server.connect() as waits:
+            send(waits, PLACES)
+            waits.settimeout(1)
+            try:
+                cases.tell(f"the connection {MOST_PEERS + 1}", "no answer", waits.recv(1))
+            except TimeoutError:
+                cases.tell(f"the connection {MOST_PEERS + 1} waits", "", "")
+            send(peers[7], PLACES[-1:])
+            cases.tell("one that makes place", none, received(peers[7]))
+            peers[7].close()
+            waits.settimeout(PATIENCE)
+            began = time.monotonic()
+            cases.tell("the one that waited for a place", none, received(waits))
+            cases.within("the one that waited for a place", 0, WAIT, time.monotonic() - began)
+        for at, peer in enumerate(peers):
+            if at != 7:
+                send(peer, PLACES[-1:])
+        cases.tell("all others", {none}, {received(peer) for at, peer in enumerate(peers) if at != 7})
+        for peer in peers:
+            peer.close()
+        cases.ended("a server that had no place for a while", server)
 
 
 def taking(cases: Cases) -> None:
@@ -101,8 +239,8 @@ def taking(cases: Cases) -> None:
         with server.connect() as good:
             send(good, PLACES)
             began = time.monotonic()
-            cases.tell("the one behind a peer that takes nothing", b"HTTP/1.1 200", received(good)[:12])
-            cases.within("a peer that takes nothing", 0, FAREWELL, time.monotonic() - began)
+            cases.tell("the one beside a peer that takes nothing", b"HTTP/1.1 200", received(good)[:12])
+            cases.within("a peer that takes nothing", 0, WAIT, time.monotonic() - began)
         cases.tell("a peer that takes nothing: how it ended", 2, server.end().err.count(": answered\n"))
 
 
@@ -132,20 +270,21 @@ def own_address() -> str:
 
 
 def lost(cases: Cases) -> None:
-    """A peer that resets before its answer: the write fails, and the act stands. As it is sent again it is answered, and stands once."""
+    """A peer that resets before its answer: the write fails, and the act stands. As it is sent again it is answered, and stands once. The server stands still
+    while the peer sends and resets."""
     folder = cases.folder()
     right = cases.expected(folder, [Case("", act(ENTRY), 0)]).responses[0]
-    with cases.server(folder, 5, "--verbose") as server, server.connect() as first:
+    with cases.server(folder, 4, "--verbose") as server:
         peer = server.connect()
-        send(peer, act(ENTRY))
-        reset(peer)
-        send(first, PLACES)
-        received(first)
+        time.sleep(EARLY)
+        with stopped(server):
+            send(peer, act(ENTRY))
+            reset(peer)
         cases.tell("the act whose answer was lost", True, b"places 1: 1 0" in server.exchange(PLACES))
         cases.tell("the act again", right, server.exchange(act(ENTRY)))
         cases.tell("the act that was sent twice", True, b"places 1: 1 0" in server.exchange(PLACES))
         told = server.end().err
-        cases.tell("how a connection ended that was reset", True, "tcdesk: connection 2: 34 WriteFault\n" in told)
+        cases.tell("how a connection ended that was reset", True, "tcdesk: connection 1: 34 WriteFault\n" in told)
 
 
 def uncounted(cases: Cases) -> None:
@@ -171,23 +310,23 @@ def limited(server: Server, most: Optional[int] = None) -> None:
 
 
 def starved(cases: Cases) -> None:
-    """No file handle is left for a while: no connection is counted meanwhile, and then each is served. The first is served all the same, since the
-    system took its handle as the server began to wait for it."""
+    """No file handle is left for a while: no connection is counted meanwhile, and then each is served."""
     none, folder = cases.places(), cases.folder()
     with cases.server(folder, 3) as server:
         cases.tell("a question before", none, server.exchange(PLACES))
         limited(server)
-        cases.tell("a question with the last handle", none, server.exchange(PLACES))
-        with server.connect() as peer:
-            send(peer, PLACES)
+        with server.connect() as peer, server.connect() as second:
+            for it in (peer, second):
+                send(it, PLACES)
             peer.settimeout(3)
             try:
                 cases.tell("one that waits for a handle", "no answer", peer.recv(1))
             except TimeoutError:
                 cases.tell("one that waits for a handle", "", "")
-            peer.settimeout(WHOLE)
             limited(server, 256)
-            cases.tell("the one that waited for a handle", none, received(peer))
+            for it in (peer, second):
+                it.settimeout(WHOLE)
+                cases.tell("the ones that waited for a handle", none, received(it))
         cases.ended("a server that had no handle for a while", server)
 
 
@@ -209,7 +348,7 @@ def exhausted(cases: Cases) -> None:
     cases.tell("the desk that it kept", "places 1: 1 0", run(cases.program, folder, [], "--db", "desk.db")[:13])
 
 
-GROUPS = (silent, foreign, dripping, behind, taking, ends, lost, uncounted, starved, exhausted)
+GROUPS = (silent, foreign, dripping, behind, kept, crowd, ordered, crammed, taking, ends, lost, uncounted, starved, exhausted)
 
 
 def tried(program: str, work: str, group: Callable[[Cases], None]) -> Cases:

@@ -58,6 +58,9 @@ def cannot(what: str, why: str = "") -> str:
 
 
 FILE, FOLDER, NO_NAME = "there is no such file", "it is a folder", "it is no name of a file"
+SPECIAL, NO_DATABASE, FOREIGN = "it is a pipe, a socket or a device", "it is no database, or a damaged one", "its tables are not a desk's"
+LATER, DAMAGED = "its tables are of a newer schema, which a later program made", "it tells what no desk could have written"
+NAMES, JOURNAL = "it has two names, or its log has", "SQLite left a journal beside it, which sqlite3 has to play back"
 LONG = "n" * 252  # a name that a file may have, and a log beside it may not
 REASONS = [
     Case("run missing.tc", 2, "", cannot("missing.tc", FILE)),
@@ -77,33 +80,29 @@ REASONS = [
     Case("run --db dangling none.tc", 2, "", cannot("dangling")),
     Case(f"run --db {LONG} none.tc", 2, "", cannot(LONG)),
     Case(f"run --db {LONG} none.tc", 2, "", cannot(LONG)),
-    Case("run --db left.db none.tc", 2, "", cannot("left.db")),
-    Case("run --db text.db none.tc", 2, "", cannot("text.db", "it is no database, or a damaged one")),
-    Case("run --db foreign.db none.tc", 2, "", cannot("foreign.db", "its tables are not a desk's")),
-    Case("run --db later.db none.tc", 2, "", cannot("later.db", "its tables are of a newer schema, which a later program made")),
-    Case("run --db damaged.db none.tc", 2, "", cannot("damaged.db", "it tells what no desk could have written")),
-    Case("loop --w 20 foreign.db none.tc", 2, "", cannot("foreign.db", "its tables are not a desk's")),
     Case("loop desk.db missing.tc", 2, "", cannot("missing.tc", FILE)),
-    Case("serve foreign.db 1", 2, "", cannot("foreign.db", "its tables are not a desk's")),
     Case("report missing.db 0 1", 2, "", cannot("missing.db", FILE)),
-    Case("report folder 0 1", 2, "", cannot("folder", FOLDER)),
     Case("report empty.db 0 1", 2, "", cannot("empty.db", "it is empty")),
-    Case("report later.db 0 1", 2, "", cannot("later.db", "its tables are of a newer schema, which a later program made")),
-    Case("report left.db 0 1", 2, "", cannot("left.db")),
     Case("backup missing.db copy.db", 2, "", cannot("missing.db", FILE)),
-    Case("backup folder copy.db", 2, "", cannot("folder", FOLDER)),
     Case("backup empty.db copy.db", 2, "", cannot("empty.db", "it is empty")),
-    Case("backup text.db copy.db", 2, "", cannot("text.db")),
-    Case("backup left.db copy.db", 2, "", cannot("left.db")),
     Case("backup late.db ", 2, "", cannot("", NO_NAME)),
     Case("backup late.db none/copy.db", 2, "", cannot("none/copy.db", "there is no such folder")),
 ]
+# What is no desk's file, and why; each command that opens one tells it, but that a report judges no more than that rows read.
+NO_DESKS = {
+    "folder": FOLDER, "fifo": SPECIAL, "left.db": JOURNAL, "text.db": NO_DATABASE, "foreign.db": FOREIGN, "later.db": LATER, "damaged.db": DAMAGED,
+    "wide.db": DAMAGED, "twice.db": NAMES, "logged.db": NAMES,
+}
+COMMANDS = ("run --db {} none.tc", "loop --w 20 {} none.tc", "serve {} 1", "report {} 0 1", "board {}", "backup {} copy.db")
+REASONS += [Case(command.format(name), 2, "", cannot(name, why)) for name, why in NO_DESKS.items() for command in COMMANDS
+            if (name, command) != ("damaged.db", "report {} 0 1")]
 AT = "tcdesk: --at is Unix seconds, 0 to 4102444799 (for now: $(date +%s)), or an instant such as 2031-05-04T10:00:00Z: "
 WORDS = [Case(f"{command} --at {word}", 2, "", f"{AT}{word}\n")
          for command in ("run none.tc", "run --db new.db none.tc", "serve new.db 1", "loop new.db none.tc")
          for word in ("now", "2026-11-28", "4102444800", "01", "2026-11-28T10:00:00.5Z", "2100-01-01T00:00:00Z")]
 WORDS += [Case("check shift none.tc", 2, "", "tcdesk: KIND is script, stack or procedure: shift\n")]
 BEFORE = "tcdesk: opened at {}, before the last move at 86400\n"
+NEW_LINK = "tcdesk: opened at {} after 1 moves: the link is new\n"
 MOMENTS = [
     Case("run --db late.db none.tc", 0, None, BEFORE.format(0)),
     Case("run --db late.db --at 86399 none.tc", 0, None, BEFORE.format(86399)),
@@ -112,6 +111,9 @@ MOMENTS = [
     Case("run --db late.db --at 1970-01-02T01:00:00+02:00 none.tc", 0, None, BEFORE.format(82800)),
     Case("run --at 2026-11-28T10:00:00Z none.tc", 0, NONE, ""),
     Case("loop late.db none.tc --at 5", 0, None, BEFORE.format(5)),
+    Case("loop late.db none.tc --at 5 --verbose", 0, None, BEFORE.format(5) + NEW_LINK.format(5)),
+    Case("loop late.db none.tc --at 86400 --verbose", 0, None, NEW_LINK.format(86400)),
+    Case("loop late.db none.tc --at 86400", 0, None, ""),
 ]
 
 
@@ -125,13 +127,18 @@ def made(folder: str) -> None:
         large.truncate(1048577)
     run(folder, ["run", "--db", "late.db", "late.tc"])
     run(folder, ["run", "--db", "later.db", "none.tc"])
-    run(folder, ["run", "--db", "damaged.db", "late.tc"])
+    for name in ("damaged.db", "wide.db", "twice.db", "logged.db"):
+        run(folder, ["run", "--db", name, "late.tc"])
+    os.mkfifo(f"{folder}/fifo")
+    for end in ("", "-wal"):
+        os.link(f"{folder}/{'logged' if end else 'twice'}.db{end}", f"{folder}/second{end}")
     os.symlink("nowhere/desk.db", f"{folder}/dangling")
     run(folder, ["run", "--db", "left.db", "late.tc"])
     with open(f"{folder}/left.db-journal", "wb") as journal:
         journal.write(b"\xd9" * 512)
     changed(f"{folder}/later.db", "UPDATE meta SET value = 4 WHERE name = 'schema'", "CREATE TABLE news (at INTEGER)")
     changed(f"{folder}/damaged.db", "DELETE FROM move")
+    changed(f"{folder}/wide.db", "UPDATE request SET apid = -1")
     changed(f"{folder}/foreign.db", "CREATE TABLE notes (text TEXT)")
 
 
@@ -213,6 +220,7 @@ class Told(Tried):
         os.mkdir(f"{self.folder}/shut", 0o500)
         why = "there is no permission for it"
         self.all_end([Case("run none.tc", 2, "", cannot("none.tc", why)), Case("run --db late.db late.tc", 2, "", cannot("late.db", why)),
+                      Case("report text.db 0 1", 2, "", cannot("text.db", why)), Case("board text.db", 2, "", cannot("text.db", why)),
                       Case("run --db shut/desk.db late.tc", 2, "", cannot("shut/desk.db", why)), Case("backup late.db shut/copy.db", 2, "", cannot("shut/copy.db", why)),
                       Case("backup text.db copy.db", 2, "", cannot("text.db", why))])
 

@@ -366,6 +366,22 @@ class Wall(unittest.TestCase):
                 self.assertEqual(0, len(re.findall(">closed(?: file)?<", opened)))
                 self.assertEqual(*(Page(it.encode()).rows for it in (opened, closed)))
 
+    def test_opened(self) -> None:
+        """Below its heading the page says when the desk was opened, and how many moves stood once that had made its own; later moves change nothing of it."""
+        desk = Desk()
+        line = "<header>\n<h1>Telecommand desk</h1>\n<p>opened at <b>{}</b> UTC after <b>{}</b> moves</p>\n<p><b>1</b> entered</p>\n"
+        for at, act in enumerate(("enter 5 a--c no 8 1 - - ok", "initiate none", "approve 1", "release 1")):
+            desk.line(f"{at} {'bob' if act == 'approve 1' else 'ann'} {act}")
+        self.assertIn(line.format("1970-01-01 00:00:00", 0), board_page(desk, False).decode())
+        moved = len(desk.book.history)
+        desk = Desk.opened(desk.tables(), 86_399)
+        self.assertGreater(desk.stood, moved)
+        desk.line("86400 ann enter 6 a--c no 8 1 - - ok")
+        self.assertIn(line.format("1970-01-01 23:59:59", desk.stood).replace("<b>1</b> entered", "<b>2</b> entered"), board_page(desk, False).decode())
+        closed = board_page(desk, True).decode()
+        self.assertIn('<header>\n<h1>Telecommand desk</h1>\n<p class="file">closed file</p>\n<p><b>2</b> entered</p>\n', closed)
+        self.assertNotIn("opened at", closed)
+
 
 # ---- bounds, and the axis
 

@@ -170,11 +170,25 @@ def in_doubt(count: int = 40) -> Noted:
     return it.desk
 
 
-def full() -> Noted:
+def full(persons: Sequence[str] = SHORT) -> Noted:
     """A desk of as many requests as it holds: the last are open, and the others withdrawn."""
-    desk = Noted()
+    it = Scene(persons)
     for number in range(1, MOST_REQUESTS + 1):
-        desk.line(f"{BEGIN + number} ann enter {number % 2048} a--c no 8 1 - - ok")
+        it.desk.line(f"{BEGIN + number} {it.ann} enter {number % 2048} a--c no 8 1 - - ok")
         if number <= MOST_REQUESTS - 240:
-            desk.line(f"{BEGIN + number} bob withdraw {number}")
-    return desk
+            it.desk.line(f"{BEGIN + number} {it.bob} withdraw {number}")
+    return it.desk
+
+
+def longest() -> Noted:
+    """A full desk of persons with long names, whose last requests are in doubt. It is said to have been opened after all of that: its heading has long numbers."""
+    it = Scene(LONG)
+    it.desk = full(LONG)
+    it.waits(2 * MOST_REQUESTS)
+    it.says("initiate none")
+    for number in range(it.last - 9, it.last + 1):
+        it.says(f"approve {number}", by=it.bob)
+        it.says(f"release {number}")
+    it.says("terminate", by=it.eve)
+    it.desk.since, it.desk.stood = it.moment, len(it.desk.book.history)
+    return it.desk

@@ -12,6 +12,7 @@ use Rattle.tc_types.specs.declared.refusals.Refusal.TheVariants.{Memory, ReadFau
 use Rattle.tc_desk.specs.Replies.{Reply}
 use Rattle.tc_front.specs.declared.read.FrontFault.{FrontFault}
 use Rattle.tc_front.specs.declared.read.FrontFault.TheVariants as faults
+use Rattle.tc_front.specs.Door.{Enters}
 use Rattle.tc_front.specs.Front.{Asked, IsDecided}
 use Rattle.tc_front.specs.Read.{CanGoOn, HasStopped, NoFront, refusal_of}
 use Rattle.tc_front.specs.Write.{Stream, Writes}
@@ -80,8 +81,19 @@ part_put fault sent old new bytes served reply gone put is = rw gone (record {
 
 -- ---- the exchange
 
-was_read : (had left : Option (List ℕ)) (text : List ℕ) (asked : Asked) → Consumes had left text → ((a : Asked) → IsDecided text a → IfSome had (λ input. IsDecided input a)) → IsDecided text asked → IsRead had left asked
-was_read had left text asked taken whole decided = record { text = text; taken = taken; decided = decided; whole = whole asked decided }
+was_read : (hosts : List (List ℕ)) (had left : Option (List ℕ)) (text : List ℕ) (asked served : Asked) → Consumes had left text → ((a : Asked) → IsDecided text a → IfSome had (λ input. IsDecided input a))
+    → IsDecided text asked → Enters hosts text asked served → IsRead hosts had left served
+was_read hosts had left text asked served taken whole decided enters =
+    record { text = text; taken = taken; asked = asked; decided = decided; whole = whole asked decided; enters = enters }
+
+-- what these bytes ask, and what of it is let in
+abbrev IsAsked : List (List ℕ) → List ℕ → Asked → Type 0
+IsAsked hosts bytes served = (asked : Asked) × IsDecided bytes asked × Enters hosts bytes asked served
+
+read_so_far : {hosts : List (List ℕ)} (had left : Option (List ℕ)) (text bytes : List ℕ) (served : Asked) → bytes ≡ text → Consumes had left text
+    → ((a : Asked) → IsDecided text a → IfSome had (λ input. IsDecided input a)) → IsAsked hosts bytes served → IsRead hosts had left served
+read_so_far {hosts} had left text bytes served same taken whole is =
+    was_read hosts had left text is.0 served taken whole (subst (λ (t : List ℕ). IsDecided t is.0) same is.1) (subst (λ (t : List ℕ). Enters hosts t is.0 served) same is.2)
 
 abbrev unread_so : FrontFault → Result (Unit {0}) FrontFault
 unread_so fault = Err fault
@@ -100,14 +112,14 @@ no_fault_read : (sent : Sent) (u : Unit {0}) (count : ℕ) → (count ≢ 0 → 
 no_fault_read sent u count failed some = let wrong = failed some in absurd cc
 
 -- what was read was served and answered, or not answered
-pub exchanged : {S : Type 0} (g : Ghosts S) (sent : Sent) (u : Unit {0}) (input left : Stream) (text bytes : List ℕ) (asked : Asked) (served : Served) (old new : Standing S) (before after : Stream) → bytes ≡ text
+pub exchanged : {S : Type 0} {hosts : List (List ℕ)} {since : ℕ} (g : Ghosts S) (sent : Sent) (u : Unit {0}) (input left : Stream) (text bytes : List ℕ) (asked : Asked) (served : Served) (old new : Standing S) (before after : Stream) → bytes ≡ text
     → Consumes input.bytes left.bytes text → ((a : Asked) → IsDecided text a → IfSome input.bytes (λ t. IsDecided t a)) → (left.counts.faults ≢ 0 → read_so u ≡ Err faults.Unread) → (left.counts.ends ≢ 0 → read_so u ≡ Err faults.Unread)
-    → IsDecided bytes asked → (made : IsServedBy (Serves g old asked) old served new) → Responds (outcome_of made.reply served) sent before after → before.counts ≡ no_counts → Exchanges g sent input left old new before after
-exchanged g (Ok u) v input left text bytes asked served old new before after same taken whole fault end decided made responds none = record {
+    → (is : IsAsked hosts bytes asked) → (made : IsServedBy (Serves since g old asked) old served new) → Responds (outcome_of made.reply served) sent before after → before.counts ≡ no_counts → Exchanges hosts since g sent input left old new before after
+exchanged g (Ok u) v input left text bytes asked served old new before after same taken whole fault end is made responds none = record {
   answered = record {
     asked = asked;
     outcome = outcome_of made.reply served;
-    read = was_read input.bytes left.bytes text asked taken whole (subst (λ (t : List ℕ). IsDecided t asked) same decided);
+    read = read_so_far input.bytes left.bytes text bytes asked same taken whole is;
     serves = made.makes;
     written = responds.written;
     lines = lines_come_back made.reply responds.lines;
@@ -118,12 +130,12 @@ exchanged g (Ok u) v input left text bytes asked served old new before after sam
   unfailed = responds.unfailed none;
   opened = made.opened;
 }
-exchanged g (Err why) v input left text bytes asked served old new before after same taken whole fault end decided made responds none = record {
+exchanged g (Err why) v input left text bytes asked served old new before after same taken whole fault end is made responds none = record {
   answered = tt;
   failed = inr (record {
     asked = asked;
     outcome = outcome_of made.reply served;
-    read = was_read input.bytes left.bytes text asked taken whole (subst (λ (t : List ℕ). IsDecided t asked) same decided);
+    read = read_so_far input.bytes left.bytes text bytes asked same taken whole is;
     serves = made.makes;
     unanswered = responds.failed none;
   });
@@ -133,9 +145,9 @@ exchanged g (Err why) v input left text bytes asked served old new before after 
   opened = made.opened;
 }
 
-ended_unread : {S : Type 0} (g : Ghosts S) (sent : Sent) (why : Refusal) (input left : Stream) (text : List ℕ) (room : Standing S) (at : Stream) → sent ≡ Err why
+ended_unread : {S : Type 0} {hosts : List (List ℕ)} {since : ℕ} (g : Ghosts S) (sent : Sent) (why : Refusal) (input left : Stream) (text : List ℕ) (room : Standing S) (at : Stream) → sent ≡ Err why
     → ((why ≡ ReadFault) × HasStopped left.counts) ⊎ ((why ≡ Memory) × CanGoOn left.counts) → Consumes input.bytes left.bytes text → NoFront text → at.counts ≡ no_counts
-    → (left.counts.faults ≢ 0 → refused_so why ≡ Err ReadFault) → (left.counts.ends ≢ 0 → refused_so why ≡ Err ReadFault) → Exchanges g sent input left room room at at
+    → (left.counts.faults ≢ 0 → refused_so why ≡ Err ReadFault) → (left.counts.ends ≢ 0 → refused_so why ≡ Err ReadFault) → Exchanges hosts since g sent input left room room at at
 ended_unread g sent why input left text room at gone because taken fronts none fault end = rw gone (record {
   answered = tt;
   failed = inl (record { why = because; unread = record { text = text; taken = taken; fronts = fronts }; room = refl; untouched = untouched at.counts at.bytes none });
@@ -146,9 +158,9 @@ ended_unread g sent why input left text room at gone because taken fronts none f
 })
 
 -- none was read
-pub ended_by : {S : Type 0} (g : Ghosts S) (fault : FrontFault) (sent : Sent) (input left : Stream) (text : List ℕ) (room : Standing S) (at : Stream) → sent ≡ Err (refusal_of fault)
+pub ended_by : {S : Type 0} {hosts : List (List ℕ)} {since : ℕ} (g : Ghosts S) (fault : FrontFault) (sent : Sent) (input left : Stream) (text : List ℕ) (room : Standing S) (at : Stream) → sent ≡ Err (refusal_of fault)
     → (unread_so fault ≡ Err faults.Unread → HasStopped left.counts) → (unread_so fault ≡ Err faults.Memory → CanGoOn left.counts) → Consumes input.bytes left.bytes text → NoFront text
-    → (left.counts.faults ≢ 0 → unread_so fault ≡ Err faults.Unread) → (left.counts.ends ≢ 0 → unread_so fault ≡ Err faults.Unread) → at.counts ≡ no_counts → Exchanges g sent input left room room at at
+    → (left.counts.faults ≢ 0 → unread_so fault ≡ Err faults.Unread) → (left.counts.ends ≢ 0 → unread_so fault ≡ Err faults.Unread) → at.counts ≡ no_counts → Exchanges hosts since g sent input left room room at at
 ended_by g faults.Unread sent input left text room at gone stopped going taken fronts fault end none =
     ended_unread g sent ReadFault input left text room at gone (inl (refl, stopped refl)) taken fronts none (fault_told faults.Unread left.counts.faults fault) (fault_told faults.Unread left.counts.ends end)
 ended_by g faults.Memory sent input left text room at gone stopped going taken fronts fault end none =
@@ -170,8 +182,8 @@ no_end : (why : Refusal) (counts : Counts) → counts ≡ no_counts → counts.e
 no_end why counts none h = absurd (h (ap (λ (c : Counts). c.ends) none))
 
 -- nothing was read at all
-pub ended_at_once : {S : Type 0} (g : Ghosts S) (sent : Sent) (input : Stream) (room : Standing S) (at : Stream) → sent ≡ Err Memory → input.counts ≡ no_counts → at.counts ≡ no_counts
-    → Exchanges g sent input input room room at at
+pub ended_at_once : {S : Type 0} {hosts : List (List ℕ)} {since : ℕ} (g : Ghosts S) (sent : Sent) (input : Stream) (room : Standing S) (at : Stream) → sent ≡ Err Memory → input.counts ≡ no_counts → at.counts ≡ no_counts
+    → Exchanges hosts since g sent input input room room at at
 ended_at_once g sent input room at gone fresh none =
     ended_unread g sent Memory input input [] room at gone
     (inr (refl, record { faults = ap (λ (c : Counts). c.faults) fresh; ends = ap (λ (c : Counts). c.ends) fresh; reads = rw fresh (omega arith) }))
@@ -183,25 +195,25 @@ untold_end : (outcome : Outcome) (why : Refusal) → IsUntold outcome why → Te
 untold_end outcome why (inl stands) = inr (inr stands.1)
 untold_end outcome why (inr none) = inr (inl none.1)
 
-end_told : {S : Type 0} (g : Ghosts S) (why : Refusal) (read : Counts) (had left : Option (List ℕ)) (old new : Standing S) (counts : Counts) (before after : Option (List ℕ))
-    → EndsUnread why read had left old new counts before after ⊎ EndsUnanswered g why had left old new counts before after → TellsEnd why
+end_told : {S : Type 0} {hosts : List (List ℕ)} {since : ℕ} (g : Ghosts S) (why : Refusal) (read : Counts) (had left : Option (List ℕ)) (old new : Standing S) (counts : Counts) (before after : Option (List ℕ))
+    → EndsUnread why read had left old new counts before after ⊎ EndsUnanswered hosts since g why had left old new counts before after → TellsEnd why
 end_told g why read had left old new counts before after (inl unread) = elim unread.why [ inl stopped ↦ inl stopped.0 | inr going ↦ inr (inl going.0) ]
 end_told g why read had left old new counts before after (inr ended) = elim ended.unanswered [ inl cut ↦ inr (inr cut.0) | inr untold ↦ untold_end ended.outcome why untold.0 ]
 
 -- no other refusal is told
-pub ends_told : {S : Type 0} (g : Ghosts S) (sent : Sent) (input left : Stream) (old new : Standing S) (before after : Stream) → Exchanges g sent input left old new before after → IfErr sent TellsEnd
+pub ends_told : {S : Type 0} {hosts : List (List ℕ)} {since : ℕ} (g : Ghosts S) (sent : Sent) (input left : Stream) (old new : Standing S) (before after : Stream) → Exchanges hosts since g sent input left old new before after → IfErr sent TellsEnd
 ends_told g (Ok u) input left old new before after done = tt
 ends_told g (Err why) input left old new before after done = end_told g why left.counts input.bytes left.bytes old new after.counts before.bytes after.bytes done.failed
 
 -- ---- what it made of the room
 
 -- what was read is served
-pub exchange_read : {S : Type 0} (g : Ghosts S) (sent : Sent) (input left : Stream) (old new : Standing S) (before after : Stream) → Exchanges g sent input left old new before after
+pub exchange_read : {S : Type 0} {hosts : List (List ℕ)} {since : ℕ} (g : Ghosts S) (sent : Sent) (input left : Stream) (old new : Standing S) (before after : Stream) → Exchanges hosts since g sent input left old new before after
     → (asked : Option Asked) × ServesRead g old asked new
-exchange_read g (Ok u) input left old new before after done = (Some done.answered.asked, (done.answered.outcome, done.answered.serves))
-exchange_read {S} g (Err why) input left old new before after done = by_end done.failed
+exchange_read {S} {hosts} {since} g (Ok u) input left old new before after done = (Some done.answered.asked, (since, done.answered.outcome, done.answered.serves))
+exchange_read {S} {hosts} {since} g (Err why) input left old new before after done = by_end done.failed
   where
-    by_end : EndsUnread why left.counts input.bytes left.bytes old new after.counts before.bytes after.bytes ⊎ EndsUnanswered g why input.bytes left.bytes old new after.counts before.bytes after.bytes
+    by_end : EndsUnread why left.counts input.bytes left.bytes old new after.counts before.bytes after.bytes ⊎ EndsUnanswered hosts since g why input.bytes left.bytes old new after.counts before.bytes after.bytes
         → (asked : Option Asked) × ServesRead g old asked new
     by_end (inl unread) = (None, unread.room)
-    by_end (inr ended) = (Some ended.asked, (ended.outcome, ended.serves))
+    by_end (inr ended) = (Some ended.asked, (since, ended.outcome, ended.serves))

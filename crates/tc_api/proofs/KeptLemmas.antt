@@ -10,7 +10,7 @@ use Rattle.tc_types.specs.declared.refusals.Refusal.{Refusal}
 use Rattle.tc_front.specs.declared.paths.Post.{Post}
 use Rattle.tc_front.specs.declared.paths.Post.TheVariants as paths
 use Rattle.tc_store.specs.Ledgers.{KeptAnswer}
-use Rattle.tc_front.specs.Front.{Asked, asks, posts, refuses, shows}
+use Rattle.tc_front.specs.Front.{Asked, asks, posts, refuses, shows, tells}
 use Rattle.tc_book.specs.declared.stamps.Stamp.{Stamp}
 use Rattle.tc_desk.specs.Acts.{is_question}
 use Rattle.tc_desk.specs.Headline.{TellsTrue}
@@ -160,16 +160,17 @@ post_keeps g old new post body outcome serves = elim serves.served [ inl none �
 abbrev nobody : Stamp
 nobody = record { by = []; moment = 0 }
 
-serves_keeps : {S : Type 0} (g : Ghosts S) (old new : Standing S) (asked : Asked) (outcome : Outcome) → Serves g old asked outcome new → KeepsTables g old new
-serves_keeps g old new (refuses why) outcome (_, same) = same_keeps g old new same
-serves_keeps g old new (asks query) outcome (steps, _) = step_keeps g old new nobody (act.Ask query) outcome.reply (steps nobody)
-serves_keeps g old new shows outcome serves = same_keeps g old new serves.same
-serves_keeps g old new (posts post body) outcome serves = post_keeps g old new post body outcome serves
+serves_keeps : {S : Type 0} (since : ℕ) (g : Ghosts S) (old new : Standing S) (asked : Asked) (outcome : Outcome) → Serves since g old asked outcome new → KeepsTables g old new
+serves_keeps since g old new (refuses why) outcome (_, same) = same_keeps g old new same
+serves_keeps since g old new (asks query) outcome (steps, _) = step_keeps g old new nobody (act.Ask query) outcome.reply (steps nobody)
+serves_keeps since g old new shows outcome serves = same_keeps g old new serves.same
+serves_keeps since g old new tells outcome serves = same_keeps g old new serves.same
+serves_keeps since g old new (posts post body) outcome serves = post_keeps g old new post body outcome serves
 
 -- what was read of a connection is served
 pub read_keeps : {S : Type 0} (g : Ghosts S) (old new : Standing S) (read : Option Asked) → ServesRead g old read new → KeepsTables g old new
 read_keeps g old new None same = same_keeps g old new same
-read_keeps g old new (Some asked) (outcome, serves) = serves_keeps g old new asked outcome serves
+read_keeps g old new (Some asked) (since, outcome, serves) = serves_keeps since g old new asked outcome serves
 
 -- ---- exchanges, one after the other
 

@@ -3,5 +3,6 @@ mod KeptLemmas
 mod LineLemmas
 mod OnceLemmas
 mod OneLemmas
+mod OpeningLemmas
 mod ResponseLemmas
 mod ServingLemmas

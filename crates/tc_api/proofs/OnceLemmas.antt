@@ -9,7 +9,7 @@ use Rattle.tc_types.specs.declared.refusals.Refusal.{Refusal}
 use Rattle.tc_types.specs.declared.refusals.Refusal.TheVariants.{Stopped}
 use Rattle.tc_front.specs.declared.paths.Post.TheVariants as paths
 use Rattle.tc_store.specs.Ledgers.{KeptAnswer}
-use Rattle.tc_front.specs.Front.{Asked, asks, posts, refuses, shows}
+use Rattle.tc_front.specs.Front.{Asked, asks, posts, refuses, shows, tells}
 use Rattle.tc_desk.specs.Replies.{Reply, refusal_reply}
 use Rattle.tc_room.specs.declared.callers.Caller.{Caller}
 use Rattle.tc_room.specs.Calls.{ActsAnew, AnswersActCall, AnswersLoadCall, FailsOnce, KeepsAll, LoadsAnew, MakesNothing, StaysSo, kept_after, kept_for}
@@ -86,16 +86,17 @@ module _ {S : Type 0} (g : Ghosts S) (caller : Caller) (old : Standing S) (outco
   text_seen : (kind : LoadKind) (body : List ℕ) → (call : LoadCall) × JudgesLoadPost body (Ok call) × (call.caller ≡ caller) → ServesText g old kind body outcome new → Seen g caller old outcome new
   text_seen kind body (call, judged, by) (given, judges, serves) = load_seen kind call given (load_post_one body given (Ok call) judges judged) by serves
 
-  came : (asked : Asked) → Serves g old asked outcome new → IsCallOf caller asked → Came g caller old outcome new
-  came (refuses why) serves calls = absurd calls
-  came (asks query) serves calls = absurd calls
-  came shows serves calls = absurd calls
-  came (posts paths.Acts body) serves (call, judged, by) = elim serves.served [
+  came : (since : ℕ) (asked : Asked) → Serves since g old asked outcome new → IsCallOf caller asked → Came g caller old outcome new
+  came since (refuses why) serves calls = absurd calls
+  came since (asks query) serves calls = absurd calls
+  came since shows serves calls = absurd calls
+  came since tells serves calls = absurd calls
+  came since (posts paths.Acts body) serves (call, judged, by) = elim serves.served [
     | inl none ↦ inl none
     | inr given ↦ inr (act_seen call given.0 (act_post_one body given.0 (Ok call) given.1 judged) by given.2)
   ]
-  came (posts paths.Stacks body) serves calls = elim serves.served [ inl none ↦ inl none | inr given ↦ inr (text_seen load_kind.Stack body calls given) ]
-  came (posts paths.Procedures body) serves calls = elim serves.served [ inl none ↦ inl none | inr given ↦ inr (text_seen load_kind.Procedure body calls given) ]
+  came since (posts paths.Stacks body) serves calls = elim serves.served [ inl none ↦ inl none | inr given ↦ inr (text_seen load_kind.Stack body calls given) ]
+  came since (posts paths.Procedures body) serves calls = elim serves.served [ inl none ↦ inl none | inr given ↦ inr (text_seen load_kind.Procedure body calls given) ]
 
 -- ---- what is done
 
@@ -107,6 +108,7 @@ stands_acts false b is = absurd cc
 done_is : (e : Ending) → is_done e ≡ true → e ≡ ending.Done
 done_is ending.Done is = refl
 done_is (ending.Refused refusal) is = absurd cc
+done_is ending.Foreign is = absurd cc
 done_is ending.NoPath is = absurd cc
 done_is ending.OtherMethod is = absurd cc
 
@@ -117,6 +119,7 @@ grants reply e ends is = subst (λ (given : Ending). EndsWith reply given) is en
 ends_done : (reply : Reply) (e : Ending) → EndsWith reply e → is_refused reply ≡ false → e ≡ ending.Done
 ends_done reply ending.Done ends granted = refl
 ends_done reply (ending.Refused refusal) ends granted = not_both (is_refused reply) (ap is_refused ends ∙ are_refused refusal) granted
+ends_done reply ending.Foreign ends granted = absurd ends
 ends_done reply ending.NoPath ends granted = absurd ends
 ends_done reply ending.OtherMethod ends granted = absurd ends
 
@@ -171,12 +174,12 @@ module _ {S : Type 0} (g : Ghosts S) (caller : Caller) (start : Standing S) (rep
         holds = seen.held replies held;
         again = λ stages last later goes again end called.
             let comes = through g stages next last after later goes (seen.held replies held) in
-            came_again g caller first again last end later seen.ends.page done (comes.0 caller (ended first.reply) kept) comes.1 called.clean (came g caller last again end called.asked called.serves called.calls);
+            came_again g caller first again last end later seen.ends.page done (comes.0 caller (ended first.reply) kept) comes.1 called.clean (came g caller last again end called.since called.asked called.serves called.calls);
       }
 
   -- an act or a load that was called, and that stands, is done once
   pub done_once : HoldsBook g start replies → Called g caller start first next → first.stands ≡ true → IsDoneOnce g caller first next
-  done_once held called stands = elim (came g caller start first next called.asked called.serves called.calls) [
+  done_once held called stands = elim (came g caller start first next called.since called.asked called.serves called.calls) [
     | inl none ↦ absurd (let e : (let no : Bool = false in no) ≡ true = sym (ap (λ (o : Outcome). o.stands) none.0) ∙ stands in cc)
     | inr seen ↦ seen_once held called.clean stands seen
   ]

@@ -1,5 +1,5 @@
 -- What is served.
-use Rattle.std.proofs.Common.{Bor, ◌≡◌, ◌∙◌, ◌⊎◌, inl, inr, ap, subst, refl, ℕ, Bool, List, Option, Some, None, Result, Ok, Err, String, Global}
+use Rattle.std.proofs.Common.{Bor, ◌≡◌, ◌∙◌, ◌⊎◌, inl, inr, ap, subst, refl, ℕ, Bool, false, List, [], ◌∷◌, Option, Some, None, Result, Ok, Err, String, Global}
 use Rattle.std.specs.Prelude.{◌&&◌, IfSome}
 use Rattle.std.specs.Str.{IsUtf8}
 use Rattle.std.specs.String.{string_bytes}
@@ -22,16 +22,28 @@ use Rattle.tc_room.specs.Calls.{AnswersActCall, AnswersLoadCall}
 use Rattle.tc_room.specs.Joined.{Standing}
 use Rattle.tc_room.specs.Replies.{AreLines, ended}
 use Rattle.tc_api.specs.declared.endings.Ending.{Ending}
+use Rattle.tc_api.specs.declared.endings.Ending.TheVariants as ending
 use Rattle.tc_api.specs.declared.serving.Served.{Served}
 use Rattle.tc_api.specs.declared.serving.Told.{Told}
 use Rattle.tc_api.specs.Acts.{ActCall, ActKeys, JudgesActKeys, JudgesActPost}
 use Rattle.tc_api.specs.Endings.{is_done}
+use Rattle.tc_api.specs.Openings.{opening_line}
 use Rattle.tc_api.specs.Loads.{JudgesLoadKeys, JudgesLoadPost, LoadCall, LoadKeys, load_keys}
-use Rattle.tc_api.specs.Serving.{EndsWith, HasText, IsOutcome, Outcome, Serves, ServesActCall, ServesBoard, ServesBody, ServesKeys, ServesPost, ServesQuery, ServesValue, Tells, outcome_of, page_in, refused_front, refused_with}
+use Rattle.tc_api.specs.Serving.{EndsWith, HasText, IsOutcome, IsServedBy, Outcome, Serves, ServesActCall, ServesWall, ServesBody, ServesKeys, ServesPost, ServesQuery, ServesValue, Tells, TellsOpening, outcome_of, page_in, refused_front, refused_with}
 
 pub outcome_made : (acts : Bool) (reply : Reply) (ending : Ending) (text : Option Told) (served : Served) → served ≡ record { ending = ending; stands = acts && is_done ending; text = text }
     → EndsWith reply ending → page_in text ≡ None → IfSome text (Tells reply) → IsOutcome acts (outcome_of reply served) × HasText reply served
 outcome_made acts reply ending text served made ends plain has = rw made (record { ends = ends; stands = refl; page = plain }, has)
+
+-- how the desk was opened, told or not
+pub opening_told : {S : Type 0} (since : ℕ) (room : Standing S) (text : Option Told) (served : Served) → served ≡ record { ending = ending.Done; stands = false; text = text }
+    → page_in text ≡ None → IfSome text (Tells (opening_line room.opened since ∷ [])) → IsServedBy (TellsOpening since room) room served room
+opening_told since room text served made plain has = rw made (record {
+  reply = opening_line room.opened since ∷ [];
+  makes = record { same = refl; told = rw plain refl };
+  text = has;
+  opened = refl;
+})
 
 -- ---- calls
 
@@ -99,14 +111,17 @@ body_unread g old post body refusal outcome (inr bad) so = record { served = inr
 
 -- ---- what is asked
 
-pub asks_nothing : {S : Type 0} (g : Ghosts S) (old : Standing S) (given : Decision) (why : Refused) (outcome : Outcome) → given ≡ decision.Refused why → outcome ≡ refused_front why → Serves g old (asked_of given) outcome old
-asks_nothing g old given why outcome is so = rw is (so, refl)
+pub asks_nothing : {S : Type 0} (since : ℕ) (g : Ghosts S) (old : Standing S) (given : Decision) (why : Refused) (outcome : Outcome) → given ≡ decision.Refused why → outcome ≡ refused_front why → Serves since g old (asked_of given) outcome old
+asks_nothing since g old given why outcome is so = rw is (so, refl)
 
-pub asks_query : {S : Type 0} (g : Ghosts S) (old new : Standing S) (given : Decision) (query : Query) (outcome : Outcome) → given ≡ decision.Asks query → ServesQuery g old query outcome new → Serves g old (asked_of given) outcome new
-asks_query g old new given query outcome is h = rw is h
+pub asks_query : {S : Type 0} (since : ℕ) (g : Ghosts S) (old new : Standing S) (given : Decision) (query : Query) (outcome : Outcome) → given ≡ decision.Asks query → ServesQuery g old query outcome new → Serves since g old (asked_of given) outcome new
+asks_query since g old new given query outcome is h = rw is h
 
-pub asks_board : {S : Type 0} (g : Ghosts S) (old new : Standing S) (given : Decision) (outcome : Outcome) → given ≡ decision.ShowsBoard → ServesBoard old outcome new → Serves g old (asked_of given) outcome new
-asks_board g old new given outcome is h = rw is h
+pub asks_wall : {S : Type 0} {since : ℕ} (g : Ghosts S) (old new : Standing S) (given : Decision) (outcome : Outcome) → given ≡ decision.ShowsWall → ServesWall since old outcome new → Serves since g old (asked_of given) outcome new
+asks_wall g old new given outcome is h = rw is h
 
-pub asks_post : {S : Type 0} (g : Ghosts S) (old new : Standing S) (given : Decision) (post : Post) (body : Bor (List ℕ)) (outcome : Outcome) → given ≡ decision.Posts post body → ServesPost g old post body.now outcome new → Serves g old (asked_of given) outcome new
-asks_post g old new given post body outcome is h = rw is h
+pub asks_opening : {S : Type 0} {since : ℕ} (g : Ghosts S) (old new : Standing S) (given : Decision) (outcome : Outcome) → given ≡ decision.TellsOpening → TellsOpening since old outcome new → Serves since g old (asked_of given) outcome new
+asks_opening g old new given outcome is h = rw is h
+
+pub asks_post : {S : Type 0} (since : ℕ) (g : Ghosts S) (old new : Standing S) (given : Decision) (post : Post) (body : Bor (List ℕ)) (outcome : Outcome) → given ≡ decision.Posts post body → ServesPost g old post body.now outcome new → Serves since g old (asked_of given) outcome new
+asks_post since g old new given post body outcome is h = rw is h

@@ -12,6 +12,7 @@ use Rattle.tc_api.specs.declared.endings.Ending.TheVariants as ending
 abbrev pub status_number : Status → ℕ
 status_number status.Fine = 200
 status_number status.Bad = 400
+status_number status.Forbidden = 403
 status_number status.Missing = 404
 status_number status.OtherMethod = 405
 status_number status.Conflict = 409
@@ -49,6 +50,7 @@ status_of_refusal refusal.WriteFault = status.Unavailable
 abbrev pub status_of : Ending → Status
 status_of ending.Done = status.Fine
 status_of (ending.Refused why) = status_of_refusal why
+status_of ending.Foreign = status.Forbidden
 status_of ending.NoPath = status.Missing
 status_of ending.OtherMethod = status.OtherMethod
 
@@ -56,12 +58,14 @@ status_of ending.OtherMethod = status.OtherMethod
 abbrev pub is_done : Ending → Bool
 is_done ending.Done = true
 is_done (ending.Refused why) = false
+is_done ending.Foreign = false
 is_done ending.NoPath = false
 is_done ending.OtherMethod = false
 
--- The number of the refusal; 0 where nothing was refused. A path or a method that is not served is refused as a bad text.
+-- The number of the refusal; 0 where nothing was refused. A request that is not let in, and a path or a method that is not served, are refused as a bad text.
 abbrev pub refusal_number : Ending → ℕ
 refusal_number ending.Done = 0
 refusal_number (ending.Refused why) = lines.refusal_number why
+refusal_number ending.Foreign = lines.refusal_number refusal.BadText
 refusal_number ending.NoPath = lines.refusal_number refusal.BadText
 refusal_number ending.OtherMethod = lines.refusal_number refusal.BadText

@@ -7,6 +7,7 @@ use Rattle.tc_types.specs.Counts.{no_counts}
 use Rattle.tc_types.specs.declared.refusals.Refusal.{Refusal}
 use Rattle.tc_types.specs.declared.refusals.Refusal.TheVariants.{Memory, ReadFault, WriteFault}
 use Rattle.tc_desk.specs.Replies.{Reply}
+use Rattle.tc_front.specs.Door.{Enters}
 use Rattle.tc_front.specs.Front.{Asked, IsDecided}
 pub use Rattle.tc_front.specs.Read.{refusal_of}
 use Rattle.tc_front.specs.Read.{CanGoOn, HasStopped, NoFront}
@@ -22,12 +23,15 @@ pub record AreFresh (reader writer : Counts) : Type 0 where
   pub unread : reader ≡ no_counts
   pub unwritten : writer ≡ no_counts
 
--- A request was read: what was taken of the reader decides what is asked, and so does all that the reader had.
-pub record IsRead (had left : Option (List ℕ)) (asked : Asked) : Type 0 where
+-- A request was read: what was taken of the reader decides what is asked, and so does all that the reader had; and this is served, of which the
+-- door says whether it is let in.
+pub record IsRead (hosts : List (List ℕ)) (had left : Option (List ℕ)) (served : Asked) : Type 0 where
   pub text : List ℕ
   pub taken : Consumes had left text
+  pub asked : Asked
   pub decided : IsDecided text asked
   pub whole : IfSome had (λ input. IsDecided input asked)
+  pub enters : Enters hosts text asked served
 
 -- None was read: no front of what was taken of the reader decides.
 pub record IsUnread (had left : Option (List ℕ)) : Type 0 where
@@ -76,11 +80,11 @@ pub record Responds {X : Type 0} (outcome : Outcome) (result : Result X Refusal)
 
 -- An exchange: a request was read, it was served, and its response was written, all of it and nothing else. The lines that the response is made
 -- of are the reply's.
-pub record Answers {S : Type 0} (g : Ghosts S) (had left : Option (List ℕ)) (old new : Standing S) (before after : Option (List ℕ)) : Type 0 where
+pub record Answers {S : Type 0} (hosts : List (List ℕ)) (since : ℕ) (g : Ghosts S) (had left : Option (List ℕ)) (old new : Standing S) (before after : Option (List ℕ)) : Type 0 where
   pub asked : Asked
   pub outcome : Outcome
-  pub read : IsRead had left asked
-  pub serves : Serves g old asked outcome new
+  pub read : IsRead hosts had left asked
+  pub serves : Serves since g old asked outcome new
   pub written : Appends before after (response_to outcome)
   pub lines : text_lines (ended outcome.reply) ≡ outcome.reply
 
@@ -93,18 +97,18 @@ pub record EndsUnread {S : Type 0} (refusal : Refusal) (read : Counts) (had left
   pub untouched : IsUntouched counts before after
 
 -- An exchange that ends without the whole response: a request was read, it was served, and the refusal says what stands.
-pub record EndsUnanswered {S : Type 0} (g : Ghosts S) (refusal : Refusal) (had left : Option (List ℕ)) (old new : Standing S) (counts : Counts) (before after : Option (List ℕ)) : Type 0 where
+pub record EndsUnanswered {S : Type 0} (hosts : List (List ℕ)) (since : ℕ) (g : Ghosts S) (refusal : Refusal) (had left : Option (List ℕ)) (old new : Standing S) (counts : Counts) (before after : Option (List ℕ)) : Type 0 where
   pub asked : Asked
   pub outcome : Outcome
-  pub read : IsRead had left asked
-  pub serves : Serves g old asked outcome new
+  pub read : IsRead hosts had left asked
+  pub serves : Serves since g old asked outcome new
   pub unanswered : IsUnanswered outcome refusal counts before after
 
--- One exchange, over a reader and a writer that were not used before, whatever it answers.
-pub record Exchanges {X S : Type 0} (g : Ghosts S) (result : Result X Refusal) (input left : Stream) (old new : Standing S) (before after : Stream) : Type 0 where
-  pub answered : OnOk result (Answers g input.bytes left.bytes old new before.bytes after.bytes)
+-- One exchange with a desk that was opened at a moment, over a reader and a writer that were not used before, whatever it answers.
+pub record Exchanges {X S : Type 0} (hosts : List (List ℕ)) (since : ℕ) (g : Ghosts S) (result : Result X Refusal) (input left : Stream) (old new : Standing S) (before after : Stream) : Type 0 where
+  pub answered : OnOk result (Answers hosts since g input.bytes left.bytes old new before.bytes after.bytes)
   pub failed : IfErr result (λ why. EndsUnread why left.counts input.bytes left.bytes old new after.counts before.bytes after.bytes
-      ⊎ EndsUnanswered g why input.bytes left.bytes old new after.counts before.bytes after.bytes)
+      ⊎ EndsUnanswered hosts since g why input.bytes left.bytes old new after.counts before.bytes after.bytes)
   -- where the reader failed or ended, that is told
   pub fault : left.counts.faults ≢ 0 → result ≡ Err ReadFault
   pub ended : left.counts.ends ≢ 0 → result ≡ Err ReadFault

@@ -12,7 +12,7 @@ use Rattle.tc_desk.specs.Replies.{Reply, refusal_reply}
 use Rattle.tc_world.specs.declared.configs.Config.{Config}
 use Rattle.tc_store.specs.Ledgers.{KeptAnswer, Ledger}
 use Rattle.tc_front.specs.declared.paths.Post.TheVariants as paths
-use Rattle.tc_front.specs.Front.{Asked, asks, posts, refuses, shows}
+use Rattle.tc_front.specs.Front.{Asked, asks, posts, refuses, shows, tells}
 use Rattle.tc_room.specs.Calls.{FailsOnce, KeepsAll, Makes, Making}
 use Rattle.tc_room.specs.Joined.{HoldsBook, Standing}
 use Rattle.tc_room.specs.Opening.{OpensLeft}
@@ -40,7 +40,7 @@ pub record KeepsTables {S : Type 0} (g : Ghosts S) (old new : Standing S) : Type
 -- what was read of a connection is served, and where nothing was read the room is as it was
 abbrev pub ServesRead : {S : Type 0} → Ghosts S → Standing S → Option Asked → Standing S → Type 0
 ServesRead g old None new = new ≡ old
-ServesRead g old (Some asked) new = (outcome : Outcome) × Serves g old asked outcome new
+ServesRead g old (Some asked) new = (since : ℕ) × (outcome : Outcome) × Serves since g old asked outcome new
 
 -- One exchange, whatever it answers: what was read is served; and what the rows since the opening tell of the link is true, and while every start
 -- was good the FARM is not in Lockout.
@@ -81,14 +81,16 @@ abbrev pub IsCallOf : Caller → Asked → Type 0
 IsCallOf caller (refuses why) = ⊥
 IsCallOf caller (asks query) = ⊥
 IsCallOf caller shows = ⊥
+IsCallOf caller tells = ⊥
 IsCallOf caller (posts paths.Acts body) = (call : ActCall) × JudgesActPost body (Ok call) × (call.caller ≡ caller)
 IsCallOf caller (posts paths.Stacks body) = (call : LoadCall) × JudgesLoadPost body (Ok call) × (call.caller ≡ caller)
 IsCallOf caller (posts paths.Procedures body) = (call : LoadCall) × JudgesLoadPost body (Ok call) × (call.caller ≡ caller)
 
 -- an exchange that called so, over a disk that gave back what was written
 pub record Called {S : Type 0} (g : Ghosts S) (caller : Caller) (old : Standing S) (outcome : Outcome) (new : Standing S) : Type 0 where
+  pub since : ℕ
   pub asked : Asked
-  pub serves : Serves g old asked outcome new
+  pub serves : Serves since g old asked outcome new
   pub calls : IsCallOf caller asked
   pub clean : HasCleanDisk (state g new.tables)
 

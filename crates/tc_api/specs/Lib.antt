@@ -3,7 +3,8 @@ pub mod Responses
 pub mod Bodies
 pub mod Acts
 pub mod Loads
+pub mod Openings
 pub mod Serving
 pub mod Exchange
 pub mod Kept
-pub mod Boards
+pub mod Walls

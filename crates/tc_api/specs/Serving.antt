@@ -1,5 +1,5 @@
 -- What a request makes of the room, and how it ends.
-use Rattle.std.specs.Prelude.{◌≡◌, ◌⊎◌, ◌&&◌, ℕ, Bool, false, Option, Some, None, Result, Ok, Err, List, [], IfSome, option_and_then}
+use Rattle.std.specs.Prelude.{◌≡◌, ◌⊎◌, ◌&&◌, ℕ, Bool, false, Option, Some, None, Result, Ok, Err, List, [], ◌∷◌, IfSome, option_and_then}
 use Rattle.std.specs.String.{string_bytes}
 use Rattle.serde_json.specs.Data.{Data}
 use Rattle.sqlite_trees.specs.declared.store.Store.{Ghosts}
@@ -13,10 +13,10 @@ use Rattle.tc_front.specs.declared.judge.Refused.{Refused}
 use Rattle.tc_front.specs.declared.judge.Refused.TheVariants as front
 use Rattle.tc_front.specs.declared.paths.Post.{Post}
 use Rattle.tc_front.specs.declared.paths.Post.TheVariants as paths
-use Rattle.tc_front.specs.Front.{Asked, asks, posts, refuses, shows}
+use Rattle.tc_front.specs.Front.{Asked, asks, posts, refuses, shows, tells}
 use Rattle.tc_book.specs.declared.stamps.Stamp.{Stamp}
 use Rattle.tc_desk.specs.Replies.{Reply, refusal_reply}
-use Rattle.tc_api.specs.Boards.{RefusesBoard, TellsBoard}
+use Rattle.tc_api.specs.Walls.{RefusesWall, TellsWall}
 use Rattle.tc_room.specs.Calls.{AnswersActCall, AnswersLoadCall}
 use Rattle.tc_room.specs.Joined.{Standing}
 use Rattle.tc_room.specs.Replies.{AreLines, ended, is_refused}
@@ -28,9 +28,10 @@ use Rattle.tc_api.specs.declared.serving.Told.{Told}
 use Rattle.tc_api.specs.declared.serving.Told.TheVariants as told
 use Rattle.tc_api.specs.Acts.{ActCall, JudgesActKeys, JudgesActPost, act_keys}
 use Rattle.tc_api.specs.Endings.{is_done}
+use Rattle.tc_api.specs.Openings.{opening_line}
 use Rattle.tc_api.specs.Loads.{JudgesLoadKeys, JudgesLoadPost, LoadCall, LoadKeys, load_keys}
 
--- what a request ends with: the reply, how the exchange ends, and whether an act was done, which stands; and where the board is shown, its page, which is sent in
+-- what a request ends with: the reply, how the exchange ends, and whether an act was done, which stands; and where the wall is shown, its page, which is sent in
 -- place of the reply
 pub record Outcome : Type 0 where
   pub reply : Reply
@@ -42,6 +43,7 @@ pub record Outcome : Type 0 where
 abbrev pub EndsWith : Reply → Ending → Type 0
 EndsWith reply ending.Done = is_refused reply ≡ false
 EndsWith reply (ending.Refused refusal) = reply ≡ refusal_reply refusal
+EndsWith reply ending.Foreign = ⊥
 EndsWith reply ending.NoPath = ⊥
 EndsWith reply ending.OtherMethod = ⊥
 
@@ -62,13 +64,21 @@ refused_with refusal = refused_so (ending.Refused refusal) refusal
 abbrev pub ServesQuery : {S : Type 0} → Ghosts S → Standing S → Query → Outcome → Standing S → Type 0
 ServesQuery g old query outcome new = ((stamp : Stamp) → RoomStep g old stamp (act.Ask query) outcome.reply new) × IsOutcome false outcome
 
--- The board is shown, and the room stays as it was; or it refuses to.
+-- The wall is shown, and the room stays as it was; or it refuses to.
 abbrev pub shown_page : List ℕ → Outcome
 shown_page page = record { reply = []; ending = ending.Done; stands = false; page = Some page }
 
-pub record ServesBoard {S : Type 0} (old : Standing S) (outcome : Outcome) (new : Standing S) : Type 0 where
+pub record ServesWall {S : Type 0} (since : ℕ) (old : Standing S) (outcome : Outcome) (new : Standing S) : Type 0 where
   pub same : new ≡ old
-  pub shown : ((page : List ℕ) × TellsBoard old page × (outcome ≡ shown_page page)) ⊎ ((refusal : Refusal) × RefusesBoard old refusal × (outcome ≡ refused_with refusal))
+  pub shown : ((page : List ℕ) × TellsWall since old page × (outcome ≡ shown_page page)) ⊎ ((refusal : Refusal) × RefusesWall old refusal × (outcome ≡ refused_with refusal))
+
+-- It is told how the desk was opened, and when; the room stays as it was.
+abbrev pub told_line : List ℕ → Outcome
+told_line line = record { reply = line ∷ []; ending = ending.Done; stands = false; page = None }
+
+pub record TellsOpening {S : Type 0} (since : ℕ) (old : Standing S) (outcome : Outcome) (new : Standing S) : Type 0 where
+  pub same : new ≡ old
+  pub told : outcome ≡ told_line (opening_line old.opened since)
 
 -- An act or a question is called; a post that is refused makes nothing.
 abbrev pub ServesActCall : {S : Type 0} → Ghosts S → Standing S → Result ActCall Refusal → Outcome → Standing S → Type 0
@@ -100,6 +110,7 @@ pub record ServesPost {S : Type 0} (g : Ghosts S) (old : Standing S) (post : Pos
 
 -- how an exchange ends whose head is refused
 abbrev pub front_ending : Refused → Ending
+front_ending front.Foreign = ending.Foreign
 front_ending front.NoPath = ending.NoPath
 front_ending front.OtherMethod = ending.OtherMethod
 front_ending front.Bad = ending.Refused BadText
@@ -107,6 +118,7 @@ front_ending front.Large = ending.Refused TooLong
 
 -- what it is refused with
 abbrev pub front_refusal : Refused → Refusal
+front_refusal front.Foreign = BadText
 front_refusal front.NoPath = BadText
 front_refusal front.OtherMethod = BadText
 front_refusal front.Bad = BadText
@@ -115,12 +127,14 @@ front_refusal front.Large = TooLong
 abbrev pub refused_front : Refused → Outcome
 refused_front why = refused_so (front_ending why) (front_refusal why)
 
--- What is asked is served: a refused head asks nothing of the room, the board is shown, a question and a post make their step.
-abbrev pub Serves : {S : Type 0} → Ghosts S → Standing S → Asked → Outcome → Standing S → Type 0
-Serves g old (refuses why) outcome new = (outcome ≡ refused_front why) × (new ≡ old)
-Serves g old (asks query) outcome new = ServesQuery g old query outcome new
-Serves g old shows outcome new = ServesBoard old outcome new
-Serves g old (posts post body) outcome new = ServesPost g old post body outcome new
+-- What is asked of a desk that was opened at a moment is served: a refused head asks nothing of the room, the wall is shown, the opening is told, a question and a
+-- post make their step.
+abbrev pub Serves : {S : Type 0} → ℕ → Ghosts S → Standing S → Asked → Outcome → Standing S → Type 0
+Serves since g old (refuses why) outcome new = (outcome ≡ refused_front why) × (new ≡ old)
+Serves since g old (asks query) outcome new = ServesQuery g old query outcome new
+Serves since g old shows outcome new = ServesWall since old outcome new
+Serves since g old tells outcome new = TellsOpening since old outcome new
+Serves since g old (posts post body) outcome new = ServesPost g old post body outcome new
 
 -- ---- as the code holds it
 

@@ -12,6 +12,8 @@ pub enum Status {
     Fine,
     /// 400: the request is in no form that the desk reads.
     Bad,
+    /// 403: a page that is not the desk's own sends it, or it calls the desk by another host.
+    Forbidden,
     /// 404: nothing has this path, this number or this name.
     Missing,
     /// 405: the path is served, by another method.
@@ -33,6 +35,7 @@ impl Status {
         match self {
             Status::Fine => 200,
             Status::Bad => 400,
+            Status::Forbidden => 403,
             Status::Missing => 404,
             Status::OtherMethod => 405,
             Status::Conflict => 409,
@@ -68,6 +71,8 @@ pub enum Ending {
     Done,
     /// It was refused.
     Refused(Refusal),
+    /// It was not let in.
+    Foreign,
     /// Nothing is served at the path.
     NoPath,
     /// The path is served, by another method.
@@ -82,6 +87,7 @@ impl Ending {
         match self {
             Ending::Done => Status::Fine,
             Ending::Refused(refusal) => status_of_refusal(refusal),
+            Ending::Foreign => Status::Forbidden,
             Ending::NoPath => Status::Missing,
             Ending::OtherMethod => Status::OtherMethod,
         }
@@ -93,18 +99,18 @@ impl Ending {
     {
         match self {
             Ending::Done => true,
-            Ending::Refused(_) | Ending::NoPath | Ending::OtherMethod => false,
+            Ending::Refused(_) | Ending::Foreign | Ending::NoPath | Ending::OtherMethod => false,
         }
     }
 
-    /// The number of the refusal: 0 where nothing was refused, and `BadText`'s for a path or a method that is not served.
+    /// The number of the refusal: 0 where nothing was refused, and `BadText`'s for a request that is not let in, or a path or a method that is not served.
     pub fn refusal_number(self) -> u8
         ensures { result ≡ refusal_number self }
     {
         match self {
             Ending::Done => 0,
             Ending::Refused(refusal) => refusal.number(),
-            Ending::NoPath | Ending::OtherMethod => Refusal::BadText.number(),
+            Ending::Foreign | Ending::NoPath | Ending::OtherMethod => Refusal::BadText.number(),
         }
     }
 }

@@ -16,9 +16,9 @@ use crate::serving::{Served, Told, serve_decision};
 use sqlite::Alter;
 use std::alloc::{AllocError, Global};
 use std::io::{Read, Write};
-use tc_front::{Routes, decide, read_front, write_whole};
+use tc_front::{Door, Routes, enter, read_front, write_whole};
 use tc_room::Room;
-use tc_types::{Counted, Refusal};
+use tc_types::{Counted, Moment, Refusal};
 
 /// What is told where the response to what was served found no memory.
 fn untold(served: &Served) -> Refusal
@@ -57,27 +57,29 @@ fn respond<W: Write>(alloc: Global, served: &Served, writer: &mut Counted<W>) ->
 /// One exchange, of which the caller learns what the rows tell.
 fn exchange<R: Read, W: Write, S: Alter + Drop>(
     alloc: Global,
+    door: &Door,
+    since: Moment,
     reader: &mut Counted<R>,
     writer: &mut Counted<W>,
     room: &mut Room<S>,
 ) -> Result<(), Refusal>
     requires fresh { AreFresh (counts_of reader.old) (counts_of writer.old) }
-    ensures { Exchanges S.Store result (seen R.remaining reader.old) (seen R.remaining reader.new) room.old room.new (seen W.contents writer.old) (seen W.contents writer.new) }
+    ensures { Exchanges door.now since S.Store result (seen R.remaining reader.old) (seen R.remaining reader.new) room.old room.new (seen W.contents writer.old) (seen W.contents writer.new) }
 {
     let routes = Routes::new(alloc)?;
     let mut text = Vec::new(alloc);
     read_front(&routes, reader, &mut text)?;
-    match decide(&routes, &text) {
+    match enter(door, &routes, &text) {
         Some(decision) => {
-            let served = serve_decision(alloc, room, &decision);
+            let served = serve_decision(alloc, since, room, &decision);
             respond(alloc, &served, writer)
         }
         None => unreachable!(),
     }
 }
 
-/// One exchange. A request is read until a front of the input decides what is asked; that is served once; and the response to it is
-/// written, all of it and nothing else. What the writer holds back is the caller's to flush.
+/// One exchange with a desk that was opened at this moment. A request is read until a front of the input decides what is asked; that is served once if the request is let in, and refused
+/// if not; and the response to it is written, all of it and nothing else. What the writer holds back is the caller's to flush.
 ///
 /// # Errors
 ///
@@ -88,12 +90,14 @@ fn exchange<R: Read, W: Write, S: Alter + Drop>(
 ///   that was done, and nothing was written. An act that was done stands.
 pub fn serve_one<R: Read, W: Write, S: Alter + Drop>(
     alloc: Global,
+    door: &Door,
+    since: Moment,
     reader: &mut Counted<R>,
     writer: &mut Counted<W>,
     room: &mut Room<S>,
 ) -> Result<(), Refusal>
     requires fresh { AreFresh (counts_of reader.old) (counts_of writer.old) }
-    ensures exchange { Exchanges S.Store result (seen R.remaining reader.old) (seen R.remaining reader.new) room.old room.new (seen W.contents writer.old) (seen W.contents writer.new) }
+    ensures exchange { Exchanges door.now since S.Store result (seen R.remaining reader.old) (seen R.remaining reader.new) room.old room.new (seen W.contents writer.old) (seen W.contents writer.new) }
     // no other refusal is told
     ensures only { IfErr result TellsEnd }
     // what the rows since the opening tell of the link is true, and while every start was good the FARM is not in Lockout
@@ -103,7 +107,7 @@ pub fn serve_one<R: Read, W: Write, S: Alter + Drop>(
     // one step of a list of exchanges (`laws`)
     ensures step { (read : Option Asked) × ServesOne S.Store room.old read room.new }
 {
-    let done = exchange(alloc, reader, writer, room);
+    let done = exchange(alloc, door, since, reader, writer, room);
     // read for the proof alone: what the rows tell is true
     let _opened = room.opened();
     done

@@ -2,13 +2,14 @@
 #![tactic(auto)]
 
 mod acts;
-mod boards;
 mod bodies;
 mod endings;
 mod exchange;
 pub mod laws;
 mod loads;
+mod openings;
 mod responses;
 mod serving;
+mod walls;
 
 pub use exchange::serve_one;

@@ -7,19 +7,20 @@ ghost use Rattle.tc_front.specs.Front.{asked_of};
 ghost use Rattle.tc_room.specs.Answers.{RefusesWith, Says};
 ghost use Rattle.tc_api.specs.Endings.{is_done};
 ghost use Rattle.tc_api.specs.Loads.{load_keys};
-ghost use Rattle.tc_api.specs.Serving.{EndsWith, HasText, IsOutcome, IsServedBy, Serves, ServesBoard, ServesKeys, ServesPost, ServesQuery, ServesValue, front_ending, front_refusal, outcome_of, refused_front, refused_so};
+ghost use Rattle.tc_api.specs.Serving.{EndsWith, HasText, IsOutcome, IsServedBy, Serves, ServesWall, ServesKeys, ServesPost, ServesQuery, ServesValue, TellsOpening, front_ending, front_refusal, outcome_of, refused_front, refused_so};
 
 use crate::acts::judge_act;
-use crate::boards::board_page;
 use crate::bodies::value_of;
 use crate::endings::Ending;
 use crate::loads::judge_load;
+use crate::openings::opening_text;
+use crate::walls::wall_page;
 use serde_json::Value;
 use sqlite::Alter;
 use std::alloc::Global;
 use tc_front::{Decision, Post, Refused};
 use tc_room::{Answer, Room, answer_query, refusal_answer};
-use tc_types::{LoadKind, Query, Refusal, Untold};
+use tc_types::{LoadKind, Moment, Query, Refusal, Untold};
 
 /// What is told.
 #[derive(Drop)]
@@ -97,17 +98,27 @@ fn serve_query<S: Alter + Drop>(alloc: Global, room: &mut Room<S>, query: Query)
     answer_served(answer_query(alloc, room, query), false)
 }
 
-/// Shows the board of the room.
-fn serve_board<S: Alter + Drop>(alloc: Global, room: &Room<S>) -> Served
-    ensures { IsServedBy (ServesBoard room.now) room.now result room.now }
+/// Shows the wall of the room.
+fn serve_wall<S: Alter + Drop>(alloc: Global, room: &Room<S>, since: Moment) -> Served
+    ensures { IsServedBy (ServesWall since room.now) room.now result room.now }
 {
-    match board_page(alloc, room) {
+    match wall_page(alloc, room, since) {
         Ok(page) => Served {
             ending: Ending::Done,
             stands: false,
             text: Some(Told::Page(page)),
         },
         Err(refusal) => refused(alloc, Ending::Refused(refusal), refusal),
+    }
+}
+
+/// Tells how the desk was opened.
+fn serve_opening<S: Alter + Drop>(alloc: Global, room: &Room<S>, since: Moment) -> Served
+    ensures { IsServedBy (TellsOpening since room.now) room.now result room.now }
+{
+    match opening_text(alloc, room, since) {
+        Ok(text) => make_served(Ending::Done, false, Some(Told::Lines(text))),
+        Err(_) => make_served(Ending::Done, false, None),
     }
 }
 
@@ -175,6 +186,7 @@ fn front_ending(why: Refused) -> Ending
     ensures { result ≡ front_ending why }
 {
     match why {
+        Refused::Foreign => Ending::Foreign,
         Refused::NoPath => Ending::NoPath,
         Refused::OtherMethod => Ending::OtherMethod,
         Refused::Bad => Ending::Refused(Refusal::BadText),
@@ -187,7 +199,9 @@ fn front_refusal(why: Refused) -> Refusal
     ensures { result ≡ front_refusal why }
 {
     match why {
-        Refused::NoPath | Refused::OtherMethod | Refused::Bad => Refusal::BadText,
+        Refused::Foreign | Refused::NoPath | Refused::OtherMethod | Refused::Bad => {
+            Refusal::BadText
+        }
         Refused::Large => Refusal::TooLong,
     }
 }
@@ -199,19 +213,21 @@ fn serve_refused(alloc: Global, why: Refused) -> Served
     refused(alloc, front_ending(why), front_refusal(why))
 }
 
-/// Serves what a front of the input decides: a head that is refused asks nothing of the room; the board is shown, and a question makes its step, whoever asks; a
-/// post makes the step of its act, question or load, or is refused as it is read.
+/// Serves what a front of the input decides, at a desk that was opened at this moment: a head that is refused asks nothing of the room; the wall is shown, the
+/// opening is told, and a question makes its step, whoever asks; a post makes the step of its act, question or load, or is refused as it is read.
 pub fn serve_decision<S: Alter + Drop>(
     alloc: Global,
+    since: Moment,
     room: &mut Room<S>,
     decision: &Decision<'_>,
 ) -> Served
-    ensures { IsServedBy (Serves S.Store room.old (asked_of decision.now)) room.old result room.new }
+    ensures { IsServedBy (Serves since S.Store room.old (asked_of decision.now)) room.old result room.new }
 {
     match *decision {
         Decision::Refused(why) => serve_refused(alloc, why),
         Decision::Asks(query) => serve_query(alloc, room, query),
-        Decision::ShowsBoard => serve_board(alloc, room),
+        Decision::ShowsWall => serve_wall(alloc, room, since),
+        Decision::TellsOpening => serve_opening(alloc, room, since),
         Decision::Posts { post, body } => serve_post(alloc, room, post, body),
     }
 }

@@ -10,6 +10,9 @@ use tc_host::{
 /// The exit status of a fault: of usage, of a file or of memory.
 pub(crate) const UNUSABLE: u8 = 2;
 
+/// The exit status of a desk that has stopped as it was served.
+const STOPPED: u8 = 3;
+
 /// Says on the standard error what cannot be used. Where that cannot be written either, the status alone says it.
 pub(crate) fn cannot_use(rt: &impl Eprint, name: &str) -> u8 {
     let _ = eprintln!(rt; "tcdesk: cannot use {name}");
@@ -19,11 +22,16 @@ pub(crate) fn cannot_use(rt: &impl Eprint, name: &str) -> u8 {
 /// Says so of what has a name of its own, and why, where that is known.
 fn cannot_use_so(rt: &HostRuntime, name: &str, because: Option<Because>) -> u8 {
     let status = cannot_use(rt, name);
+    tell_because(rt, because);
+    status
+}
+
+/// Says why, where that is known.
+fn tell_because(rt: &HostRuntime, because: Option<Because>) {
     if let Some(because) = because {
         let words = because.words();
         let _ = eprintln!(rt; "tcdesk: because {words}");
     }
-    status
 }
 
 /// Says that a file cannot be read, and why.
@@ -34,11 +42,6 @@ pub(crate) fn cannot_read(rt: &HostRuntime, path: &str) -> u8 {
 /// Says that a script cannot be read, and why.
 pub(crate) fn cannot_read_script(rt: &HostRuntime, path: &str) -> u8 {
     cannot_use_so(rt, path, why_no_script(rt, path))
-}
-
-/// Says that the desk in a file cannot be read, and why.
-fn cannot_read_desk(rt: &HostRuntime, file: &str) -> u8 {
-    cannot_use_so(rt, file, why_no_desk(rt, file))
 }
 
 /// The exit status of what ended with a fault that needs no name of a file. None where it needs one.
@@ -88,13 +91,14 @@ pub(crate) fn kept_status(
 }
 
 /// The exit status of a report of the desk that a file keeps.
-pub(crate) fn report_status(rt: &HostRuntime, printed: Result<(), ScriptFault>, file: &str) -> u8 {
-    match printed {
-        Ok(()) => 0,
-        Err(fault) => match plain_status(rt, fault) {
-            Some(status) => status,
-            None => cannot_read_desk(rt, file),
-        },
+pub(crate) fn report_status(rt: &HostRuntime, printed: Result<(), Unusable>, file: &str) -> u8 {
+    let why = match printed {
+        Ok(()) => return 0,
+        Err(why) => why,
+    };
+    match plain_status(rt, why.fault) {
+        Some(status) => status,
+        None => cannot_use_so(rt, file, why.because.or_else(|| why_no_desk(rt, file))),
     }
 }
 
@@ -107,8 +111,12 @@ pub(crate) fn copy_status(
 ) -> u8 {
     match copied {
         Ok(()) => 0,
-        Err(CopyFault::Desk) => cannot_use_so(rt, file, why_uncopied(rt, file)),
-        Err(CopyFault::Copy) => cannot_use_so(rt, copy, why_unwritable(rt, copy)),
+        Err(CopyFault::Desk(because)) => {
+            cannot_use_so(rt, file, because.or_else(|| why_uncopied(rt, file)))
+        }
+        Err(CopyFault::Copy(because)) => {
+            cannot_use_so(rt, copy, because.or_else(|| why_unwritable(rt, copy)))
+        }
         Err(CopyFault::Memory) => cannot_use(rt, "memory"),
         Err(CopyFault::Output) => cannot_use(rt, "output"),
         Err(CopyFault::Taken(beside)) => {
@@ -135,6 +143,12 @@ pub(crate) fn service_status(
         Err(ServiceFault::Port(port)) => {
             let _ = eprintln!(rt; "tcdesk: cannot use port {port}");
             UNUSABLE
+        }
+        Err(ServiceFault::Input) => cannot_use(rt, "standard input"),
+        Err(ServiceFault::Stopped(because)) => {
+            let _ = eprintln!(rt; "tcdesk: {file} has stopped: its tables could not be written");
+            tell_because(rt, because);
+            STOPPED
         }
         Err(ServiceFault::Desk(why)) => kept_status(rt, Err(why), script, file, script),
     }

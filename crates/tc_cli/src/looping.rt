@@ -9,13 +9,14 @@ use std::io::{self, Read, Write};
 use std::net::{Ipv4Addr, TcpListener, TcpStream};
 use tc_api::serve_one;
 use tc_closed::{Answered, ScriptFault, Watch, put, status_of};
+use tc_front::Door;
 use tc_host::{HostWatch, open_desk, refusal_of, text_at};
 use tc_posts::{Told, Untellable, places_request, post_request, read_told};
 use tc_room::Room;
 use tc_run::{
     NumberedLine, Opening, exchange, last_moment, latest_moment, numbered_lines, open_told,
 };
-use tc_types::{Counted, Refusal};
+use tc_types::{Counted, Moment, Refusal};
 use tc_words::Telling;
 
 /// How many connections of other programs are let go at most before a program's own comes.
@@ -32,6 +33,9 @@ impl From<AllocError> for ServiceFault {
 struct Server {
     listener: TcpListener,
     port: u16,
+    door: Door,
+    /// When the desk was opened.
+    since: Moment,
 }
 
 /// What a call on a port tells by failing so.
@@ -44,13 +48,16 @@ fn fault_of(port: u16, error: &io::Error) -> ServiceFault {
 }
 
 /// Listens on 127.0.0.1 on a port that the system picks.
-fn listen(rt: &HostRuntime) -> Result<Server, ServiceFault> {
+fn listen(rt: &HostRuntime, since: Moment) -> Result<Server, ServiceFault> {
     let bound = TcpListener::bind(rt, (Ipv4Addr::LOCALHOST, 0));
     let listener = bound.map_err(|_| ServiceFault::Port(0))?;
     let address = listener.local_addr().map_err(|_| ServiceFault::Port(0))?;
+    let port = address.port();
     Ok(Server {
         listener,
-        port: address.port(),
+        port,
+        door: Door::new(rt.alloc(), port, None)?,
+        since,
     })
 }
 
@@ -83,6 +90,8 @@ fn serve_client<S: Alter + Drop>(
     let stream = taken(server, client).map_err(|error| fault_of(server.port, &error))?;
     let served = serve_one(
         alloc,
+        &server.door,
+        server.since,
         &mut Counted::new(&stream),
         &mut Counted::new(&stream),
         room,
@@ -174,14 +183,23 @@ fn send_question<S: Alter + Drop, W: Write>(
 fn send_script<S: Alter + Drop, W: Write>(
     rt: &HostRuntime,
     room: &mut Room<S>,
+    since: Moment,
     lines: &[NumberedLine<'_>],
     watch: &HostWatch<'_>,
     writer: &mut Counted<W>,
 ) -> Result<u8, ServiceFault> {
-    let server = listen(rt)?;
+    let server = listen(rt, since)?;
     let refused = send_lines(rt, &server, room, lines, watch, writer)?;
     let last = send_question(rt, &server, room, writer)?;
     Ok(status_of(refused | last))
+}
+
+/// Says, if all is told, when a desk was opened that was worked before, and how many moves stood then. Its link is new since.
+fn tell_new_link(rt: &HostRuntime, telling: Telling, since: Moment, stood: usize) {
+    if telling.verbose && stood > 0 {
+        let at = since.get();
+        let _ = eprintln!(rt; "tcdesk: opened at {at} after {stood} moves: the link is new");
+    }
 }
 
 /// Sends the lines of a script to the desk that a file keeps, opened at a moment, over HTTP: writes the moves that the opening made, the lines
@@ -204,7 +222,8 @@ pub fn send_to_file(
         Ok(mut room) => {
             let watch = HostWatch::of_loop(rt, script, telling);
             watch.opened(opening.moment, latest_moment(&room));
-            let ended = send_script(rt, &mut room, &lines, &watch, &mut writer);
+            tell_new_link(rt, telling, opening.moment, room.opened());
+            let ended = send_script(rt, &mut room, opening.moment, &lines, &watch, &mut writer);
             closed(room.into_connection(), ended)
         }
         Err(left) => closed(left.store, Err(ServiceFault::from(left.fault))),

@@ -10,17 +10,18 @@
 //!
 //! `tcdesk backup DB COPY` copies that desk to another file, also while it runs.
 //!
-//! `tcdesk board DB` prints the board of that desk, as a page of HTML; it only reads the file.
+//! `tcdesk board DB` prints the wall of that desk, as a page of HTML; it only reads the file.
 //!
 //! `tcdesk check KIND FILE` says what is wrong with a script, or with the file of a stack or of a procedure.
 //!
-//! `tcdesk serve DB PORT [COUNT]` serves that desk over HTTP at a port of 127.0.0.1, and ends after so many connections.
+//! `tcdesk serve DB PORT [COUNT]` serves that desk over HTTP at a port of 127.0.0.1.
 //! `tcdesk loop DB SCRIPT` sends the lines of a script over HTTP to a desk that it serves itself, and prints what is answered.
 #![tactic(auto)]
 
 mod faults;
 mod looping;
-mod patience;
+mod peers;
+mod server;
 mod serving;
 
 use faults::{
@@ -28,7 +29,7 @@ use faults::{
     run_status, service_status,
 };
 use looping::send_to_file;
-use serving::{ServiceTerms, serve};
+use serving::serve;
 use std::alloc::{AllocError, Global};
 use std::io::IsTerminal;
 use std::process::ExitCode;
@@ -36,11 +37,11 @@ use std::{env, io};
 use tc_closed::{PathFault, ScriptFault, write_check, write_script_check};
 use tc_host::{
     HostPaths, HostTexts, HostWatch, Unusable, backup, of_tables, open_desk, open_script,
-    print_board, print_report, text_at, text_of,
+    print_report, print_wall, text_at, text_of,
 };
 use tc_run::{Opening, run_kept, run_script};
-use tc_types::{Counted, LoadKind};
-use tc_words::{CommandLine, Telling, UsageFault, read_words};
+use tc_types::{Counted, LoadKind, Moment};
+use tc_words::{CommandLine, Service, Telling, UsageFault, read_words};
 use tc_world::Config;
 
 /// The words where none are given.
@@ -78,7 +79,7 @@ fn borrowed<'a>(alloc: Global, args: &'a [String]) -> Result<Vec<&'a str>, Alloc
 
 fn run_words(rt: &HostRuntime, words: &[&str]) -> u8 {
     match read_words(rt.alloc(), words) {
-        Ok(line) => run_line(rt, line),
+        Ok(line) => run_line(rt, &line),
         Err(UsageFault::Words(error)) => match error.print(rt) {
             Ok(()) => error.exit_code() as u8,
             Err(_) => cannot_use(rt, "output"),
@@ -90,47 +91,49 @@ fn run_words(rt: &HostRuntime, words: &[&str]) -> u8 {
     }
 }
 
-fn run_line(rt: &HostRuntime, line: CommandLine<'_>) -> u8 {
+/// How a desk is opened by these words.
+fn opening_of(config: &Config, moment: &Moment) -> Opening {
+    Opening {
+        config: *config,
+        moment: *moment,
+    }
+}
+
+fn run_line(rt: &HostRuntime, line: &CommandLine<'_>) -> u8 {
     match line {
         CommandLine::Run {
             script,
             config,
             telling,
-        } => run_new(rt, script, config, telling),
+        } => run_new(rt, *script, *config, *telling),
         CommandLine::RunKept {
             script,
             config,
             database,
             moment,
             telling,
-        } => run_kept_in(rt, script, database, &Opening { config, moment }, telling),
+        } => run_kept_in(
+            rt,
+            *script,
+            *database,
+            &opening_of(config, moment),
+            *telling,
+        ),
         CommandLine::Report { database, from, to } => {
-            report_status(rt, print_report(rt, database, from, to), database)
+            report_status(rt, print_report(rt, *database, *from, *to), *database)
         }
         CommandLine::Backup { database, copy } => {
-            copy_status(rt, backup(rt, database, copy), database, copy)
+            copy_status(rt, backup(rt, *database, *copy), *database, *copy)
         }
-        CommandLine::Board { database } => {
-            report_status(rt, print_board(rt, database), database)
-        }
-        CommandLine::Check { kind, file } => check_in(rt, kind, file),
-        CommandLine::CheckScript { file } => check_script_in(rt, file),
+        CommandLine::Wall { database } => report_status(rt, print_wall(rt, *database), *database),
+        CommandLine::Check { kind, file } => check_in(rt, *kind, *file),
+        CommandLine::CheckScript { file } => check_script_in(rt, *file),
         CommandLine::Serve {
             database,
-            port,
-            count,
+            service,
             config,
             moment,
-            verbose,
-        } => {
-            let service = ServiceTerms {
-                port,
-                count,
-                verbose,
-            };
-            let served = serve(rt, database, &Opening { config, moment }, service);
-            service_status(rt, served.map(|()| 0), database, database)
-        }
+        } => serve_in(rt, *database, &opening_of(config, moment), service),
         CommandLine::Loop {
             database,
             script,
@@ -138,13 +141,35 @@ fn run_line(rt: &HostRuntime, line: CommandLine<'_>) -> u8 {
             moment,
             first,
             telling,
-        } => {
-            tell_waiting(rt, script);
-            let opening = Opening { config, moment };
-            let ended = send_to_file(rt, script, database, &opening, first, telling);
-            service_status(rt, ended, script, database)
-        }
+        } => loop_in(
+            rt,
+            *script,
+            *database,
+            &opening_of(config, moment),
+            *first,
+            *telling,
+        ),
     }
+}
+
+/// Serves the desk that a file keeps.
+fn serve_in(rt: &HostRuntime, database: &str, opening: &Opening, service: &Service<'_>) -> u8 {
+    let served = serve(rt, database, opening, service);
+    service_status(rt, served.map(|()| 0), database, database)
+}
+
+/// Sends the lines of a script to the desk that a file keeps.
+fn loop_in(
+    rt: &HostRuntime,
+    script: &str,
+    database: &str,
+    opening: &Opening,
+    first: u32,
+    telling: Telling,
+) -> u8 {
+    tell_waiting(rt, script);
+    let ended = send_to_file(rt, script, database, opening, first, telling);
+    service_status(rt, ended, script, database)
 }
 
 /// Says that a script is waited for, and how it is ended, where it comes from a terminal.

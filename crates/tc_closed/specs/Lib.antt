@@ -1,7 +1,7 @@
-pub mod BoardPages
+pub mod WallPages
 pub mod Closed
 pub mod Reports
-pub mod Boards
+pub mod Walls
 pub mod Scripts
 pub mod Files
 pub mod Checking

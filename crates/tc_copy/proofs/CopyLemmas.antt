@@ -5,7 +5,7 @@ use Rattle.std.specs.Option.{option_or}
 use Rattle.std.proofs.lemmas.Bool.{cases_eq, eq-eqb, false≢true, ne_eqb}
 use Rattle.tc_copy.specs.declared.marks.Marks.{Marks}
 use Rattle.tc_copy.specs.declared.marks.LogMark.{LogMark}
-use Rattle.tc_copy.specs.Marks.{IsOneState, IsSameLog, head_of}
+use Rattle.tc_copy.specs.Marks.{IsOneState, IsSameFile, IsSameLog, head_of}
 use Rattle.tc_copy.specs.Files.{AllHappen, Event, Files, Frame, after, after_all, committed, emptied, filled, newest, recovered}
 use Rattle.tc_copy.specs.Copies.{AreRead, CopiesWhatStands, Fills}
 use Rattle.tc_copy.proofs.RunLemmas.{Empties, IsOther, nothing_happened, other_emptied}
@@ -107,7 +107,8 @@ not_other before behind same other =
     (subst (λ (o : Option (List ℕ)). IfSome o (λ head. head_of before.log ≢ Some head)) found.2 other) found.1
 
 -- two readings of one state are of a log that was not emptied between them
-not_emptied : (before behind : Marks) (files : Files) (events : List Event) → IsOneState before behind → AllHappen before files events
+not_emptied : (before behind : Marks) (files : Files) (events : List Event)
+    → (before ≡ behind) ⊎ (IsSameFile before.file behind.file × IsSameLog before.log behind.log) → AllHappen before files events
     → (after_all files events).marks ≡ behind → Empties events → ⊥
 not_emptied before behind files events (inl same) happen ends empties = nothing_happened before files events happen (ends ∙ sym same) empties
 not_emptied before behind files events (inr same) happen ends empties =
@@ -126,4 +127,4 @@ empties_first (emptied marks ∷ first) rest empties = tt
 pub copies : (before behind : Marks) → IsOneState before behind → CopiesWhatStands before behind
 copies before behind one files first rest pages begins happen ends read page =
     as_it_stands before files first pages (all_first before files first rest happen)
-    (λ empties. not_emptied before behind files (first ++ rest) one happen ends (empties_first first rest empties)) read page
+    (λ empties. not_emptied before behind files (first ++ rest) one.1 happen ends (empties_first first rest empties)) read page

@@ -3,6 +3,7 @@ use Rattle.std.specs.Prelude.{◌≡◌, ◌⊎◌, ℕ, ◌==◌, if◌then◌e
 use Rattle.tc_copy.specs.declared.marks.FileStamp.{FileStamp}
 use Rattle.tc_copy.specs.declared.marks.LogMark.{LogMark}
 use Rattle.tc_copy.specs.declared.marks.Marks.{Marks}
+use Rattle.tc_copy.specs.Pairs.{IsPair}
 
 -- two stamps are of one file
 abbrev pub IsSameFile : FileStamp → FileStamp → Type 0
@@ -17,9 +18,9 @@ abbrev pub IsSameLog : Option LogMark → Option LogMark → Type 0
 IsSameLog (Some one) (Some other) = IsSameFile one.stamp other.stamp × (one.head ≡ other.head) × Stands other
 IsSameLog one other = ⊥
 
--- The log stands under one head; or the marks are the same in all that they tell, the times of both files too.
+-- The two files belong together, and the log stands under one head; or the marks are the same in all that they tell, the times of both files too.
 abbrev pub IsOneState : Marks → Marks → Type 0
-IsOneState before after = (before ≡ after) ⊎ (IsSameFile before.file after.file × IsSameLog before.log after.log)
+IsOneState before after = IsPair after × ((before ≡ after) ⊎ (IsSameFile before.file after.file × IsSameLog before.log after.log))
 
 -- the head under which a log stands, where it does
 abbrev pub head_of : Option LogMark → Option (List ℕ)

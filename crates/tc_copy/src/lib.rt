@@ -7,5 +7,7 @@
 
 pub mod laws;
 mod marks;
+mod pairs;
 
 pub use marks::{FileStamp, LogMark, Marks, is_one_state, is_same_file};
+pub use pairs::{Unpaired, why_unpaired};

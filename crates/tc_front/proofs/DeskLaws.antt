@@ -72,12 +72,19 @@ waiting_alone = subst (IsRouted (codes "/waiting")) (sym (text_steps (codes "/wa
 waiting_more : (path : List ℕ) → Finds (codes "/waiting/" ++ path)
 waiting_more path = no_more (codes "/waiting/") path refl refl (goes_on _ path)
 
-board_alone : Finds (codes "/board")
+wall_alone : Finds (codes "/board")
 unfolding seek
-board_alone = subst (IsRouted (codes "/board")) (sym (text_steps (codes "/board") [] rows refl)) (tt, refl)
+wall_alone = subst (IsRouted (codes "/board")) (sym (text_steps (codes "/board") [] rows refl)) (tt, refl)
 
-board_more : (path : List ℕ) → Finds (codes "/board/" ++ path)
-board_more path = no_more (codes "/board/") path refl refl (goes_on _ path)
+opening_alone : Finds (codes "/opening")
+unfolding seek
+opening_alone = subst (IsRouted (codes "/opening")) (sym (text_steps (codes "/opening") [] rows refl)) (tt, refl)
+
+opening_more : (path : List ℕ) → Finds (codes "/opening/" ++ path)
+opening_more path = no_more (codes "/opening/") path refl refl (goes_on _ path)
+
+wall_more : (path : List ℕ) → Finds (codes "/board/" ++ path)
+wall_more path = no_more (codes "/board/") path refl refl (goes_on _ path)
 
 moves_alone : Finds (codes "/moves")
 unfolding seek
@@ -276,22 +283,23 @@ data Name (word : List ℕ) : Type 0 where
   is_report : word ≡ codes "report" → Name word
   is_waiting : word ≡ codes "waiting" → Name word
   is_moves : word ≡ codes "moves" → Name word
-  is_board : word ≡ codes "board" → Name word
+  is_wall : word ≡ codes "board" → Name word
+  is_opening : word ≡ codes "opening" → Name word
   is_none : same word (codes "acts") ≡ false → same word (codes "stacks") ≡ false → same word (codes "procedures") ≡ false → same word (codes "places") ≡ false
       → same word (codes "requests") ≡ false → same word (codes "history") ≡ false → same word (codes "report") ≡ false → same word (codes "waiting") ≡ false → same word (codes "moves") ≡ false
-      → same word (codes "board") ≡ false → Name word
+      → same word (codes "board") ≡ false → same word (codes "opening") ≡ false → Name word
 
 name_of : (word : List ℕ) → Name word
 name_of word =
-    ⊎_elim is_acts (λ a. ⊎_elim is_stacks (λ b. ⊎_elim is_procedures (λ c. ⊎_elim is_places (λ d. ⊎_elim is_requests (λ e. ⊎_elim is_history (λ f. ⊎_elim is_report (λ g. ⊎_elim is_waiting (λ h. ⊎_elim is_moves (λ i. ⊎_elim is_board (λ j. is_none a b c d e f g h i j)
-    (is_word word (codes "board"))) (is_word word (codes "moves"))) (is_word word (codes "waiting"))) (is_word word (codes "report"))) (is_word word (codes "history"))) (is_word word (codes "requests"))) (is_word word (codes "places"))) (is_word word (codes "procedures")))
+    ⊎_elim is_acts (λ a. ⊎_elim is_stacks (λ b. ⊎_elim is_procedures (λ c. ⊎_elim is_places (λ d. ⊎_elim is_requests (λ e. ⊎_elim is_history (λ f. ⊎_elim is_report (λ g. ⊎_elim is_waiting (λ h. ⊎_elim is_moves (λ i. ⊎_elim is_wall (λ j. ⊎_elim is_opening (λ k. is_none a b c d e f g h i j k)
+    (is_word word (codes "opening"))) (is_word word (codes "board"))) (is_word word (codes "moves"))) (is_word word (codes "waiting"))) (is_word word (codes "report"))) (is_word word (codes "history"))) (is_word word (codes "requests"))) (is_word word (codes "places"))) (is_word word (codes "procedures")))
     (is_word word (codes "stacks"))) (is_word word (codes "acts"))
 
 no_name : (path word : List ℕ) (more : List (List ℕ)) → words 47 path ≡ word ∷ more
     → same word (codes "acts") ≡ false → same word (codes "stacks") ≡ false → same word (codes "procedures") ≡ false → same word (codes "places") ≡ false
-    → same word (codes "requests") ≡ false → same word (codes "history") ≡ false → same word (codes "report") ≡ false → same word (codes "waiting") ≡ false → same word (codes "moves") ≡ false → same word (codes "board") ≡ false → Finds (47 ∷ path)
-no_name path word more cut a b c d e f g h i j =
-    subst (IsRouted (47 ∷ path)) (sym (unfit (47 ∷ path) rows none)) (rw cut (rw a (rw b (rw c (rw d (rw e (rw f (rw g (rw h (rw i (rw j refl)))))))))))
+    → same word (codes "requests") ≡ false → same word (codes "history") ≡ false → same word (codes "report") ≡ false → same word (codes "waiting") ≡ false → same word (codes "moves") ≡ false → same word (codes "board") ≡ false → same word (codes "opening") ≡ false → Finds (47 ∷ path)
+no_name path word more cut a b c d e f g h i j k =
+    subst (IsRouted (47 ∷ path)) (sym (unfit (47 ∷ path) rows none)) (rw cut (rw a (rw b (rw c (rw d (rw e (rw f (rw g (rw h (rw i (rw j (rw k refl))))))))))))
   where
     none : any_fits rows (47 ∷ path) ≡ false
     none =
@@ -299,13 +307,14 @@ no_name path word more cut a b c d e f g h i j =
         (or_from _ _ (not_alone (codes "board") path word more cut j refl refl)
         (or_from _ _ (not_front (codes "history") (param_token ∷ slash ∷ param_token ∷ []) path word more cut f refl (λ rest. refl))
         (or_from _ _ (not_front (codes "moves") (param_token ∷ []) path word more cut i refl (λ rest. refl))
+        (or_from _ _ (not_alone (codes "opening") path word more cut k refl refl)
         (or_from _ _ (not_alone (codes "places") path word more cut d refl refl)
         (or_from _ _ (not_front (codes "procedures") (param_token ∷ []) path word more cut c refl (λ rest. refl))
         (or_from _ _ (not_alone (codes "procedures") path word more cut c refl refl)
         (or_from _ _ (not_front (codes "report") (param_token ∷ slash ∷ param_token ∷ []) path word more cut g refl (λ rest. refl))
         (or_from _ _ (not_front (codes "requests") (param_token ∷ []) path word more cut e refl (λ rest. refl))
         (or_from _ _ (not_alone (codes "stacks") path word more cut b refl refl)
-        (or_from _ _ (not_alone (codes "waiting") path word more cut h refl refl) refl))))))))))
+        (or_from _ _ (not_alone (codes "waiting") path word more cut h refl refl) refl)))))))))))
 
 -- ---- the law
 
@@ -319,8 +328,9 @@ alone path w (is_history e) = subst (λ l. Finds (47 ∷ l)) (sym e) history_alo
 alone path w (is_report e) = subst (λ l. Finds (47 ∷ l)) (sym e) report_alone
 alone path w (is_waiting e) = subst (λ l. Finds (47 ∷ l)) (sym e) waiting_alone
 alone path w (is_moves e) = subst (λ l. Finds (47 ∷ l)) (sym e) moves_alone
-alone path w (is_board e) = subst (λ l. Finds (47 ∷ l)) (sym e) board_alone
-alone path w (is_none a b c d e f g h i j) = no_name path path [] w.cut a b c d e f g h i j
+alone path w (is_wall e) = subst (λ l. Finds (47 ∷ l)) (sym e) wall_alone
+alone path w (is_opening e) = subst (λ l. Finds (47 ∷ l)) (sym e) opening_alone
+alone path w (is_none a b c d e f g h i j k) = no_name path path [] w.cut a b c d e f g h i j k
 
 more : (path : List ℕ) (p : Parted path) → IsText p.rest → IsUtf8 p.rest → Name p.word → Finds (47 ∷ path)
 more path p small whole name = by name
@@ -338,8 +348,9 @@ more path p small whole name = by name
     by (is_report e) = at (codes "report") e (report_more p.rest small whole)
     by (is_waiting e) = at (codes "waiting") e (waiting_more p.rest)
     by (is_moves e) = at (codes "moves") e (moves_more p.rest small whole)
-    by (is_board e) = at (codes "board") e (board_more p.rest)
-    by (is_none a b c d e f g h i j) = no_name path p.word (words 47 p.rest) p.cut a b c d e f g h i j
+    by (is_wall e) = at (codes "board") e (wall_more p.rest)
+    by (is_opening e) = at (codes "opening") e (opening_more p.rest)
+    by (is_none a b c d e f g h i j k) = no_name path p.word (words 47 p.rest) p.cut a b c d e f g h i j k
 
 behind : (path : List ℕ) → IsText path → IsUtf8 path → Finds (47 ∷ path)
 behind path small whole = by (parted path)

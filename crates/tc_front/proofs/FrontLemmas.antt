@@ -14,7 +14,7 @@ use Rattle.tc_front.specs.declared.judge.Judgement.{Judgement}
 use Rattle.tc_front.specs.declared.judge.Judgement.TheVariants as judgement
 use Rattle.tc_front.specs.declared.front.Decision.{Decision}
 use Rattle.tc_front.specs.declared.judge.Refused.TheVariants.{Large}
-use Rattle.tc_front.specs.Paths.{Texts, places_text, request_text, history_text, report_text, waiting_text, moves_text, procedure_text, Named, posts_to, asks_for, shows_board, path_of}
+use Rattle.tc_front.specs.Paths.{Texts, places_text, request_text, history_text, report_text, waiting_text, moves_text, procedure_text, Named, posts_to, asks_for, shows_wall, tells_opening, path_of}
 use Rattle.tc_front.specs.Fields.{Held, absent, single, several}
 use Rattle.tc_front.specs.Judge.{both, AsksFor, AsksRequest, AsksHistory, AsksReport, AsksMoves, AsksProcedure, JudgesQuestion, JudgesGet, JudgesLength, JudgesPost, JudgesBody, JudgesCoding, JudgesPath, JudgesHead, Judges, asked_or_bad, without_body}
 use Rattle.tc_front.specs.Ends.{head_end, skip_ends}
@@ -86,7 +86,8 @@ one_post several post = one_is _
 one_body : (lengths : Held) (named : Named) → IsOne (JudgesBody lengths named)
 one_body lengths (posts_to post) = one_post lengths post
 one_body lengths (asks_for texts) = one_get lengths texts
-one_body lengths shows_board = one_is _
+one_body lengths shows_wall = one_is _
+one_body lengths tells_opening = one_is _
 
 one_coding : (coding lengths : Held) (named : Named) → IsOne (JudgesCoding coding lengths named)
 one_coding absent lengths named = one_body lengths named
@@ -111,7 +112,8 @@ one_judgement text j k (inr x) (inr y) = x.1 ∙ sym y.1
 one_complete : (j : Judgement) (rest : List ℕ) → IsOne (Completes j rest)
 one_complete (judgement.Refused refused) rest = one_is _
 one_complete (judgement.Asks query) rest = one_is _
-one_complete judgement.ShowsBoard rest = one_is _
+one_complete judgement.ShowsWall rest = one_is _
+one_complete judgement.TellsOpening rest = one_is _
 one_complete (judgement.Posts post size) rest = λ a b x y. x.1 ∙ sym y.1
 
 one_decided : (found : Option ℕ) (text : List ℕ) → IsOne (IsDecidedAt found text)
@@ -129,7 +131,8 @@ decided_unique text = one_decided (head_end (take 8192 text)) text
 completes_more : (j : Judgement) (rest more : List ℕ) (asked : Asked) → Completes j rest asked → Completes j (rest ++ more) asked
 completes_more (judgement.Refused refused) rest more asked c = c
 completes_more (judgement.Asks query) rest more asked c = c
-completes_more judgement.ShowsBoard rest more asked c = c
+completes_more judgement.ShowsWall rest more asked c = c
+completes_more judgement.TellsOpening rest more asked c = c
 completes_more (judgement.Posts post size) rest more asked c =
     let long : length (rest ++ more) ≡ length rest + length more = length-append rest more in
     (omega (arith, c.0), rw (take-append-le size rest more c.0) c.1)

@@ -15,14 +15,17 @@ route pattern text names kind = record { pattern = pattern; text = text; names =
 abbrev pub acts : RouteOf RouteKind
 acts = route (codes "/acts") (codes "/acts") [] kind.Acts
 
-abbrev pub board : RouteOf RouteKind
-board = route (codes "/board") (codes "/board") [] kind.Board
+abbrev pub wall : RouteOf RouteKind
+wall = route (codes "/board") (codes "/board") [] kind.Wall
 
 abbrev pub history : RouteOf RouteKind
 history = route (codes "/history/" ++ param_token ∷ 47 ∷ param_token ∷ []) (codes "/history/{request}/{after}") ((10, 17) ∷ (20, 25) ∷ []) kind.History
 
 abbrev pub moves : RouteOf RouteKind
 moves = route (codes "/moves/" ++ param_token ∷ []) (codes "/moves/{after}") ((8, 13) ∷ []) kind.Moves
+
+abbrev pub opening : RouteOf RouteKind
+opening = route (codes "/opening") (codes "/opening") [] kind.Opening
 
 abbrev pub places : RouteOf RouteKind
 places = route (codes "/places") (codes "/places") [] kind.Places
@@ -50,7 +53,7 @@ row route = (route.pattern, route)
 
 -- the rows in their order: one that goes on comes before what it starts with
 abbrev pub rows : KindRoutes
-rows = row acts ∷ row board ∷ row history ∷ row moves ∷ row places ∷ row procedure ∷ row procedures ∷ row report ∷ row request ∷ row stacks ∷ row waiting ∷ []
+rows = row acts ∷ row wall ∷ row history ∷ row moves ∷ row opening ∷ row places ∷ row procedure ∷ row procedures ∷ row report ∷ row request ∷ row stacks ∷ row waiting ∷ []
 
 pub desk_rows : desk_routes ≡ rows
 unfolding matchit_on_literals with_route desk_routes

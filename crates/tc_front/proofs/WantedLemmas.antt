@@ -10,11 +10,11 @@ use Rattle.tc_front.specs.declared.judge.Judgement.{Judgement}
 use Rattle.tc_front.specs.declared.judge.Judgement.TheVariants as judgement
 use Rattle.tc_front.specs.declared.judge.Refused.TheVariants.{Large}
 use Rattle.tc_front.specs.declared.watch.Watch.{Watch}
-use Rattle.tc_front.specs.Paths.{Texts, Named, posts_to, asks_for, shows_board, path_of, same}
+use Rattle.tc_front.specs.Paths.{Texts, Named, posts_to, asks_for, shows_wall, tells_opening, path_of, same}
 use Rattle.tc_front.specs.Fields.{Held, absent, single, several}
 use Rattle.tc_front.specs.Judge.{JudgesQuestion, JudgesGet, JudgesLength, JudgesPost, JudgesBody, JudgesCoding, JudgesPath, Judges, asked_or_bad, bad, without_body}
 use Rattle.tc_front.specs.Ends.{head_end, skip_ends, HasSearched}
-use Rattle.tc_front.specs.Front.{Asked, refuses, asks, shows, posts, Completes, IsDecidedAt, IsDecided, Waits, size_of, IsWantedAt, IsWanted}
+use Rattle.tc_front.specs.Front.{Asked, refuses, asks, shows, tells, posts, Completes, IsDecidedAt, IsDecided, Waits, size_of, IsWantedAt, IsWanted}
 use Rattle.tc_front.specs.Watch.{Watches}
 use Rattle.tc_front.proofs.EndLemmas.{Stays, Within, head_end-append, head_end-within, searched_more}
 use Rattle.tc_front.proofs.FrontLemmas.{end_within, front_more, one_judgement, opened, undecided}
@@ -63,7 +63,8 @@ small_post several post j judged = small_bad j judged
 small_body : (lengths : Held) (named : Named) (j : Judgement) → JudgesBody lengths named j → size_of j ≤ 65536
 small_body lengths (posts_to post) j judged = small_post lengths post j judged
 small_body lengths (asks_for texts) j judged = small_get lengths texts j judged
-small_body lengths shows_board j judged = rw judged (small_without lengths judgement.ShowsBoard (omega arith))
+small_body lengths shows_wall j judged = rw judged (small_without lengths judgement.ShowsWall (omega arith))
+small_body lengths tells_opening j judged = rw judged (small_without lengths judgement.TellsOpening (omega arith))
 
 small_coding : (coding lengths : Held) (named : Named) (j : Judgement) → JudgesCoding coding lengths named j → size_of j ≤ 65536
 small_coding absent lengths named j judged = small_body lengths named j judged
@@ -87,13 +88,15 @@ unwrapped text wanted is = is
 completed : (j : Judgement) (rest : List ℕ) → size_of j ≤ length rest → (asked : Asked) × Completes j rest asked
 completed (judgement.Refused refused) rest enough = (refuses refused, refl)
 completed (judgement.Asks query) rest enough = (asks query, refl)
-completed judgement.ShowsBoard rest enough = (shows, refl)
+completed judgement.ShowsWall rest enough = (shows, refl)
+completed judgement.TellsOpening rest enough = (tells, refl)
 completed (judgement.Posts post size) rest enough = (posts post (take size rest), (enough, refl))
 
 holds_body : (j : Judgement) (rest : List ℕ) (asked : Asked) → Completes j rest asked → size_of j ≤ length rest
 holds_body (judgement.Refused refused) rest asked done = omega arith
 holds_body (judgement.Asks query) rest asked done = omega arith
-holds_body judgement.ShowsBoard rest asked done = omega arith
+holds_body judgement.ShowsWall rest asked done = omega arith
+holds_body judgement.TellsOpening rest asked done = omega arith
 holds_body (judgement.Posts post size) rest asked done = done.0
 
 enough_at : (found : Option ℕ) (text : List ℕ) (wanted : ℕ) → Within found (length text) → IsWantedAt found text wanted → wanted ≤ length text → (asked : Asked) × IsDecidedAt found text asked

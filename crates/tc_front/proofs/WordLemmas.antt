@@ -32,3 +32,8 @@ same_refl (x ∷ a) = and_true _ _ (eq-eqb x x refl) (same_refl a)
 -- words of which a comparison said yes
 pub agree : (a b : List ℕ) (r : Bool) → (IsTrue r ↔ (a ≡ b)) → r ≡ true → same a b ≡ true
 agree a b r h e = rw (h.0 e) (same_refl b)
+
+-- what a comparison said
+pub decides : (a b : List ℕ) (r : Bool) → (IsTrue r ↔ (a ≡ b)) → r ≡ same a b
+decides a b true h = sym (agree a b true h refl)
+decides a b false h = sym (differ a b false h refl)

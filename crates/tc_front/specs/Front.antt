@@ -11,25 +11,28 @@ use Rattle.tc_front.specs.declared.front.Decision.TheVariants as decision
 use Rattle.tc_front.specs.Ends.{head_end, skip_ends}
 use Rattle.tc_front.specs.Judge.{Judges}
 
--- a refusal, a question, the board, or a post with its body
+-- a refusal, a question, the wall, how the desk was opened, or a post with its body
 pub data Asked : Type 0 where
   refuses : Refused → Asked
   asks : Query → Asked
   shows : Asked
+  tells : Asked
   posts : Post → List ℕ → Asked
 
 -- what the code decided, with the bytes of the body
 abbrev pub asked_of : Decision → Asked
 asked_of (decision.Refused refused) = refuses refused
 asked_of (decision.Asks query) = asks query
-asked_of decision.ShowsBoard = shows
+asked_of decision.ShowsWall = shows
+asked_of decision.TellsOpening = tells
 asked_of (decision.Posts post body) = posts post body.now
 
 -- the bytes behind the head hold the body
 abbrev pub Completes : Judgement → List ℕ → Asked → Type 0
 Completes (judgement.Refused refused) rest asked = asked ≡ refuses refused
 Completes (judgement.Asks query) rest asked = asked ≡ asks query
-Completes judgement.ShowsBoard rest asked = asked ≡ shows
+Completes judgement.ShowsWall rest asked = asked ≡ shows
+Completes judgement.TellsOpening rest asked = asked ≡ tells
 Completes (judgement.Posts post size) rest asked = (size ≤ length rest) × (asked ≡ posts post (take size rest))
 
 -- what is decided where the head text ends here, or nowhere in the bytes that a head may have
@@ -51,7 +54,8 @@ pub record Waits (text : List ℕ) : Type 0 where
 abbrev pub size_of : Judgement → ℕ
 size_of (judgement.Refused refused) = 0
 size_of (judgement.Asks query) = 0
-size_of judgement.ShowsBoard = 0
+size_of judgement.ShowsWall = 0
+size_of judgement.TellsOpening = 0
 size_of (judgement.Posts post size) = size
 
 -- one byte more while the head has not ended, up to 8,193; then the head and its body

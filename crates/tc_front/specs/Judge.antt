@@ -16,7 +16,7 @@ use Rattle.tc_front.specs.declared.judge.Refused.{Refused}
 use Rattle.tc_front.specs.declared.judge.Refused.TheVariants as refused
 use Rattle.tc_front.specs.declared.judge.Judgement.{Judgement}
 use Rattle.tc_front.specs.declared.judge.Judgement.TheVariants as judgement
-use Rattle.tc_front.specs.Paths.{Texts, places_text, request_text, history_text, report_text, waiting_text, moves_text, procedure_text, Named, posts_to, asks_for, shows_board, path_of, same}
+use Rattle.tc_front.specs.Paths.{Texts, places_text, request_text, history_text, report_text, waiting_text, moves_text, procedure_text, Named, posts_to, asks_for, shows_wall, tells_opening, path_of, same}
 use Rattle.tc_front.specs.Fields.{values, Held, absent, single, several, found_of, IsDecimal}
 
 -- ---- a question
@@ -99,7 +99,8 @@ JudgesPost several post j = j ≡ bad
 abbrev pub JudgesBody : Held → Named → Judgement → Type 0
 JudgesBody lengths (posts_to post) j = JudgesPost lengths post j
 JudgesBody lengths (asks_for texts) j = JudgesGet lengths texts j
-JudgesBody lengths shows_board j = j ≡ without_body lengths judgement.ShowsBoard
+JudgesBody lengths shows_wall j = j ≡ without_body lengths judgement.ShowsWall
+JudgesBody lengths tells_opening j = j ≡ without_body lengths judgement.TellsOpening
 
 -- ---- the tests in their order: path, method, transfer coding, length
 
@@ -113,7 +114,8 @@ JudgesCoding several lengths named j = j ≡ bad
 abbrev pub method_of : Named → List ℕ
 method_of (posts_to post) = codes "POST"
 method_of (asks_for texts) = codes "GET"
-method_of shows_board = codes "GET"
+method_of shows_wall = codes "GET"
+method_of tells_opening = codes "GET"
 
 -- a path is served, and by this method
 abbrev pub JudgesPath : List ℕ → List (List ℕ × List ℕ) → Option Named → Judgement → Type 0

@@ -2,6 +2,7 @@ pub mod Ends
 pub mod Fields
 pub mod Judge
 pub mod Front
+pub mod Door
 pub mod Watch
 pub mod Read
 pub mod Write

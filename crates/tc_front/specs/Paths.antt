@@ -18,11 +18,12 @@ pub data Texts : Type 0 where
   moves_text : List ℕ → Texts
   procedure_text : List ℕ → Texts
 
--- what a path names: where to something is posted, a question, or the board
+-- what a path names: where to something is posted, a question, the wall, or how the desk was opened
 pub data Named : Type 0 where
   posts_to : Post → Named
   asks_for : Texts → Named
-  shows_board : Named
+  shows_wall : Named
+  tells_opening : Named
 
 -- the code's question, with the bytes of its texts
 abbrev pub texts_of : Question → Texts
@@ -38,7 +39,8 @@ texts_of (question.Procedure name) = procedure_text name.now
 abbrev pub named_by : Path → Named
 named_by (path.Posts to) = posts_to to
 named_by (path.Asks asked) = asks_for (texts_of asked)
-named_by path.Board = shows_board
+named_by path.Wall = shows_wall
+named_by path.Opening = tells_opening
 
 -- the same bytes
 abbrev pub same : List ℕ → List ℕ → Bool
@@ -104,7 +106,8 @@ named_path (name ∷ texts) =
     else (if same name (codes "report") then two_texts report texts
     else (if same name (codes "waiting") then ends_here (asks_for waiting_text) texts
     else (if same name (codes "moves") then one_text moves texts
-    else (if same name (codes "board") then ends_here shows_board texts else None)))))))))
+    else (if same name (codes "board") then ends_here shows_wall texts
+    else (if same name (codes "opening") then ends_here tells_opening texts else None))))))))))
 
 -- nothing stands before the first slash
 abbrev pub behind_slash : List (List ℕ) → Option Named

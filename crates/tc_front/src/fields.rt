@@ -19,7 +19,7 @@ pub(crate) enum FieldValues<'a> {
 }
 
 /// Whether a field has this name, in letters of either case (RFC 9110, section 5.1).
-fn is_named(field: &[u8], name: &[u8]) -> bool
+pub(crate) fn is_named(field: &[u8], name: &[u8]) -> bool
     ensures { IsTrue result ↔ (map to_ascii_lowercase field.now ≡ map to_ascii_lowercase name.now) }
 {
     field.eq_ignore_ascii_case(name)

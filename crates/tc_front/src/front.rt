@@ -20,8 +20,10 @@ pub enum Decision<'a> {
     Refused(Refused),
     /// The request asks this question.
     Asks(Query),
-    /// The request asks for the board.
-    ShowsBoard,
+    /// The request asks for the wall.
+    ShowsWall,
+    /// The request asks how the desk was opened.
+    TellsOpening,
     /// The request posts this body, which is whole. It need not be text.
     Posts { post: Post, body: &'a [u8] },
 }
@@ -34,7 +36,8 @@ fn complete<'a>(judgement: Judgement, rest: &'a [u8]) -> Option<Decision<'a>>
     match judgement {
         Judgement::Refused(refused) => Some(Decision::Refused(refused)),
         Judgement::Asks(query) => Some(Decision::Asks(query)),
-        Judgement::ShowsBoard => Some(Decision::ShowsBoard),
+        Judgement::ShowsWall => Some(Decision::ShowsWall),
+        Judgement::TellsOpening => Some(Decision::TellsOpening),
         Judgement::Posts { post, size } => {
             if size > rest.len() {
                 return None;
@@ -48,7 +51,7 @@ fn complete<'a>(judgement: Judgement, rest: &'a [u8]) -> Option<Decision<'a>>
 }
 
 /// The bytes that a head may be found in.
-fn head_room(text: &[u8]) -> &[u8]
+pub(crate) fn head_room(text: &[u8]) -> &[u8]
     ensures value { result.now ≡ take 8192 text.now }
     ensures short { length result.now ≤ 8192 }
     ensures within { length result.now ≤ length text.now }
@@ -77,7 +80,10 @@ fn body_size(judgement: &Judgement) -> usize
 {
     match judgement {
         Judgement::Posts { size, .. } => *size,
-        Judgement::Refused(_) | Judgement::Asks(_) | Judgement::ShowsBoard => 0,
+        Judgement::Refused(_)
+        | Judgement::Asks(_)
+        | Judgement::ShowsWall
+        | Judgement::TellsOpening => 0,
     }
 }
 

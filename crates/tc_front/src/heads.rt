@@ -1,9 +1,11 @@
 //! What a head text asks, or why it is refused.
-ghost use Rattle.std.specs.Prelude.{◌≡◌, IfSome, IfNone, IsUtf8, length};
+ghost use Rattle.std.specs.Prelude.{◌≡◌, ◌↔◌, IfSome, IfNone, IsTrue, IsUtf8, length, map};
 ghost use Rattle.httparse.specs.Grammar.{RequestHead};
-ghost use Rattle.httparse.specs.Spans.{IsRequestAt, IsRequestWithin, span_bytes};
+ghost use Rattle.httparse.specs.Spans.{IsRequestAt, IsRequestWithin, name_and_value, span_bytes};
+ghost use Rattle.tc_front.specs.Door.{IsForeign, lets_in};
 ghost use Rattle.tc_front.specs.Judge.{IsGoodHead, Judges, JudgesHead, unfit};
 
+use crate::door::Door;
 use crate::judge::{Judgement, Refused, judge_parts};
 use crate::routes::Routes;
 use httparse::Status;
@@ -58,6 +60,25 @@ fn judge_spans(
         head,
         &headers[..spans.headers],
     )
+}
+
+/// Whether a good head is let in.
+fn lets_in(door: &Door, head: &[u8], headers: &[HeaderSpan], spans: &RequestSpans) -> bool
+    requires { IsRequestWithin head.now headers.now spans.now }
+    ensures { (h : RequestHead) → IsRequestAt head.now headers.now spans.now h → result ≡ lets_in door.now h.method (map name_and_value h.fields) }
+{
+    door.lets_in(spans.method.of(head), head, &headers[..spans.headers])
+}
+
+/// Whether a head text is a request's that is not let in.
+pub(crate) fn is_foreign_head(door: &Door, head: &[u8]) -> bool
+    ensures { IsTrue result ↔ IsForeign door.now head.now }
+{
+    let mut headers = [EMPTY_HEADER_SPAN; MOST_HEADERS];
+    match good_head(head, &mut headers) {
+        Some(spans) => !lets_in(door, head, &headers, &spans),
+        None => false,
+    }
 }
 
 /// What a head text asks, without the CR and LF bytes before it.

@@ -20,6 +20,8 @@ const LARGEST_BODY: usize = 65_536;
 /// Why a request is refused by its front alone.
 #[derive(Clone, Copy, Debug, PartialEq, Eq)]
 pub enum Refused {
+    /// It is not let in (403, RFC 9110, section 15.5.4).
+    Foreign,
     /// The target is no path of this desk (404, RFC 9110, section 15.5.5).
     NoPath,
     /// The path is served by another method (405, RFC 9110, section 15.5.6).
@@ -39,8 +41,10 @@ pub(crate) enum Judgement {
     Refused(Refused),
     /// It asks this question.
     Asks(Query),
-    /// It asks for the board.
-    ShowsBoard,
+    /// It asks for the wall.
+    ShowsWall,
+    /// It asks how the desk was opened.
+    TellsOpening,
     /// It posts a body of so many bytes.
     Posts { post: Post, size: usize },
 }
@@ -94,7 +98,8 @@ fn judge_body(lengths: FieldValues<'_>, path: Path<'_>) -> Judgement
     match path {
         Path::Posts(post) => judge_post(lengths, post),
         Path::Asks(question) => judge_get(lengths, judge_question(question)),
-        Path::Board => judge_get(lengths, Judgement::ShowsBoard),
+        Path::Wall => judge_get(lengths, Judgement::ShowsWall),
+        Path::Opening => judge_get(lengths, Judgement::TellsOpening),
     }
 }
 
@@ -104,7 +109,7 @@ fn method_of(path: Path<'_>) -> &'static [u8]
 {
     match path {
         Path::Posts(_) => b"POST",
-        Path::Asks(_) | Path::Board => b"GET",
+        Path::Asks(_) | Path::Wall | Path::Opening => b"GET",
     }
 }
 

@@ -6,6 +6,8 @@
 //! crate's.
 #![tactic(auto)]
 
+mod arriving;
+mod door;
 mod ends;
 mod fields;
 mod front;
@@ -15,15 +17,19 @@ pub mod laws;
 mod lines;
 mod paths;
 mod questions;
+mod queue;
 mod read;
 mod routes;
 mod watch;
 mod write;
 
-pub use front::{Decision, decide};
+pub use arriving::Arriving;
+pub use door::{Door, enter};
+pub use front::Decision;
 pub use judge::Refused;
 pub use lines::length_line;
 pub use paths::{Path, Post, Question};
+pub use queue::{Queue, Whole};
 pub use read::read_front;
 pub use routes::Routes;
 pub use write::{Unwritten, write_whole};

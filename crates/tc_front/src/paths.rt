@@ -37,6 +37,8 @@ pub enum Path<'a> {
     Posts(Post),
     /// It asks a question.
     Asks(Question<'a>),
-    /// `/board`: it shows the board.
-    Board,
+    /// `/board`: it shows the wall.
+    Wall,
+    /// `/opening`: it tells how the desk was opened.
+    Opening,
 }

@@ -25,7 +25,8 @@ pub(crate) enum RouteKind {
     Waiting,
     Moves,
     Procedure,
-    Board,
+    Wall,
+    Opening,
 }
 
 /// The path of this kind with these texts, which are empty where it has none.
@@ -49,7 +50,8 @@ fn path_at<'a>(kind: RouteKind, first: &'a [u8], second: &'a [u8]) -> Path<'a>
         RouteKind::Waiting => Path::Asks(Question::Waiting),
         RouteKind::Moves => Path::Asks(Question::Moves { after: first }),
         RouteKind::Procedure => Path::Asks(Question::Procedure { name: first }),
-        RouteKind::Board => Path::Board,
+        RouteKind::Wall => Path::Wall,
+        RouteKind::Opening => Path::Opening,
     }
 }
 
@@ -116,7 +118,8 @@ impl Routes {
         add(&mut router, "/waiting", RouteKind::Waiting)?;
         add(&mut router, "/moves/{after}", RouteKind::Moves)?;
         add(&mut router, "/procedures/{name}", RouteKind::Procedure)?;
-        add(&mut router, "/board", RouteKind::Board)?;
+        add(&mut router, "/board", RouteKind::Wall)?;
+        add(&mut router, "/opening", RouteKind::Opening)?;
         Ok(Routes { router })
     }
 

@@ -1,10 +1,12 @@
 //! A copy of the desk that a file keeps, which may run meanwhile. The copy stands under its name only once it is whole: it is made as `COPY.part`, with its
 //! log beside it, opened there as a desk, brought into one file and given its name.
 
-use crate::copying::{Beside, CopyFault, Parts, copy_files, forget};
-use crate::looking::folder_of;
+use crate::because::Because;
+use crate::copying::{Beside, CopyFault, copy_files, of_copy, of_desk};
+use crate::looking::{folder_of, why_foreign};
 use crate::marking::stamp_of;
-use crate::reporting::{Kept, find, log_path};
+use crate::parts::{Parts, forget};
+use crate::reporting::{Kept, find, log_path, refuse_journal};
 use jiff::Timestamp;
 use sqlite::{Alter, Connection, Error, ErrorCode};
 use sqlite_disk::Wary;
@@ -15,10 +17,10 @@ use std::fs::{File, OpenOptions, Permissions};
 use std::os::fd::AsRawFd;
 use std::os::unix::fs::{MetadataExt, OpenOptionsExt, PermissionsExt};
 use std::{fs, io};
-use tc_closed::{ScriptFault, put, records_of};
+use tc_closed::{put, records_of};
 use tc_copy::is_same_file;
 use tc_store::{ReadFault, StoreFault, Tables, Version};
-use tc_types::{Counted, Image};
+use tc_types::{Counted, Image, Refusal};
 
 /// Fails where a file stands under the name of the copy, or under one of those beside it.
 fn refuse_taken(rt: &HostRuntime, copy: &str) -> Result<(), CopyFault> {
@@ -28,7 +30,7 @@ fn refuse_taken(rt: &HostRuntime, copy: &str) -> Result<(), CopyFault> {
         match fs::symlink_metadata(rt, path.as_str()) {
             Ok(_) => return Err(CopyFault::Taken(file)),
             Err(error) if error.kind() == io::ErrorKind::NotFound => {}
-            Err(_) => return Err(CopyFault::Copy),
+            Err(error) => return Err(of_copy(error)),
         }
     }
     Ok(())
@@ -46,7 +48,7 @@ const NAMES: [&str; 6] = [
 
 /// The path of a copy that is not there yet, with no link in that of its folder.
 fn real_path(rt: &HostRuntime, copy: &str) -> Result<String, CopyFault> {
-    let folder = fs::canonicalize(rt, folder_of(copy)).map_err(|_| CopyFault::Copy)?;
+    let folder = fs::canonicalize(rt, folder_of(copy)).map_err(of_copy)?;
     let folder = folder.as_str().trim_end_matches('/');
     let path = match copy.rfind('/') {
         Some(end) => {
@@ -86,27 +88,17 @@ fn refuse_own(rt: &HostRuntime, copy: &str, kept: &Kept) -> Result<(), CopyFault
     for suffix in NAMES {
         let path = format!(in rt.alloc(); "{real}{suffix}")?;
         if is_own(rt, path.as_str(), kept)? {
-            return Err(CopyFault::Copy);
+            return Err(CopyFault::Copy(None));
         }
     }
     Ok(())
 }
 
-/// Fails where SQLite left a rollback journal beside the desk, without which its file does not stand for the desk.
-fn refuse_journal(rt: &HostRuntime, kept: &Kept) -> Result<(), CopyFault> {
-    let database = kept.database.as_str();
-    let path = format!(in rt.alloc(); "{database}-journal")?;
-    match fs::metadata(rt, path.as_str()) {
-        Ok(found) if found.len() > 0 => Err(CopyFault::Desk),
-        _ => Ok(()),
-    }
-}
-
 /// Whether an open file is the one at this path, has no other name, and is not the desk's own.
 fn is_claimed(rt: &HostRuntime, file: &File, path: &str, kept: &Kept) -> Result<bool, CopyFault> {
-    let held = file.metadata().map_err(|_| CopyFault::Copy)?;
-    let named = fs::symlink_metadata(rt, path).map_err(|_| CopyFault::Copy)?;
-    let desk = fs::metadata(rt, kept.database.as_str()).map_err(|_| CopyFault::Desk)?;
+    let held = file.metadata().map_err(of_copy)?;
+    let named = fs::symlink_metadata(rt, path).map_err(of_copy)?;
+    let desk = fs::metadata(rt, kept.database.as_str()).map_err(of_desk)?;
     let stamp = stamp_of(&held);
     Ok(
         named.is_file()
@@ -127,13 +119,16 @@ fn claim(rt: &HostRuntime, copy: &str, kept: &Kept) -> Result<Parts, CopyFault> 
         .create(true)
         .mode(0o600)
         .open(rt, database.as_str())
-        .map_err(|_| CopyFault::Copy)?;
+        .map_err(of_copy)?;
     // what is meant for a standard stream that was closed must not land in the copy
     if file.as_raw_fd() <= 2 {
-        file = file.try_clone().map_err(|_| CopyFault::Copy)?;
+        file = file.try_clone().map_err(of_copy)?;
     }
-    if file.try_lock().is_err() || !is_claimed(rt, &file, database.as_str(), kept)? {
-        return Err(CopyFault::Copy);
+    if file.try_lock().is_err() {
+        return Err(CopyFault::Copy(Some(Because::Busy)));
+    }
+    if !is_claimed(rt, &file, database.as_str(), kept)? {
+        return Err(CopyFault::Copy(None));
     }
     Ok(Parts {
         database,
@@ -144,12 +139,11 @@ fn claim(rt: &HostRuntime, copy: &str, kept: &Kept) -> Result<Parts, CopyFault> 
 
 /// Why a copy does not open: what was copied is no database, or what it was copied to fails.
 fn fault_of(error: Error) -> CopyFault {
-    match error {
-        Error::SqliteFailure(ErrorCode::OutOfMemory) => CopyFault::Memory,
-        Error::SqliteFailure(ErrorCode::NotADatabase | ErrorCode::DatabaseCorrupt) => {
-            CopyFault::Desk
-        }
-        _ => CopyFault::Copy,
+    let because = Because::of_rows(&error);
+    match (error, because) {
+        (Error::SqliteFailure(ErrorCode::OutOfMemory), _) => CopyFault::Memory,
+        (_, Some(Because::NoDatabase | Because::Damaged)) => CopyFault::Desk(because),
+        _ => CopyFault::Copy(because),
     }
 }
 
@@ -165,9 +159,12 @@ fn open_copy(
 }
 
 /// Fails where no desk opens over these rows.
-fn judge(alloc: Global, image: &Image) -> Result<(), ScriptFault> {
-    records_of(alloc, image)?;
-    Ok(())
+fn judge(alloc: Global, image: &Image) -> Result<(), CopyFault> {
+    match records_of(alloc, image) {
+        Ok(_) => Ok(()),
+        Err(Refusal::Memory) => Err(CopyFault::Memory),
+        Err(_) => Err(CopyFault::Desk(Some(Because::Damaged))),
+    }
 }
 
 /// The line that tells of a copy with these rows: how many requests were entered, and which was the last move.
@@ -195,7 +192,7 @@ fn told_by<S: Alter + Drop>(
     let image = match tables.load(version) {
         Ok(image) => image,
         Err(ReadFault::Sqlite(error)) => return Err(fault_of(error)),
-        Err(ReadFault::Damaged) => return Err(CopyFault::Desk),
+        Err(ReadFault::Damaged) => return Err(CopyFault::Desk(Some(Because::Damaged))),
     };
     judge(alloc, &image)?;
     line_of(alloc, &image)
@@ -207,11 +204,11 @@ fn checked(rt: &HostRuntime, parts: &Parts) -> Result<String, CopyFault> {
     let (mut tables, version) = match Tables::open(rt.alloc(), store) {
         Ok(found) => found,
         Err((StoreFault::Memory, _)) => return Err(CopyFault::Memory),
-        Err(_) => return Err(CopyFault::Desk),
+        Err((_, mut store)) => return Err(CopyFault::Desk(Some(why_foreign(&mut store)))),
     };
     let line = told_by(rt.alloc(), &mut tables, version)?;
     let store = tables.into_connection();
-    store.close().map_err(|_| CopyFault::Copy)?;
+    store.close().map_err(fault_of)?;
     Ok(line)
 }
 
@@ -235,12 +232,12 @@ fn name_copy(rt: &HostRuntime, copy: &str, kept: &Kept, parts: &Parts) -> io::Re
 }
 
 /// Makes the copy, and gives it its name. Gives the line that tells of it.
-fn make(rt: &HostRuntime, copy: &str, kept: &Kept, parts: &Parts) -> Result<String, CopyFault> {
+fn make(rt: &HostRuntime, copy: &str, kept: &Kept, parts: &mut Parts) -> Result<String, CopyFault> {
     copy_files(rt, kept, parts)?;
     let line = checked(rt, parts)?;
     forget(rt, parts.log.as_str())?;
     refuse_taken(rt, copy)?;
-    name_copy(rt, copy, kept, parts).map_err(|_| CopyFault::Copy)?;
+    name_copy(rt, copy, kept, parts).map_err(of_copy)?;
     Ok(line)
 }
 
@@ -251,8 +248,8 @@ pub fn backup(rt: &HostRuntime, file: &str, copy: &str) -> Result<(), CopyFault>
     refuse_journal(rt, &kept)?;
     refuse_taken(rt, copy)?;
     refuse_own(rt, copy, &kept)?;
-    let parts = claim(rt, copy, &kept)?;
-    match make(rt, copy, &kept, &parts) {
+    let mut parts = claim(rt, copy, &kept)?;
+    match make(rt, copy, &kept, &mut parts) {
         Ok(line) => {
             let mut writer = Counted::new(io::writer(rt));
             Ok(put(&mut writer, line.as_bytes())?)

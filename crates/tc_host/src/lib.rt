@@ -6,8 +6,11 @@ mod backups;
 mod because;
 mod copying;
 mod files;
+mod locks;
 mod looking;
 mod marking;
+mod memory;
+mod parts;
 mod paths;
 mod reporting;
 mod telling;
@@ -21,6 +24,6 @@ pub use looking::{
     why_no_desk, why_no_opening, why_no_script, why_uncopied, why_unread, why_unwritable,
 };
 pub use paths::{HostPaths, HostTexts, text_of};
-pub use reporting::{print_board, print_report};
+pub use reporting::{print_report, print_wall};
 pub use telling::{HostWatch, refusal_of, tell_opening};
 pub use unserved::opening_fault;

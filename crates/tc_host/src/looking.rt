@@ -1,7 +1,7 @@
 //! A look at what could not be used, to tell why. Nothing is written but a log that holds nothing, and what was told of it stays. Where no look tells why, no reason is told.
 
 use crate::because::Because;
-use crate::reporting::{find, forget_log};
+use crate::reporting::{Kept, find, forget_log, has_journal};
 use sqlite::{Alter, Connection};
 use sqlite_disk::Wary;
 use std::alloc::Global;
@@ -107,7 +107,7 @@ fn schema_number<S: Alter + Drop>(store: &mut Connection<S>) -> Option<i64> {
 }
 
 /// Why tables are not taken as a desk's.
-fn why_foreign<S: Alter + Drop>(store: &mut Connection<S>) -> Because {
+pub(crate) fn why_foreign<S: Alter + Drop>(store: &mut Connection<S>) -> Because {
     match schema_number(store) {
         Some(number) if number > newest_schema() => Because::Later,
         _ => Because::Foreign,
@@ -130,7 +130,7 @@ fn why_unloaded<S: Alter + Drop>(
 ) -> Option<Because> {
     match tables.load(version) {
         Ok(image) => why_unopened(alloc, &image),
-        Err(ReadFault::Sqlite(error)) => Because::of_database(&error),
+        Err(ReadFault::Sqlite(error)) => Because::of_rows(&error),
         Err(ReadFault::Damaged) => Some(Because::Damaged),
     }
 }
@@ -151,10 +151,29 @@ fn why_unheld<S: Alter + Drop>(
 }
 
 /// Why a file that is there cannot be opened to be written.
-fn why_unwritten(rt: &HostRuntime, file: &str) -> Option<Because> {
+pub(crate) fn why_unwritten(rt: &HostRuntime, file: &str) -> Option<Because> {
     match OpenOptions::new().read(true).write(true).open(rt, file) {
         Err(error) => Because::of_system(error.kind()),
         Ok(_) => None,
+    }
+}
+
+/// Whether the file at this path has a second name.
+fn has_names(rt: &HostRuntime, path: &str) -> bool {
+    match fs::metadata(rt, path) {
+        Ok(found) => found.nlink() > 1,
+        Err(_) => false,
+    }
+}
+
+/// Why two files are not opened, by their names and by what stands beside them.
+fn why_not_alone(rt: &HostRuntime, kept: &Kept) -> Option<Because> {
+    if has_names(rt, kept.database.as_str()) || has_names(rt, kept.log.as_str()) {
+        return Some(Because::Names);
+    }
+    match has_journal(rt, kept) {
+        Ok(true) => Some(Because::Journal),
+        _ => why_unwritten(rt, kept.database.as_str()),
     }
 }
 
@@ -173,8 +192,21 @@ fn why_unkept(rt: &HostRuntime, file: &str) -> Option<Because> {
                 forget_log(rt, &kept);
             }
             drop(left);
-            Because::of_database(&error).or(why_unwritten(rt, file))
+            Because::of_database(&error).or(why_not_alone(rt, &kept))
         }
+    }
+}
+
+/// Why what stands at a path is no file of a desk, by its kind and its length.
+fn why_no_file(found: &fs::Metadata) -> Option<Because> {
+    if found.is_dir() {
+        Some(Because::Folder)
+    } else if !found.is_file() {
+        Some(Because::Special)
+    } else if found.len() == 0 {
+        Some(Because::Empty)
+    } else {
+        None
     }
 }
 
@@ -182,17 +214,18 @@ fn why_unkept(rt: &HostRuntime, file: &str) -> Option<Because> {
 pub fn why_no_desk(rt: &HostRuntime, file: &str) -> Option<Because> {
     match fs::metadata(rt, file) {
         Err(error) => Because::of_system(error.kind()),
-        Ok(found) if found.is_dir() => Some(Because::Folder),
-        Ok(found) if found.len() == 0 => Some(Because::Empty),
-        Ok(_) => why_unkept(rt, file),
+        Ok(found) => match why_no_file(&found) {
+            Some(because) => Some(because),
+            None => why_unkept(rt, file),
+        },
     }
 }
 
 /// Why the desk that a file keeps cannot be copied, where a look tells that opens nothing to be written: a program may have the desk open, and work.
 pub fn why_uncopied(rt: &HostRuntime, file: &str) -> Option<Because> {
     match fs::metadata(rt, file) {
-        Ok(found) if found.is_file() && found.len() == 0 => Some(Because::Empty),
-        _ => why_unreadable(rt, file),
+        Err(error) => Because::of_system(error.kind()),
+        Ok(found) => why_no_file(&found).or(why_unreadable(rt, file)),
     }
 }
 

@@ -1,6 +1,7 @@
 //! The marks of a desk's two files, as the system has them now.
 
-use crate::copying::CopyFault;
+use crate::copying::{CopyFault, of_desk};
+use crate::locks::Locks;
 use crate::paths::read_most;
 use crate::reporting::Kept;
 use std::os::unix::fs::MetadataExt;
@@ -15,6 +16,7 @@ pub(crate) fn stamp_of(found: &fs::Metadata) -> FileStamp {
     FileStamp {
         device: found.dev(),
         inode: found.ino(),
+        names: found.nlink(),
         size: found.len(),
         seconds: found.mtime(),
         nanoseconds: found.mtime_nsec(),
@@ -26,7 +28,7 @@ pub(crate) fn opened(rt: &HostRuntime, path: &str) -> Result<Option<fs::File>, C
     match fs::open(rt, path) {
         Ok(file) => Ok(Some(file)),
         Err(error) if error.kind() == io::ErrorKind::NotFound => Ok(None),
-        Err(_) => Err(CopyFault::Desk),
+        Err(error) => Err(of_desk(error)),
     }
 }
 
@@ -40,23 +42,28 @@ fn head_of(text: &[u8]) -> [u8; HEAD] {
 }
 
 /// The mark of the log at this path, where there is one. The first byte of its head is read first.
-fn log_mark(rt: &HostRuntime, path: &str) -> Result<Option<LogMark>, CopyFault> {
+fn log_mark(rt: &HostRuntime, path: &str, locks: &Locks) -> Result<Option<LogMark>, CopyFault> {
     let Some(log) = opened(rt, path)? else {
         return Ok(None);
     };
-    let found = log.metadata().map_err(|_| CopyFault::Desk)?;
+    let found = log.metadata().map_err(of_desk)?;
     let text = read_most(rt.alloc(), log, HEAD)?;
+    let stamp = stamp_of(&found);
     Ok(Some(LogMark {
-        stamp: stamp_of(&found),
+        stamp,
+        is_held: locks.hold(rt.alloc(), &stamp)?,
         head: head_of(&text),
     }))
 }
 
 /// The marks of a desk's files.
 pub(crate) fn read_marks(rt: &HostRuntime, kept: &Kept) -> Result<Marks, CopyFault> {
-    let found = fs::metadata(rt, kept.database.as_str()).map_err(|_| CopyFault::Desk)?;
+    let locks = Locks::read(rt)?;
+    let found = fs::metadata(rt, kept.database.as_str()).map_err(of_desk)?;
+    let file = stamp_of(&found);
     Ok(Marks {
-        file: stamp_of(&found),
-        log: log_mark(rt, kept.log.as_str())?,
+        file,
+        is_held: locks.hold(rt.alloc(), &file)?,
+        log: log_mark(rt, kept.log.as_str(), &locks)?,
     })
 }

@@ -1,13 +1,17 @@
-//! The shift report and the board of a desk that is kept in a file: what is done with its two files.
+//! The shift report and the wall of a desk that is kept in a file: what is done with its two files.
 
-use sqlite::Connection;
+use crate::because::{Because, Unusable};
+use crate::copying::CopyFault;
+use crate::looking::{why_foreign, why_unwritable, why_unwritten};
+use crate::memory::open_in_memory;
+use sqlite::{Alter, Connection};
 use sqlite_disk::Wary;
 use sqlite_std_file::FileFrom;
 use sqlite_store::FileStore;
-use std::alloc::Global;
+use std::alloc::{AllocError, Global};
 use std::rt::Files;
 use std::{fs, io};
-use tc_closed::{ScriptFault, closed_report, write_board};
+use tc_closed::{ScriptFault, closed_report, write_wall};
 use tc_store::{StoreFault, Tables, Version};
 use tc_types::{Counted, Moment};
 
@@ -84,31 +88,104 @@ pub(crate) fn tables_in(
     }
 }
 
+/// The path of the rollback journal of a database.
+fn journal_path(alloc: Global, kept: &Kept) -> Result<String, AllocError> {
+    let database = kept.database.as_str();
+    Ok(format!(in alloc; "{database}-journal")?)
+}
+
+/// Whether SQLite left a rollback journal beside a database, without which its file does not stand for the desk.
+pub(crate) fn has_journal(rt: &HostRuntime, kept: &Kept) -> Result<bool, AllocError> {
+    let path = journal_path(rt.alloc(), kept)?;
+    match fs::metadata(rt, path.as_str()) {
+        Ok(found) => Ok(found.len() > 0),
+        Err(_) => Ok(false),
+    }
+}
+
+/// Fails where it left one.
+pub(crate) fn refuse_journal(rt: &HostRuntime, kept: &Kept) -> Result<(), CopyFault> {
+    if has_journal(rt, kept)? {
+        return Err(CopyFault::Desk(Some(Because::Journal)));
+    }
+    Ok(())
+}
+
+/// What is told of a desk that is kept in a file.
+#[derive(Clone, Copy)]
+enum Page {
+    Report(Moment, Moment),
+    Wall,
+}
+
+/// Prints a page of these tables.
+fn print_tables<S: Alter + Drop>(
+    rt: &HostRuntime,
+    tables: &mut Tables<S>,
+    version: Version,
+    page: Page,
+) -> Result<(), ScriptFault> {
+    let mut writer = Counted::new(io::writer(rt));
+    match page {
+        Page::Report(from, to) => {
+            closed_report(rt.alloc(), tables, version, from, to, &mut writer)
+        }
+        Page::Wall => write_wall(rt.alloc(), tables, version, &mut writer),
+    }
+}
+
+/// Whether this user may not write one of a desk's files, or not make its log.
+fn is_denied(rt: &HostRuntime, kept: &Kept) -> bool {
+    let why_no_log = if kept.had_log {
+        why_unwritten(rt, kept.log.as_str())
+    } else {
+        why_unwritable(rt, kept.log.as_str())
+    };
+    why_no_log == Some(Because::Denied)
+        || why_unwritten(rt, kept.database.as_str()) == Some(Because::Denied)
+}
+
+/// Prints a page of the desk that two files keep which this user may only read: as a copy would have it, in memory.
+fn print_read(rt: &HostRuntime, kept: &Kept, page: Page) -> Result<(), Unusable> {
+    refuse_journal(rt, kept)?;
+    let (mut tables, version) = match Tables::open(rt.alloc(), open_in_memory(rt, kept)?) {
+        Ok(found) => found,
+        Err((StoreFault::Memory, _)) => return Err(Unusable::from(ScriptFault::Memory)),
+        Err((_, mut store)) => return Err(Unusable::of_tables(why_foreign(&mut store))),
+    };
+    match print_tables(rt, &mut tables, version, page) {
+        Err(ScriptFault::Tables) => Err(Unusable::of_tables(Because::Damaged)),
+        printed => Ok(printed?),
+    }
+}
+
+/// Prints a page of the desk that a file keeps.
+fn print_page(rt: &HostRuntime, file: &str, page: Page) -> Result<(), Unusable> {
+    let kept = find(rt, file)?;
+    match open_kept(rt, &kept) {
+        Ok(store) => {
+            let (mut tables, version) = tables_in(rt, &kept, store)?;
+            let printed = print_tables(rt, &mut tables, version, page);
+            forget_log(rt, &kept);
+            Ok(printed?)
+        }
+        Err(ScriptFault::Tables) if is_denied(rt, &kept) => print_read(rt, &kept, page),
+        Err(fault) => Err(Unusable::from(fault)),
+    }
+}
+
 /// Prints the shift report of the desk that a file keeps. The file stays as it is, byte for byte, and so does its log where that holds a batch; one
-/// that holds none may have other bytes afterwards.
+/// that holds none may have other bytes afterwards. Where this user may only read them, both stay as they are.
 pub fn print_report(
     rt: &HostRuntime,
     file: &str,
     from: Moment,
     to: Moment,
-) -> Result<(), ScriptFault> {
-    let kept = find(rt, file)?;
-    let store = open_kept(rt, &kept)?;
-    let (mut tables, version) = tables_in(rt, &kept, store)?;
-    let mut writer = Counted::new(io::writer(rt));
-    let printed = closed_report(rt.alloc(), &mut tables, version, from, to, &mut writer);
-    forget_log(rt, &kept);
-    printed
+) -> Result<(), Unusable> {
+    print_page(rt, file, Page::Report(from, to))
 }
 
-/// Prints the board of the desk that a file keeps. The file stays as it is, byte for byte, and so does its log where that holds a batch; one that holds none may
-/// have other bytes afterwards.
-pub fn print_board(rt: &HostRuntime, file: &str) -> Result<(), ScriptFault> {
-    let kept = find(rt, file)?;
-    let store = open_kept(rt, &kept)?;
-    let (mut tables, version) = tables_in(rt, &kept, store)?;
-    let mut writer = Counted::new(io::writer(rt));
-    let printed = write_board(rt.alloc(), &mut tables, version, &mut writer);
-    forget_log(rt, &kept);
-    printed
+/// Prints the wall of the desk that a file keeps. The files stay as they do for a report.
+pub fn print_wall(rt: &HostRuntime, file: &str) -> Result<(), Unusable> {
+    print_page(rt, file, Page::Wall)
 }

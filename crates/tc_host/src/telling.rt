@@ -7,8 +7,7 @@ use tc_closed::{Answered, Watch};
 use tc_lines::cut;
 use tc_lines::read::load_reader::read_load;
 use tc_lines::read::readers::moment;
-use tc_script::Verb;
-use tc_types::{LoadKind, Moment, Refusal};
+use tc_types::{Moment, Refusal, Verb};
 use tc_words::Telling;
 
 /// Who is told by the standard error of this machine.
@@ -121,14 +120,6 @@ pub fn refusal_of(number: u64) -> Option<Refusal> {
     None
 }
 
-/// The word of what a line loads.
-fn kind_word(kind: LoadKind) -> &'static str {
-    match kind {
-        LoadKind::Stack => "stack",
-        LoadKind::Procedure => "procedure",
-    }
-}
-
 /// What is said of a fault of a line, without the number of the line.
 fn without_place(text: &str) -> &str {
     match text.find(|letter: char| letter == ',' || letter == ':') {
@@ -146,7 +137,7 @@ fn text_reason(alloc: Global, line: &[u8], loads: bool) -> Result<Option<String>
     let Ok(load) = read_load(line) else {
         return Ok(None);
     };
-    let (kind, path) = (kind_word(load.kind), load.path);
+    let (kind, path) = (load.kind.word(), load.path);
     if !loads {
         return Ok(Some(format!(in alloc; "a loop loads no {kind}")?));
     }

@@ -25,10 +25,11 @@ use Rattle.tc_types.specs.Loads.{kind_word, IsPath}
 use Rattle.tc_types.specs.Names.{IsName}
 use Rattle.tc_script.specs.declared.slots.Slot.{Slot}
 use Rattle.tc_script.specs.declared.slots.Slot.TheVariants as slot
-use Rattle.tc_script.specs.declared.verbs.TheConstants.{VERBS}
-use Rattle.tc_script.specs.declared.verbs.Verb.{Verb}
-use Rattle.tc_script.specs.declared.verbs.Verb.TheVariants as verb
-use Rattle.tc_script.specs.Verbs.{first_slot, same, verb_in, verb_word}
+use Rattle.tc_types.specs.declared.verbs.TheConstants.{VERBS}
+use Rattle.tc_types.specs.declared.verbs.Verb.{Verb}
+use Rattle.tc_types.specs.declared.verbs.Verb.TheVariants as verb
+use Rattle.tc_types.specs.Verbs.{verb_in, verb_word}
+use Rattle.tc_script.specs.Verbs.{first_slot, same}
 use Rattle.tc_script.specs.Slots.{behind}
 use Rattle.tc_script.specs.Fits.{Fits, Spells, initiations, settings}
 use Rattle.tc_script.specs.Faults.{Follow}

@@ -14,7 +14,8 @@ use Rattle.tc_script.specs.declared.sorts.Sort.TheVariants.{Insert, Delete, Shif
 use Rattle.tc_script.specs.declared.slots.Slot.{Slot}
 use Rattle.tc_script.specs.declared.slots.Slot.TheVariants as slot
 use Rattle.tc_script.specs.Slots.{parts}
-use Rattle.tc_script.specs.Verbs.{same, verb_in}
+use Rattle.tc_types.specs.Verbs.{verb_in}
+use Rattle.tc_script.specs.Verbs.{same}
 
 -- a word is the spelling of a value that keeps its limits
 abbrev pub Spells : {X : Type 0} → (X → List ℕ) → (X → Type 0) → List ℕ → Type 0

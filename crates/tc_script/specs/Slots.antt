@@ -1,12 +1,13 @@
 -- The places of a line, one behind the other.
 use Rattle.std.specs.Prelude.{ℕ, ◌==◌, Bool, true, if◌then◌else◌, Option, Some, None, List, length, get_or, codes}
 use Rattle.std.specs.Option.{option_and_then}
+use Rattle.tc_types.specs.Verbs.{verb_in}
 use Rattle.tc_types.specs.Words.{words}
 use Rattle.tc_script.specs.declared.sorts.Sort.TheVariants.{Insert, Delete, Shift, ShiftAll, Schedule, Other}
 use Rattle.tc_script.specs.declared.slots.Slot.{Slot}
 use Rattle.tc_script.specs.declared.slots.Slot.TheVariants as slot
 use Rattle.tc_script.specs.Sorts.{is_schedule_sort, is_scheduling, sort_of}
-use Rattle.tc_script.specs.Verbs.{first_slot, same, verb_in}
+use Rattle.tc_script.specs.Verbs.{first_slot, same}
 
 -- what stands between the semicolons of a word
 abbrev pub parts : List ℕ → List (List ℕ)

@@ -5,7 +5,8 @@ ghost use Rattle.tc_script.specs.Slots.{behind, behind_entry, behind_initiation,
 use crate::lists::count_parts;
 use crate::slots::Slot;
 use crate::sorts::Sort;
-use crate::verbs::{Verb, same};
+use crate::verbs::{first_slot, same};
+use tc_types::Verb;
 
 /// What stands behind `initiate` and this word.
 fn behind_initiation(word: &[u8]) -> Option<Slot>
@@ -76,7 +77,7 @@ pub(crate) fn behind(slot: Slot, word: &[u8]) -> Option<Slot>
     match slot {
         Slot::Moment => Some(Slot::Person),
         Slot::Person => Some(Slot::Verb),
-        Slot::Verb => Verb::read(word)?.first_slot(),
+        Slot::Verb => first_slot(Verb::read(word)?),
         Slot::HistoryOf => Some(Slot::After),
         Slot::StandingAt => Some(Slot::Past),
         Slot::StepOf => Some(Slot::Step),

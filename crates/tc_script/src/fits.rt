@@ -10,7 +10,7 @@ use crate::forms::{
 use crate::lists::{are_moments, are_requests};
 use crate::slots::Slot;
 use crate::sorts::Sort;
-use crate::verbs::Verb;
+use tc_types::Verb;
 
 /// Whether a command of this sort names this.
 fn fits_target(sort: Sort, word: &[u8]) -> bool

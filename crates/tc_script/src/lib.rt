@@ -17,4 +17,3 @@ mod verbs;
 pub use faults::{LineFault, line_fault};
 pub use slots::Slot;
 pub use sorts::Sort;
-pub use verbs::Verb;

@@ -1,5 +1,5 @@
 -- The spelling of acts, queries and script lines. Each has one spelling: the words of it, parted by one space each.
-use Rattle.std.specs.Prelude.{◌≡◌, ℕ, ◌==◌, Bool, nat_eq, IsSomeAnd, ◌<◌, Option, Some, None, List, [], ◌∷◌, codes, length}
+use Rattle.std.specs.Prelude.{◌≡◌, ℕ, ◌==◌, Bool, nat_eq, IsSomeAnd, ◌<◌, Option, Some, None, List, [], ◌∷◌, length}
 use Rattle.std.specs.List.{slice_split, list_any}
 use Rattle.std.specs.Cmp.Lexicographic.{pointwise}
 use Rattle.std.specs.Fmt.{decimal}
@@ -11,6 +11,9 @@ use Rattle.tc_types.specs.declared.acts.StepAct.{StepAct}
 use Rattle.tc_types.specs.declared.acts.Query.{Query}
 use Rattle.tc_types.specs.declared.acts.Query.TheVariants as query
 use Rattle.tc_types.specs.declared.acts.Line.{Line}
+use Rattle.tc_types.specs.declared.verbs.Verb.{Verb}
+use Rattle.tc_types.specs.declared.verbs.Verb.TheVariants as verb
+use Rattle.tc_types.specs.Verbs.{verb_word}
 use Rattle.tc_types.specs.Numbers.{IsNumber}
 use Rattle.tc_types.specs.Numbers.{IsMoment}
 use Rattle.tc_types.specs.Names.{IsName, IsPerson}
@@ -20,26 +23,25 @@ use Rattle.tc_types.specs.StepGrammar.{verdict_word, second_word, IsSecond}
 use Rattle.tc_types.specs.Grammar.{entry_words, IsEntry}
 
 abbrev pub query_words : Query → List (List ℕ)
-query_words query.Places = codes "places" ∷ []
-query_words (query.History request after) = codes "history" ∷ decimal request ∷ decimal after ∷ []
-query_words (query.Request request) = codes "request" ∷ decimal request ∷ []
-query_words query.Link = codes "link" ∷ []
-query_words query.Schedule = codes "schedule" ∷ []
-query_words (query.Log execution) = codes "log" ∷ decimal execution ∷ []
-query_words (query.Report from to) = codes "report" ∷ decimal from ∷ decimal to ∷ []
-query_words query.Waiting = codes "waiting" ∷ []
-query_words (query.Moves after) = codes "moves" ∷ decimal after ∷ []
-query_words (query.Standing place after) = codes "standing" ∷ place_name place ∷ decimal after ∷ []
-query_words (query.Steps procedure) = codes "steps" ∷ procedure ∷ []
+query_words query.Places = verb_word verb.Places ∷ []
+query_words (query.History request after) = verb_word verb.History ∷ decimal request ∷ decimal after ∷ []
+query_words (query.Request request) = verb_word verb.Request ∷ decimal request ∷ []
+query_words query.Link = verb_word verb.Link ∷ []
+query_words query.Schedule = verb_word verb.Schedule ∷ []
+query_words (query.Log execution) = verb_word verb.Log ∷ decimal execution ∷ []
+query_words (query.Report from to) = verb_word verb.Report ∷ decimal from ∷ decimal to ∷ []
+query_words query.Waiting = verb_word verb.Waiting ∷ []
+query_words (query.Moves after) = verb_word verb.Moves ∷ decimal after ∷ []
+query_words (query.Standing place after) = verb_word verb.Standing ∷ place_name place ∷ decimal after ∷ []
+query_words (query.Steps procedure) = verb_word verb.Steps ∷ procedure ∷ []
 
 -- the verbs of questions
-abbrev pub question_verbs : List (List ℕ)
-question_verbs = codes "places" ∷ codes "history" ∷ codes "request" ∷ codes "link" ∷ codes "schedule" ∷ codes "log" ∷ codes "report" ∷ codes "waiting" ∷ codes "moves"
-    ∷ codes "standing" ∷ codes "steps" ∷ []
+abbrev pub question_verbs : List Verb
+question_verbs = verb.Places ∷ verb.History ∷ verb.Request ∷ verb.Link ∷ verb.Schedule ∷ verb.Log ∷ verb.Report ∷ verb.Waiting ∷ verb.Moves ∷ verb.Standing ∷ verb.Steps ∷ []
 
--- a verb asks a question
+-- a word is the verb of a question
 unfoldable pub asks : List ℕ → Bool
-asks verb = list_any (λ word. pointwise nat_eq verb word) question_verbs
+asks word = list_any (λ verb. pointwise nat_eq word (verb_word verb)) question_verbs
 
 abbrev pub IsQuery : Query → Type 0
 IsQuery query.Places = Unit {0}
@@ -56,12 +58,12 @@ IsQuery (query.Steps procedure) = IsName procedure
 
 -- the words of an act on the book: its verb, and what it takes
 abbrev pub book_act_words : BookAct → List (List ℕ)
-book_act_words (book_act.Enter entry) = codes "enter" ∷ entry_words entry
-book_act_words (book_act.Withdraw request) = codes "withdraw" ∷ decimal request ∷ []
-book_act_words (book_act.Approve request) = codes "approve" ∷ decimal request ∷ []
-book_act_words (book_act.Close request) = codes "close" ∷ decimal request ∷ []
-book_act_words (book_act.ApproveStack stack) = codes "approvestack" ∷ stack ∷ []
-book_act_words (book_act.Begin procedure) = codes "begin" ∷ procedure ∷ []
+book_act_words (book_act.Enter entry) = verb_word verb.Enter ∷ entry_words entry
+book_act_words (book_act.Withdraw request) = verb_word verb.Withdraw ∷ decimal request ∷ []
+book_act_words (book_act.Approve request) = verb_word verb.Approve ∷ decimal request ∷ []
+book_act_words (book_act.Close request) = verb_word verb.Close ∷ decimal request ∷ []
+book_act_words (book_act.ApproveStack stack) = verb_word verb.ApproveStack ∷ stack ∷ []
+book_act_words (book_act.Begin procedure) = verb_word verb.Begin ∷ procedure ∷ []
 
 -- the limits that its numbers keep, and that a name has its form
 abbrev pub IsBookAct : BookAct → Type 0
@@ -74,7 +76,7 @@ IsBookAct (book_act.Begin procedure) = IsName procedure
 
 -- step E S VERDICT SECOND
 abbrev pub step_words : StepAct → List (List ℕ)
-step_words given = codes "step" ∷ decimal given.execution ∷ decimal given.step ∷ verdict_word given.verdict ∷ second_word given.second ∷ []
+step_words given = verb_word verb.Step ∷ decimal given.execution ∷ decimal given.step ∷ verdict_word given.verdict ∷ second_word given.second ∷ []
 
 -- the limits that its numbers and its second person keep
 abbrev pub IsStepAct : StepAct → Type 0

@@ -9,6 +9,7 @@ pub mod Images
 pub mod Lines
 pub mod Schedule
 pub mod Inserts
+pub mod Verbs
 pub mod LinkGrammar
 pub mod LinkLines
 pub mod StepGrammar

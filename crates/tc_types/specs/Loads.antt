@@ -1,11 +1,13 @@
 -- The spelling of script lines that load a file.
-use Rattle.std.specs.Prelude.{◌≡◌, ℕ, ◌<◌, ◌==◌, false, List, [], ◌∷◌, codes, length}
+use Rattle.std.specs.Prelude.{◌≡◌, ℕ, ◌<◌, ◌==◌, false, List, [], ◌∷◌, length}
 use Rattle.std.specs.List.{list_any}
 use Rattle.std.specs.Fmt.{decimal}
 use Rattle.std.specs.Str.{IsUtf8}
 use Rattle.tc_types.specs.declared.loads.Load.{Load}
 use Rattle.tc_types.specs.declared.loads.LoadKind.{LoadKind}
 use Rattle.tc_types.specs.declared.loads.LoadKind.TheVariants as kind
+use Rattle.tc_types.specs.declared.verbs.Verb.TheVariants as verb
+use Rattle.tc_types.specs.Verbs.{verb_word}
 use Rattle.tc_types.specs.Numbers.{IsMoment}
 use Rattle.tc_types.specs.Names.{IsName, IsPerson}
 use Rattle.tc_types.specs.Lines.{spaced}
@@ -29,8 +31,8 @@ pub record IsPath (path : List ℕ) : Type 0 where
 
 -- what is loaded, in a word
 abbrev pub kind_word : LoadKind → List ℕ
-kind_word kind.Stack = codes "stack"
-kind_word kind.Procedure = codes "procedure"
+kind_word kind.Stack = verb_word verb.Stack
+kind_word kind.Procedure = verb_word verb.Procedure
 
 -- MOMENT PERSON stack NAME PATH, or procedure in place of stack
 abbrev pub load_words : LoadLine → List (List ℕ)

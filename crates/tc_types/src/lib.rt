@@ -21,6 +21,7 @@ mod rides;
 mod step_texts;
 mod tables;
 mod targets;
+mod verbs;
 mod verdicts;
 mod waits;
 
@@ -55,5 +56,6 @@ pub use tables::rows::{
     StackApproval, StepRecord, Tally,
 };
 pub use targets::Targets;
+pub use verbs::{VERBS, Verb};
 pub use verdicts::Verdict;
 pub use waits::{Lock, Waiting, Wanting};

@@ -1,17 +1,17 @@
--- Two boards that show the same have one page, wherever what they show lies.
+-- Two walls that show the same have one page, wherever what they show lies.
 use Rattle.std.proofs.Common.{◌≡◌, ◌∙◌, ℕ, zero, suc, Option, Some, None, List, [], ◌∷◌, ◌++◌, codes, map, take, refl, ap, sym}
 use Rattle.std.specs.List.{flat_map, fold}
 use Rattle.tc_types.specs.declared.history.moves.Move.{Move}
 use Rattle.tc_types.specs.declared.requests.Request.{Request}
 use Rattle.tc_book.specs.Book.{Book}
-use Rattle.tc_wall.specs.declared.boards.WallBoard.{WallBoard}
-use Rattle.tc_wall.specs.declared.boards.Way.{Way}
-use Rattle.tc_wall.specs.declared.boards.TheConstants.{MOST_OPEN, MOST_STAGES}
+use Rattle.tc_wall.specs.declared.walls.Wall.{Wall}
+use Rattle.tc_wall.specs.declared.walls.Way.{Way}
+use Rattle.tc_wall.specs.declared.walls.TheConstants.{MOST_OPEN, MOST_STAGES}
 use Rattle.tc_wall.specs.Axis.{axis_of, drawn, lines_of, marks_of, moment_of, moments_of, with_moment}
 use Rattle.tc_wall.specs.Bounds.{last_of}
 use Rattle.tc_wall.specs.Heading.{heading_parts}
 use Rattle.tc_wall.specs.MoveParts.{moves_parts}
-use Rattle.tc_wall.specs.Page.{board_page, head_parts, live_parts, page, size_word}
+use Rattle.tc_wall.specs.Page.{wall_page, head_parts, live_parts, page, size_word}
 use Rattle.tc_wall.specs.Tiles.{tiles_parts}
 use Rattle.tc_wall.specs.Parts.{Part, fixed, shown_all}
 use Rattle.tc_wall.specs.Waits.{waits_parts}
@@ -75,35 +75,35 @@ table_one book (r ∷ rs) (x ∷ xs) (y ∷ ys) one two =
 
 -- ---- the parts of a page
 
-ways_one : (book : Book) (a b : WallBoard) → ShowsBook book a → ShowsBook book b → ways_parts a ≡ ways_parts b
+ways_one : (book : Book) (a b : Wall) → ShowsBook book a → ShowsBook book b → ways_parts a ≡ ways_parts b
 unfolding ways_parts
 ways_one book a b one two =
     let opened : a.opened ≡ b.opened = one.opened ∙ sym two.opened in
     let shown = table_one book (take MOST_OPEN (take MOST_OPEN (open_of book))) (take MOST_OPEN a.ways.now) (take MOST_OPEN b.ways.now) (ways_taken book MOST_OPEN _ a.ways.now one.ways) (ways_taken book MOST_OPEN _ b.ways.now two.ways) in
     rw (opened, shown) refl
 
-head_one : (book : Book) (a b : WallBoard) → ShowsBook book a → ShowsBook book b → a.live ≡ b.live → head_parts a ≡ head_parts b
+head_one : (book : Book) (a b : Wall) → ShowsBook book a → ShowsBook book b → a.live ≡ b.live → head_parts a ≡ head_parts b
 unfolding head_parts size_word
 head_one book a b one two live =
     let opened : a.opened ≡ b.opened = one.opened ∙ sym two.opened in
     let waiting : a.waiting ≡ b.waiting = one.waiting ∙ sym two.waiting in
     rw (opened, waiting, live) refl
 
-heading_one : (book : Book) (a b : WallBoard) → ShowsBook book a → ShowsBook book b → a.live ≡ b.live → heading_parts a ≡ heading_parts b
+heading_one : (book : Book) (a b : Wall) → ShowsBook book a → ShowsBook book b → a.opening ≡ b.opening → heading_parts a ≡ heading_parts b
 unfolding heading_parts
-heading_one book a b one two live =
+heading_one book a b one two opening =
     let entered : a.entered ≡ b.entered = one.entered ∙ sym two.entered in
     let moves : a.moves.now ≡ b.moves.now = one.moves ∙ sym two.moves in
-    rw (entered, moves, live) refl
+    rw (entered, moves, opening) refl
 
-waits_one : (book : Book) (a b : WallBoard) → ShowsBook book a → ShowsBook book b → waits_parts a ≡ waits_parts b
+waits_one : (book : Book) (a b : Wall) → ShowsBook book a → ShowsBook book b → waits_parts a ≡ waits_parts b
 unfolding waits_parts
 waits_one book a b one two =
     let waits : a.waits.now ≡ b.waits.now = one.waits ∙ sym two.waits in
     let waiting : a.waiting ≡ b.waiting = one.waiting ∙ sym two.waiting in
     rw (waits, waiting) refl
 
-moves_one : (book : Book) (a b : WallBoard) → ShowsBook book a → ShowsBook book b → moves_parts a ≡ moves_parts b
+moves_one : (book : Book) (a b : Wall) → ShowsBook book a → ShowsBook book b → moves_parts a ≡ moves_parts b
 unfolding moves_parts
 moves_one book a b one two =
     let moves : a.moves.now ≡ b.moves.now = one.moves ∙ sym two.moves in
@@ -121,11 +121,11 @@ joined_one foot a b c d e f g a' b' c' d' e' f' g' p q r s t u v =
     ap (λ x. joined foot x b c d e f g) p ∙ ap (λ x. joined foot a' x c d e f g) q ∙ ap (λ x. joined foot a' b' x d e f g) r ∙ ap (λ x. joined foot a' b' c' x e f g) s
     ∙ ap (λ x. joined foot a' b' c' d' x f g) t ∙ ap (λ x. joined foot a' b' c' d' e' x g) u ∙ ap (λ x. joined foot a' b' c' d' e' f' x) v
 
-page_one : (book : Book) (a b : WallBoard) → ShowsBook book a → ShowsBook book b → a.live ≡ b.live → board_page a ≡ board_page b
-unfolding board_page page
-page_one book a b one two live = ap shown_all (joined_one _ _ _ _ _ _ _ _ _ _ _ _ _ _ _ (head_one book a b one two live) (heading_one book a b one two live) (ap tiles_parts (one.counts ∙ sym two.counts)) (waits_one book a b one two)
+page_one : (book : Book) (a b : Wall) → ShowsBook book a → ShowsBook book b → a.opening ≡ b.opening → a.live ≡ b.live → wall_page a ≡ wall_page b
+unfolding wall_page page
+page_one book a b one two opening live = ap shown_all (joined_one _ _ _ _ _ _ _ _ _ _ _ _ _ _ _ (head_one book a b one two live) (heading_one book a b one two opening) (ap tiles_parts (one.counts ∙ sym two.counts)) (waits_one book a b one two)
     (ap live_parts live) (ways_one book a b one two) (moves_one book a b one two))
 
 pub file_one : (book : Book) (one two : List ℕ) → IsFilePage book one → IsFilePage book two → one ≡ two
 file_one book one two first second =
-    first.bytes ∙ page_one book first.board second.board first.shows.shown second.shows.shown (first.shows.live ∙ sym second.shows.live) ∙ sym second.bytes
+    first.bytes ∙ page_one book first.wall second.wall first.shows.shown second.shows.shown (first.shows.opened ∙ sym second.shows.opened) (first.shows.live ∙ sym second.shows.live) ∙ sym second.bytes

@@ -10,7 +10,7 @@ use Rattle.tc_types.specs.declared.requests.Request.{Request}
 use Rattle.tc_types.specs.History.{AllAfter}
 use Rattle.tc_book.specs.Book.{Book, request_at, request_in}
 use Rattle.tc_book.specs.Good.{IsGoodRequest}
-use Rattle.tc_wall.specs.declared.boards.TheConstants.{MOST_OPEN}
+use Rattle.tc_wall.specs.declared.walls.TheConstants.{MOST_OPEN}
 use Rattle.tc_view.specs.declared.opens.Open.{Open}
 use Rattle.tc_view.specs.Gathered.{IsNumbered, IsOpenOf}
 use Rattle.tc_view.specs.Ways.{is_open, open_of}

@@ -1,4 +1,4 @@
--- The page of a board that shows a book, a desk or a file.
+-- The page of a wall that shows a book, a desk or a file.
 use Rattle.std.proofs.Common.{◌≡◌, ◌∙◌, Option, Some, None, Result, Ok, Err, String, ap, subst, sym, refl}
 use Rattle.std.specs.Prelude.{IfOk, IsSomeAnd}
 use Rattle.std.specs.String.{string_bytes}
@@ -7,28 +7,30 @@ use Rattle.tc_types.specs.declared.link.reports.Report.{Report}
 use Rattle.tc_book.specs.Book.{Book}
 use Rattle.tc_world.specs.Links.{Kind}
 use Rattle.tc_desk.specs.State.{State}
-use Rattle.tc_wall.specs.declared.boards.WallBoard.{WallBoard}
-use Rattle.tc_wall.specs.declared.boards.Live.{Live}
-use Rattle.tc_wall.specs.Page.{board_page}
+use Rattle.tc_wall.specs.declared.walls.Wall.{Wall}
+use Rattle.tc_wall.specs.declared.walls.Live.{Live}
+use Rattle.tc_wall.specs.Page.{wall_page}
+use Rattle.tc_wall.specs.declared.walls.Opening.{Opening}
 use Rattle.tc_view.specs.Shown.{IsDeskPage, IsFilePage, ShowsBook, ShowsLive}
 
-pub page_made : {A E : Type 0} (book : Book) (live : Option Live) (r : Result (String A) E) (board : WallBoard) → IfOk r (λ t. string_bytes t ≡ board_page board) → ShowsBook book board → board.live ≡ live
-    → IfOk r (λ t. (x : WallBoard) × ShowsBook book x × (x.live ≡ live) × (string_bytes t ≡ board_page x))
-page_made book live (Ok t) board wrote shows is = (board, shows, is, wrote)
-page_made book live (Err e) board wrote shows is = tt
+pub page_made : {A E : Type 0} (book : Book) (opening : Option Opening) (live : Option Live) (r : Result (String A) E) (wall : Wall) → IfOk r (λ t. string_bytes t ≡ wall_page wall) → ShowsBook book wall → wall.opening ≡ opening → wall.live ≡ live
+    → IfOk r (λ t. (x : Wall) × ShowsBook book x × (x.opening ≡ opening) × (x.live ≡ live) × (string_bytes t ≡ wall_page x))
+page_made book opening live (Ok t) wall wrote shows opens is = (wall, shows, opens, is, wrote)
+page_made book opening live (Err e) wall wrote shows opens is = tt
 
-pub desk_made : {U D A E : Type 0} (up : Kind U Frame) (down : Kind D Report) (desk : State U D) (book : Book) (live : Option Live) (told : Live) (r : Result (String A) E) → book ≡ desk.book → live ≡ Some told → ShowsLive up down desk told
-    → IfOk r (λ t. (x : WallBoard) × ShowsBook book x × (x.live ≡ live) × (string_bytes t ≡ board_page x)) → IfOk r (λ t. IsDeskPage up down desk (string_bytes t))
-desk_made up down desk book live told (Ok t) same is shows (board, shown, lives, wrote) = record {
-  board = board;
+pub desk_made : {U D A E : Type 0} (up : Kind U Frame) (down : Kind D Report) (opening : Opening) (desk : State U D) (book : Book) (stated : Option Opening) (live : Option Live) (told : Live) (r : Result (String A) E) → book ≡ desk.book → stated ≡ Some opening → live ≡ Some told → ShowsLive up down desk told
+    → IfOk r (λ t. (x : Wall) × ShowsBook book x × (x.opening ≡ stated) × (x.live ≡ live) × (string_bytes t ≡ wall_page x)) → IfOk r (λ t. IsDeskPage up down opening desk (string_bytes t))
+desk_made up down opening desk book stated live told (Ok t) same opens is shows (wall, shown, opened, lives, wrote) = record {
+  wall = wall;
   shows = record {
-    shown = subst (λ b. ShowsBook b board) same shown;
+    shown = subst (λ b. ShowsBook b wall) same shown;
+    opened = opened ∙ opens;
     live = subst (λ (l : Option Live). IsSomeAnd l (ShowsLive up down desk)) (sym (lives ∙ is)) shows;
   };
   bytes = wrote;
 }
-desk_made up down desk book live told (Err e) same is shows made = tt
+desk_made up down opening desk book stated live told (Err e) same opens is shows made = tt
 
-pub file_made : {A E : Type 0} (book : Book) (r : Result (String A) E) → IfOk r (λ t. (x : WallBoard) × ShowsBook book x × (x.live ≡ None) × (string_bytes t ≡ board_page x)) → IfOk r (λ t. IsFilePage book (string_bytes t))
-file_made book (Ok t) (board, shown, lives, wrote) = record { board = board; shows = record { shown = shown; live = lives }; bytes = wrote }
+pub file_made : {A E : Type 0} (book : Book) (r : Result (String A) E) → IfOk r (λ t. (x : Wall) × ShowsBook book x × (x.opening ≡ None) × (x.live ≡ None) × (string_bytes t ≡ wall_page x)) → IfOk r (λ t. IsFilePage book (string_bytes t))
+file_made book (Ok t) (wall, shown, opened, lives, wrote) = record { wall = wall; shows = record { shown = shown; opened = opened; live = lives }; bytes = wrote }
 file_made book (Err e) made = tt

@@ -2,7 +2,7 @@
 use Rattle.std.proofs.Common.{◌≡◌, ◌∙◌, ℕ, List, [], ◌∷◌, ◌++◌, refl, ap, sym, subst}
 use Rattle.tc_types.specs.declared.requests.Request.{Request}
 use Rattle.tc_book.specs.Book.{Book}
-use Rattle.tc_wall.specs.declared.boards.Way.{Way}
+use Rattle.tc_wall.specs.declared.walls.Way.{Way}
 use Rattle.tc_view.specs.declared.trails.Trail.{Trail}
 use Rattle.tc_view.specs.Gathered.{AreTrailsOf, IsTrailOf}
 use Rattle.tc_view.specs.Ways.{AreWaysOf, IsWayOf}

@@ -1,11 +1,11 @@
--- What is gathered on the way to a board.
+-- What is gathered on the way to a wall.
 use Rattle.std.specs.Prelude.{◌≡◌, ℕ, ◌+◌, ◌-◌, ◌<◌, ◌≤◌, Bool, true, false, if◌then◌else◌, Some, List, [], ◌∷◌, length, reverse, take, get_or}
 use Rattle.std.specs.List.{AllByRecursion}
 use Rattle.tc_types.specs.declared.history.moves.Move.{Move}
 use Rattle.tc_types.specs.declared.requests.Request.{Request}
 use Rattle.tc_types.specs.History.{rows_of}
 use Rattle.tc_book.specs.Book.{Book, place_in}
-use Rattle.tc_wall.specs.declared.boards.TheConstants.{MOST_OPEN, MOST_STAGES}
+use Rattle.tc_wall.specs.declared.walls.TheConstants.{MOST_OPEN, MOST_STAGES}
 use Rattle.tc_wall.specs.Bounds.{last_of}
 use Rattle.tc_view.specs.declared.opens.Open.{Open}
 use Rattle.tc_view.specs.declared.trails.Trail.{Trail}

@@ -1,4 +1,4 @@
--- How the link stands, in the words of the board; and the on-board schedule.
+-- How the link stands, in the words of the wall; and the on-board schedule.
 use Rattle.std.specs.Prelude.{◌≡◌, length, IsPermutation, IsSortedBy}
 use Rattle.tc_farm.specs.declared.farms.FarmState.{FarmState}
 use Rattle.tc_farm.specs.declared.farms.FarmState.TheVariants as farm
@@ -9,7 +9,7 @@ use Rattle.tc_fop.specs.declared.views.FopView.{FopView}
 use Rattle.tc_board.specs.Mirror.{MirrorState}
 use Rattle.tc_board.specs.Schedule.{is_before}
 use Rattle.tc_desk.specs.declared.statuses.LinkStatus.{LinkStatus}
-use Rattle.tc_wall.specs.declared.boards.ShownSchedule.{ShownSchedule}
+use Rattle.tc_wall.specs.declared.walls.ShownSchedule.{ShownSchedule}
 use Rattle.tc_wall.specs.declared.links.FarmLine.{FarmLine}
 use Rattle.tc_wall.specs.declared.links.FarmWord.{FarmWord}
 use Rattle.tc_wall.specs.declared.links.FarmWord.TheVariants as farm_word

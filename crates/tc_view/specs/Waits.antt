@@ -6,7 +6,7 @@ use Rattle.tc_types.specs.declared.tables.rows.ProcedureStep.{ProcedureStep}
 use Rattle.tc_types.specs.Names.{is_same_name}
 use Rattle.tc_types.specs.declared.waits.Waiting.{Waiting}
 use Rattle.tc_types.specs.declared.waits.Waiting.TheVariants as waiting
-use Rattle.tc_wall.specs.declared.boards.Wait.{Wait}
+use Rattle.tc_wall.specs.declared.walls.Wait.{Wait}
 
 -- the text of the step of a procedure with this number
 abbrev pub step_text : List ProcedureStep → List ℕ → ℕ → Option (List ℕ)

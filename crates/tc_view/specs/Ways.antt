@@ -5,8 +5,8 @@ use Rattle.tc_types.specs.declared.requests.Request.{Request}
 use Rattle.tc_types.specs.History.{rows_of}
 use Rattle.tc_types.specs.Lawful.{final_places, is_one_of}
 use Rattle.tc_book.specs.Book.{Book, place_in}
-use Rattle.tc_wall.specs.declared.boards.Way.{Way}
-use Rattle.tc_wall.specs.declared.boards.TheConstants.{MOST_STAGES}
+use Rattle.tc_wall.specs.declared.walls.Way.{Way}
+use Rattle.tc_wall.specs.declared.walls.TheConstants.{MOST_STAGES}
 use Rattle.tc_wall.specs.Bounds.{last_of}
 
 -- who stands at a place that is not final is open

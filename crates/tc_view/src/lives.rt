@@ -1,4 +1,4 @@
-//! How the link stands, in the words of the board.
+//! How the link stands, in the words of the wall.
 ghost use Rattle.std.specs.Prelude.{◌≡◌};
 ghost use Rattle.tc_view.specs.Links.{farm_line_of, farm_word_of, fop_line_of, fop_word_of, link_of};
 

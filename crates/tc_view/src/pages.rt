@@ -1,8 +1,8 @@
 //! The pages.
 ghost use Rattle.std.specs.Prelude.{◌≡◌, ◌≤◌, IfOk};
 ghost use Rattle.std.specs.String.{string_bytes, string_len};
-ghost use Rattle.tc_wall.specs.declared.boards.WallBoard.{WallBoard as SomeBoard};
-ghost use Rattle.tc_wall.specs.Page.{board_page};
+ghost use Rattle.tc_wall.specs.declared.walls.Wall.{Wall as SomeWall};
+ghost use Rattle.tc_wall.specs.Page.{wall_page};
 ghost use Rattle.tc_view.specs.Shown.{IsDeskPage, IsFilePage, ShowsBook};
 
 use crate::gathering::gather;
@@ -14,16 +14,17 @@ use std::alloc::{AllocError, Allocator};
 use tc_book::Records;
 use tc_desk::Desk;
 use tc_types::{Frame, Report};
-use tc_wall::{Live, MOST_BYTES, ShownSchedule, WallBoard, board_text};
+use tc_wall::{Live, MOST_BYTES, Opening, ShownSchedule, Wall, wall_text};
 use tc_world::Carrier;
 
-/// The page of a book, with what is told of a desk that has it open. Fails where memory is refused.
+/// The page of a book, with how a desk that has it open was opened, and what is told of it. Fails where memory is refused.
 fn page_of<A: Allocator + Copy + Drop>(
     alloc: A,
     records: &Records<A>,
+    opening: Option<Opening>,
     live: Option<Live<'_>>,
 ) -> Result<String<A>, AllocError>
-    ensures page { IfOk result (λ t. (board : SomeBoard) × ShowsBook records.now.book board × (board.live ≡ live.entry) × (string_bytes t ≡ board_page board)) }
+    ensures page { IfOk result (λ t. (wall : SomeWall) × ShowsBook records.now.book wall × (wall.opening ≡ opening) × (wall.live ≡ live.entry) × (string_bytes t ≡ wall_page wall)) }
     ensures few { IfOk result (λ t. string_len t ≤ MOST_BYTES) }
 {
     // read for the proof alone: the book is good
@@ -36,18 +37,19 @@ fn page_of<A: Allocator + Copy + Drop>(
     let ways = ways_of(alloc, &trails)?;
     let counts = records.tallies();
     let moves = records.rows();
-    let board = WallBoard {
+    let wall = Wall {
         entered: records.count(),
         counts: &counts,
         waits: &waits,
         waiting: waiting.len(),
+        opening,
         live,
         ways: &ways,
         opened: found.count,
         moves,
         moved: moves.len(),
     };
-    board_text(alloc, &board)
+    wall_text(alloc, &wall)
 }
 
 /// The page of the book of a file that nobody has open. Fails where memory is refused.
@@ -58,15 +60,16 @@ pub fn file_page<A: Allocator + Copy + Drop>(
     ensures page { IfOk result (λ t. IsFilePage records.now.book (string_bytes t)) }
     ensures few { IfOk result (λ t. string_len t ≤ MOST_BYTES) }
 {
-    page_of(alloc, records, None)
+    page_of(alloc, records, None, None)
 }
 
-/// The page of a desk that is open. Fails where memory is refused.
+/// The page of a desk that was opened so. Fails where memory is refused.
 pub fn desk_page<U: Carrier<Frame> + Drop, D: Carrier<Report> + Drop, A: Allocator + Copy + Drop>(
     alloc: A,
     desk: &Desk<U, D, A>,
+    opening: Opening,
 ) -> Result<String<A>, AllocError>
-    ensures page { IfOk result (λ t. IsDeskPage U.kind D.kind desk.now.parts (string_bytes t)) }
+    ensures page { IfOk result (λ t. IsDeskPage U.kind D.kind opening desk.now.parts (string_bytes t)) }
     ensures few { IfOk result (λ t. string_len t ≤ MOST_BYTES) }
 {
     let schedule = desk.schedule()?;
@@ -78,5 +81,5 @@ pub fn desk_page<U: Carrier<Frame> + Drop, D: Carrier<Report> + Drop, A: Allocat
             laid_in: schedule.activities.len(),
         },
     };
-    page_of(alloc, desk.records(), Some(live))
+    page_of(alloc, desk.records(), Some(opening), Some(live))
 }

@@ -76,7 +76,7 @@ pub(crate) fn trails_of<A: Allocator + Copy + Drop>(
     Ok(trails)
 }
 
-/// A way as the board shows it.
+/// A way as the wall shows it.
 fn way_of<A: Allocator + Copy + Drop>(trail: &Trail<A>) -> Way<'_>
     ensures { (book : Book) (r : SomeRequest) → IsTrailOf book r trail.now → IsWayOf book r result }
 {

@@ -1,4 +1,4 @@
-//! What waits, as the board shows it.
+//! What waits, as the wall shows it.
 ghost use Rattle.std.specs.Prelude.{◌≡◌, IfOk, map, take};
 ghost use Rattle.tc_view.specs.Waits.{step_text, text_of, wait_of};
 

@@ -6,7 +6,7 @@ use Rattle.std.proofs.lemmas.List.{reverse-append}
 use Rattle.std.specs.List.{AllByRecursion, find}
 use Rattle.tc_wall.specs.declared.axes.Mark.{Mark}
 use Rattle.tc_wall.specs.declared.axes.TheConstants.{APART}
-use Rattle.tc_wall.specs.declared.boards.Way.{Way}
+use Rattle.tc_wall.specs.declared.walls.Way.{Way}
 use Rattle.tc_wall.specs.Axis.{gap, reach_on, place_on, marks_on, marks_of, moments_of, axis_of, x_at, x_of, lines_before, lines_back, lines_of}
 
 -- no mark lies behind the last moment

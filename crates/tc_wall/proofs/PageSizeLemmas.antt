@@ -15,11 +15,12 @@ use Rattle.tc_types.specs.declared.waits.Wanting.{Wanting}
 use Rattle.tc_types.specs.declared.waits.Waiting.{Waiting}
 use Rattle.tc_types.specs.declared.waits.Waiting.TheVariants as waiting
 use Rattle.tc_wall.specs.declared.axes.Mark.{Mark}
-use Rattle.tc_wall.specs.declared.boards.Way.{Way}
-use Rattle.tc_wall.specs.declared.boards.Live.{Live}
-use Rattle.tc_wall.specs.declared.boards.ShownSchedule.{ShownSchedule}
-use Rattle.tc_wall.specs.declared.boards.WallBoard.{WallBoard}
-use Rattle.tc_wall.specs.declared.boards.TheConstants.{MOST_OPEN, MOST_STAGES, MOST_WAITS, MOST_MOVES, MOST_SHOWN_ACTIVITIES}
+use Rattle.tc_wall.specs.declared.walls.Way.{Way}
+use Rattle.tc_wall.specs.declared.walls.Live.{Live}
+use Rattle.tc_wall.specs.declared.walls.Opening.{Opening}
+use Rattle.tc_wall.specs.declared.walls.ShownSchedule.{ShownSchedule}
+use Rattle.tc_wall.specs.declared.walls.Wall.{Wall}
+use Rattle.tc_wall.specs.declared.walls.TheConstants.{MOST_OPEN, MOST_STAGES, MOST_WAITS, MOST_MOVES, MOST_SHOWN_ACTIVITIES}
 use Rattle.tc_wall.specs.declared.links.FopWord.{FopWord}
 use Rattle.tc_wall.specs.declared.links.FopWord.TheVariants.{Active, RetransmitWithoutWait, RetransmitWithWait, InitialisingWithoutBc, InitialisingWithBc, Initial}
 use Rattle.tc_wall.specs.declared.links.FarmWord.{FarmWord}
@@ -40,10 +41,10 @@ use Rattle.tc_wall.specs.Axis.{axis_of, lines_of, drawn}
 use Rattle.tc_wall.specs.Bars.{stage_parts, begin_of, end_of, bar_parts}
 use Rattle.tc_wall.specs.WayParts as ways
 use Rattle.tc_wall.specs.MoveParts.{move_parts, moves_parts}
-use Rattle.tc_wall.specs.Page.{laid_in, size_word, refresh_parts, head_parts, live_parts, page, board_page}
-use Rattle.tc_wall.specs.Ranges.{IsShort, IsMoveInRange, IsWantingInRange, IsWaitingInRange, IsWaitInRange, IsOriginInRange, IsWayInRange, AreQueuesInRange, AreCountersInRange, IsFopInRange, IsFarmInRange, IsLinkInRange, IsActivityInRange, IsScheduleInRange, IsLiveInRange, IsBoardInRange}
+use Rattle.tc_wall.specs.Page.{laid_in, size_word, refresh_parts, head_parts, live_parts, page, wall_page}
+use Rattle.tc_wall.specs.Ranges.{IsShort, IsMoveInRange, IsWantingInRange, IsWaitingInRange, IsWaitInRange, IsOriginInRange, IsWayInRange, AreQueuesInRange, AreCountersInRange, IsFopInRange, IsFarmInRange, IsLinkInRange, IsActivityInRange, IsScheduleInRange, IsLiveInRange, IsOpeningInRange, IsWallInRange}
 use Rattle.tc_wall.proofs.ListLemmas.{flat_map-append}
-use Rattle.tc_wall.proofs.SizeLemmas.{size, of_nothing, of_text, of_words, of_u16, of_u32, of_u64, of_place, of_name, chosen_size, entered_size, moved_size, tile_begins_size, tile_label_size, count_size, request_begins_size, stack_begins_size, approvals_size, rows_size, author_size, free_size, locked_size, doubt_size, work_size, worded_size, number_size, share_size, flies_size, section_size, premise_size, enabled_size, activity_size, row_begins_size, identity_size, command_size, way_author_size, bar_begins_size, place_size, label_size, tick_size, ticks_begin_size, who_size, what_size}
+use Rattle.tc_wall.proofs.SizeLemmas.{size, of_nothing, of_text, of_words, of_u16, of_u32, of_u64, of_place, of_name, chosen_size, entered_size, moved_size, opened_size, tile_begins_size, tile_label_size, count_size, request_begins_size, stack_begins_size, approvals_size, rows_size, author_size, free_size, locked_size, doubt_size, work_size, worded_size, number_size, share_size, flies_size, section_size, premise_size, enabled_size, activity_size, row_begins_size, identity_size, command_size, way_author_size, bar_begins_size, place_size, label_size, tick_size, ticks_begin_size, who_size, what_size}
 use Rattle.tc_wall.proofs.AxisLemmas.{IsOnAxis, axis_small, x_small, lines_small, lines_few, all_reversed}
 
 -- parts behind parts
@@ -81,19 +82,19 @@ none_size : (count : ℕ) (said : List ℕ) → length said ≤ 19 → size (non
 unfolding none_parts
 none_size count said few = chosen (nat_lt 0 count) _ _ 40 (more [] 0 40 (omega arith) of_nothing) (of_text _ _ 24 (of_words said 19 _ 5 few (of_text _ _ 0 of_nothing)))
 
-file_size : (live : Option Live) → size (file_parts live) ≤ 34
+file_size : (opening : Option Opening) → IfSome opening IsOpeningInRange → size (file_parts opening) ≤ 88
 unfolding file_parts
-file_size (Some live) = more [] 0 34 (omega arith) of_nothing
-file_size None = more _ 32 34 (omega arith) (of_text _ _ 0 of_nothing)
+file_size (Some opening) h = opened_size opening h.stood
+file_size None h = more _ 32 88 (omega arith) (of_text _ _ 0 of_nothing)
 
 last_size : (last : Option Move) → IfSome last (λ row. row.seq < 2 ^ 32) → size (last_parts last) ≤ 69
 last_size (Some row) small = moved_size row small
 last_size None h = fixed_size _ 69 (lit≤ tt)
 
-heading_size : (b : WallBoard) → b.entered < 2 ^ 32 → IfSome (slice_get b.moves.now (length b.moves.now - 1)) (λ row. row.seq < 2 ^ 32) → size (heading_parts b) ≤ 346
+heading_size : (b : Wall) → b.entered < 2 ^ 32 → IfSome b.opening IsOpeningInRange → IfSome (slice_get b.moves.now (length b.moves.now - 1)) (λ row. row.seq < 2 ^ 32) → size (heading_parts b) ≤ 400
 unfolding heading_parts
-heading_size b entered last =
-    both _ _ 336 10 (both _ _ 267 69 (both _ _ 234 33 (both _ _ 200 34 (fixed_size HEADING.now 200 (lit≤ tt)) (file_size b.live)) (entered_size b.entered entered)) (last_size _ last)) (fixed_size _ 10 (lit≤ tt))
+heading_size b entered opening last =
+    both _ _ 390 10 (both _ _ 321 69 (both _ _ 288 33 (both _ _ 200 88 (fixed_size HEADING.now 200 (lit≤ tt)) (file_size b.opening opening)) (entered_size b.entered entered)) (last_size _ last)) (fixed_size _ 10 (lit≤ tt))
 
 -- ---- the tiles
 
@@ -189,7 +190,7 @@ waiting_size (waiting.Locked n lock) text h few = more _ 213 686 (omega arith) (
 waiting_size (waiting.Doubtful n) text h few = more _ 113 686 (omega arith) (doubt_size n h)
 waiting_size (waiting.Step execution procedure step is_countersigned) text h few = work_size execution procedure step is_countersigned text h.0 h.1 h.2 few
 
-waits_size : (b : WallBoard) → AllByRecursion IsWaitInRange (take MOST_WAITS b.waits.now) → b.waiting < 2 ^ 64 → size (waits_parts b) ≤ 137719
+waits_size : (b : Wall) → AllByRecursion IsWaitInRange (take MOST_WAITS b.waits.now) → b.waiting < 2 ^ 64 → size (waits_parts b) ≤ 137719
 unfolding waits_parts
 waits_size b all small =
     both _ _ 137708 11 (both _ _ 137658 50 (both _ _ 137618 40 (both _ _ 137600 18 (both _ _ 400 137200 (fixed_size WAITS.now 400 (lit≤ tt))
@@ -321,7 +322,7 @@ table_size (way ∷ others) all few =
     both _ _ 260615 18 (both _ _ 1015 259600 (axis_size (lines_of axis) (lines_small axis (axis_small (way ∷ others))) (lines_few axis (axis_small (way ∷ others))))
     (rows_within IsWayInRange (ways.way_parts axis) (way ∷ others) 1298 200 259600 all (λ it h. way_size axis it (axis_small (way ∷ others)) h) (omega arith))) (fixed_size _ 18 (lit≤ tt))
 
-ways_size : (b : WallBoard) → AllByRecursion IsWayInRange (take MOST_OPEN b.ways.now) → b.opened < 2 ^ 64 → size (ways.ways_parts b) ≤ 263734
+ways_size : (b : Wall) → AllByRecursion IsWayInRange (take MOST_OPEN b.ways.now) → b.opened < 2 ^ 64 → size (ways.ways_parts b) ≤ 263734
 unfolding ways.ways_parts
 ways_size b all small =
     both _ _ 263723 11 (both _ _ 263673 50 (both _ _ 263633 40 (both _ _ 3000 260633 (fixed_size WAYS.now 3000 (lit≤ tt)) (table_size (take MOST_OPEN b.ways.now) all (omega (arith, length-take MOST_OPEN b.ways.now))))
@@ -332,7 +333,7 @@ ways_size b all small =
 move_size : (row : Move) → IsMoveInRange row → size (move_parts row) ≤ 252
 move_size row h = both _ _ 174 78 (who_size row h) (what_size row h)
 
-moves_size : (b : WallBoard) → AllByRecursion IsMoveInRange (last_of MOST_MOVES b.moves.now) → b.moved < 2 ^ 64 → size (moves_parts b) ≤ 13119
+moves_size : (b : Wall) → AllByRecursion IsMoveInRange (last_of MOST_MOVES b.moves.now) → b.moved < 2 ^ 64 → size (moves_parts b) ≤ 13119
 unfolding moves_parts
 moves_size b all small =
     let rows = last_of MOST_MOVES b.moves.now in
@@ -345,22 +346,22 @@ unfolding refresh_parts
 refresh_size None = more [] 0 100 (omega arith) of_nothing
 refresh_size (Some live) = fixed_size REFRESH.now 100 (lit≤ tt)
 
-word_size : (b : WallBoard) → length (size_word b) ≤ 4
+word_size : (b : Wall) → length (size_word b) ≤ 4
 unfolding size_word
 word_size b = chosen_size (nat_le b.opened MOST_FEW && nat_le (b.waiting + laid_in b.live) MOST_FEW) (codes "few") (codes "many") 4 (lit≤ tt) (lit≤ tt)
 
-head_size : (b : WallBoard) → size (head_parts b) ≤ 21200
+head_size : (b : Wall) → size (head_parts b) ≤ 21200
 unfolding head_parts
 head_size b =
     both _ _ 21197 3 (both _ _ 21193 4 (both _ _ 21159 34 (both _ _ 21059 100 (both _ _ 21000 59 (both _ _ 1000 20000 (fixed_size HEAD.now 1000 (lit≤ tt)) (fixed_size STYLE.now 20000 (lit≤ tt))) (fixed_size _ 59 (lit≤ tt)))
     (refresh_size b.live)) (fixed_size _ 34 (lit≤ tt))) (fixed_size _ 4 (word_size b))) (fixed_size _ 3 (lit≤ tt))
 
-whole_size : (b : WallBoard) → IsBoardInRange b → size (page b) ≤ 442397
+whole_size : (b : Wall) → IsWallInRange b → size (page b) ≤ 442451
 unfolding page
 whole_size b h =
-    both _ _ 442097 300 (both _ _ 428978 13119 (both _ _ 165244 263734 (both _ _ 160846 4398 (both _ _ 23127 137719 (both _ _ 21546 1581 (both _ _ 21200 346 (head_size b) (heading_size b h.entered h.last)) (tiles_size b.counts.now h.counts))
+    both _ _ 442151 300 (both _ _ 429032 13119 (both _ _ 165298 263734 (both _ _ 160900 4398 (both _ _ 23181 137719 (both _ _ 21600 1581 (both _ _ 21200 400 (head_size b) (heading_size b h.entered h.opening h.last)) (tiles_size b.counts.now h.counts))
     (waits_size b h.waits h.waits_count)) (live_size b.live h.live)) (ways_size b h.ways h.ways_count)) (moves_size b h.moves h.moves_count)) (fixed_size FOOT.now 300 (lit≤ tt))
 
-pub page_size : (b : WallBoard) → IsBoardInRange b → length (board_page b) ≤ MOST_BYTES
-unfolding board_page size
-page_size b h = more (page b) 442397 MOST_BYTES (lit≤ tt) (whole_size b h)
+pub page_size : (b : Wall) → IsWallInRange b → length (wall_page b) ≤ MOST_BYTES
+unfolding wall_page size
+page_size b h = more (page b) 442451 MOST_BYTES (lit≤ tt) (whole_size b h)

@@ -20,7 +20,8 @@ use Rattle.tc_wall.specs.Clock.{clock_text}
 use Rattle.tc_wall.specs.Escapes.{entity, escaped}
 use Rattle.tc_wall.specs.Parts.{Part, Fixed, Number, Time, PlaceWord, FromWord, CauseWord, Count, Row, Person, shown, shown_all}
 use Rattle.tc_wall.specs.Signs.{sign_of}
-use Rattle.tc_wall.specs.Heading.{entered_parts, moved_parts}
+use Rattle.tc_wall.specs.declared.walls.Opening.{Opening}
+use Rattle.tc_wall.specs.Heading.{entered_parts, moved_parts, opened_parts}
 use Rattle.tc_wall.specs.Tiles.{count_at, zero_word, tile_begins, tile_label, count_parts}
 use Rattle.tc_wall.specs.Waits.{request_begins, stack_begins, approvals_parts, rows_parts, author_parts, free_parts, locked_parts, doubt_parts, whom_word, work_parts}
 use Rattle.tc_wall.specs.LinkParts.{premise_word, worded_parts, number_parts, share_parts, flies_parts, section_begins, premise_parts}
@@ -194,6 +195,10 @@ of_row number place parts n small = of_part (Row number place) parts 39 n (row_s
 pub entered_size : (n : ℕ) → n < 2 ^ 32 → size (entered_parts n) ≤ 33
 unfolding entered_parts
 entered_size n small = of_text _ _ 27 (of_u32 _ _ 17 small (of_text _ _ 0 of_nothing))
+
+pub opened_size : (opening : Opening) → opening.stood < 2 ^ 64 → size (opened_parts opening) ≤ 88
+unfolding opened_parts
+opened_size opening small = of_text _ _ 72 (of_time _ _ 53 (of_text _ _ 35 (of_u64 _ _ 15 small (of_text _ _ 0 of_nothing))))
 
 pub tile_begins_size : (kind : List ℕ) (first : Place) (count : ℕ) → length kind ≤ 9 → size (tile_begins kind first count) ≤ 48
 unfolding tile_begins

@@ -12,17 +12,18 @@ use Rattle.tc_types.specs.declared.waits.Wanting.{Wanting}
 use Rattle.tc_types.specs.declared.waits.Waiting.{Waiting}
 use Rattle.tc_types.specs.declared.waits.Waiting.TheVariants as waiting
 use Rattle.tc_wall.specs.declared.axes.Mark.{Mark}
-use Rattle.tc_wall.specs.declared.boards.Way.{Way}
-use Rattle.tc_wall.specs.declared.boards.Live.{Live}
-use Rattle.tc_wall.specs.declared.boards.ShownSchedule.{ShownSchedule}
-use Rattle.tc_wall.specs.declared.boards.WallBoard.{WallBoard}
-use Rattle.tc_wall.specs.declared.boards.TheConstants.{MOST_OPEN, MOST_STAGES, MOST_WAITS, MOST_MOVES, MOST_SHOWN_ACTIVITIES}
+use Rattle.tc_wall.specs.declared.walls.Way.{Way}
+use Rattle.tc_wall.specs.declared.walls.Live.{Live}
+use Rattle.tc_wall.specs.declared.walls.ShownSchedule.{ShownSchedule}
+use Rattle.tc_wall.specs.declared.walls.Wall.{Wall}
+use Rattle.tc_wall.specs.declared.walls.TheConstants.{MOST_OPEN, MOST_STAGES, MOST_WAITS, MOST_MOVES, MOST_SHOWN_ACTIVITIES}
 use Rattle.tc_wall.specs.declared.links.FopLine.{FopLine}
 use Rattle.tc_wall.specs.declared.links.FarmLine.{FarmLine}
 use Rattle.tc_wall.specs.declared.links.LinkLines.{LinkLines}
 use Rattle.tc_wall.specs.Parts.{Part, fixed}
 use Rattle.tc_wall.specs.Bounds.{last_of, left_out_parts, none_parts}
-use Rattle.tc_wall.specs.Heading.{file_parts, entered_parts, moved_parts, last_parts, heading_parts}
+use Rattle.tc_wall.specs.declared.walls.Opening.{Opening}
+use Rattle.tc_wall.specs.Heading.{file_parts, opened_parts, entered_parts, moved_parts, last_parts, heading_parts}
 use Rattle.tc_wall.specs.Tiles.{count_at, tile_begins, tile_label, tile_head_parts, count_parts, next_parts, counts_parts, tile_parts, open_tiles_parts, final_tiles_parts, tiles_parts}
 use Rattle.tc_wall.specs.Waits.{critical_parts, request_begins, stack_begins, marked_parts, approvals_parts, rows_parts, other_parts, author_parts, barred_parts, request_parts, stack_parts, free_parts, locked_parts, doubt_parts, work_parts, waiting_parts, wait_parts, text_of, waits_parts}
 use Rattle.tc_wall.specs.LinkParts.{worded_parts, number_parts, share_parts, flies_parts, queue_parts, counter_parts, fop_parts, farm_parts, section_begins, premise_parts, link_parts}
@@ -74,9 +75,13 @@ of_none : (count : ℕ) (said : List ℕ) → Tells (none_parts count said) []
 unfolding none_parts
 of_none count said = of_choice (nat_lt 0 count) _ _ (record { is = refl }) (record { is = refl })
 
-of_file : (live : Option Live) → Tells (file_parts live) []
+of_opened : (opening : Opening) → Tells (opened_parts opening) []
+unfolding opened_parts
+of_opened opening = record { is = refl }
+
+of_file : (opening : Option Opening) → Tells (file_parts opening) []
 unfolding file_parts
-of_file (Some live) = record { is = refl }
+of_file (Some opening) = of_opened opening
 of_file None = record { is = refl }
 
 of_entered : (entered : ℕ) → Tells (entered_parts entered) []
@@ -91,9 +96,9 @@ of_last : (last : Option Move) → Tells (last_parts last) []
 of_last (Some row) = of_moved row
 of_last None = of_fixed _
 
-of_heading : (b : WallBoard) → Tells (heading_parts b) []
+of_heading : (b : Wall) → Tells (heading_parts b) []
 unfolding heading_parts
-of_heading b = quiet _ _ (quiet _ _ (quiet _ _ (quiet _ _ (of_fixed _) (of_file b.live)) (of_entered b.entered)) (of_last _)) (of_fixed _)
+of_heading b = quiet _ _ (quiet _ _ (quiet _ _ (quiet _ _ (of_fixed _) (of_file b.opening)) (of_entered b.entered)) (of_last _)) (of_fixed _)
 
 -- ---- the tiles
 
@@ -182,7 +187,7 @@ of_waiting (waiting.Locked n lock) text = record { is = refl }
 of_waiting (waiting.Doubtful n) text = record { is = refl }
 of_waiting (waiting.Step execution procedure step is_countersigned) text = record { is = refl }
 
-of_waits : (b : WallBoard) → Tells (waits_parts b) []
+of_waits : (b : Wall) → Tells (waits_parts b) []
 unfolding waits_parts
 of_waits b = quiet _ _ (quiet _ _ (quiet _ _ (quiet _ _ (quiet _ _ (of_fixed _)
     (quiet_rows wait_parts (take MOST_WAITS b.waits.now) (λ it. of_waiting it.waiting (text_of it.text)))) (of_fixed _)) (of_none b.waiting _)) (of_left_out b.waiting MOST_WAITS)) (of_fixed _)
@@ -322,7 +327,7 @@ of_table [] = record { is = refl }
 of_table (way ∷ others) =
     before _ _ _ (behind _ _ _ (of_axis (lines_of (axis_of (way ∷ others)))) (of_way_rows (axis_of (way ∷ others)) (way ∷ others))) (of_fixed _)
 
-of_ways : (b : WallBoard) → Tells (ways.ways_parts b) (map standing (take MOST_OPEN b.ways.now))
+of_ways : (b : Wall) → Tells (ways.ways_parts b) (map standing (take MOST_OPEN b.ways.now))
 unfolding ways.ways_parts
 of_ways b =
     before _ _ _ (before _ _ _ (before _ _ _ (behind _ _ _ (of_fixed _) (of_table (take MOST_OPEN b.ways.now))) (of_none b.opened _)) (of_left_out b.opened MOST_OPEN)) (of_fixed _)
@@ -333,7 +338,7 @@ of_move : (row : Move) → Tells (move_parts row) []
 unfolding who_parts what_parts
 of_move row = record { is = refl }
 
-of_moves : (b : WallBoard) → Tells (moves_parts b) []
+of_moves : (b : Wall) → Tells (moves_parts b) []
 unfolding moves_parts
 of_moves b = quiet _ _ (quiet _ _ (quiet _ _ (quiet _ _ (quiet _ _ (of_fixed _)
     (quiet_rows move_parts (reverse (last_of MOST_MOVES b.moves.now)) of_move)) (of_fixed _)) (of_none b.moved _)) (of_left_out b.moved MOST_MOVES)) (of_fixed _)
@@ -343,12 +348,12 @@ unfolding refresh_parts
 of_refresh None = record { is = refl }
 of_refresh (Some live) = of_fixed _
 
-of_head : (b : WallBoard) → Tells (head_parts b) []
+of_head : (b : Wall) → Tells (head_parts b) []
 unfolding head_parts
 of_head b = quiet _ _ (quiet _ _ (quiet _ _ (quiet _ _ (quiet _ _ (quiet _ _ (of_fixed _) (of_fixed _)) (of_fixed _)) (of_refresh b.live)) (of_fixed _)) (of_fixed _)) (of_fixed _)
 
 -- a page tells the count of each place, and then where each request that is open stands
-of_page : (b : WallBoard) → Tells (page b) (map (counted b.counts.now) tile_places ++ map standing (take MOST_OPEN b.ways.now))
+of_page : (b : Wall) → Tells (page b) (map (counted b.counts.now) tile_places ++ map standing (take MOST_OPEN b.ways.now))
 unfolding page
 of_page b =
     before _ _ _ (before _ _ _ (both _ _ _ _ (before _ _ _ (before _ _ _ (behind _ _ _ (quiet _ _ (of_head b) (of_heading b)) (of_tiles b.counts.now)) (of_waits b)) (of_live b.live)) (of_ways b)) (of_moves b)) (of_fixed _)
@@ -388,13 +393,13 @@ of_its_place counts Withdrawn = refl
 of_its_place counts Deleted = refl
 of_its_place counts Closed = refl
 
-pub one_count : (b : WallBoard) (place : Place) → filter (is_count_of place) (told_all (page b)) ≡ Stand place (count_at b.counts.now place) ∷ []
+pub one_count : (b : Wall) (place : Place) → filter (is_count_of place) (told_all (page b)) ≡ Stand place (count_at b.counts.now place) ∷ []
 one_count b place =
     ap (filter (is_count_of place)) (of_page b).is
     ∙ filter-append (is_count_of place) (map (counted b.counts.now) tile_places) (map standing (take MOST_OPEN b.ways.now))
     ∙ ap₂ (λ x y. x ++ y) (of_its_place b.counts.now place) (no_counts place (take MOST_OPEN b.ways.now))
 
-pub all_ways : (b : WallBoard) → filter is_row (told_all (page b)) ≡ map standing (take MOST_OPEN b.ways.now)
+pub all_ways : (b : Wall) → filter is_row (told_all (page b)) ≡ map standing (take MOST_OPEN b.ways.now)
 all_ways b =
     ap (filter is_row) (of_page b).is
     ∙ filter-append is_row (map (counted b.counts.now) tile_places) (map standing (take MOST_OPEN b.ways.now))

@@ -1,4 +1,4 @@
--- How much of a list the board shows.
+-- How much of a list the wall shows.
 use Rattle.std.specs.Prelude.{ℕ, ◌-◌, nat_lt, if◌then◌else◌, List, [], ◌∷◌, length, drop, codes}
 use Rattle.tc_wall.specs.Parts.{Part, Fixed, Number}
 

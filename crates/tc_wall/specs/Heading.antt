@@ -1,13 +1,18 @@
--- The heading: how many requests were entered, and the last move; a closed file says so.
+-- The heading: how the desk was opened, how many requests were entered, and the last move; a closed file says so.
 use Rattle.std.specs.Prelude.{ℕ, ◌-◌, Option, Some, None, List, [], ◌∷◌, ◌++◌, codes, length, slice_get}
 use Rattle.tc_types.specs.declared.history.moves.Move.{Move}
-use Rattle.tc_wall.specs.declared.boards.Live.{Live}
-use Rattle.tc_wall.specs.declared.boards.WallBoard.{WallBoard}
+use Rattle.tc_wall.specs.declared.walls.Opening.{Opening}
+use Rattle.tc_wall.specs.declared.walls.Wall.{Wall}
 use Rattle.tc_wall.specs.declared.fixed.TheConstants.{HEADING}
 use Rattle.tc_wall.specs.Parts.{Part, Fixed, Number, Time, fixed}
 
-unfoldable pub file_parts : Option Live → List Part
-file_parts (Some live) = []
+-- when it was opened, and how many moves stood then
+unfoldable pub opened_parts : Opening → List Part
+opened_parts opening =
+    Fixed (codes "<p>opened at <b>") ∷ Time opening.since ∷ Fixed (codes "</b> UTC after <b>") ∷ Number opening.stood ∷ Fixed (codes "</b> moves</p>\n") ∷ []
+
+unfoldable pub file_parts : Option Opening → List Part
+file_parts (Some opening) = opened_parts opening
 file_parts None = Fixed (codes "<p class=\"file\">closed file</p>\n") ∷ []
 
 unfoldable pub entered_parts : ℕ → List Part
@@ -21,7 +26,7 @@ abbrev pub last_parts : Option Move → List Part
 last_parts (Some row) = moved_parts row
 last_parts None = fixed (codes "<p>nothing moved yet</p>\n")
 
-unfoldable pub heading_parts : WallBoard → List Part
+unfoldable pub heading_parts : Wall → List Part
 heading_parts b =
-    fixed HEADING.now ++ file_parts b.live ++ entered_parts b.entered ++ last_parts (slice_get b.moves.now (length b.moves.now - 1))
+    fixed HEADING.now ++ file_parts b.opening ++ entered_parts b.entered ++ last_parts (slice_get b.moves.now (length b.moves.now - 1))
     ++ fixed (codes "</header>\n")

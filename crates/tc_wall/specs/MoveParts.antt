@@ -2,8 +2,8 @@
 use Rattle.std.specs.Prelude.{List, [], ◌∷◌, ◌++◌, codes, reverse}
 use Rattle.std.specs.List.{flat_map}
 use Rattle.tc_types.specs.declared.history.moves.Move.{Move}
-use Rattle.tc_wall.specs.declared.boards.WallBoard.{WallBoard}
-use Rattle.tc_wall.specs.declared.boards.TheConstants.{MOST_MOVES}
+use Rattle.tc_wall.specs.declared.walls.Wall.{Wall}
+use Rattle.tc_wall.specs.declared.walls.TheConstants.{MOST_MOVES}
 use Rattle.tc_wall.specs.declared.fixed.TheConstants.{MOVES}
 use Rattle.tc_wall.specs.Parts.{Part, Fixed, Number, Time, PlaceWord, FromWord, CauseWord, Person, fixed}
 use Rattle.tc_wall.specs.Bounds.{last_of, none_parts, left_out_parts}
@@ -23,7 +23,7 @@ what_parts row =
 abbrev pub move_parts : Move → List Part
 move_parts row = who_parts row ++ what_parts row
 
-unfoldable pub moves_parts : WallBoard → List Part
+unfoldable pub moves_parts : Wall → List Part
 moves_parts b =
     fixed MOVES.now ++ flat_map move_parts (reverse (last_of MOST_MOVES b.moves.now)) ++ fixed (codes "</tbody>\n</table>\n")
     ++ none_parts b.moved (codes "Nothing moved yet.") ++ left_out_parts b.moved MOST_MOVES ++ fixed (codes "</section>\n")

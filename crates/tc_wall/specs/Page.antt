@@ -1,7 +1,7 @@
 -- The page: its parts, in order.
 use Rattle.std.specs.Prelude.{ℕ, ◌+◌, ◌&&◌, nat_le, if◌then◌else◌, Option, Some, None, List, [], ◌++◌, codes}
-use Rattle.tc_wall.specs.declared.boards.Live.{Live}
-use Rattle.tc_wall.specs.declared.boards.WallBoard.{WallBoard}
+use Rattle.tc_wall.specs.declared.walls.Live.{Live}
+use Rattle.tc_wall.specs.declared.walls.Wall.{Wall}
 use Rattle.tc_wall.specs.declared.pages.TheConstants.{MOST_FEW}
 use Rattle.tc_wall.specs.declared.fixed.TheConstants.{HEAD, STYLE, REFRESH, FOOT}
 use Rattle.tc_wall.specs.Parts.{Part, fixed, shown_all}
@@ -19,7 +19,7 @@ laid_in None = 0
 laid_in (Some live) = live.schedule.laid_in
 
 -- where there are few rows, the letters are large
-unfoldable pub size_word : WallBoard → List ℕ
+unfoldable pub size_word : Wall → List ℕ
 size_word b = if nat_le b.opened MOST_FEW && nat_le (b.waiting + laid_in b.live) MOST_FEW then codes "few" else codes "many"
 
 -- an open desk's page is asked for again
@@ -27,7 +27,7 @@ unfoldable pub refresh_parts : Option Live → List Part
 refresh_parts None = []
 refresh_parts (Some live) = fixed REFRESH.now
 
-unfoldable pub head_parts : WallBoard → List Part
+unfoldable pub head_parts : Wall → List Part
 head_parts b =
     fixed HEAD.now ++ fixed STYLE.now ++ fixed (codes "</style>\n") ++ refresh_parts b.live
     ++ fixed (codes "</head>\n<body class=\"") ++ fixed (size_word b) ++ fixed (codes "\">\n")
@@ -37,9 +37,9 @@ unfoldable pub live_parts : Option Live → List Part
 live_parts None = closed_link_parts ++ closed_schedule_parts
 live_parts (Some live) = link_parts live.link ++ known_schedule_parts live.schedule
 
-unfoldable pub page : WallBoard → List Part
+unfoldable pub page : Wall → List Part
 page b =
     head_parts b ++ heading_parts b ++ tiles_parts b.counts.now ++ waits_parts b ++ live_parts b.live ++ ways_parts b ++ moves_parts b ++ fixed FOOT.now
 
-unfoldable pub board_page : WallBoard → List ℕ
-board_page b = shown_all (page b)
+unfoldable pub wall_page : Wall → List ℕ
+wall_page b = shown_all (page b)

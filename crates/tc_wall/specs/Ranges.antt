@@ -1,4 +1,4 @@
--- What the types of a board keep: its numbers are in their ranges, and its texts are short.
+-- What the types of a wall keep: its numbers are in their ranges, and its texts are short.
 use Rattle.std.specs.Prelude.{ℕ, ◌-◌, ◌<◌, ◌≤◌, ◌^◌, IfSome, List, length, take, slice_get}
 use Rattle.std.specs.List.{AllByRecursion}
 use Rattle.tc_types.specs.declared.history.moves.Move.{Move}
@@ -8,12 +8,13 @@ use Rattle.tc_types.specs.declared.link.activities.ListedActivity.{ListedActivit
 use Rattle.tc_types.specs.declared.waits.Wanting.{Wanting}
 use Rattle.tc_types.specs.declared.waits.Waiting.{Waiting}
 use Rattle.tc_types.specs.declared.waits.Waiting.TheVariants as waiting
-use Rattle.tc_wall.specs.declared.boards.Wait.{Wait}
-use Rattle.tc_wall.specs.declared.boards.Way.{Way}
-use Rattle.tc_wall.specs.declared.boards.ShownSchedule.{ShownSchedule}
-use Rattle.tc_wall.specs.declared.boards.Live.{Live}
-use Rattle.tc_wall.specs.declared.boards.WallBoard.{WallBoard}
-use Rattle.tc_wall.specs.declared.boards.TheConstants.{MOST_OPEN, MOST_WAITS, MOST_MOVES, MOST_SHOWN_ACTIVITIES}
+use Rattle.tc_wall.specs.declared.walls.Wait.{Wait}
+use Rattle.tc_wall.specs.declared.walls.Way.{Way}
+use Rattle.tc_wall.specs.declared.walls.ShownSchedule.{ShownSchedule}
+use Rattle.tc_wall.specs.declared.walls.Live.{Live}
+use Rattle.tc_wall.specs.declared.walls.Opening.{Opening}
+use Rattle.tc_wall.specs.declared.walls.Wall.{Wall}
+use Rattle.tc_wall.specs.declared.walls.TheConstants.{MOST_OPEN, MOST_WAITS, MOST_MOVES, MOST_SHOWN_ACTIVITIES}
 use Rattle.tc_wall.specs.declared.links.FopLine.{FopLine}
 use Rattle.tc_wall.specs.declared.links.FarmLine.{FarmLine}
 use Rattle.tc_wall.specs.declared.links.LinkLines.{LinkLines}
@@ -99,15 +100,19 @@ pub record IsScheduleInRange (s : ShownSchedule) : Type 0 where
   pub activities : AllByRecursion IsActivityInRange (take MOST_SHOWN_ACTIVITIES s.activities.now)
   pub laid_in : s.laid_in < 2 ^ 64
 
+pub record IsOpeningInRange (opening : Opening) : Type 0 where
+  pub stood : opening.stood < 2 ^ 64
+
 pub record IsLiveInRange (live : Live) : Type 0 where
   pub link : IsLinkInRange live.link
   pub schedule : IsScheduleInRange live.schedule
 
-pub record IsBoardInRange (b : WallBoard) : Type 0 where
+pub record IsWallInRange (b : Wall) : Type 0 where
   pub entered : b.entered < 2 ^ 32
   pub counts : AllByRecursion (λ n. n < 2 ^ 32) b.counts.now
   pub waits : AllByRecursion IsWaitInRange (take MOST_WAITS b.waits.now)
   pub waits_count : b.waiting < 2 ^ 64
+  pub opening : IfSome b.opening IsOpeningInRange
   pub live : IfSome b.live IsLiveInRange
   pub ways : AllByRecursion IsWayInRange (take MOST_OPEN b.ways.now)
   pub ways_count : b.opened < 2 ^ 64

@@ -2,8 +2,8 @@
 use Rattle.std.specs.Prelude.{ℕ, Bool, if◌then◌else◌, List, [], ◌∷◌, ◌++◌, codes, take}
 use Rattle.std.specs.List.{flat_map}
 use Rattle.tc_types.specs.declared.link.activities.ListedActivity.{ListedActivity}
-use Rattle.tc_wall.specs.declared.boards.ShownSchedule.{ShownSchedule}
-use Rattle.tc_wall.specs.declared.boards.TheConstants.{MOST_SHOWN_ACTIVITIES}
+use Rattle.tc_wall.specs.declared.walls.ShownSchedule.{ShownSchedule}
+use Rattle.tc_wall.specs.declared.walls.TheConstants.{MOST_SHOWN_ACTIVITIES}
 use Rattle.tc_wall.specs.declared.fixed.TheConstants.{SCHEDULE}
 use Rattle.tc_wall.specs.Parts.{Part, Fixed, Number, Time, fixed}
 use Rattle.tc_wall.specs.Bounds.{left_out_parts}

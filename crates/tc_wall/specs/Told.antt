@@ -4,7 +4,7 @@ use Rattle.std.specs.List.{flat_map}
 use Rattle.tc_types.specs.declared.history.places.Place.{Place}
 use Rattle.tc_types.specs.declared.history.places.Place.TheVariants.{Entered, Approved, Queued, Sent, Confirmed, Riding, Scheduled, Accepted, Started, Completed, Failed, Doubtful, Withdrawn, Deleted, Closed}
 use Rattle.tc_types.specs.Lawful.{place_number}
-use Rattle.tc_wall.specs.declared.boards.Way.{Way}
+use Rattle.tc_wall.specs.declared.walls.Way.{Way}
 use Rattle.tc_wall.specs.Parts.{Part, Count, Row}
 use Rattle.tc_wall.specs.Tiles.{count_at}
 
@@ -27,7 +27,7 @@ tile_places =
     Entered ∷ Approved ∷ Queued ∷ Sent ∷ Confirmed ∷ Riding ∷ Accepted ∷ Started ∷ Scheduled ∷ Doubtful
     ∷ Failed ∷ Completed ∷ Withdrawn ∷ Deleted ∷ Closed ∷ []
 
--- the count of a place, as the board has it
+-- the count of a place, as the wall has it
 abbrev pub counted : List ℕ → Place → Told
 counted counts place = Stand place (count_at counts place)
 

@@ -7,9 +7,9 @@ use Rattle.tc_types.specs.declared.waits.Lock.{Lock}
 use Rattle.tc_types.specs.declared.waits.Waiting.{Waiting}
 use Rattle.tc_types.specs.declared.waits.Waiting.TheVariants.{Request, Stack, Free, Locked, Doubtful, Step}
 use Rattle.tc_types.specs.WaitingLines.{given, wanted}
-use Rattle.tc_wall.specs.declared.boards.Wait.{Wait}
-use Rattle.tc_wall.specs.declared.boards.WallBoard.{WallBoard}
-use Rattle.tc_wall.specs.declared.boards.TheConstants.{MOST_WAITS}
+use Rattle.tc_wall.specs.declared.walls.Wait.{Wait}
+use Rattle.tc_wall.specs.declared.walls.Wall.{Wall}
+use Rattle.tc_wall.specs.declared.walls.TheConstants.{MOST_WAITS}
 use Rattle.tc_wall.specs.declared.fixed.TheConstants.{WAITS}
 use Rattle.tc_wall.specs.Parts.{Part, Fixed, Number, Person, fixed}
 use Rattle.tc_wall.specs.Signs.{sign_of}
@@ -97,7 +97,7 @@ waiting_parts (Step execution procedure step is_countersigned) text = work_parts
 abbrev pub wait_parts : Wait → List Part
 wait_parts it = waiting_parts it.waiting (text_of it.text)
 
-unfoldable pub waits_parts : WallBoard → List Part
+unfoldable pub waits_parts : Wall → List Part
 waits_parts b =
     fixed WAITS.now ++ flat_map wait_parts (take MOST_WAITS b.waits.now) ++ fixed (codes "</tbody>\n</table>\n")
     ++ none_parts b.waiting (codes "Nothing waits.") ++ left_out_parts b.waiting MOST_WAITS ++ fixed (codes "</section>\n")

@@ -8,9 +8,9 @@ use Rattle.tc_types.specs.declared.requests.Identity.{Identity}
 use Rattle.tc_types.specs.declared.requests.Origin.{Origin}
 use Rattle.tc_wall.specs.declared.axes.Mark.{Mark}
 use Rattle.tc_wall.specs.declared.axes.TheConstants.{WIDTH}
-use Rattle.tc_wall.specs.declared.boards.Way.{Way}
-use Rattle.tc_wall.specs.declared.boards.WallBoard.{WallBoard}
-use Rattle.tc_wall.specs.declared.boards.TheConstants.{MOST_OPEN, MOST_STAGES}
+use Rattle.tc_wall.specs.declared.walls.Way.{Way}
+use Rattle.tc_wall.specs.declared.walls.Wall.{Wall}
+use Rattle.tc_wall.specs.declared.walls.TheConstants.{MOST_OPEN, MOST_STAGES}
 use Rattle.tc_wall.specs.declared.fixed.TheConstants.{WAYS, WAYS_HEAD}
 use Rattle.tc_wall.specs.Parts.{Part, Fixed, Number, Time, PlaceWord, Row, Person, fixed}
 use Rattle.tc_wall.specs.Signs.{sign_of}
@@ -103,7 +103,7 @@ table_parts [] = []
 table_parts (way ∷ others) =
     axis_parts (lines_of (axis_of (way ∷ others))) ++ flat_map (way_parts (axis_of (way ∷ others))) (way ∷ others) ++ fixed (codes "</tbody>\n</table>\n")
 
-unfoldable pub ways_parts : WallBoard → List Part
+unfoldable pub ways_parts : Wall → List Part
 ways_parts b =
     fixed WAYS.now ++ table_parts (take MOST_OPEN b.ways.now) ++ none_parts b.opened (codes "No request is open.") ++ left_out_parts b.opened MOST_OPEN
     ++ fixed (codes "</section>\n")

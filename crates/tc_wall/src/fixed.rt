@@ -44,10 +44,10 @@ em { font-style: normal; font-weight: bold; white-space: nowrap; }
 .few .waits th, .few .ways th, .few .axis b { font-size: 12px; }
 
 /* (a) the heading */
-header { grid-area: heading; display: flex; gap: 28px; align-items: baseline; }
-h1 { font-size: 28px; line-height: 34px; flex: 1; white-space: nowrap; }
-header p { color: var(--dim); font-size: 16px; white-space: nowrap; }
-header b { color: var(--text); font-size: 26px; }
+header { grid-area: heading; display: flex; gap: 16px; align-items: baseline; }
+h1 { font-size: 24px; line-height: 34px; flex: 1; white-space: nowrap; }
+header p { color: var(--dim); font-size: 13px; white-space: nowrap; }
+header b { color: var(--text); font-size: 14px; }
 header .file { background: var(--text); color: var(--ground); font-weight: bold; font-size: 20px; padding: 2px 12px; }
 
 /* (b) the tiles */

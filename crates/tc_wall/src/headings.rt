@@ -2,26 +2,40 @@
 ghost use Rattle.std.specs.Prelude.{◌-◌, length, slice_get, OnOk};
 ghost use Rattle.std.specs.String.{string_bytes};
 ghost use Rattle.tc_wall.specs.Parts.{Adds};
-ghost use Rattle.tc_wall.specs.Heading.{file_parts, entered_parts, moved_parts, last_parts, heading_parts};
+ghost use Rattle.tc_wall.specs.Heading.{file_parts, opened_parts, entered_parts, moved_parts, last_parts, heading_parts};
 
-use crate::boards::{Live, WallBoard};
 use crate::bounds::add_fixed;
 use crate::fixed::HEADING;
 use crate::times::time_text;
+use crate::walls::{Opening, Wall};
 use std::alloc::{AllocError, Allocator};
 use std::fmt::Write;
 use tc_types::Move;
 
-/// Adds that the file is closed, where it is.
+/// Adds when the desk was opened, and how many moves stood then.
+#[tactic(auto, unfolding(crate::specs::Heading::opened_parts))]
+fn add_opened<A: Allocator + Copy>(page: &mut String<A>, opening: Opening) -> Result<(), AllocError>
+    ensures { OnOk result (Adds (opened_parts opening) (string_bytes page.old) (string_bytes page.new)) }
+{
+    let stood = opening.stood;
+    let time = time_text(opening.since);
+    let time = time.as_str();
+    write!(
+        page,
+        "<p>opened at <b>{time}</b> UTC after <b>{stood}</b> moves</p>\n"
+    )
+}
+
+/// Adds how the desk was opened, or that the file is closed.
 #[tactic(auto, unfolding(crate::specs::Heading::file_parts))]
 fn add_file<A: Allocator + Copy>(
     page: &mut String<A>,
-    live: &Option<Live>,
+    opening: Option<Opening>,
 ) -> Result<(), AllocError>
-    ensures { OnOk result (Adds (file_parts live.now) (string_bytes page.old) (string_bytes page.new)) }
+    ensures { OnOk result (Adds (file_parts opening) (string_bytes page.old) (string_bytes page.new)) }
 {
-    match live {
-        Some(_) => Ok(()),
+    match opening {
+        Some(opening) => add_opened(page, opening),
         None => page.push_str("<p class=\"file\">closed file</p>\n"),
     }
 }
@@ -55,17 +69,17 @@ fn add_last<A: Allocator + Copy>(page: &mut String<A>, moves: &[Move]) -> Result
     }
 }
 
-/// Adds the heading: how many requests were entered, and the last move; a closed file says so.
+/// Adds the heading: how the desk was opened, how many requests were entered, and the last move; a closed file says so.
 #[tactic(auto, using(crate::proofs::PartLemmas::then_adds), unfolding(crate::specs::Heading::heading_parts))]
 pub(crate) fn add_heading<A: Allocator + Copy>(
     page: &mut String<A>,
-    board: &WallBoard,
+    wall: &Wall,
 ) -> Result<(), AllocError>
-    ensures { OnOk result (Adds (heading_parts board.now) (string_bytes page.old) (string_bytes page.new)) }
+    ensures { OnOk result (Adds (heading_parts wall.now) (string_bytes page.old) (string_bytes page.new)) }
 {
     add_fixed(page, HEADING)?;
-    add_file(page, &board.live)?;
-    add_entered(page, board.entered)?;
-    add_last(page, board.moves)?;
+    add_file(page, wall.opening)?;
+    add_entered(page, wall.entered)?;
+    add_last(page, wall.moves)?;
     add_fixed(page, "</header>\n")
 }

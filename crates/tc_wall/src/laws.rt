@@ -1,14 +1,14 @@
 //! What holds of any page. These functions do nothing: their clauses are the laws.
 ghost use Rattle.std.specs.Prelude.{◌≡◌, ℕ, List, [], ◌∷◌, ◌++◌, map, take, filter, IsTrue};
 ghost use Rattle.tc_types.specs.declared.history.places.Place.{Place};
-ghost use Rattle.tc_wall.specs.declared.boards.WallBoard.{WallBoard};
+ghost use Rattle.tc_wall.specs.declared.walls.Wall.{Wall};
 ghost use Rattle.tc_wall.specs.Escapes.{escaped, is_plain};
 ghost use Rattle.tc_wall.specs.Tiles.{count_at};
 ghost use Rattle.tc_wall.specs.Told.{told_all, is_count_of, is_row, standing};
 ghost use Rattle.tc_wall.specs.Page.{page};
 ghost use Rattle.tc_wall.specs.Told as told;
 
-use crate::boards::MOST_OPEN;
+use crate::walls::MOST_OPEN;
 
 /// A text that a person typed is shown as such: escaped, it has none of the signs that mean something in HTML, but for the `&` of their five
 /// names. And nothing of it is lost: two texts that are escaped alike are alike.
@@ -19,10 +19,10 @@ pub fn a_typed_text_is_plain()
 
 /// Each place has one count on the page, which is the one that was given.
 pub fn each_count_is_shown_once()
-    ensures { (b : WallBoard) (place : Place) → filter (is_count_of place) (told_all (page b)) ≡ told.Stand place (count_at b.counts.now place) ∷ [] }
+    ensures { (b : Wall) (place : Place) → filter (is_count_of place) (told_all (page b)) ≡ told.Stand place (count_at b.counts.now place) ∷ [] }
 {}
 
 /// The rows of the ways are those of the requests that are open, in order, up to the bound: each once, and at its place. There is no other.
 pub fn each_way_is_shown_once()
-    ensures { (b : WallBoard) → filter is_row (told_all (page b)) ≡ map standing (take MOST_OPEN b.ways.now) }
+    ensures { (b : Wall) → filter is_row (told_all (page b)) ≡ map standing (take MOST_OPEN b.ways.now) }
 {}

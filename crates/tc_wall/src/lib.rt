@@ -1,12 +1,11 @@
-//! The board: one page of HTML of what a desk holds, for a screen on the wall and for paper.
+//! The wall: one page of HTML of what a desk holds, for a screen on the wall and for paper.
 //!
-//! The page is a function of what it shows (`WallBoard`). It is made of parts: fixed texts, numbers, words of the desk, and texts that persons typed,
+//! The page is a function of what it shows (`Wall`). It is made of parts: fixed texts, numbers, words of the desk, and texts that persons typed,
 //! which are escaped. Every function takes the memory of its text from the allocator that it is given, and fails where that is refused.
 #![tactic(auto)]
 
 mod axes;
 mod bars;
-mod boards;
 mod bounds;
 mod escapes;
 mod fixed;
@@ -23,12 +22,13 @@ mod signs;
 mod tiles;
 mod times;
 mod wait_rows;
+mod walls;
 mod way_rows;
 mod ways;
 
-pub use boards::{
-    Live, MOST_MOVES, MOST_OPEN, MOST_SHOWN_ACTIVITIES, MOST_STAGES, MOST_WAITS, ShownSchedule,
-    Wait, WallBoard, Way,
-};
 pub use links::{FarmLine, FarmWord, FopLine, FopWord, LinkLines};
-pub use pages::{MOST_BYTES, board_text};
+pub use pages::{MOST_BYTES, wall_text};
+pub use walls::{
+    Live, MOST_MOVES, MOST_OPEN, MOST_SHOWN_ACTIVITIES, MOST_STAGES, MOST_WAITS, Opening,
+    ShownSchedule, Wait, Wall, Way,
+};

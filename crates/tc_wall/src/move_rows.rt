@@ -5,11 +5,11 @@ ghost use Rattle.std.specs.String.{string_bytes};
 ghost use Rattle.tc_wall.specs.Parts.{Adds};
 ghost use Rattle.tc_wall.specs.MoveParts.{who_parts, what_parts, move_parts, moves_parts};
 
-use crate::boards::{MOST_MOVES, WallBoard};
 use crate::bounds::{add_fixed, add_left_out, add_none, last_of};
 use crate::escapes::Escaped;
 use crate::fixed::MOVES;
 use crate::times::time_text;
+use crate::walls::{MOST_MOVES, Wall};
 use std::alloc::{AllocError, Allocator};
 use std::fmt::Write;
 use tc_types::{Move, from_name};
@@ -70,14 +70,14 @@ fn add_rows<A: Allocator + Copy>(page: &mut String<A>, rows: &[Move]) -> Result<
 #[tactic(auto, using(crate::proofs::PartLemmas::then_adds), unfolding(crate::specs::MoveParts::moves_parts))]
 pub(crate) fn add_moves<A: Allocator + Copy>(
     page: &mut String<A>,
-    board: &WallBoard,
+    wall: &Wall,
 ) -> Result<(), AllocError>
-    ensures { OnOk result (Adds (moves_parts board.now) (string_bytes page.old) (string_bytes page.new)) }
+    ensures { OnOk result (Adds (moves_parts wall.now) (string_bytes page.old) (string_bytes page.new)) }
 {
     add_fixed(page, MOVES)?;
-    add_rows(page, last_of(board.moves, MOST_MOVES))?;
+    add_rows(page, last_of(wall.moves, MOST_MOVES))?;
     add_fixed(page, "</tbody>\n</table>\n")?;
-    add_none(page, board.moved, "Nothing moved yet.")?;
-    add_left_out(page, board.moved, MOST_MOVES)?;
+    add_none(page, wall.moved, "Nothing moved yet.")?;
+    add_left_out(page, wall.moved, MOST_MOVES)?;
     add_fixed(page, "</section>\n")
 }

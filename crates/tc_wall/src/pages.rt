@@ -2,18 +2,18 @@
 ghost use Rattle.std.specs.Prelude.{◌≡◌, ◌≤◌, IfOk, OnOk};
 ghost use Rattle.std.specs.String.{string_bytes, string_len};
 ghost use Rattle.tc_wall.specs.Parts.{Adds};
-ghost use Rattle.tc_wall.specs.Page.{laid_in, size_word, refresh_parts, head_parts, live_parts, page, board_page};
+ghost use Rattle.tc_wall.specs.Page.{laid_in, size_word, refresh_parts, head_parts, live_parts, page, wall_page};
 
-use crate::boards::{Live, WallBoard};
 use crate::bounds::add_fixed;
 use crate::fixed::{FOOT, HEAD, REFRESH, STYLE};
 use crate::headings::add_heading;
 use crate::link_rows::{add_closed_link, add_link};
 use crate::move_rows::add_moves;
-use crate::ranges::keep_board;
+use crate::ranges::keep_wall;
 use crate::schedules::{add_closed_schedule, add_known_schedule};
 use crate::tiles::add_tiles;
 use crate::wait_rows::add_waits;
+use crate::walls::{Live, Wall};
 use crate::ways::add_ways;
 use std::alloc::{AllocError, Allocator};
 
@@ -35,14 +35,11 @@ fn laid_in(live: &Option<Live>) -> usize
 
 /// Whether there are few rows, or many.
 #[tactic(auto, unfolding(crate::specs::Page::size_word))]
-fn size_word(board: &WallBoard) -> &'static str
-    ensures { result.now ≡ size_word board.now }
+fn size_word(wall: &Wall) -> &'static str
+    ensures { result.now ≡ size_word wall.now }
 {
-    let laid_in = laid_in(&board.live);
-    if board.opened <= MOST_FEW
-        && board.waiting <= MOST_FEW
-        && laid_in <= MOST_FEW - board.waiting
-    {
+    let laid_in = laid_in(&wall.live);
+    if wall.opened <= MOST_FEW && wall.waiting <= MOST_FEW && laid_in <= MOST_FEW - wall.waiting {
         "few"
     } else {
         "many"
@@ -65,15 +62,15 @@ fn add_refresh<A: Allocator + Copy>(
 
 /// Adds the head of the page, up to where its body begins.
 #[tactic(auto, using(crate::proofs::PartLemmas::then_adds), unfolding(crate::specs::Page::head_parts))]
-fn add_head<A: Allocator + Copy>(page: &mut String<A>, board: &WallBoard) -> Result<(), AllocError>
-    ensures { OnOk result (Adds (head_parts board.now) (string_bytes page.old) (string_bytes page.new)) }
+fn add_head<A: Allocator + Copy>(page: &mut String<A>, wall: &Wall) -> Result<(), AllocError>
+    ensures { OnOk result (Adds (head_parts wall.now) (string_bytes page.old) (string_bytes page.new)) }
 {
     add_fixed(page, HEAD)?;
     add_fixed(page, STYLE)?;
     add_fixed(page, "</style>\n")?;
-    add_refresh(page, &board.live)?;
+    add_refresh(page, &wall.live)?;
     add_fixed(page, "</head>\n<body class=\"")?;
-    add_fixed(page, size_word(board))?;
+    add_fixed(page, size_word(wall))?;
     add_fixed(page, "\">\n")
 }
 
@@ -102,28 +99,28 @@ fn add_live<A: Allocator + Copy>(
 fn add_page<A: Allocator + Copy>(
     alloc: A,
     text: &mut String<A>,
-    board: &WallBoard,
+    wall: &Wall,
 ) -> Result<(), AllocError>
-    ensures { OnOk result (Adds (page board.now) (string_bytes text.old) (string_bytes text.new)) }
+    ensures { OnOk result (Adds (page wall.now) (string_bytes text.old) (string_bytes text.new)) }
 {
-    add_head(text, board)?;
-    add_heading(text, board)?;
-    add_tiles(text, board.counts)?;
-    add_waits(text, board)?;
-    add_live(text, &board.live)?;
-    add_ways(alloc, text, board)?;
-    add_moves(text, board)?;
+    add_head(text, wall)?;
+    add_heading(text, wall)?;
+    add_tiles(text, wall.counts)?;
+    add_waits(text, wall)?;
+    add_live(text, &wall.live)?;
+    add_ways(alloc, text, wall)?;
+    add_moves(text, wall)?;
     add_fixed(text, FOOT)
 }
 
-/// The board as a page of HTML. Fails where memory is refused.
-#[tactic(auto, using(crate::proofs::PageSizeLemmas::page_size), unfolding(crate::specs::Page::board_page))]
-pub fn board_text<A: Allocator + Copy>(alloc: A, board: &WallBoard) -> Result<String<A>, AllocError>
-    ensures page { IfOk result (λ t. string_bytes t ≡ board_page board.now) }
+/// The wall as a page of HTML. Fails where memory is refused.
+#[tactic(auto, using(crate::proofs::PageSizeLemmas::page_size), unfolding(crate::specs::Page::wall_page))]
+pub fn wall_text<A: Allocator + Copy>(alloc: A, wall: &Wall) -> Result<String<A>, AllocError>
+    ensures page { IfOk result (λ t. string_bytes t ≡ wall_page wall.now) }
     ensures few { IfOk result (λ t. string_len t ≤ MOST_BYTES) }
 {
-    keep_board(board);
+    keep_wall(wall);
     let mut text = String::new(alloc);
-    add_page(alloc, &mut text, board)?;
+    add_page(alloc, &mut text, wall)?;
     Ok(text)
 }

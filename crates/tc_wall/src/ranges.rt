@@ -1,15 +1,15 @@
-//! What the types of a board keep. These functions do nothing: their clauses are what the types know.
+//! What the types of a wall keep. These functions do nothing: their clauses are what the types know.
 ghost use Rattle.std.specs.Prelude.{◌<◌, ◌≤◌, ◌^◌, IfSome, length};
 ghost use Rattle.std.specs.List.{AllByRecursion};
-ghost use Rattle.tc_wall.specs.Ranges.{IsShort, IsMoveInRange, IsWantingInRange, IsWaitingInRange, IsWaitInRange, IsOriginInRange, IsRequestInRange, IsWayInRange, AreQueuesInRange, AreCountersInRange, IsFopInRange, IsFarmInRange, IsLinkInRange, IsActivityInRange, IsScheduleInRange, IsLiveInRange, IsBoardInRange};
+ghost use Rattle.tc_wall.specs.Ranges.{IsShort, IsMoveInRange, IsWantingInRange, IsWaitingInRange, IsWaitInRange, IsOriginInRange, IsRequestInRange, IsWayInRange, AreQueuesInRange, AreCountersInRange, IsFopInRange, IsFarmInRange, IsLinkInRange, IsActivityInRange, IsScheduleInRange, IsLiveInRange, IsOpeningInRange, IsWallInRange};
 ghost use Rattle.tc_wall.specs.Waits.{text_of};
 
-use crate::boards::{
-    Live, MOST_MOVES, MOST_OPEN, MOST_SHOWN_ACTIVITIES, MOST_WAITS, ShownSchedule, Wait, WallBoard,
-    Way,
-};
 use crate::bounds::{first_of, last_of};
 use crate::links::{FarmLine, FopLine, LinkLines};
+use crate::walls::{
+    Live, MOST_MOVES, MOST_OPEN, MOST_SHOWN_ACTIVITIES, MOST_WAITS, Opening, ShownSchedule, Wait,
+    Wall, Way,
+};
 use crate::way_rows::kind;
 use tc_types::{ListedActivity, Move, Name, Origin, PLACES, Request, StepText, Waiting, Wanting};
 
@@ -238,6 +238,22 @@ fn keep_schedule(schedule: &ShownSchedule)
     keep_activities(first_of(schedule.activities, MOST_SHOWN_ACTIVITIES));
 }
 
+/// How a desk was opened.
+fn keep_opened(opening: &Opening)
+    ensures { IsOpeningInRange opening.now }
+{
+    let _stood = opening.stood;
+}
+
+/// So is that of a desk that may be closed.
+fn keep_opening(opening: &Option<Opening>)
+    ensures { IfSome opening.now IsOpeningInRange }
+{
+    if let Some(opening) = opening {
+        keep_opened(opening);
+    }
+}
+
 /// What is told of a desk that is open.
 fn keep_live(live: &Option<Live>)
     ensures { IfSome live.now IsLiveInRange }
@@ -267,18 +283,19 @@ fn keep_last(last: Option<Move>)
     }
 }
 
-/// A whole board.
-pub(crate) fn keep_board(board: &WallBoard)
-    ensures { IsBoardInRange board.now }
+/// A whole wall.
+pub(crate) fn keep_wall(wall: &Wall)
+    ensures { IsWallInRange wall.now }
 {
-    let _entered = board.entered;
-    let _waiting = board.waiting;
-    let _opened = board.opened;
-    let _moved = board.moved;
-    keep_counts(board.counts);
-    keep_waits(first_of(board.waits, MOST_WAITS));
-    keep_live(&board.live);
-    keep_ways(first_of(board.ways, MOST_OPEN));
-    keep_last(board.moves.last().copied());
-    keep_moves(last_of(board.moves, MOST_MOVES));
+    let _entered = wall.entered;
+    let _waiting = wall.waiting;
+    let _opened = wall.opened;
+    let _moved = wall.moved;
+    keep_counts(wall.counts);
+    keep_waits(first_of(wall.waits, MOST_WAITS));
+    keep_opening(&wall.opening);
+    keep_live(&wall.live);
+    keep_ways(first_of(wall.ways, MOST_OPEN));
+    keep_last(wall.moves.last().copied());
+    keep_moves(last_of(wall.moves, MOST_MOVES));
 }

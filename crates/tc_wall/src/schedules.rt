@@ -5,10 +5,10 @@ ghost use Rattle.std.specs.String.{string_bytes};
 ghost use Rattle.tc_wall.specs.Parts.{Adds};
 ghost use Rattle.tc_wall.specs.ScheduleParts.{enabled_word, enabled_parts, activity_parts, known_schedule_parts, closed_schedule_parts};
 
-use crate::boards::{MOST_SHOWN_ACTIVITIES, ShownSchedule};
 use crate::bounds::{add_fixed, add_left_out, first_of};
 use crate::fixed::SCHEDULE;
 use crate::times::time_text;
+use crate::walls::{MOST_SHOWN_ACTIVITIES, ShownSchedule};
 use std::alloc::{AllocError, Allocator};
 use std::fmt::Write;
 use tc_types::ListedActivity;

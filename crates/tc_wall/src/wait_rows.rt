@@ -5,11 +5,11 @@ ghost use Rattle.std.specs.String.{string_bytes};
 ghost use Rattle.tc_wall.specs.Parts.{Adds};
 ghost use Rattle.tc_wall.specs.Waits.{critical_parts, request_begins, stack_begins, marked_parts, approvals_parts, rows_parts, other_parts, author_parts, barred_parts, request_parts, stack_parts, free_parts, locked_parts, doubt_parts, text_of, whom_word, work_parts, waiting_parts, wait_parts, waits_parts};
 
-use crate::boards::{MOST_WAITS, Wait, WallBoard};
 use crate::bounds::{add_fixed, add_left_out, add_none, first_of};
 use crate::escapes::Escaped;
 use crate::fixed::WAITS;
 use crate::signs::sign;
+use crate::walls::{MOST_WAITS, Wait, Wall};
 use std::alloc::{AllocError, Allocator};
 use std::fmt::Write;
 use tc_types::{Lock, Name, Place, StepText, Waiting, Wanting};
@@ -281,14 +281,14 @@ fn add_rows_of<A: Allocator + Copy>(page: &mut String<A>, waits: &[Wait]) -> Res
 #[tactic(auto, using(crate::proofs::PartLemmas::then_adds), unfolding(crate::specs::Waits::waits_parts))]
 pub(crate) fn add_waits<A: Allocator + Copy>(
     page: &mut String<A>,
-    board: &WallBoard,
+    wall: &Wall,
 ) -> Result<(), AllocError>
-    ensures { OnOk result (Adds (waits_parts board.now) (string_bytes page.old) (string_bytes page.new)) }
+    ensures { OnOk result (Adds (waits_parts wall.now) (string_bytes page.old) (string_bytes page.new)) }
 {
     add_fixed(page, WAITS)?;
-    add_rows_of(page, first_of(board.waits, MOST_WAITS))?;
+    add_rows_of(page, first_of(wall.waits, MOST_WAITS))?;
     add_fixed(page, "</tbody>\n</table>\n")?;
-    add_none(page, board.waiting, "Nothing waits.")?;
-    add_left_out(page, board.waiting, MOST_WAITS)?;
+    add_none(page, wall.waiting, "Nothing waits.")?;
+    add_left_out(page, wall.waiting, MOST_WAITS)?;
     add_fixed(page, "</section>\n")
 }

@@ -6,10 +6,10 @@ ghost use Rattle.tc_wall.specs.WayParts.{service_of, subtype_of, row_begins, ide
 
 use crate::axes::{Mark, WIDTH, drawn};
 use crate::bars::add_bar;
-use crate::boards::{MOST_STAGES, Way};
 use crate::escapes::Escaped;
 use crate::signs::sign;
 use crate::wait_rows::add_critical;
+use crate::walls::{MOST_STAGES, Way};
 use std::alloc::{AllocError, Allocator};
 use std::fmt::Write;
 use tc_types::{Command, Identity, Name, Origin, Place};

@@ -6,11 +6,11 @@ ghost use Rattle.tc_wall.specs.Parts.{Adds};
 ghost use Rattle.tc_wall.specs.WayParts.{label_parts, tick_parts, ticks_begin, axis_parts, way_parts, table_parts, ways_parts};
 
 use crate::axes::{Mark, WIDTH, axis_of};
-use crate::boards::{MOST_OPEN, WallBoard, Way};
 use crate::bounds::{add_fixed, add_left_out, add_none, first_of};
 use crate::fixed::{WAYS, WAYS_HEAD};
 use crate::lines::lines_of;
 use crate::times::time_text;
+use crate::walls::{MOST_OPEN, Wall, Way};
 use crate::way_rows::add_way;
 use std::alloc::{AllocError, Allocator};
 use std::fmt::Write;
@@ -126,13 +126,13 @@ fn add_table<A: Allocator + Copy>(
 pub(crate) fn add_ways<A: Allocator + Copy>(
     alloc: A,
     page: &mut String<A>,
-    board: &WallBoard,
+    wall: &Wall,
 ) -> Result<(), AllocError>
-    ensures { OnOk result (Adds (ways_parts board.now) (string_bytes page.old) (string_bytes page.new)) }
+    ensures { OnOk result (Adds (ways_parts wall.now) (string_bytes page.old) (string_bytes page.new)) }
 {
     add_fixed(page, WAYS)?;
-    add_table(alloc, page, first_of(board.ways, MOST_OPEN))?;
-    add_none(page, board.opened, "No request is open.")?;
-    add_left_out(page, board.opened, MOST_OPEN)?;
+    add_table(alloc, page, first_of(wall.ways, MOST_OPEN))?;
+    add_none(page, wall.opened, "No request is open.")?;
+    add_left_out(page, wall.opened, MOST_OPEN)?;
     add_fixed(page, "</section>\n")
 }

@@ -10,6 +10,7 @@ use Rattle.clap.specs.declared.parser.matches.Found.{Found}
 use Rattle.clap.specs.declared.builder.value_parser.ValueParser.TheVariants as parser
 use Rattle.clap.proofs.WalkLemmas.{both, one_text-rows}
 use Rattle.clap.proofs.ValueTestLemmas.{Accepts-accepts, accepts-Accepts}
+use Rattle.tc_world.specs.declared.configs.TheConstants.{GREATEST_RING}
 use Rattle.tc_world.specs.Config.{IsRing}
 use Rattle.tc_words.specs.Asked.{number_within}
 
@@ -32,7 +33,7 @@ kept_out least most n r is out = rw is (go (nat_le least n && nat_le n most) ref
     go true e = let parts = both _ _ e in absurd (out (leb-true _ _ parts.0) (leb-true _ _ parts.1))
 
 -- a ring of a number that was read has a size that there is
-pub ring_within : (r : Option ℕ) → IfSome r (λ number. (1 ≤ number) × (number ≤ 4096)) → IsRing r
+pub ring_within : (r : Option ℕ) → IfSome r (λ number. (1 ≤ number) × (number ≤ GREATEST_RING)) → IsRing r
 ring_within None within = tt
 ring_within (Some n) within = within
 

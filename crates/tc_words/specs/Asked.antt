@@ -8,19 +8,30 @@ use Rattle.clap.specs.Words.{Row, Text, count_of, first_of, one_of}
 use Rattle.clap.specs.declared.builder.value_parser.ValueParser.TheVariants as parser
 use Rattle.tc_types.specs.Numbers.{IsMoment}
 use Rattle.tc_csv.specs.StackTexts.{IsInstant}
+use Rattle.tc_world.specs.declared.configs.TheConstants.{GREATEST_RING}
+
+-- a server's port, after how many connections it ends if after any, a further name by which it is called, whether it ends with the standard input and when the desk has stopped, and whether
+-- all is told
+pub record Terms : Type 0 where
+  pub port : ℕ
+  pub count : Option ℕ
+  pub host : Option Text
+  pub until_eof : Bool
+  pub end_when_stopped : Bool
+  pub verbose : Bool
 
 -- A command with what it was given. Where a desk is made or opened, its window, its channel and how many items the rings of its links hold,
 -- where they are rings, and what stands for the moment of its opening; where it is kept in a file, that file. A run has a script, and whether each line is shown before its answer and all is
--- told; a report what stands for FROM and TO; a backup the file that is copied to; a board its file alone; a server its port, how many connections it serves and whether all is told; a loop a script, the number of
+-- told; a report what stands for FROM and TO; a backup the file that is copied to; a wall its file alone; a server its terms; a loop a script, the number of
 -- the first line that it sends, and what a run has besides; a check what stands for KIND, and a file.
 pub data Asked : Type 0 where
   run : (script : Text) (window channel : ℕ) (ring : Option ℕ) (moment : Text) (echo verbose : Bool) → Asked
   run_kept : (script : Text) (window channel : ℕ) (ring : Option ℕ) (database moment : Text) (echo verbose : Bool) → Asked
   report : (database begins ends : Text) → Asked
   backup : (database copy : Text) → Asked
-  board : (database : Text) → Asked
+  wall : (database : Text) → Asked
   check : (kind file : Text) → Asked
-  serve : (database : Text) (port count window channel : ℕ) (ring : Option ℕ) (moment : Text) (verbose : Bool) → Asked
+  serve : (database : Text) (terms : Terms) (window channel : ℕ) (ring : Option ℕ) (moment : Text) → Asked
   loop : (database script : Text) (window channel : ℕ) (ring : Option ℕ) (moment : Text) (first : ℕ) (echo verbose : Bool) → Asked
 
 -- ---- what the arguments were given
@@ -50,7 +61,7 @@ given_channel rows = number_in 0 63 3 (one_of (codes "vc") rows)
 
 -- how many items the rings hold, where a number of them was given
 abbrev pub given_ring : List Row → Option ℕ
-given_ring rows = number_within 1 4096 (one_of (codes "ring") rows)
+given_ring rows = number_within 1 GREATEST_RING (one_of (codes "ring") rows)
 
 -- what was given for the moment of the opening, or stands in the rows by default
 abbrev pub given_moment : List Row → Text
@@ -60,21 +71,36 @@ given_moment rows = given (codes "at") rows
 abbrev pub given_port : List Row → ℕ
 given_port rows = number_in 1 65535 1 (one_of (codes "PORT") rows)
 
--- how many connections were given, or stand in the rows by default
-abbrev pub given_count : List Row → ℕ
-given_count rows = number_in 1 1000000 1000000 (one_of (codes "COUNT") rows)
+-- how many connections were given, if they were
+abbrev pub given_count : List Row → Option ℕ
+given_count rows = number_within 1 1000000 (one_of (codes "COUNT") rows)
 
 -- the number of the first line that is sent, as it was given, or stands in the rows by default
 abbrev pub given_first : List Row → ℕ
 given_first rows = number_in 1 4294967295 1 (one_of (codes "first") rows)
 
+-- an option was given that has no value
+abbrev pub given_flag : Text → List Row → Bool
+given_flag id rows = nat_lt 0 (count_of id rows)
+
 -- whether each line is to be shown before its answer
 abbrev pub given_echo : List Row → Bool
-given_echo rows = nat_lt 0 (count_of (codes "echo") rows)
+given_echo rows = given_flag (codes "echo") rows
 
 -- whether all is to be told
 abbrev pub given_verbose : List Row → Bool
-given_verbose rows = nat_lt 0 (count_of (codes "verbose") rows)
+given_verbose rows = given_flag (codes "verbose") rows
+
+-- the terms of a server
+abbrev pub given_terms : List Row → Terms
+given_terms rows = record {
+  port = given_port rows;
+  count = given_count rows;
+  host = first_of (codes "host") rows;
+  until_eof = given_flag (codes "until-eof") rows;
+  end_when_stopped = given_flag (codes "end-when-stopped") rows;
+  verbose = given_verbose rows;
+}
 
 -- ---- what the commands were given
 
@@ -98,9 +124,9 @@ asked_report rows = report (given (codes "DB") rows) (given (codes "FROM") rows)
 abbrev pub asked_backup : List Row → Asked
 asked_backup rows = backup (given (codes "DB") rows) (given (codes "COPY") rows)
 
--- what a board was given
-abbrev pub asked_board : List Row → Asked
-asked_board rows = board (given (codes "DB") rows)
+-- what a wall was given
+abbrev pub asked_wall : List Row → Asked
+asked_wall rows = wall (given (codes "DB") rows)
 
 -- the word of a script, as the kind of a file
 abbrev pub script_word : Text
@@ -112,8 +138,7 @@ asked_check rows = check (given (codes "KIND") rows) (given (codes "FILE") rows)
 
 -- what a server was given
 abbrev pub asked_serve : List Row → Asked
-asked_serve rows = serve (given (codes "DB") rows) (given_port rows) (given_count rows) (given_window rows) (given_channel rows) (given_ring rows)
-    (given_moment rows) (given_verbose rows)
+asked_serve rows = serve (given (codes "DB") rows) (given_terms rows) (given_window rows) (given_channel rows) (given_ring rows) (given_moment rows)
 
 -- what a loop was given
 abbrev pub asked_loop : List Row → Asked
@@ -126,7 +151,7 @@ abbrev pub asked_of : Text → List Row → Asked
 asked_of name rows =
     if bytes_eq name (codes "report") then asked_report rows else
     if bytes_eq name (codes "backup") then asked_backup rows else
-    if bytes_eq name (codes "board") then asked_board rows else
+    if bytes_eq name (codes "board") then asked_wall rows else
     if bytes_eq name (codes "check") then asked_check rows else
     if bytes_eq name (codes "serve") then asked_serve rows else
     if bytes_eq name (codes "loop") then asked_loop rows else asked_run rows

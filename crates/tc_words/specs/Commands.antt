@@ -3,6 +3,7 @@ use Rattle.std.specs.Prelude.{[], ◌∷◌, Some, codes, true}
 use Rattle.clap.specs.Words.{App, Rule, Text, new_app, new_rule, with_rule, with_subcommand}
 use Rattle.clap.specs.declared.builder.action.ArgAction.TheVariants.{Count}
 use Rattle.clap.specs.declared.builder.value_parser.ValueParser.TheVariants as parser
+use Rattle.tc_world.specs.declared.configs.TheConstants.{GREATEST_RING}
 
 -- ---- the arguments
 
@@ -42,12 +43,9 @@ to_rule = required_rule (codes "TO")
 abbrev pub port_rule : Rule
 port_rule = record (required_rule (codes "PORT")) { parser = Some (parser.Unsigned 1 65535) }
 
--- COUNT: how many connections are served, 1 to 1,000,000, and that many where it is not given
+-- COUNT: after how many connections a server ends, 1 to 1,000,000, and after none where it is not given
 abbrev pub count_rule : Rule
-count_rule = record (new_rule (codes "COUNT")) {
-  defaults = codes "1000000" ∷ [];
-  parser = Some (parser.Unsigned 1 1000000);
-}
+count_rule = record (new_rule (codes "COUNT")) { parser = Some (parser.Unsigned 1 1000000) }
 
 -- an option that has no value
 abbrev pub flag_rule : Text → Rule
@@ -63,6 +61,21 @@ echo_rule = flag_rule (codes "echo")
 -- --verbose: whether all is told
 abbrev pub verbose_rule : Rule
 verbose_rule = flag_rule (codes "verbose")
+
+-- --host NAME: a further name by which a server is called
+abbrev pub host_rule : Rule
+host_rule = record (new_rule (codes "host")) {
+  long = Some (codes "host");
+  value_names = 1;
+}
+
+-- --until-eof: whether a server ends with the standard input
+abbrev pub until_eof_rule : Rule
+until_eof_rule = flag_rule (codes "until-eof")
+
+-- --end-when-stopped: whether a server that has a count ends when the desk has stopped
+abbrev pub end_when_stopped_rule : Rule
+end_when_stopped_rule = flag_rule (codes "end-when-stopped")
 
 -- --w N: the window W of the FARM, 2 to 254, and 20 where it is not given
 abbrev pub window_rule : Rule
@@ -87,7 +100,7 @@ abbrev pub ring_rule : Rule
 ring_rule = record (new_rule (codes "ring")) {
   long = Some (codes "ring");
   value_names = 1;
-  parser = Some (parser.Unsigned 1 4096);
+  parser = Some (parser.Unsigned 1 GREATEST_RING);
 }
 
 -- --db FILE: the database file that keeps the desk; a new desk where it is not given
@@ -143,9 +156,9 @@ report_app = with_rule (with_rule (with_rule (new_app (codes "report")) file_rul
 abbrev pub backup_app : App
 backup_app = with_rule (with_rule (new_app (codes "backup")) file_rule) copy_rule
 
--- board DB
-abbrev pub board_app : App
-board_app = with_rule (new_app (codes "board")) file_rule
+-- wall DB
+abbrev pub wall_app : App
+wall_app = with_rule (new_app (codes "board")) file_rule
 
 -- check KIND FILE
 abbrev pub check_app : App
@@ -159,9 +172,12 @@ with_desk app = with_rule (with_link app) moment_rule
 abbrev pub bare_serve_app : App
 bare_serve_app = with_rule (with_rule (with_rule (new_app (codes "serve")) file_rule) port_rule) count_rule
 
--- .. [--w N] [--vc N] [--ring N] [--at MOMENT] [--verbose]
+-- .. [--host NAME] [--until-eof] [--end-when-stopped] [--verbose]
+abbrev pub with_ends : App → App
+with_ends app = with_rule (with_rule (with_rule (with_rule app host_rule) until_eof_rule) end_when_stopped_rule) verbose_rule
+
 abbrev pub serve_app : App
-serve_app = with_rule (with_desk bare_serve_app) verbose_rule
+serve_app = with_ends (with_desk bare_serve_app)
 
 -- loop DB SCRIPT [--w N] [--vc N] [--ring N] [--at MOMENT] [--first N]
 abbrev pub send_app : App
@@ -183,9 +199,9 @@ script_apps = with_subcommand (with_subcommand bare_app run_app.top) report_app.
 abbrev pub with_backup : App → App
 with_backup app = with_subcommand app backup_app.top
 
--- .. with the one that prints the board of one
-abbrev pub with_board : App → App
-with_board app = with_subcommand app board_app.top
+-- .. with the one that prints the wall of one
+abbrev pub with_wall : App → App
+with_wall app = with_subcommand app wall_app.top
 
 -- .. with the one that checks a file
 abbrev pub with_check : App → App
@@ -197,4 +213,4 @@ with_http app = with_subcommand (with_subcommand app serve_app.top) loop_app.top
 
 -- the program, with its commands
 abbrev pub desk_app : App
-desk_app = with_http (with_check (with_board (with_backup script_apps)))
+desk_app = with_http (with_check (with_wall (with_backup script_apps)))

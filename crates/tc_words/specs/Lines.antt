@@ -1,5 +1,5 @@
 -- What a line of the program is of what its words ask for, and why they ask for nothing.
-use Rattle.std.specs.Prelude.{◌%◌, ◌≡◌, ◌⊎◌, ◌↔◌, ⊤, ℕ, [], IfSome, Option, None, Some}
+use Rattle.std.specs.Prelude.{◌%◌, ◌≡◌, ◌⊎◌, ◌↔◌, ◌||◌, ⊤, ℕ, [], Bool, IfSome, Option, None, Some, is_none, option_map}
 use Rattle.clap.specs.Words.{IsAmong, Kinds, Text, kind_of}
 use Rattle.clap.specs.declared.error.Error.{Error}
 use Rattle.clap.specs.declared.error.kind.ErrorKind.TheVariants.{OutOfMemory}
@@ -7,11 +7,27 @@ use Rattle.tc_types.specs.Loads.{kind_word}
 use Rattle.tc_types.specs.declared.loads.LoadKind.{LoadKind}
 use Rattle.tc_world.specs.Config.{IsConfig}
 use Rattle.tc_world.specs.declared.configs.Config.{Config}
-use Rattle.tc_words.specs.Asked.{Asked, SpellsMoment, SpellsNoMoment, backup, board, check, loop, report, run, run_kept, script_word, serve}
+use Rattle.tc_words.specs.Asked.{Asked, SpellsMoment, SpellsNoMoment, Terms, backup, wall, check, loop, report, run, run_kept, script_word, serve}
 use Rattle.tc_words.specs.declared.lines.CommandLine.{CommandLine}
-use Rattle.tc_words.specs.declared.lines.CommandLine.TheVariants.{Backup, Board, Check, CheckScript, Loop, Report, Run, RunKept, Serve}
+use Rattle.tc_words.specs.declared.lines.CommandLine.TheVariants.{Backup, Wall, Check, CheckScript, Loop, Report, Run, RunKept, Serve}
+use Rattle.tc_words.specs.declared.lines.Service.{Service}
 use Rattle.tc_words.specs.declared.lines.UsageFault.{UsageFault}
 use Rattle.tc_words.specs.declared.lines.UsageFault.TheVariants.{Memory, NoKind, NoMoment, NoOpening, OddWindow, Words}
+
+-- the terms of a server, with the bytes of its name
+abbrev pub terms_of : Service → Terms
+terms_of service = record {
+  port = service.port;
+  count = service.count;
+  host = option_map (λ host. host.now) service.host;
+  until_eof = service.until_eof;
+  end_when_stopped = service.end_when_stopped;
+  verbose = service.verbose;
+}
+
+-- it ends once its desk has stopped: if it has no count, or if that is asked for
+abbrev pub ends_with_desk : Service → Bool
+ends_with_desk service = is_none service.count || service.end_when_stopped
 
 -- A line asks for this. What stands for the moment of an opening, and for a report's FROM and TO, spells it, also where a new desk is not opened at any; the KIND of a check is the word of its
 -- kind, or that of a script.
@@ -25,11 +41,11 @@ AsksFor (RunKept script config database moment telling) asked =
 AsksFor (Report database from to) asked =
     (begins ends : Text) × SpellsMoment from begins × SpellsMoment to ends × (asked ≡ report database.now begins ends)
 AsksFor (Backup database copy) asked = asked ≡ backup database.now copy.now
-AsksFor (Board database) asked = asked ≡ board database.now
+AsksFor (Wall database) asked = asked ≡ wall database.now
 AsksFor (Check kind file) asked = asked ≡ check (kind_word kind) file.now
 AsksFor (CheckScript file) asked = asked ≡ check script_word file.now
-AsksFor (Serve database port count config moment verbose) asked =
-    (begins : Text) × SpellsMoment moment begins × (asked ≡ serve database.now port count config.window config.channel config.ring begins verbose)
+AsksFor (Serve database service config moment) asked =
+    (begins : Text) × SpellsMoment moment begins × (asked ≡ serve database.now (terms_of service) config.window config.channel config.ring begins)
 AsksFor (Loop database script config moment first telling) asked =
     (begins : Text) × SpellsMoment moment begins
     × (asked ≡ loop database.now script.now config.window config.channel config.ring begins first telling.echo telling.verbose)
@@ -40,10 +56,10 @@ config_of (Run script config telling) = Some config
 config_of (RunKept script config database moment telling) = Some config
 config_of (Report database from to) = None
 config_of (Backup database copy) = None
-config_of (Board database) = None
+config_of (Wall database) = None
 config_of (Check kind file) = None
 config_of (CheckScript file) = None
-config_of (Serve database port count config moment verbose) = Some config
+config_of (Serve database service config moment) = Some config
 config_of (Loop database script config moment first telling) = Some config
 
 -- a line asks for this, and what its desk is made or opened with may be chosen
@@ -57,9 +73,9 @@ AsksOddWindow (run script window channel ring moment echo verbose) = window % 2 
 AsksOddWindow (run_kept script window channel ring database moment echo verbose) = window % 2 ≡ 1
 AsksOddWindow (report database begins ends) = ⊥
 AsksOddWindow (backup database copy) = ⊥
-AsksOddWindow (board database) = ⊥
+AsksOddWindow (wall database) = ⊥
 AsksOddWindow (check kind file) = ⊥
-AsksOddWindow (serve database port count window channel ring moment verbose) = window % 2 ≡ 1
+AsksOddWindow (serve database terms window channel ring moment) = window % 2 ≡ 1
 AsksOddWindow (loop database script window channel ring moment first echo verbose) = window % 2 ≡ 1
 
 -- a report is asked for, whose FROM or TO is this word, which spells no moment
@@ -71,7 +87,7 @@ AsksNoMoment other word = ⊥
 abbrev pub AsksNoOpening : Asked → Text → Type 0
 AsksNoOpening (run script window channel ring moment echo verbose) word = (word ≡ moment) × SpellsNoMoment word
 AsksNoOpening (run_kept script window channel ring database moment echo verbose) word = (word ≡ moment) × SpellsNoMoment word
-AsksNoOpening (serve database port count window channel ring moment verbose) word = (word ≡ moment) × SpellsNoMoment word
+AsksNoOpening (serve database terms window channel ring moment) word = (word ≡ moment) × SpellsNoMoment word
 AsksNoOpening (loop database script window channel ring moment first echo verbose) word = (word ≡ moment) × SpellsNoMoment word
 AsksNoOpening other word = ⊥
 

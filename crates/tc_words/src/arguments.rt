@@ -1,12 +1,13 @@
 //! The arguments of the commands: which have to be given, which values pass, and what stands where none is given.
 ghost use Rattle.std.specs.Prelude.{◌≡◌};
-ghost use Rattle.tc_words.specs.Commands.{channel_rule, checked_rule, copy_rule, count_rule, database_rule, echo_rule, file_rule, first_rule, flag_rule, from_rule, kind_rule, moment_rule, port_rule};
-ghost use Rattle.tc_words.specs.Commands.{required_rule, ring_rule, script_rule, to_rule, verbose_rule, window_rule};
+ghost use Rattle.tc_words.specs.Commands.{channel_rule, checked_rule, copy_rule, count_rule, database_rule, echo_rule, end_when_stopped_rule, file_rule, first_rule, flag_rule, from_rule, host_rule, kind_rule, moment_rule, port_rule};
+ghost use Rattle.tc_words.specs.Commands.{required_rule, ring_rule, script_rule, to_rule, until_eof_rule, verbose_rule, window_rule};
 
 use clap::builder::ValueParser;
 use clap::{Arg, ArgAction};
 use std::alloc::Global;
 use std::marker::Model;
+use tc_world::GREATEST_RING;
 
 /// An argument of one command, and of none below it. A contract sees it as its rule.
 #[derive(Drop)]
@@ -131,9 +132,34 @@ pub(crate) fn count_arg<'a>(alloc: Global) -> Argument<'a>
     Argument {
         arg: Arg::new(alloc, "COUNT")
             .value_parser(ValueParser::Unsigned(1, 1_000_000))
-            .default_value("1000000")
-            .help("How many connections are served, one after the other: 1 to 1000000"),
+            .help("After how many connections it ends: 1 to 1000000 [default: it goes on]"),
     }
+}
+
+pub(crate) fn host_arg<'a>(alloc: Global) -> Argument<'a>
+    ensures { result ≡ host_rule }
+{
+    Argument {
+        arg: Arg::new(alloc, "host").long("host").value_name("NAME").help(
+            "A name by which clients call the desk, besides 127.0.0.1 and localhost: requests with another Host are refused",
+        ),
+    }
+}
+
+pub(crate) fn until_eof_arg<'a>(alloc: Global) -> Argument<'a>
+    ensures { result ≡ until_eof_rule }
+{
+    flag_arg(alloc, "until-eof", "End when the standard input ends")
+}
+
+pub(crate) fn end_when_stopped_arg<'a>(alloc: Global) -> Argument<'a>
+    ensures { result ≡ end_when_stopped_rule }
+{
+    flag_arg(
+        alloc,
+        "end-when-stopped",
+        "End with status 3 when the desk has stopped, as it does without COUNT",
+    )
 }
 
 /// An option that has no value.
@@ -213,7 +239,7 @@ pub(crate) fn ring_arg<'a>(alloc: Global) -> Argument<'a>
         arg: Arg::new(alloc, "ring")
             .long("ring")
             .value_name("N")
-            .value_parser(ValueParser::Unsigned(1, 4_096))
+            .value_parser(ValueParser::Unsigned(1, u64::from(GREATEST_RING)))
             .help(
                 "Links that hold N items and drop the oldest: 1 to 4096 [default: lists, which lose nothing by themselves]",
             ),

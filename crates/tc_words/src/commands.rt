@@ -1,13 +1,13 @@
 //! The program's commands, and the matches of words that name one.
 ghost use Rattle.std.specs.Prelude.{◌≡◌, [], IfErr, IfOk, OnOk, map, true};
 ghost use Rattle.clap.specs.Words.{HasKind, fault_of, kind_of, new_app, subcommand_of, subcommand_rows_of, takes, with_rule, with_subcommand};
-ghost use Rattle.tc_words.specs.Commands.{backup_app, bare_app, bare_serve_app, board_app, check_app, desk_app, loop_app, report_app, run_app, script_apps, send_app, serve_app};
-ghost use Rattle.tc_words.specs.Commands.{with_backup, with_board, with_check, with_database, with_desk, with_http, with_link, with_told};
+ghost use Rattle.tc_words.specs.Commands.{backup_app, bare_app, bare_serve_app, wall_app, check_app, desk_app, loop_app, report_app, run_app, script_apps, send_app, serve_app};
+ghost use Rattle.tc_words.specs.Commands.{with_backup, with_wall, with_check, with_database, with_desk, with_ends, with_http, with_link, with_told};
 
 use crate::arguments::{
-    Argument, channel_arg, checked_arg, copy_arg, count_arg, database_arg, echo_arg, file_arg,
-    first_arg, from_arg, kind_arg, lines_arg, moment_arg, port_arg, read_file_arg, ring_arg,
-    script_arg, to_arg, verbose_arg, window_arg,
+    Argument, channel_arg, checked_arg, copy_arg, count_arg, database_arg, echo_arg,
+    end_when_stopped_arg, file_arg, first_arg, from_arg, host_arg, kind_arg, lines_arg, moment_arg,
+    port_arg, read_file_arg, ring_arg, script_arg, to_arg, until_eof_arg, verbose_arg, window_arg,
 };
 use clap::error::ErrorKind;
 use clap::{ArgMatches, Command};
@@ -100,7 +100,7 @@ fn desk_command<'a>(alloc: Global) -> Result<Tree<'a>, AllocError>
     ensures { IfOk result (λ desk. desk ≡ desk_app) }
 {
     let commands = with_backup(alloc, script_commands(alloc)?)?;
-    let commands = with_board(alloc, commands)?;
+    let commands = with_wall(alloc, commands)?;
     with_http(alloc, with_check(alloc, commands)?)
 }
 
@@ -120,11 +120,11 @@ fn with_backup<'a>(alloc: Global, command: Tree<'a>) -> Result<Tree<'a>, AllocEr
     command.subcommand(backup_command(alloc)?)
 }
 
-/// With the command that prints the board of one.
-fn with_board<'a>(alloc: Global, command: Tree<'a>) -> Result<Tree<'a>, AllocError>
-    ensures { IfOk result (λ more. more ≡ with_board command.entry) }
+/// With the command that prints the wall of one.
+fn with_wall<'a>(alloc: Global, command: Tree<'a>) -> Result<Tree<'a>, AllocError>
+    ensures { IfOk result (λ more. more ≡ with_wall command.entry) }
 {
-    command.subcommand(board_command(alloc)?)
+    command.subcommand(wall_command(alloc)?)
 }
 
 /// With the command that checks a file.
@@ -224,8 +224,8 @@ fn backup_command<'a>(alloc: Global) -> Result<Tree<'a>, AllocError>
     .arg(copy_arg(alloc))
 }
 
-fn board_command<'a>(alloc: Global) -> Result<Tree<'a>, AllocError>
-    ensures { IfOk result (λ board. board ≡ board_app) }
+fn wall_command<'a>(alloc: Global) -> Result<Tree<'a>, AllocError>
+    ensures { IfOk result (λ wall. wall ≡ wall_app) }
 {
     Tree::new(
         alloc,
@@ -250,7 +250,18 @@ fn check_command<'a>(alloc: Global) -> Result<Tree<'a>, AllocError>
 fn serve_command<'a>(alloc: Global) -> Result<Tree<'a>, AllocError>
     ensures { IfOk result (λ serve. serve ≡ serve_app) }
 {
-    with_desk(alloc, bare_serve_command(alloc)?)?.arg(verbose_arg(alloc))
+    with_ends(alloc, with_desk(alloc, bare_serve_command(alloc)?)?)
+}
+
+/// With the options of a server.
+fn with_ends<'a>(alloc: Global, command: Tree<'a>) -> Result<Tree<'a>, AllocError>
+    ensures { IfOk result (λ more. more ≡ with_ends command.entry) }
+{
+    command
+        .arg(host_arg(alloc))?
+        .arg(until_eof_arg(alloc))?
+        .arg(end_when_stopped_arg(alloc))?
+        .arg(verbose_arg(alloc))
 }
 
 fn bare_serve_command<'a>(alloc: Global) -> Result<Tree<'a>, AllocError>

@@ -4,9 +4,10 @@ ghost use Rattle.clap.specs.Words.{first_of, found_of, one_of, rows_of};
 ghost use Rattle.tc_types.specs.Loads.{kind_word};
 ghost use Rattle.tc_types.specs.declared.loads.LoadKind.{LoadKind as SomeKind};
 ghost use Rattle.tc_world.specs.Config.{IsConfig, IsRing};
-ghost use Rattle.tc_words.specs.Asked.{SpellsMoment, SpellsNoMoment, given, given_channel, given_count, given_echo, given_first, given_port, given_ring, given_verbose, given_window, number_in, number_within};
+ghost use Rattle.tc_words.specs.Asked.{SpellsMoment, SpellsNoMoment, given, given_channel, given_count, given_echo, given_first, given_flag, given_port, given_ring, given_terms, given_verbose, given_window, number_in, number_within};
+ghost use Rattle.tc_words.specs.Lines.{terms_of};
 
-use crate::lines::{Telling, UsageFault};
+use crate::lines::{Service, Telling, UsageFault};
 use clap::ArgMatches;
 use tc_csv::instant;
 use tc_lines::read::readers;
@@ -105,17 +106,38 @@ pub(crate) fn spelled_opening<'a>(text: &'a str) -> Result<Moment, UsageFault<'a
 }
 
 /// The port at which the desk is served.
-pub(crate) fn port_of(matches: &ArgMatches<'_>) -> u16
+fn port_of(matches: &ArgMatches<'_>) -> u16
     ensures { result ≡ given_port (rows_of (found_of matches.now)) }
 {
     number_of(matches, "PORT", 1, 65_535, 1) as u16
 }
 
-/// How many connections are served.
-pub(crate) fn count_of(matches: &ArgMatches<'_>) -> u32
+/// After how many connections a server ends, if after any.
+fn count_of(matches: &ArgMatches<'_>) -> Option<u32>
     ensures { result ≡ given_count (rows_of (found_of matches.now)) }
 {
-    number_of(matches, "COUNT", 1, 1_000_000, 1_000_000)
+    number_within(matches, "COUNT", 1, 1_000_000)
+}
+
+/// Whether an option was given that has no value.
+fn has(matches: &ArgMatches<'_>, id: &str) -> bool
+    ensures { result ≡ given_flag id.now (rows_of (found_of matches.now)) }
+{
+    0 < matches.get_count(id)
+}
+
+/// How the desk is served.
+pub(crate) fn service_of<'a>(matches: &ArgMatches<'a>) -> Service<'a>
+    ensures { terms_of result ≡ given_terms (rows_of (found_of matches.now)) }
+{
+    Service {
+        port: port_of(matches),
+        count: count_of(matches),
+        host: path_of(matches, "host"),
+        until_eof: has(matches, "until-eof"),
+        end_when_stopped: has(matches, "end-when-stopped"),
+        verbose: has(matches, "verbose"),
+    }
 }
 
 /// The number of the first line that is sent.
@@ -131,16 +153,9 @@ pub(crate) fn telling_of(matches: &ArgMatches<'_>) -> Telling
     ensures verbose { result.verbose ≡ given_verbose (rows_of (found_of matches.now)) }
 {
     Telling {
-        echo: 0 < matches.get_count("echo"),
-        verbose: is_verbose(matches),
+        echo: has(matches, "echo"),
+        verbose: has(matches, "verbose"),
     }
-}
-
-/// Whether all is to be told.
-pub(crate) fn is_verbose(matches: &ArgMatches<'_>) -> bool
-    ensures { result ≡ given_verbose (rows_of (found_of matches.now)) }
-{
-    0 < matches.get_count("verbose")
 }
 
 /// The moment that a text spells: Unix seconds, or an instant.
@@ -156,9 +171,9 @@ pub(crate) fn spelled_kind<'a>(word: &'a str) -> Result<LoadKind, UsageFault<'a>
     ensures kind { IfOk result (λ kind. word.entry.now ≡ kind_word kind) }
     ensures fault { IfErr result (λ fault. (fault ≡ UsageFault.NoKind word.entry) × ((some : SomeKind) → ¬ (word.entry.now ≡ kind_word some))) }
 {
-    if word == "stack" {
+    if word == LoadKind::Stack.word() {
         Ok(LoadKind::Stack)
-    } else if word == "procedure" {
+    } else if word == LoadKind::Procedure.word() {
         Ok(LoadKind::Procedure)
     } else {
         Err(UsageFault::NoKind(word))

@@ -7,5 +7,5 @@ mod given;
 mod lines;
 mod reading;
 
-pub use lines::{CommandLine, Telling, UsageFault};
+pub use lines::{CommandLine, Service, Telling, UsageFault};
 pub use reading::read_words;

@@ -1,4 +1,6 @@
 //! What a command line asks for, and why one asks for nothing.
+ghost use Rattle.std.specs.Prelude.{◌≡◌};
+ghost use Rattle.tc_words.specs.Lines.{ends_with_desk};
 
 use clap::error::ErrorKind;
 use tc_types::{LoadKind, Moment};
@@ -12,6 +14,32 @@ pub struct Telling {
     pub echo: bool,
     /// Whether all is told.
     pub verbose: bool,
+}
+
+/// How a desk is served over HTTP.
+#[derive(Clone, Copy, Debug, PartialEq, Eq)]
+pub struct Service<'a> {
+    /// The port of 127.0.0.1, 1 to 65,535.
+    pub port: u16,
+    /// After how many connections it ends, 1 to 1,000,000; `None` if after none.
+    pub count: Option<u32>,
+    /// A name besides 127.0.0.1 and localhost by which clients call it.
+    pub host: Option<&'a str>,
+    /// Whether it ends when the standard input does.
+    pub until_eof: bool,
+    /// Whether it ends when the desk has stopped, also if it has a count.
+    pub end_when_stopped: bool,
+    /// Whether the standard error says how each connection ended.
+    pub verbose: bool,
+}
+
+impl Service<'_> {
+    /// Whether it ends once its desk has stopped: if it has no count, or if that is asked for.
+    pub fn ends_with_desk(&self) -> bool
+        ensures { result ≡ ends_with_desk self.now }
+    {
+        self.count.is_none() || self.end_when_stopped
+    }
 }
 
 /// What the words of a command line ask the program to do.
@@ -42,8 +70,8 @@ pub enum CommandLine<'a> {
         database: &'a str,
         copy: &'a str,
     },
-    /// The page of the board of the desk that a database file keeps.
-    Board {
+    /// The page of the wall of the desk that a database file keeps.
+    Wall {
         database: &'a str,
     },
     /// Whether the file at this path, or the standard input where it is `-`, can be loaded as a stack or as a procedure.
@@ -55,15 +83,12 @@ pub enum CommandLine<'a> {
     CheckScript {
         file: &'a str,
     },
-    /// Serve the desk that a database file keeps, opened at a moment, over HTTP on a port of this machine alone, 1 to 65,535, and end after
-    /// so many connections, 1 to 1,000,000. Verbose, it says on the standard error how each connection ended.
+    /// Serve the desk that a database file keeps, opened at a moment, over HTTP on this machine alone.
     Serve {
         database: &'a str,
-        port: u16,
-        count: u32,
+        service: Service<'a>,
         config: Config,
         moment: Moment,
-        verbose: bool,
     },
     /// Send the lines of the script at this path, or of the standard input where it is `-`, over HTTP to the desk that a database file keeps,
     /// opened at a moment. The first that is sent has this number, 1 to 4,294,967,295, and each behind it the next.

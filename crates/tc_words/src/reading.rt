@@ -1,14 +1,14 @@
 //! The reading of a command line's words.
 ghost use Rattle.std.specs.Prelude.{◌≡◌, ◌⊎◌, [], IfErr, IfOk, OnOk, map, true};
 ghost use Rattle.clap.specs.Words.{fault_of, found_of, rows_of, subcommand_of, subcommand_rows_of, takes};
-ghost use Rattle.tc_words.specs.Asked.{asked, asked_backup, asked_board, asked_check, asked_loop, asked_of, asked_report, asked_run, asked_serve};
+ghost use Rattle.tc_words.specs.Asked.{asked, asked_backup, asked_wall, asked_check, asked_loop, asked_of, asked_report, asked_run, asked_serve};
 ghost use Rattle.tc_words.specs.Commands.{desk_app};
 ghost use Rattle.tc_words.specs.Lines.{IsFaultOf, IsLineFor, IsTold};
 
 use crate::commands::matches;
 use crate::given::{
-    config_of, count_of, first_number, is_verbose, path_of, port_of, spelled_kind, spelled_moment,
-    spelled_opening, telling_of, text_of,
+    config_of, first_number, path_of, service_of, spelled_kind, spelled_moment, spelled_opening,
+    telling_of, text_of,
 };
 use crate::lines::{CommandLine, Telling, UsageFault};
 use clap::ArgMatches;
@@ -73,7 +73,7 @@ fn command_line_of<'a>(
     } else if name == "backup" {
         backup_line_of(matches)
     } else if name == "board" {
-        board_line_of(matches)
+        wall_line_of(matches)
     } else if name == "check" {
         check_line_of(matches)
     } else if name == "serve" {
@@ -132,11 +132,11 @@ fn backup_line_of<'a>(matches: &ArgMatches<'a>) -> Result<CommandLine<'a>, Usage
     })
 }
 
-fn board_line_of<'a>(matches: &ArgMatches<'a>) -> Result<CommandLine<'a>, UsageFault<'a>>
-    ensures line { IfOk result (λ line. IsLineFor line (asked_board (rows_of (found_of matches.now)))) }
-    ensures fault { IfErr result (IsFaultOf (asked_board (rows_of (found_of matches.now)))) }
+fn wall_line_of<'a>(matches: &ArgMatches<'a>) -> Result<CommandLine<'a>, UsageFault<'a>>
+    ensures line { IfOk result (λ line. IsLineFor line (asked_wall (rows_of (found_of matches.now)))) }
+    ensures fault { IfErr result (IsFaultOf (asked_wall (rows_of (found_of matches.now)))) }
 {
-    Ok(CommandLine::Board {
+    Ok(CommandLine::Wall {
         database: text_of(matches, "DB"),
     })
 }
@@ -162,11 +162,9 @@ fn serve_line_of<'a>(matches: &ArgMatches<'a>) -> Result<CommandLine<'a>, UsageF
     let moment = spelled_opening(text_of(matches, "at"))?;
     Ok(CommandLine::Serve {
         database: text_of(matches, "DB"),
-        port: port_of(matches),
-        count: count_of(matches),
+        service: service_of(matches),
         config,
         moment,
-        verbose: is_verbose(matches),
     })
 }
 

@@ -1,6 +1,7 @@
 -- What a link does that is a list or a ring: what the one does that it is, and stays.
 use Rattle.std.specs.Prelude.{◌≡◌, ◌⊎◌, ◌<◌, ◌-◌, ◌^◌, ℕ, Bool, Option, Some, None, List, [], ◌∷◌, ◌++◌}
 use Rattle.std.proofs.Common.{refl}
+use Rattle.tc_world.specs.declared.configs.TheConstants.{GREATEST_RING}
 use Rattle.tc_world.specs.declared.link_carriers.LinkCarrier.{LinkCarrier}
 use Rattle.tc_world.specs.declared.link_carriers.LinkCarrier.TheVariants as link
 use Rattle.tc_world.specs.Links.{Kind}
@@ -22,7 +23,7 @@ IsMade (Some size) (link.Ring ring) = (ring.content ≡ []) × (ring.size ≡ si
 -- a ring is asked for of a size that none has
 abbrev pub IsNoSize : Option ℕ → Type 0
 IsNoSize None = ⊥
-IsNoSize (Some size) = (size ≡ 0) ⊎ (4096 < size)
+IsNoSize (Some size) = (size ≡ 0) ⊎ (GREATEST_RING < size)
 
 abbrev pub without_room_of : {T A : Type 0} → LinkCarrier T A → LinkCarrier T A
 without_room_of (link.List list) = link.List (listed.without_room list)

@@ -1,6 +1,7 @@
 //! A link of a fixed size, which drops its oldest item where one more is put than it holds.
 ghost use Rattle.std.specs.Prelude.{◌≡◌, ◌≢◌, ◌↔◌, ◌⊎◌, ◌+◌, ◌<◌, ◌≤◌, ℕ, Bool, List, [], ◌∷◌, ◌++◌, length, take, drop, remove, nat_lt, Err, IfOk, IfErr};
 ghost use Rattle.tc_types.specs.declared.refusals.Refusal.TheVariants.{BadDirective, Memory};
+ghost use Rattle.tc_world.specs.declared.configs.TheConstants.{GREATEST_RING};
 ghost use Rattle.tc_world.specs.Sublist.{IsSublist};
 
 use crate::carriers::Carrier;
@@ -19,20 +20,21 @@ pub struct RingCarrier<T: Drop, A: Allocator> {
 
 impl<T: Drop, A: Allocator> Model for RingCarrier<T, A> {
     ghost use Rattle.std.specs.Prelude.{◌≤◌, length};
+    ghost use Rattle.tc_world.specs.declared.configs.TheConstants.{GREATEST_RING};
     ghost use Rattle.tc_world.specs.Rings.{Ringed};
 
     ghost Value = { Ringed T };
 
     ghost view = { λ c. record { content = c.items.items; size = c.items.capacity } };
 
-    ghost invariant = { λ c. (1 ≤ c.items.capacity) × (c.items.capacity ≤ 4096) × (length c.items.items ≤ c.items.capacity) };
+    ghost invariant = { λ c. (1 ≤ c.items.capacity) × (c.items.capacity ≤ GREATEST_RING) × (length c.items.items ≤ c.items.capacity) };
 }
 
 impl<T: Drop, A: Allocator> RingCarrier<T, A> {
     /// A ring with nothing in flight, for 1 to 4,096 items, else `BadDirective`. `Memory` where its memory is refused.
     pub fn new(alloc: A, size: u32) -> Result<Self, Refusal>
         ensures ring { IfOk result (λ ring. (ring.content ≡ []) × (ring.size ≡ size)) }
-        ensures bad { (result ≡ Err BadDirective) ↔ ((size ≡ 0) ⊎ (4096 < size)) }
+        ensures bad { (result ≡ Err BadDirective) ↔ ((size ≡ 0) ⊎ (GREATEST_RING < size)) }
         ensures memory { IfErr result (λ e. e ≢ BadDirective → e ≡ Memory) }
     {
         if size == 0 || size > GREATEST_RING {

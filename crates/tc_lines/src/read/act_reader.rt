@@ -1,22 +1,24 @@
 //! Texts that are read as acts.
-ghost use Rattle.std.specs.Prelude.{◌≡◌, ◌≢◌, ◌↔◌, ◌<◌, ◌≤◌, Ok, Err, IfOk, IfErr, ◌∷◌, codes, length};
+ghost use Rattle.std.specs.Prelude.{◌≡◌, ◌≢◌, ◌↔◌, ◌<◌, ◌≤◌, Ok, Err, IfOk, IfErr, ◌∷◌, length};
 ghost use Rattle.tc_types.specs.declared.acts.Act.{Act};
 ghost use Rattle.tc_types.specs.declared.refusals.Refusal.TheVariants as refusal;
+ghost use Rattle.tc_types.specs.declared.verbs.Verb.TheVariants as verb;
+ghost use Rattle.tc_types.specs.Verbs.{verb_word};
 ghost use Rattle.tc_types.specs.Grammar.{Reads};
 ghost use Rattle.tc_types.specs.ActGrammar.{book_act_words, IsBookAct, act_words, IsAct, act_text, SpellsAct};
 
 use crate::read::entry_reader::entry;
 use crate::read::link_reader::link_act_of;
 use crate::read::query_reader::{is_question, query_of};
-use crate::read::readers::{is, number};
+use crate::read::readers::number;
 use crate::read::step_reader::step;
 use crate::read::words::Words;
 use tc_types::limits::LONGEST_ACT;
-use tc_types::{Act, BookAct, Name, Refusal};
+use tc_types::{Act, BookAct, Name, Refusal, Verb};
 
 /// What stands behind `withdraw`.
 fn withdraw(words: &mut Words<'_>) -> Option<BookAct>
-    ensures { Reads book_act_words IsBookAct (codes "withdraw" ∷ words.old) result }
+    ensures { Reads book_act_words IsBookAct (verb_word verb.Withdraw ∷ words.old) result }
 {
     let request = number(words.next()?)?;
     words.end()?;
@@ -25,7 +27,7 @@ fn withdraw(words: &mut Words<'_>) -> Option<BookAct>
 
 /// What stands behind `approve`.
 fn approve(words: &mut Words<'_>) -> Option<BookAct>
-    ensures { Reads book_act_words IsBookAct (codes "approve" ∷ words.old) result }
+    ensures { Reads book_act_words IsBookAct (verb_word verb.Approve ∷ words.old) result }
 {
     let request = number(words.next()?)?;
     words.end()?;
@@ -34,7 +36,7 @@ fn approve(words: &mut Words<'_>) -> Option<BookAct>
 
 /// What stands behind `close`.
 fn close(words: &mut Words<'_>) -> Option<BookAct>
-    ensures { Reads book_act_words IsBookAct (codes "close" ∷ words.old) result }
+    ensures { Reads book_act_words IsBookAct (verb_word verb.Close ∷ words.old) result }
 {
     let request = number(words.next()?)?;
     words.end()?;
@@ -43,7 +45,7 @@ fn close(words: &mut Words<'_>) -> Option<BookAct>
 
 /// What stands behind `approvestack`.
 fn approve_stack(words: &mut Words<'_>) -> Option<BookAct>
-    ensures { Reads book_act_words IsBookAct (codes "approvestack" ∷ words.old) result }
+    ensures { Reads book_act_words IsBookAct (verb_word verb.ApproveStack ∷ words.old) result }
 {
     let stack = Name::read(words.next()?)?;
     words.end()?;
@@ -52,7 +54,7 @@ fn approve_stack(words: &mut Words<'_>) -> Option<BookAct>
 
 /// What stands behind `begin`.
 fn begin(words: &mut Words<'_>) -> Option<BookAct>
-    ensures { Reads book_act_words IsBookAct (codes "begin" ∷ words.old) result }
+    ensures { Reads book_act_words IsBookAct (verb_word verb.Begin ∷ words.old) result }
 {
     let procedure = Name::read(words.next()?)?;
     words.end()?;
@@ -65,19 +67,19 @@ pub fn act_of(words: &mut Words<'_>) -> Option<Act>
     ensures { Reads act_words IsAct words.old result }
 {
     let verb = words.next()?;
-    if is(verb, b"enter") {
+    if Verb::Enter.is(verb) {
         Some(Act::Book(BookAct::Enter(entry(words)?)))
-    } else if is(verb, b"withdraw") {
+    } else if Verb::Withdraw.is(verb) {
         Some(Act::Book(withdraw(words)?))
-    } else if is(verb, b"approve") {
+    } else if Verb::Approve.is(verb) {
         Some(Act::Book(approve(words)?))
-    } else if is(verb, b"close") {
+    } else if Verb::Close.is(verb) {
         Some(Act::Book(close(words)?))
-    } else if is(verb, b"approvestack") {
+    } else if Verb::ApproveStack.is(verb) {
         Some(Act::Book(approve_stack(words)?))
-    } else if is(verb, b"begin") {
+    } else if Verb::Begin.is(verb) {
         Some(Act::Book(begin(words)?))
-    } else if is(verb, b"step") {
+    } else if Verb::Step.is(verb) {
         Some(Act::Step(step(words)?))
     } else if is_question(verb) {
         Some(Act::Ask(query_of(verb, words)?))

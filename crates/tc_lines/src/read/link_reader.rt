@@ -1,13 +1,15 @@
 //! Texts that are read as acts on the link and on the spacecraft.
 ghost use Rattle.std.specs.Prelude.{[], ◌∷◌, codes};
 ghost use Rattle.std.specs.Fmt.{decimal};
+ghost use Rattle.tc_types.specs.declared.verbs.Verb.TheVariants as verb;
+ghost use Rattle.tc_types.specs.Verbs.{verb_word};
 ghost use Rattle.tc_types.specs.Grammar.{Reads, IsNumber};
 ghost use Rattle.tc_types.specs.Numbers.{IsMoment};
 ghost use Rattle.tc_types.specs.LinkGrammar.{directive_words, IsDirective, link_act_words, IsLinkAct};
 
 use crate::read::readers::{counter, is, moment, number, ticks, transmission_limit, window};
 use crate::read::words::Words;
-use tc_types::{Directive, LinkAct, Moment};
+use tc_types::{Directive, LinkAct, Moment, Verb};
 
 /// A number that is the last word.
 fn last_number(words: &mut Words<'_>) -> Option<u32>
@@ -29,7 +31,7 @@ fn last_moment(words: &mut Words<'_>) -> Option<Moment>
 
 /// What stands behind `initiate setvr`.
 fn set_vr(words: &mut Words<'_>) -> Option<Directive>
-    ensures { Reads directive_words IsDirective (codes "initiate" ∷ codes "setvr" ∷ words.old) result }
+    ensures { Reads directive_words IsDirective (verb_word verb.Initiate ∷ codes "setvr" ∷ words.old) result }
 {
     let value = counter(words.next()?)?;
     words.end()?;
@@ -38,7 +40,7 @@ fn set_vr(words: &mut Words<'_>) -> Option<Directive>
 
 /// What stands behind `initiate`.
 fn initiate(words: &mut Words<'_>) -> Option<Directive>
-    ensures { Reads directive_words IsDirective (codes "initiate" ∷ words.old) result }
+    ensures { Reads directive_words IsDirective (verb_word verb.Initiate ∷ words.old) result }
 {
     let how = words.next()?;
     if is(how, b"setvr") {
@@ -58,7 +60,7 @@ fn initiate(words: &mut Words<'_>) -> Option<Directive>
 
 /// What stands behind `set`.
 fn set(words: &mut Words<'_>) -> Option<Directive>
-    ensures { Reads directive_words IsDirective (codes "set" ∷ words.old) result }
+    ensures { Reads directive_words IsDirective (verb_word verb.Set ∷ words.old) result }
 {
     let what = words.next()?;
     let value = words.next()?;
@@ -80,17 +82,17 @@ fn set(words: &mut Words<'_>) -> Option<Directive>
 fn bare_act(verb: &[u8]) -> Option<LinkAct>
     ensures { Reads link_act_words IsLinkAct (verb.now ∷ []) result }
 {
-    if is(verb, b"tick") {
+    if Verb::Tick.is(verb) {
         Some(LinkAct::Tick)
-    } else if is(verb, b"up") {
+    } else if Verb::Up.is(verb) {
         Some(LinkAct::Up)
-    } else if is(verb, b"clcw") {
+    } else if Verb::Clcw.is(verb) {
         Some(LinkAct::Clcw)
-    } else if is(verb, b"down") {
+    } else if Verb::Down.is(verb) {
         Some(LinkAct::Down)
-    } else if is(verb, b"work") {
+    } else if Verb::Work.is(verb) {
         Some(LinkAct::Work)
-    } else if is(verb, b"terminate") {
+    } else if Verb::Terminate.is(verb) {
         Some(LinkAct::Direct(Directive::Terminate))
     } else {
         None
@@ -101,20 +103,20 @@ fn bare_act(verb: &[u8]) -> Option<LinkAct>
 pub fn link_act_of(verb: &[u8], words: &mut Words<'_>) -> Option<LinkAct>
     ensures { Reads link_act_words IsLinkAct (verb.now ∷ words.old) result }
 {
-    if is(verb, b"release") {
+    if Verb::Release.is(verb) {
         let request = last_number(words)?;
         Some(LinkAct::Release { request })
-    } else if is(verb, b"initiate") {
+    } else if Verb::Initiate.is(verb) {
         Some(LinkAct::Direct(initiate(words)?))
-    } else if is(verb, b"set") {
+    } else if Verb::Set.is(verb) {
         Some(LinkAct::Direct(set(words)?))
-    } else if is(verb, b"loseup") {
+    } else if Verb::LoseUp.is(verb) {
         let place = last_number(words)?;
         Some(LinkAct::LoseUp { place })
-    } else if is(verb, b"losedown") {
+    } else if Verb::LoseDown.is(verb) {
         let place = last_number(words)?;
         Some(LinkAct::LoseDown { place })
-    } else if is(verb, b"clock") {
+    } else if Verb::Clock.is(verb) {
         let time = last_moment(words)?;
         Some(LinkAct::Clock { time })
     } else {

@@ -7,10 +7,10 @@ ghost use Rattle.tc_types.specs.ActGrammar.{HasLongAct};
 ghost use Rattle.tc_types.specs.Loads.{LoadLine, line_of, IsPath, kind_word, load_words, IsLoad, load_text, SpellsLoad};
 
 use crate::read::line_reader::has_long_act;
-use crate::read::readers::{is, moment};
+use crate::read::readers::moment;
 use crate::read::words::Words;
 use std::str;
-use tc_types::{Load, LoadKind, Name, Person, Refusal};
+use tc_types::{Load, LoadKind, Name, Person, Refusal, Verb};
 
 /// Whether a space is among these bytes.
 fn has_space(word: &[u8]) -> bool
@@ -36,9 +36,9 @@ fn path(word: &[u8]) -> Option<&str>
 fn kind(word: &[u8]) -> Option<LoadKind>
     ensures { Reads kind_word (λ kind. ⊤) word.now result }
 {
-    if is(word, b"stack") {
+    if Verb::Stack.is(word) {
         Some(LoadKind::Stack)
-    } else if is(word, b"procedure") {
+    } else if Verb::Procedure.is(word) {
         Some(LoadKind::Procedure)
     } else {
         None

@@ -1,16 +1,18 @@
 //! Words that are read as questions.
-ghost use Rattle.std.specs.Prelude.{◌≡◌, ⊤, ◌∷◌, codes};
+ghost use Rattle.std.specs.Prelude.{◌≡◌, ⊤, ◌∷◌};
+ghost use Rattle.tc_types.specs.declared.verbs.Verb.TheVariants as verb;
+ghost use Rattle.tc_types.specs.Verbs.{verb_word};
 ghost use Rattle.tc_types.specs.Lines.{place_name};
 ghost use Rattle.tc_types.specs.Grammar.{Reads};
 ghost use Rattle.tc_types.specs.ActGrammar.{query_words, IsQuery, asks};
 
-use crate::read::readers::{is, moment, number};
+use crate::read::readers::{moment, number};
 use crate::read::words::Words;
-use tc_types::{ALL_PLACES, Name, Place, Query};
+use tc_types::{ALL_PLACES, Name, Place, Query, Verb};
 
 /// What stands behind `history`.
 fn history(words: &mut Words<'_>) -> Option<Query>
-    ensures { Reads query_words IsQuery (codes "history" ∷ words.old) result }
+    ensures { Reads query_words IsQuery (verb_word verb.History ∷ words.old) result }
 {
     let request = number(words.next()?)?;
     let after = number(words.next()?)?;
@@ -20,7 +22,7 @@ fn history(words: &mut Words<'_>) -> Option<Query>
 
 /// What stands behind `places`.
 fn places(words: &mut Words<'_>) -> Option<Query>
-    ensures { Reads query_words IsQuery (codes "places" ∷ words.old) result }
+    ensures { Reads query_words IsQuery (verb_word verb.Places ∷ words.old) result }
 {
     words.end()?;
     Some(Query::Places)
@@ -28,7 +30,7 @@ fn places(words: &mut Words<'_>) -> Option<Query>
 
 /// What stands behind `request`.
 fn request_asked(words: &mut Words<'_>) -> Option<Query>
-    ensures { Reads query_words IsQuery (codes "request" ∷ words.old) result }
+    ensures { Reads query_words IsQuery (verb_word verb.Request ∷ words.old) result }
 {
     let request = number(words.next()?)?;
     words.end()?;
@@ -37,7 +39,7 @@ fn request_asked(words: &mut Words<'_>) -> Option<Query>
 
 /// What stands behind `link`.
 fn link(words: &mut Words<'_>) -> Option<Query>
-    ensures { Reads query_words IsQuery (codes "link" ∷ words.old) result }
+    ensures { Reads query_words IsQuery (verb_word verb.Link ∷ words.old) result }
 {
     words.end()?;
     Some(Query::Link)
@@ -45,7 +47,7 @@ fn link(words: &mut Words<'_>) -> Option<Query>
 
 /// What stands behind `schedule`.
 fn schedule(words: &mut Words<'_>) -> Option<Query>
-    ensures { Reads query_words IsQuery (codes "schedule" ∷ words.old) result }
+    ensures { Reads query_words IsQuery (verb_word verb.Schedule ∷ words.old) result }
 {
     words.end()?;
     Some(Query::Schedule)
@@ -53,7 +55,7 @@ fn schedule(words: &mut Words<'_>) -> Option<Query>
 
 /// What stands behind `log`.
 fn log(words: &mut Words<'_>) -> Option<Query>
-    ensures { Reads query_words IsQuery (codes "log" ∷ words.old) result }
+    ensures { Reads query_words IsQuery (verb_word verb.Log ∷ words.old) result }
 {
     let execution = number(words.next()?)?;
     words.end()?;
@@ -62,7 +64,7 @@ fn log(words: &mut Words<'_>) -> Option<Query>
 
 /// What stands behind `report`.
 fn report(words: &mut Words<'_>) -> Option<Query>
-    ensures { Reads query_words IsQuery (codes "report" ∷ words.old) result }
+    ensures { Reads query_words IsQuery (verb_word verb.Report ∷ words.old) result }
 {
     let from = moment(words.next()?)?;
     let to = moment(words.next()?)?;
@@ -72,7 +74,7 @@ fn report(words: &mut Words<'_>) -> Option<Query>
 
 /// What stands behind `waiting`.
 fn waiting(words: &mut Words<'_>) -> Option<Query>
-    ensures { Reads query_words IsQuery (codes "waiting" ∷ words.old) result }
+    ensures { Reads query_words IsQuery (verb_word verb.Waiting ∷ words.old) result }
 {
     words.end()?;
     Some(Query::Waiting)
@@ -80,7 +82,7 @@ fn waiting(words: &mut Words<'_>) -> Option<Query>
 
 /// What stands behind `moves`.
 fn moves(words: &mut Words<'_>) -> Option<Query>
-    ensures { Reads query_words IsQuery (codes "moves" ∷ words.old) result }
+    ensures { Reads query_words IsQuery (verb_word verb.Moves ∷ words.old) result }
 {
     let after = number(words.next()?)?;
     words.end()?;
@@ -99,7 +101,7 @@ fn place(word: &[u8]) -> Option<Place>
 
 /// What stands behind `standing`.
 fn standing(words: &mut Words<'_>) -> Option<Query>
-    ensures { Reads query_words IsQuery (codes "standing" ∷ words.old) result }
+    ensures { Reads query_words IsQuery (verb_word verb.Standing ∷ words.old) result }
 {
     let place = place(words.next()?)?;
     let after = number(words.next()?)?;
@@ -109,7 +111,7 @@ fn standing(words: &mut Words<'_>) -> Option<Query>
 
 /// What stands behind `steps`.
 fn steps(words: &mut Words<'_>) -> Option<Query>
-    ensures { Reads query_words IsQuery (codes "steps" ∷ words.old) result }
+    ensures { Reads query_words IsQuery (verb_word verb.Steps ∷ words.old) result }
 {
     let procedure = Name::read(words.next()?)?;
     words.end()?;
@@ -117,43 +119,52 @@ fn steps(words: &mut Words<'_>) -> Option<Query>
 }
 
 /// The verbs of questions.
-const QUESTIONS: [&str; 11] = [
-    "places", "history", "request", "link", "schedule", "log", "report", "waiting", "moves",
-    "standing", "steps",
+const QUESTIONS: [Verb; 11] = [
+    Verb::Places,
+    Verb::History,
+    Verb::Request,
+    Verb::Link,
+    Verb::Schedule,
+    Verb::Log,
+    Verb::Report,
+    Verb::Waiting,
+    Verb::Moves,
+    Verb::Standing,
+    Verb::Steps,
 ];
 
-/// Whether a verb asks a question.
-pub(crate) fn is_question(verb: &[u8]) -> bool
-    ensures { result ≡ asks verb.now }
+/// Whether a word is the verb of a question.
+pub(crate) fn is_question(word: &[u8]) -> bool
+    ensures { result ≡ asks word.now }
 {
-    QUESTIONS.iter().any(|word| verb == word.as_bytes())
+    QUESTIONS.iter().any(|verb| word == verb.word().as_bytes())
 }
 
 /// A question: its verb, and the words behind it.
 pub(crate) fn query_of(verb: &[u8], words: &mut Words<'_>) -> Option<Query>
     ensures { Reads query_words IsQuery (verb.now ∷ words.old) result }
 {
-    if is(verb, b"places") {
+    if Verb::Places.is(verb) {
         places(words)
-    } else if is(verb, b"history") {
+    } else if Verb::History.is(verb) {
         history(words)
-    } else if is(verb, b"request") {
+    } else if Verb::Request.is(verb) {
         request_asked(words)
-    } else if is(verb, b"link") {
+    } else if Verb::Link.is(verb) {
         link(words)
-    } else if is(verb, b"schedule") {
+    } else if Verb::Schedule.is(verb) {
         schedule(words)
-    } else if is(verb, b"log") {
+    } else if Verb::Log.is(verb) {
         log(words)
-    } else if is(verb, b"report") {
+    } else if Verb::Report.is(verb) {
         report(words)
-    } else if is(verb, b"waiting") {
+    } else if Verb::Waiting.is(verb) {
         waiting(words)
-    } else if is(verb, b"moves") {
+    } else if Verb::Moves.is(verb) {
         moves(words)
-    } else if is(verb, b"standing") {
+    } else if Verb::Standing.is(verb) {
         standing(words)
-    } else if is(verb, b"steps") {
+    } else if Verb::Steps.is(verb) {
         steps(words)
     } else {
         None

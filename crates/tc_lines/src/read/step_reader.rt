@@ -1,5 +1,7 @@
 //! Words that are read as an act which records a step.
-ghost use Rattle.std.specs.Prelude.{◌≡◌, ⊤, ◌∷◌, codes};
+ghost use Rattle.std.specs.Prelude.{◌≡◌, ⊤, ◌∷◌};
+ghost use Rattle.tc_types.specs.declared.verbs.Verb.TheVariants as verb;
+ghost use Rattle.tc_types.specs.Verbs.{verb_word};
 ghost use Rattle.tc_types.specs.Grammar.{Reads};
 ghost use Rattle.tc_types.specs.StepGrammar.{verdict_word, second_word, IsSecond};
 ghost use Rattle.tc_types.specs.ActGrammar.{step_words, IsStepAct};
@@ -36,7 +38,7 @@ fn second(word: &[u8]) -> Option<Option<Person>>
 
 /// What stands behind `step`.
 pub(crate) fn step(words: &mut Words<'_>) -> Option<StepAct>
-    ensures { Reads step_words IsStepAct (codes "step" ∷ words.old) result }
+    ensures { Reads step_words IsStepAct (verb_word verb.Step ∷ words.old) result }
 {
     let execution = number(words.next()?)?;
     let step = number(words.next()?)?;

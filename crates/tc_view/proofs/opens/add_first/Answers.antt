@@ -1,6 +1,6 @@
 -- It is one of the first, while there are few.
 use Rattle.std.proofs.Common.{rules, ◌<◌, ◌≤◌, length}
-use Rattle.tc_wall.specs.declared.boards.TheConstants.{MOST_OPEN}
+use Rattle.tc_wall.specs.declared.walls.TheConstants.{MOST_OPEN}
 use Rattle.tc_view.proofs.OpenLemmas.{first_full, first_more}
 use Rattle.tc_view.proofs.opens.add_first.Goals as goal
 

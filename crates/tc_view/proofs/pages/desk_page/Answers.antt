@@ -12,7 +12,7 @@ returns-clause-page g c =
     let known = c.in_ok-schedule.schedule in
     let counted : vec_len known.activities ≡ length known.activities.items = search rules in
     let all = c.in_ok-schedule.ensures.all in
-    desk_made g.U.Carrier.kind g.D.Carrier.kind c.args.desk.now.parts _ _ _ c.page_of.result c.records.ensures refl (record {
+    desk_made g.U.Carrier.kind g.D.Carrier.kind c.args.opening c.args.desk.now.parts _ _ _ _ c.page_of.result c.records.ensures refl refl (record {
       link = c.link_of.ensures ∙ ap link_of c.link.ensures;
       schedule = record {
         enabled = c.in_ok-schedule.ensures.enabled;

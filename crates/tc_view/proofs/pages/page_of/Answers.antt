@@ -2,7 +2,7 @@
 use Rattle.std.proofs.Common.{rules, ◌≡◌, ◌∙◌, true, length, map, take, refl, ap, subst, sym}
 use Rattle.std.specs.Prelude.{vec_len}
 use Rattle.std.specs.List.{AllByRecursion}
-use Rattle.tc_wall.specs.declared.boards.TheConstants.{MOST_OPEN, MOST_WAITS}
+use Rattle.tc_wall.specs.declared.walls.TheConstants.{MOST_OPEN, MOST_WAITS}
 use Rattle.tc_view.specs.Gathered.{AreTrailsOf, IsNumbered}
 use Rattle.tc_view.specs.Waits.{wait_of}
 use Rattle.tc_view.specs.Ways.{AreWaysOf, is_open, open_of}
@@ -28,7 +28,7 @@ returns-clause-page g c =
     let counted : vec_len c.in_ok-waiting.waiting ≡ length c.in_ok-waiting.waiting.items = search rules in
     let trails = subst (λ rs. AreTrailsOf book rs c.in_ok-trails.trails.items) (c.deref-3.ensures.value ∙ c.in_ok-found.ensures.first) c.in_ok-trails.ensures in
     let ways = c.in_ok-ways.ensures book (take MOST_OPEN (open_of book)) (subst (λ ts. AreTrailsOf book (take MOST_OPEN (open_of book)) ts) (sym c.deref-4.ensures.value) trails) in
-    page_made book _ c.board_text.result _ c.board_text.ensures.page (record {
+    page_made book c.args.opening _ c.wall_text.result _ c.wall_text.ensures.page (record {
       entered = c.count.ensures.count;
       counts = c.tallies-counts.ensures;
       waits = c.deref-5.ensures.value ∙ waits;
@@ -37,4 +37,4 @@ returns-clause-page g c =
       opened = c.in_ok-found.ensures.count;
       moves = c.rows-moves.ensures;
       moved = ap length c.rows-moves.ensures;
-    }) refl
+    }) refl refl
