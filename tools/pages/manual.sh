@@ -12,7 +12,8 @@
 #
 # Then the commands of README.md, but for the gate, in a third, in their order. Each ends with 0, or with 1 where a line is refused, says nothing
 # on standard error but of a new desk, and prints the block that stands behind it, where one does: behind the first one does. The server is started at a port that
-# nobody uses, for one connection, which is the line of curl behind it. README.md has at most 150 lines.
+# nobody uses, for one connection, which is the line of curl behind it. README.md has at most 150 lines, and
+# names the line at which its promise is defined.
 #
 # The first difference ends it with status 1. The last line counts what was as it is shown.
 set -u
@@ -225,5 +226,11 @@ while read -r line kind path; do
 done <"$work/list"
 [[ -z $server ]] || fail "README.md has a server that nobody asks"
 ((first > 1)) || fail "README.md has no commands"
+
+# the line at which README.md says that its promise is defined
+promise=crates/tc_desk/specs/Promise.antt
+line=$(sed -nE "s|.*line ([0-9]+)\]\($promise#L\1\).*|\1|p" "$page")
+[[ -n $line ]] || fail "README.md does not say at which line of $promise its promise stands"
+[[ $(sed -n "${line}p" "$top/$promise") == 'pub record KeepsPromise '* ]] || fail "line $line of $promise does not define KeepsPromise"
 
 echo "manual: $first commands of README.md, $commands commands and $files files as they are shown, $forms forms, $rehearsals rehearsals"

@@ -13,18 +13,19 @@ use Rattle.tc_store.specs.Ledgers.{KeptAnswer}
 use Rattle.tc_front.specs.Front.{Asked, asks, posts, refuses, shows, tells}
 use Rattle.tc_book.specs.declared.stamps.Stamp.{Stamp}
 use Rattle.tc_desk.specs.Acts.{is_question}
-use Rattle.tc_desk.specs.Headline.{TellsTrue}
+use Rattle.tc_desk.specs.Promise.{KeepsPromise}
+use Rattle.tc_world.specs.EitherLink.{either}
 use Rattle.tc_desk.specs.Machine.{stamp_of}
 use Rattle.tc_desk.specs.Replies.{Reply}
 use Rattle.tc_room.specs.declared.callers.Caller.{Caller}
 use Rattle.tc_room.specs.Calls.{ActsAnew, AnswersActCall, AnswersCall, AnswersLoadCall, FailsOnce, KeepsAll, LoadsAnew, MakesNothing, Makes, MakesOnce, Making, StaysSo, a_load, a_look, an_act, kept_after, kept_for}
 use Rattle.tc_room.specs.Crash.{ledger_of}
-use Rattle.tc_room.specs.Joined.{HasLedger, HoldsBook, Standing}
+use Rattle.tc_room.specs.Joined.{HasLedger, HoldsBook, Standing, desk_in}
 use Rattle.tc_room.specs.Replies.{ended, is_refused}
 use Rattle.tc_room.specs.Room.{FailsStore, RoomStep, StepsDesk}
 use Rattle.tc_room.proofs.CallLemmas.{act_call_held, keeps_after, load_call_held}
 use Rattle.tc_api.specs.Acts.{ActCall}
-use Rattle.tc_api.specs.Kept.{FailedAt, FailsTables, KeepsPromise, KeepsTables, ServesAll, ServesRead}
+use Rattle.tc_api.specs.Kept.{FailedAt, FailsTables, KeepsRoom, KeepsTables, ServesAll, ServesRead}
 use Rattle.tc_api.specs.Loads.{LoadCall}
 use Rattle.tc_api.specs.Serving.{Outcome, Serves, ServesActCall, ServesBody, ServesLoadCall, ServesPost, ServesText}
 
@@ -178,9 +179,9 @@ all_opened : {S : Type 0} (g : Ghosts S) (start end : Standing S) (read : List (
 all_opened {S} g start end [] same = ap (λ (s : Standing S). s.opened) same
 all_opened g start end (read ∷ others) (next, one, later) = all_opened g next end others later ∙ one.opened
 
-all_told : {S : Type 0} (g : Ghosts S) (start end : Standing S) (read : List (Option Asked)) → TellsTrue start.opened start.desk → ServesAll g start read end → TellsTrue end.opened end.desk
-all_told {S} g start end [] told same = subst (λ (s : Standing S). TellsTrue s.opened s.desk) (sym same) told
-all_told g start end (read ∷ others) told (next, one, later) = all_told g next end others one.told later
+all_promised : {S : Type 0} (g : Ghosts S) (start end : Standing S) (read : List (Option Asked)) → KeepsPromise either (desk_in start) → ServesAll g start read end → KeepsPromise either (desk_in end)
+all_promised {S} g start end [] promise same = subst (λ (s : Standing S). KeepsPromise either (desk_in s)) (sym same) promise
+all_promised g start end (read ∷ others) promise (next, one, later) = all_promised g next end others one.promise later
 
 all_held : {S : Type 0} (g : Ghosts S) (start end : Standing S) (read : List (Option Asked)) (replies : List KeptAnswer) → ServesAll g start read end → HoldsBook g start replies
     → (after : List KeptAnswer) × KeepsAll replies after × HoldsBook g end after
@@ -191,20 +192,16 @@ all_held g start end (read ∷ others) replies (next, one, later) held =
     let last = all_held g next end others mid.0 later mid.2 in
     (last.0, all_more replies mid.0 last.0 mid.1 last.1, last.2)
 
--- told of another count of rows that is the same
-told_at : {S : Type 0} (n m : ℕ) (at : Standing S) → n ≡ m → TellsTrue n at.desk → TellsTrue m at.desk
-told_at n m at same told = subst (λ (k : ℕ). TellsTrue k at.desk) same told
-
 -- the exchange at which the database failed is this one, or a later one
-failed_at : {S : Type 0} (g : Ghosts S) (replies : List KeptAnswer) (start next : Standing S) → TellsTrue start.opened start.desk → HoldsBook g start replies → start.stopped ≡ false → next.stopped ≡ true → KeepsTables g start next
+failed_at : {S : Type 0} (g : Ghosts S) (replies : List KeptAnswer) (start next : Standing S) → KeepsPromise either (desk_in start) → HoldsBook g start replies → start.stopped ≡ false → next.stopped ≡ true → KeepsTables g start next
     → FailedAt g replies start
-failed_at g replies start next told held going stopped keeps = record {
+failed_at g replies start next promise held going stopped keeps = record {
   last = start;
   next = next;
   held = replies;
   keeps = all_same replies;
   opened = refl;
-  told = told;
+  promise = promise;
   going = going;
   stopped = stopped;
   failed = λ clean. keeps.failed replies held clean going stopped;
@@ -217,7 +214,7 @@ failed_later g replies mid start next keeps same at = record {
   held = at.held;
   keeps = all_more replies mid at.held keeps at.keeps;
   opened = at.opened ∙ same;
-  told = told_at next.opened start.opened at.last same at.told;
+  promise = at.promise;
   going = at.going;
   stopped = at.stopped;
   failed = at.failed;
@@ -227,20 +224,20 @@ at_flag : (b : Bool) (P : Type 0) → (b ≡ true → P) → (b ≡ false → P)
 at_flag true P on off = on refl
 at_flag false P on off = off refl
 
-all_failed : {S : Type 0} (g : Ghosts S) (start end : Standing S) (read : List (Option Asked)) (replies : List KeptAnswer) → TellsTrue start.opened start.desk → ServesAll g start read end
+all_failed : {S : Type 0} (g : Ghosts S) (start end : Standing S) (read : List (Option Asked)) (replies : List KeptAnswer) → KeepsPromise either (desk_in start) → ServesAll g start read end
     → HoldsBook g start replies → start.stopped ≡ false → end.stopped ≡ true → FailedAt g replies start
-all_failed {S} g start end [] replies told same held going stopped = absurd (false≢true (sym going ∙ (ap (λ (s : Standing S). s.stopped) (sym same) ∙ stopped)))
-all_failed g start end (read ∷ others) replies told (next, one, later) held going stopped =
+all_failed {S} g start end [] replies promise same held going stopped = absurd (false≢true (sym going ∙ (ap (λ (s : Standing S). s.stopped) (sym same) ∙ stopped)))
+all_failed g start end (read ∷ others) replies promise (next, one, later) held going stopped =
     let keeps : KeepsTables g start next = read_keeps g start next read one.served in
-    at_flag next.stopped (FailedAt g replies start) (λ is. failed_at g replies start next told held going is keeps)
+    at_flag next.stopped (FailedAt g replies start) (λ is. failed_at g replies start next promise held going is keeps)
     (λ is.
-    let mid = keeps.held replies held in failed_later g replies mid.0 start next mid.1 one.opened (all_failed g next end others mid.0 one.told later mid.2 is stopped))
+    let mid = keeps.held replies held in failed_later g replies mid.0 start next mid.1 one.opened (all_failed g next end others mid.0 one.promise later mid.2 is stopped))
 
 -- The promise is kept after any exchanges.
-pub all_keep : {S : Type 0} (g : Ghosts S) (start end : Standing S) (read : List (Option Asked)) → TellsTrue start.opened start.desk → ServesAll g start read end → KeepsPromise g start end
-all_keep g start end read told serves = record {
+pub all_keep : {S : Type 0} (g : Ghosts S) (start end : Standing S) (read : List (Option Asked)) → KeepsPromise either (desk_in start) → ServesAll g start read end → KeepsRoom g start end
+all_keep g start end read promise serves = record {
   opened = all_opened g start end read serves;
-  told = told_at end.opened start.opened end (all_opened g start end read serves) (all_told g start end read told serves);
+  promise = all_promised g start end read promise serves;
   held = λ replies. all_held g start end read replies serves;
-  failed = λ replies held going stopped. all_failed g start end read replies told serves held going stopped;
+  failed = λ replies held going stopped. all_failed g start end read replies promise serves held going stopped;
 }

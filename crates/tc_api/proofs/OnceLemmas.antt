@@ -8,11 +8,13 @@ use Rattle.tc_types.specs.declared.loads.LoadKind.TheVariants as load_kind
 use Rattle.tc_types.specs.declared.refusals.Refusal.{Refusal}
 use Rattle.tc_types.specs.declared.refusals.Refusal.TheVariants.{Stopped}
 use Rattle.tc_front.specs.declared.paths.Post.TheVariants as paths
-use Rattle.tc_store.specs.Ledgers.{KeptAnswer}
+use Rattle.tc_store.specs.Ledgers.{KeptAnswer, Ledger}
 use Rattle.tc_front.specs.Front.{Asked, asks, posts, refuses, shows, tells}
 use Rattle.tc_desk.specs.Replies.{Reply, refusal_reply}
 use Rattle.tc_room.specs.declared.callers.Caller.{Caller}
-use Rattle.tc_room.specs.Calls.{ActsAnew, AnswersActCall, AnswersLoadCall, FailsOnce, KeepsAll, LoadsAnew, MakesNothing, StaysSo, kept_after, kept_for}
+use Rattle.tc_book.specs.Book.{Book}
+use Rattle.tc_room.specs.Calls.{ActsAnew, AnswersActCall, AnswersLoadCall, FailsOnce, IsMadeOnce, KeepsAll, LoadsAnew, MakesNothing, StaysSo, kept_after, kept_for}
+use Rattle.tc_room.specs.Crash.{ledger_of}
 use Rattle.tc_room.specs.Joined.{HoldsBook, Standing}
 use Rattle.tc_room.specs.Replies.{ended, is_refused}
 use Rattle.tc_room.proofs.CallLemmas.{act_call_held, call_kept, load_call_held, refuses as are_refused}
@@ -21,7 +23,7 @@ use Rattle.tc_api.specs.declared.endings.Ending.TheVariants as ending
 use Rattle.tc_api.specs.Acts.{ActCall}
 use Rattle.tc_api.specs.Endings.{is_done}
 use Rattle.tc_api.specs.Exchange.{response_by, response_to}
-use Rattle.tc_api.specs.Kept.{Called, GoesThrough, IsCallOf, IsDoneOnce, IsTheSame, Stage, exchange, opening}
+use Rattle.tc_api.specs.Kept.{Called, GoesThrough, IsCallOf, IsDoneOnce, IsTheSame, Stage, StopsWithNothing, exchange, opening}
 use Rattle.tc_api.specs.Loads.{JudgesLoadPost, LoadCall}
 use Rattle.tc_api.specs.Responses.{response_bytes}
 use Rattle.tc_api.specs.Serving.{EndsWith, FindsNoMemory, IsOutcome, Outcome, Serves, ServesActCall, ServesLoadCall, ServesText}
@@ -144,21 +146,35 @@ through g (exchange read ∷ others) start end replies after (next, mid, serves,
 through g (opening ∷ others) start end replies after (next, opens, later) held =
     let last = through g others next end opens.ledger.replies after later (λ going clean. opens.opened.tables) in (all_more replies opens.ledger.replies after opens.keeps last.0, last.1)
 
+before_only : (book : Book) (replies : List KeptAnswer) (caller : Caller) (ledger : Ledger) → IsMadeOnce book replies caller MakesNothing ledger → ledger ≡ ledger_of book replies
+before_only book replies caller ledger (inl same) = same
+before_only book replies caller ledger (inr made) = absurd made.2.0
+
+-- nothing was to be made, so a crash leaves what the files held
+leaves_nothing : {S : Type 0} (g : Ghosts S) (replies : List KeptAnswer) (caller : Caller) (old new : Standing S) (reply : Reply) → FailsOnce g replies caller MakesNothing old reply new
+    → StopsWithNothing g replies old reply new
+leaves_nothing g replies caller old new reply fails = record {
+  reply = fails.reply;
+  stopped = fails.stopped;
+  files = λ trees may.
+      let left = fails.crash trees may in (left.0, before_only old.desk.book replies caller left.0 left.1, left.2);
+}
+
 -- ---- a call that comes again
 
 module _ {S : Type 0} (g : Ghosts S) (caller : Caller) (first again : Outcome) (last end : Standing S) (replies : List KeptAnswer) where
-  same_again : first.page ≡ None → first.ending ≡ ending.Done → kept_for replies caller ≡ Some (ended first.reply) → HoldsBook g last replies → HasCleanDisk (state g end.tables) → Seen g caller last again end → IsTheSame first last again end
+  same_again : first.page ≡ None → first.ending ≡ ending.Done → kept_for replies caller ≡ Some (ended first.reply) → HoldsBook g last replies → HasCleanDisk (state g end.tables) → Seen g caller last again end → IsTheSame g replies first last again end
   same_again plain done kept held clean seen = by_flag last.stopped _ _ _ (seen.answers replies held clean)
       (λ _ told. inr (inl told))
       (λ _ answered. elim answered [
-        | inl fails ↦ inr (inr (inl (fails.reply, fails.stopped)))
+        | inl fails ↦ inr (inr (inl (leaves_nothing g replies caller last end again.reply fails)))
         | inr (inl repeats) ↦
             let same : ended again.reply ≡ ended first.reply = (let e : (let some : Option (List ℕ) = Some (ended again.reply) in some) ≡ Some (ended first.reply) = sym repeats.0 ∙ kept in cc) in
             inl (one_response first again plain seen.ends.page done (ends_done again.reply again.ending seen.ends.ends repeats.1) same, repeats.3.desk)
         | inr (inr none) ↦ absurd (let e : (let some : Option (List ℕ) = Some (ended first.reply) in some) ≡ None = sym kept ∙ none in cc)
       ])
 
-  came_again : first.page ≡ None → first.ending ≡ ending.Done → kept_for replies caller ≡ Some (ended first.reply) → HoldsBook g last replies → HasCleanDisk (state g end.tables) → Came g caller last again end → IsTheSame first last again end
+  came_again : first.page ≡ None → first.ending ≡ ending.Done → kept_for replies caller ≡ Some (ended first.reply) → HoldsBook g last replies → HasCleanDisk (state g end.tables) → Came g caller last again end → IsTheSame g replies first last again end
   came_again plain done kept held clean (inl none) = inr (inr (inr none))
   came_again plain done kept held clean (inr seen) = same_again plain done kept held clean seen
 

@@ -7,14 +7,16 @@ use Rattle.tc_types.specs.declared.acts.Act.{Act}
 use Rattle.tc_types.specs.declared.history.moves.Move.{Move}
 use Rattle.tc_types.specs.declared.refusals.Refusal.TheVariants.{Store, Stopped}
 use Rattle.tc_book.specs.declared.stamps.Stamp.{Stamp}
-use Rattle.tc_desk.specs.Headline.{TellsTrue}
+use Rattle.tc_desk.specs.Promise.{KeepsPromise}
 use Rattle.tc_desk.specs.Replies.{Reply, refusal_reply}
 use Rattle.tc_world.specs.declared.configs.Config.{Config}
+use Rattle.tc_world.specs.EitherLink.{either}
 use Rattle.tc_store.specs.Ledgers.{KeptAnswer, Ledger}
 use Rattle.tc_front.specs.declared.paths.Post.TheVariants as paths
 use Rattle.tc_front.specs.Front.{Asked, asks, posts, refuses, shows, tells}
 use Rattle.tc_room.specs.Calls.{FailsOnce, KeepsAll, Makes, Making}
-use Rattle.tc_room.specs.Joined.{HoldsBook, Standing}
+use Rattle.tc_room.specs.Crash.{Leaves, ledger_of}
+use Rattle.tc_room.specs.Joined.{HoldsBook, Standing, desk_in}
 use Rattle.tc_room.specs.Opening.{OpensLeft}
 use Rattle.tc_room.specs.Room.{FailsStore}
 use Rattle.tc_room.specs.declared.callers.Caller.{Caller}
@@ -42,12 +44,11 @@ abbrev pub ServesRead : {S : Type 0} → Ghosts S → Standing S → Option Aske
 ServesRead g old None new = new ≡ old
 ServesRead g old (Some asked) new = (since : ℕ) × (outcome : Outcome) × Serves since g old asked outcome new
 
--- One exchange, whatever it answers: what was read is served; and what the rows since the opening tell of the link is true, and while every start
--- was good the FARM is not in Lockout.
+-- One exchange, whatever it answers: what was read is served, and the promise is kept.
 pub record ServesOne {S : Type 0} (g : Ghosts S) (old : Standing S) (read : Option Asked) (new : Standing S) : Type 0 where
   pub served : ServesRead g old read new
   pub opened : new.opened ≡ old.opened
-  pub told : TellsTrue new.opened new.desk
+  pub promise : KeepsPromise either (desk_in new)
 
 -- exchanges, one after the other, of which these were read
 abbrev pub ServesAll : {S : Type 0} → Ghosts S → Standing S → List (Option Asked) → Standing S → Type 0
@@ -61,16 +62,16 @@ pub record FailedAt {S : Type 0} (g : Ghosts S) (replies : List KeptAnswer) (sta
   pub held : List KeptAnswer
   pub keeps : KeepsAll replies held
   pub opened : last.opened ≡ start.opened
-  pub told : TellsTrue start.opened last.desk
+  pub promise : KeepsPromise either (desk_in last)
   pub going : last.stopped ≡ false
   pub stopped : next.stopped ≡ true
   pub failed : HasCleanDisk (state g next.tables) → FailsTables g held last next
 
--- What is promised after any exchanges since a room was opened: what the rows since then tell of the link is true, and while every start was good the
--- FARM is not in Lockout; and tables that held the book hold it, with each reply that was kept, until the database failed.
-pub record KeepsPromise {S : Type 0} (g : Ghosts S) (start end : Standing S) : Type 0 where
+-- After any exchanges since a room was opened the promise is kept; and tables that held the book hold it, with each reply that was kept, until the
+-- database failed.
+pub record KeepsRoom {S : Type 0} (g : Ghosts S) (start end : Standing S) : Type 0 where
   pub opened : end.opened ≡ start.opened
-  pub told : TellsTrue start.opened end.desk
+  pub promise : KeepsPromise either (desk_in end)
   pub held : (replies : List KeptAnswer) → HoldsBook g start replies → (after : List KeptAnswer) × KeepsAll replies after × HoldsBook g end after
   pub failed : (replies : List KeptAnswer) → HoldsBook g start replies → start.stopped ≡ false → end.stopped ≡ true → FailedAt g replies start
 
@@ -115,16 +116,22 @@ GoesThrough {S} g start replies (exchange read ∷ others) end after =
     (next : Standing S) × (mid : List KeptAnswer) × ServesRead g start read next × KeepsAll replies mid × HoldsBook g next mid × GoesThrough g next mid others end after
 GoesThrough {S} g start replies (opening ∷ others) end after = (next : Standing S) × (opens : OpensNext g replies next) × GoesThrough g next opens.ledger.replies others end after
 
--- The answer to a call that came again is the response of the first, byte for byte, and nothing was done. Or the room has stopped, or stops here, and says so; or there was no
--- memory to read what was posted, and nothing was done.
-abbrev pub IsTheSame : {S : Type 0} → Outcome → Standing S → Outcome → Standing S → Type 0
-IsTheSame first old again new =
+-- The database failed as the kept replies were looked for: the room stops, and its files hold what they held, so nothing was done.
+pub record StopsWithNothing {S : Type 0} (g : Ghosts S) (replies : List KeptAnswer) (old : Standing S) (reply : Reply) (new : Standing S) : Type 0 where
+  pub reply : reply ≡ refusal_reply Store
+  pub stopped : new.stopped ≡ true
+  pub files : Leaves g new.tables (λ ledger. ledger ≡ ledger_of old.desk.book replies)
+
+-- The answer to a call that came again is the response of the first, byte for byte; or the room has stopped, or stops here, and says so; or there was no memory to read
+-- what was posted. Nothing is done in any of these.
+abbrev pub IsTheSame : {S : Type 0} → Ghosts S → List KeptAnswer → Outcome → Standing S → Outcome → Standing S → Type 0
+IsTheSame g replies first old again new =
     ((response_to again ≡ response_to first) × (new.desk ≡ old.desk))
-    ⊎ (((again.reply ≡ refusal_reply Stopped) × (new ≡ old)) ⊎ (((again.reply ≡ refusal_reply Store) × (new.stopped ≡ true)) ⊎ FindsNoMemory old again new))
+    ⊎ (((again.reply ≡ refusal_reply Stopped) × (new ≡ old)) ⊎ (StopsWithNothing g replies old again.reply new ⊎ FindsNoMemory old again new))
 
 -- A call was accepted, and its reply is kept: whatever comes then, if it comes again it is not done again.
 pub record IsDoneOnce {S : Type 0} (g : Ghosts S) (caller : Caller) (first : Outcome) (next : Standing S) : Type 0 where
   pub replies : List KeptAnswer
   pub holds : HoldsBook g next replies
   pub again : (stages : List Stage) (last : Standing S) (after : List KeptAnswer) → GoesThrough g next replies stages last after
-      → (again : Outcome) (end : Standing S) → Called g caller last again end → IsTheSame first last again end
+      → (again : Outcome) (end : Standing S) → Called g caller last again end → IsTheSame g after first last again end

@@ -2,7 +2,9 @@
 ghost use Rattle.std.specs.Prelude.{◌≡◌, IfErr, IfOk, Option};
 ghost use Rattle.std.specs.String.{string_bytes};
 ghost use Rattle.tc_types.specs.Counts.{counts_of};
-ghost use Rattle.tc_desk.specs.Headline.{TellsTrue};
+ghost use Rattle.tc_world.specs.EitherLink.{either};
+ghost use Rattle.tc_desk.specs.Promise.{KeepsPromise};
+ghost use Rattle.tc_room.specs.Joined.{desk_in};
 ghost use Rattle.tc_desk.specs.Replies.{Reply};
 ghost use Rattle.tc_front.specs.Front.{Asked};
 ghost use Rattle.tc_front.specs.Write.{seen};
@@ -100,15 +102,15 @@ pub fn serve_one<R: Read, W: Write, S: Alter + Drop>(
     ensures exchange { Exchanges door.now since S.Store result (seen R.remaining reader.old) (seen R.remaining reader.new) room.old room.new (seen W.contents writer.old) (seen W.contents writer.new) }
     // no other refusal is told
     ensures only { IfErr result TellsEnd }
-    // what the rows since the opening tell of the link is true, and while every start was good the FARM is not in Lockout
-    ensures told { TellsTrue room.new.opened room.new.desk }
+    // README's promise is kept
+    ensures promise { KeepsPromise either (desk_in room.new) }
     // the tables hold the book, or the database failed at what was asked
     ensures kept { KeepsTables S.Store room.old room.new }
     // one step of a list of exchanges (`laws`)
     ensures step { (read : Option Asked) × ServesOne S.Store room.old read room.new }
 {
     let done = exchange(alloc, door, since, reader, writer, room);
-    // read for the proof alone: what the rows tell is true
+    // read for the proof alone: the promise is kept
     let _opened = room.opened();
     done
 }

@@ -6,7 +6,7 @@ ghost use Rattle.tc_store.specs.Ledgers.{KeptAnswer};
 ghost use Rattle.tc_room.specs.Joined.{HoldsBook, Standing};
 ghost use Rattle.tc_room.specs.declared.callers.Caller.{Caller};
 ghost use Rattle.tc_api.specs.Acts.{ActCall, JudgesActPost};
-ghost use Rattle.tc_api.specs.Kept.{Called, IsDoneOnce, KeepsPromise, ServesAll};
+ghost use Rattle.tc_api.specs.Kept.{Called, IsDoneOnce, KeepsRoom, ServesAll};
 ghost use Rattle.tc_api.specs.Loads.{JudgesLoadPost, LoadCall};
 ghost use Rattle.tc_api.specs.Serving.{Outcome};
 
@@ -19,13 +19,12 @@ pub fn a_post_is_one()
     ensures load { (body : List ℕ) (a b : Result LoadCall Refusal) → JudgesLoadPost body a → JudgesLoadPost body b → a ≡ b }
 {}
 
-/// After any exchanges since a room was opened, one after the other as `serve_one` makes them (its clause `step`): what the rows since then tell
-/// of the link is true, and while every start was good the FARM is not in Lockout; and tables that held the book hold it, with each reply that was kept, until the
-/// database failed.
+/// After any exchanges since a room was opened, one after the other as `serve_one` makes them (its clause `step`), the promise is kept; and tables that held
+/// the book hold it, with each reply that was kept, until the database failed.
 pub fn exchanges_keep_the_promise<S: Alter + Drop>(start: &Room<S>)
-    ensures { (read : List (Option Asked)) (end : Standing S) → ServesAll S.Store start.now read end → KeepsPromise S.Store start.now end }
+    ensures { (read : List (Option Asked)) (end : Standing S) → ServesAll S.Store start.now read end → KeepsRoom S.Store start.now end }
 {
-    // read for the proof alone: what the rows tell is true
+    // read for the proof alone: the promise is kept
     let _opened = start.opened();
 }
 

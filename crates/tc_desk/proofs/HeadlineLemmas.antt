@@ -42,7 +42,8 @@ use Rattle.tc_desk.specs.Machine.{Happened, Passes, PutsDown, Reports, Flies, Fl
 use Rattle.tc_desk.specs.Parts.{event_beside}
 use Rattle.tc_desk.specs.Rows.{confirm_rows}
 use Rattle.tc_desk.specs.Tied.{IsTied}
-use Rattle.tc_desk.specs.Headline.{TakesAccepted, TakenOnce, clean_asked, clean_after}
+use Rattle.tc_desk.specs.Headline.{TakesAccepted, clean_asked, clean_after}
+use Rattle.tc_desk.specs.Promise.{TakenOnce}
 
 -- ---- what is accepted
 

@@ -23,6 +23,7 @@ pub mod AgreeLemmas
 pub mod DownLemmas
 pub mod WholeLemmas
 pub mod HeadlineLemmas
+pub mod GivenLemmas
 pub mod FairLemmas
 pub mod FollowLaws
 pub mod RequestLemmas
@@ -34,9 +35,7 @@ pub mod ReadActs
 pub mod FollowedActs
 pub mod LoadLemmas
 pub mod StandingLemmas
-pub mod FairRuns
-pub mod WindowRuns
-pub mod RunLemmas
+pub mod NewLemmas
 pub mod LinkOnce
 pub mod StepOnce
 pub mod WorkedCases

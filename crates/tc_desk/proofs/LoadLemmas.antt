@@ -16,6 +16,7 @@ use Rattle.tc_board.proofs.NameLemmas.{names_weaker}
 use Rattle.tc_board.proofs.RollLemmas.{board_agrees}
 use Rattle.tc_book.specs.declared.stamps.Stamp.{Stamp}
 use Rattle.tc_book.specs.Book.{Book}
+use Rattle.tc_book.specs.Good.{IsGoodBook}
 use Rattle.tc_book.specs.Steps.{HasSteps}
 use Rattle.tc_desk.specs.declared.firsts.FirstLine.{FirstLine}
 use Rattle.tc_desk.specs.Followed.{roll_of, IsPayloadOf, IsFlown, IsNamedDown, IsFollowed}
@@ -64,24 +65,25 @@ steps_followed {U} {D} up down desk book along followed = record {
     grows : (n : ℕ) → K n → K_after n
     grows n flown = subst (λ (l : List ℕ). IsFlown book l n) (append-nil sent) (flown_grows old book sent [] along.stays n flown)
 
-steps_stand : {U D : Type 0} (up : Kind U Frame) (down : Kind D Report) (stamp : Stamp) (desk : DeskState U D) (book : Book) → HasSteps stamp desk.parts.book book
+steps_stand : {U D : Type 0} (up : Kind U Frame) (down : Kind D Report) (stamp : Stamp) (desk : DeskState U D) (book : Book) → HasSteps stamp desk.parts.book book → IsGoodBook book
     → IsStanding up down desk → IsStanding up down (with_book desk book)
-steps_stand up down stamp desk book steps stands =
+steps_stand up down stamp desk book steps good stands =
     let along = steps_tied desk.opened stamp desk.parts.book book (waiting_requests desk.parts.world.fop) (all_sent desk.parts.world) (all_confirmed desk.parts.world) steps stands.tied in
-    record { tied = along.tied; claims = stands.claims; fits = stands.fits; open_farm = stands.open_farm; followed = steps_followed up down desk book along stands.followed }
+    record { tied = along.tied; good = good; claims = stands.claims; fits = stands.fits; open_farm = stands.open_farm; given = record { came = stands.given.came; requests = stands.given.requests; board = stands.given.board }; followed = steps_followed up down desk book along stands.followed }
 
 -- a load that was carried out
 load_stands : {U D : Type 0} (up : Kind U Frame) (down : Kind D Report) (stamp : Stamp) (old : DeskState U D) (parts : State U D) (book : Book)
-    → parts ≡ record old.parts { book = book } → HasSteps stamp old.parts.book parts.book
+    → parts ≡ record old.parts { book = book } → HasSteps stamp old.parts.book parts.book → IsGoodBook parts.book
     → IsStanding up down old → IsStanding up down (record old { parts = parts })
-load_stands {U} {D} up down stamp old parts book is steps stands =
+load_stands {U} {D} up down stamp old parts book is steps good stands =
     subst (λ (at : State U D). IsStanding up down (record old { parts = at })) (sym is)
-    (steps_stand up down stamp old book (subst (λ (at : State U D). HasSteps stamp old.parts.book at.book) is steps) stands)
+    (steps_stand up down stamp old book (subst (λ (at : State U D). HasSteps stamp old.parts.book at.book) is steps) (subst (λ (at : State U D). IsGoodBook at.book) is good) stands)
 
 -- and one that was refused
 pub answered_stands : {X U D : Type 0} (up : Kind U Frame) (down : Kind D Report) (all : X → List LinkIndication) (first : X → FirstLine) (stamp : Stamp) (given : Loading)
     (old : DeskState U D) (parts : State U D) (answer : Result X Refusal)
-    → LoadAnswers all first old.parts stamp given parts answer → HasSteps stamp old.parts.book parts.book → IsStanding up down old → IsStanding up down (record old { parts = parts })
-answered_stands up down all first stamp given old parts (Ok done) answers steps stands = load_stands up down stamp old parts (loaded_with stamp given old.parts.book) answers.is steps stands
-answered_stands {X} {U} {D} up down all first stamp given old parts (Err refused) answers steps stands =
+    → LoadAnswers all first old.parts stamp given parts answer → HasSteps stamp old.parts.book parts.book → IsGoodBook parts.book → IsStanding up down old → IsStanding up down (record old { parts = parts })
+answered_stands up down all first stamp given old parts (Ok done) answers steps good stands =
+    load_stands up down stamp old parts (loaded_with stamp given old.parts.book) answers.is steps good stands
+answered_stands {X} {U} {D} up down all first stamp given old parts (Err refused) answers steps good stands =
     subst (λ (at : State U D). IsStanding up down (record old { parts = at })) (sym answers.same) stands

@@ -1,5 +1,5 @@
 -- What stands of a desk between two acts stands after each.
-use Rattle.std.proofs.Common.{◌∷◌, [], ◌∙◌, ap, Option, ◌≡◌, ℕ, true, None, List, length, sym, subst}
+use Rattle.std.proofs.Common.{◌∷◌, [], ◌∙◌, ap, refl, Option, ◌≡◌, ℕ, true, None, List, length, sym, subst}
 use Rattle.tc_types.specs.declared.link.frames.Frame.{Frame}
 use Rattle.tc_types.specs.declared.link.reports.Report.{Report}
 use Rattle.tc_types.specs.declared.link.reports.Report.TheVariants as report
@@ -24,16 +24,18 @@ use Rattle.tc_desk.specs.Followed.{mirror_through}
 use Rattle.tc_desk.specs.State.{new_desk, State, DeskState}
 use Rattle.tc_desk.specs.Acts.{refusal_of}
 use Rattle.tc_desk.specs.Machine.{Does, StaysSame}
-use Rattle.tc_desk.specs.Headline.{TakenOnce, TellsTrue}
+use Rattle.tc_desk.specs.Promise.{KeepsPromise, TakenOnce}
 use Rattle.tc_desk.specs.Tied.{IsTied}
 use Rattle.tc_desk.specs.Standing.{IsStanding, StaysTrue}
 use Rattle.tc_desk.proofs.DownLemmas.{does_down}
 use Rattle.tc_desk.proofs.FollowLaws.{FollowsSteps}
 use Rattle.tc_desk.proofs.FollowedActs.{does_followed, same_followed, over_followed}
 use Rattle.tc_desk.proofs.ReadActs.{does_read}
-use Rattle.tc_desk.proofs.RunLemmas.{over_tied, new_claims}
+use Rattle.tc_desk.proofs.NewLemmas.{over_tied, new_claims}
 use Rattle.tc_desk.proofs.TiedActs.{does_tied, same_tied}
-use Rattle.tc_desk.proofs.HeadlineLemmas.{same_claims, taken_once}
+use Rattle.tc_book.proofs.ConservedLemmas.{conserved}
+use Rattle.tc_desk.proofs.GivenLemmas.{does_give, same_gives}
+use Rattle.tc_desk.proofs.HeadlineLemmas.{does_take, same_claims, taken_once}
 use Rattle.tc_desk.proofs.FairLemmas.{Fits, new_fits, before_fits, does_fit}
 
 -- an act that was carried out
@@ -46,9 +48,11 @@ does_stand up down stamp given old new all first law ul dl good goes_on passes d
     let tied : IsTied new.opened new.parts = subst (λ o. IsTied o new.parts) (sym opened) (does_tied old.opened up down stamp given old.parts new.parts all first good passes does stands.tied) in
     record {
       tied = tied;
+      good = goes_on;
       claims = claims;
       fits = fits.0;
       open_farm = fits.1;
+      given = does_give given old.parts new.parts (does_take up down stamp given old.parts new.parts all first does) stands.given;
       followed = does_followed up down stamp given old new all first law ul dl good goes_on passes does stands.tied tied whole (does_down up down ul dl stamp given old.parts new.parts all first does) stands.followed;
     }
 
@@ -58,9 +62,11 @@ pub same_stand : {U D : Type 0} (up : Kind U Frame) (down : Kind D Report) → O
 same_stand up down ul dl old new same opened whole stands =
     let fits : Fits new.parts.world = before_fits up down old.parts.world new.parts.world same.world (stands.fits, stands.open_farm) in record {
       tied = subst (λ o. IsTied o new.parts) (sym opened) (same_tied old.opened up down old.parts new.parts same stands.tied);
+      good = subst IsGoodBook (sym same.book) stands.good;
       claims = same_claims up down old.parts.world new.parts.world same.world stands.claims;
       fits = fits.0;
       open_farm = fits.1;
+      given = same_gives up down old.parts new.parts same stands.given;
       followed = same_followed up down ul dl old new same whole stands.followed;
     }
 
@@ -68,40 +74,44 @@ same_stand up down ul dl old new same opened whole stands =
 pub stands_once : {U D : Type 0} (up : Kind U Frame) (down : Kind D Report) (desk : DeskState U D) → IsStanding up down desk → desk.parts.world.clean ≡ true → TakenOnce desk.opened desk.parts
 stands_once up down desk stands clean = taken_once desk.opened desk.parts stands.tied (stands.claims clean)
 
--- what its rows tell of its link is true
-pub stands_true : {U D : Type 0} (up : Kind U Frame) (down : Kind D Report) (desk : DeskState U D) → IsStanding up down desk → TellsTrue desk.opened desk.parts
-stands_true up down desk stands = record {
+-- the promise is kept
+pub stands_kept : {U D : Type 0} (up : Kind U Frame) (down : Kind D Report) (desk : DeskState U D) → IsStanding up down desk → KeepsPromise down desk
+stands_kept up down desk stands = record {
+  places = conserved desk.parts.book.history;
+  moves = stands.good.history;
   transmitted = stands.tied.rows.transmits;
   confirmed = stands.tied.rows.confirms;
   window = stands.claims;
   once = stands_once up down desk stands;
   open_farm = stands.open_farm;
+  given = stands.given;
+  mirror = stands.followed.follows;
 }
 
 -- what is true of it after a call
-pub stands_still : {U D : Type 0} (up : Kind U Frame) (down : Kind D Report) (old new : DeskState U D) → IsStanding up down new → new.opened ≡ old.opened → IsGoodBook new.parts.book
-    → IsSound (image_of new.parts.book) → StaysTrue down old new
-stands_still up down old new stands opened good sound =
-    record { opened = opened; good = good; sound = sound; told = stands_true up down new stands; mirror = stands.followed.follows }
+pub stands_still : {U D : Type 0} (up : Kind U Frame) (down : Kind D Report) (old new : DeskState U D) → IsStanding up down new → new.opened ≡ old.opened → IsSound (image_of new.parts.book) → StaysTrue down old new
+stands_still up down old new stands opened sound = record { opened = opened; good = stands.good; sound = sound; promise = stands_kept up down new stands }
 
 -- of a desk that was just opened, over any book
-over_stands : {U D : Type 0} (up : Kind U Frame) (down : Kind D Report) (config : Config) (book : Book) (u : U) (d : D) → up.content u ≡ [] → down.content d ≡ []
+over_stands : {U D : Type 0} (up : Kind U Frame) (down : Kind D Report) (config : Config) (book : Book) (u : U) (d : D) → up.content u ≡ [] → down.content d ≡ [] → IsGoodBook book
     → IsStanding up down (record { parts = record (new_desk config u d) { book = book }; opened = length book.history; whole = true })
-over_stands up down config book u d empty_up empty_down = record {
+over_stands up down config book u d empty_up empty_down good = record {
   tied = over_tied config book u d;
+  good = good;
   claims = λ clean. new_claims config u d;
   fits = (new_fits config u d).0;
   open_farm = (new_fits config u d).1;
+  given = record { came = []; requests = refl; board = refl };
   followed = over_followed up down config book (length book.history) u d empty_up empty_down;
 }
 
 -- the same, of parts that are known by an equation
 pub opened_stands : {U D : Type 0} (up : Kind U Frame) (down : Kind D Report) (config : Config) (book : Book) (u : U) (d : D) (parts : State U D) (opened : ℕ)
-    → up.content u ≡ [] → down.content d ≡ [] → parts ≡ record (new_desk config u d) { book = book } → opened ≡ length parts.book.history
+    → up.content u ≡ [] → down.content d ≡ [] → IsGoodBook book → parts ≡ record (new_desk config u d) { book = book } → opened ≡ length parts.book.history
     → IsStanding up down (record { parts = parts; opened = opened; whole = true })
-opened_stands {U} {D} up down config book u d parts opened empty_up empty_down are rows =
+opened_stands {U} {D} up down config book u d parts opened empty_up empty_down good are rows =
     subst (λ (o : ℕ). IsStanding up down (record { parts = parts; opened = o; whole = true })) (sym rows)
-    (subst (λ (p : State U D). IsStanding up down (record { parts = p; opened = length p.book.history; whole = true })) (sym are) (over_stands up down config book u d empty_up empty_down))
+    (subst (λ (p : State U D). IsStanding up down (record { parts = p; opened = length p.book.history; whole = true })) (sym are) (over_stands up down config book u d empty_up empty_down good))
 
 -- a summary that was read makes the mirror what it carries
 pub summary_read : {U D : Type 0} (up : Kind U Frame) (down : Kind D Report) (stamp : Stamp) (given : Act) (old new : State U D) (all : List LinkIndication) (first : FirstLine)

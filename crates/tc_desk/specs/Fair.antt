@@ -2,12 +2,9 @@
 -- sets none that does not fit.
 use Rattle.std.specs.Prelude.{◌≡◌, true, false, List}
 use Rattle.std.specs.List.{list_all}
-use Rattle.tc_types.specs.declared.history.moves.Move.{Move}
 use Rattle.tc_farm.specs.Farm.{is_locked_out}
 use Rattle.tc_world.specs.declared.events.LinkIndication.{LinkIndication}
 use Rattle.tc_world.specs.Fair.{is_fair}
-use Rattle.tc_desk.specs.declared.firsts.FirstLine.{FirstLine}
-use Rattle.tc_desk.specs.Replies.{Reply, act_reply}
 use Rattle.tc_desk.specs.State.{State}
 
 -- the FARM is not in Lockout
@@ -18,11 +15,3 @@ IsOpen at = at.world.clean ≡ true → is_locked_out at.world.farm.state ≡ fa
 -- S4 of a start that was not level NN(R) and SYNCH too.
 abbrev pub IsFairlyTold : {U D : Type 0} → State U D → State U D → List LinkIndication → Type 0
 IsFairlyTold old new all = new.world.clean ≡ true → list_all (is_fair old.world.level old.world.fop.state) all ≡ true
-
--- a reply to an act of which the alert lines are those of what was told so
-pub record RepliesFairly {U D : Type 0} (old new : State U D) (reply : Reply) : Type 0 where
-  pub first : FirstLine
-  pub all : List LinkIndication
-  pub moves : List Move
-  pub lines : reply ≡ act_reply first all moves
-  pub fair : IsFairlyTold old new all

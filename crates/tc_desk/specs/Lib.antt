@@ -17,5 +17,6 @@ pub mod Tied
 pub mod Fair
 pub mod Headline
 pub mod Followed
+pub mod Promise
 pub mod Standing
 pub mod Once

@@ -10,12 +10,13 @@ use Rattle.tc_types.specs.declared.acts.Query.TheVariants as query
 use Rattle.tc_types.specs.declared.acts.Line.{Line}
 use Rattle.tc_types.specs.ActGrammar.{HasLongAct, SpellsLine, act_text}
 use Rattle.tc_book.specs.declared.stamps.Stamp.{Stamp}
-use Rattle.tc_desk.specs.Headline.{TellsTrue}
+use Rattle.tc_world.specs.EitherLink.{either}
+use Rattle.tc_desk.specs.Promise.{KeepsPromise}
 use Rattle.tc_desk.specs.Machine.{stamp_of}
 use Rattle.tc_desk.specs.Replies.{Reply, refusal_reply}
 use Rattle.tc_room.specs.declared.answers.Answer.{Answer}
 use Rattle.tc_types.specs.declared.refusals.Untold.{Untold}
-use Rattle.tc_room.specs.Joined.{Standing}
+use Rattle.tc_room.specs.Joined.{Standing, desk_in}
 use Rattle.tc_room.specs.Replies.{AreLines, ended, is_refused}
 use Rattle.tc_room.specs.Room.{RoomStep}
 
@@ -57,7 +58,7 @@ pub record Replied {S : Type 0} (Makes : Reply → Standing S → Type 0) (old :
   pub says : Says reply result
   pub opened : new.opened ≡ old.opened
 
--- The same, and what the rows since then tell of the link is true, and while every start was good the FARM is not in Lockout.
+-- The same, and the promise is kept.
 pub record Answered {S : Type 0} (Makes : Reply → Standing S → Type 0) (old : Standing S) (result : Result Answer Untold) (new : Standing S) : Type 0 where
   pub replied : Replied Makes old result new
-  pub told : TellsTrue new.opened new.desk
+  pub promise : KeepsPromise either (desk_in new)

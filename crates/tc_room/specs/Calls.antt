@@ -27,7 +27,8 @@ use Rattle.tc_desk.specs.declared.dones.Done.{Done}
 use Rattle.tc_desk.specs.Acts.{is_question, refusal_of}
 use Rattle.tc_desk.specs.Downlink.{KeepsWhole, came_down}
 use Rattle.tc_desk.specs.Fair.{IsFairlyTold}
-use Rattle.tc_desk.specs.Headline.{TakesAccepted, TellsTrue, clean_after}
+use Rattle.tc_desk.specs.Headline.{TakesAccepted, clean_after}
+use Rattle.tc_desk.specs.Promise.{KeepsPromise}
 use Rattle.tc_desk.specs.Loads.{Loading, LoadStep, tests_of_load}
 use Rattle.tc_desk.specs.Machine.{DeskStep, stamp_of}
 use Rattle.tc_desk.specs.Replies.{Reply, act_reply, refusal_reply}
@@ -247,10 +248,10 @@ outcome_in (Err untold) = outcome_of untold.refusal
 abbrev pub StopsCalled : {S : Type 0} → Standing S → Called → Standing S → Type 0
 StopsCalled old called new = called.acts ≡ true → Stops old (outcome_in called.answer) new
 
--- What every call keeps to, whatever the tables hold: it stops the room with an answer 31 alone; what the rows tell of the link is true; the book is one that a
+-- What every call keeps to, whatever the tables hold: it stops the room with an answer 31 alone; the promise is kept; the book is one that a
 -- room keeps; and of a disk that gives back what was written now, so it was before.
 pub record KeepsCall {S : Type 0} (g : Ghosts S) (old : Standing S) (called : Called) (new : Standing S) : Type 0 where
   pub stops : StopsCalled old called new
-  pub told : TellsTrue new.opened new.desk
+  pub promise : KeepsPromise either (desk_in new)
   pub kept : IsKept new.desk.book
   pub clean : HasCleanDisk (state g new.tables) → HasCleanDisk (state g old.tables)

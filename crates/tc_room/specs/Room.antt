@@ -14,7 +14,7 @@ use Rattle.tc_book.specs.Book.{Book}
 use Rattle.tc_world.specs.declared.configs.Config.{Config}
 use Rattle.tc_desk.specs.State.{new_desk}
 use Rattle.tc_desk.specs.Acts.{refusal_of}
-use Rattle.tc_desk.specs.Headline.{TellsTrue}
+use Rattle.tc_desk.specs.Promise.{KeepsPromise}
 use Rattle.tc_desk.specs.Machine.{DeskStep}
 use Rattle.tc_desk.specs.Replies.{Reply, refusal_reply}
 use Rattle.tc_store.specs.Ledgers.{KeptAnswer}
@@ -81,12 +81,12 @@ pub record AsksDesk {X S : Type 0} (lines : X → Reply) (g : Ghosts S) (room : 
   pub answered : (stamp : Stamp) → AnswersStep lines g room stamp given room result
   pub stops : Stops room result room
 
--- What every call of a room keeps to: it stops with an answer 31 alone; as many rows of the history stood once it was opened; what the rows since
--- then tell of the link is true, and while every start was good the FARM is not in Lockout; and its book is one that a room keeps.
+-- What every call of a room keeps to: it stops with an answer 31 alone; as many rows of the history stood once it was opened; the promise
+-- is kept; and its book is one that a room keeps.
 pub record Keeps {X S : Type 0} (old : Standing S) (result : Result X Refusal) (new : Standing S) : Type 0 where
   pub stops : Stops old result new
   pub opened : new.opened ≡ old.opened
-  pub told : TellsTrue new.opened new.desk
+  pub promise : KeepsPromise either (desk_in new)
   pub kept : IsKept new.desk.book
 
 -- What a question leaves, also where the tables failed: the desk as it was, and a disk that gives back what was written now gave it back before.

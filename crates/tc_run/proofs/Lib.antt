@@ -3,5 +3,6 @@ mod EchoLemmas
 mod HoldLemmas
 mod KeptLemmas
 mod RunLemmas
+mod ScriptLemmas
 mod StopLemmas
 mod TakeLemmas

@@ -15,11 +15,12 @@ use Rattle.tc_types.specs.Loads.{LoadLine, SpellsLoad, line_of}
 use Rattle.tc_types.specs.declared.loads.Load.{Load}
 use Rattle.tc_types.specs.declared.refusals.Refusal.{Refusal}
 use Rattle.tc_types.specs.declared.refusals.Refusal.TheVariants.{TooLong}
-use Rattle.tc_desk.specs.Headline.{TellsTrue}
+use Rattle.tc_world.specs.EitherLink.{either}
+use Rattle.tc_desk.specs.Promise.{KeepsPromise}
 use Rattle.tc_desk.specs.Replies.{Reply}
 use Rattle.tc_world.specs.declared.configs.Config as configs
 use Rattle.tc_room.specs.Answers.{RefusesWith}
-use Rattle.tc_room.specs.Joined.{Standing}
+use Rattle.tc_room.specs.Joined.{Standing, desk_in}
 use Rattle.tc_room.specs.Replies.{ended, is_refused}
 use Rattle.tc_room.specs.Room.{IsJustOpened}
 use Rattle.tc_closed.specs.Files.{FileAnswer, Gives}
@@ -117,8 +118,8 @@ module _ {S : Type 0} (g : Ghosts S) (echo : Bool) where
   -- the lines of a script, and the question at the end
   pub lines_run : (input : List ℕ) (start end after : Standing S) (refused last : Bool) (gave gives : Option (List FileAnswer)) (old mid new : Option (List ℕ))
       → Came g echo (script_lines input) (TakesLines g start (script_lines input)) start gave gives old mid end refused → CameLast g end mid new after last
-      → TellsTrue end.opened end.desk → RunsLines g echo start input (if refused || last then 1 else 0) gave gives old new after
-  lines_run input start end after refused last gave gives old mid new ran asked told =
+      → KeepsPromise either (desk_in end) → RunsLines g echo start input (if refused || last then 1 else 0) gave gives old new after
+  lines_run input start end after refused last gave gives old mid new ran asked promise =
       let replies = ran.replies in
       let reply = asked.reply in
       let any : list_any is_refused (replies ++ reply ∷ []) ≡ (refused || last) =
@@ -134,7 +135,8 @@ module _ {S : Type 0} (g : Ghosts S) (echo : Bool) where
         written = Appends-trans _ _ _ _ _ ran.written asked.written;
         status_is = ap (λ (b : Bool). if b then 1 else 0) (sym any);
         kept = asked.kept;
-        tells = subst (λ (n : ℕ). TellsTrue n end.desk) ran.opened told;
+        opened = ran.opened;
+        promise = promise;
         held = λ stored held. step_held g stored end after nobody (act.Ask query.Places) reply (asked.asked nobody) (lines_held g stored start end (script_lines input) ran.files replies ran.taken held);
         failed = λ stored held going. question_failed g stored start end after (script_lines input) ran.files replies reply (script_lines input, sym (append-nil (script_lines input)), ran.taken) asked.asked
             (lines_held g stored start end (script_lines input) ran.files replies ran.taken held)

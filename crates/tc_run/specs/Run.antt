@@ -17,14 +17,15 @@ use Rattle.tc_types.specs.Loads.{LoadLine}
 use Rattle.tc_types.specs.Lines.{places_line}
 use Rattle.tc_book.specs.Book.{Book}
 use Rattle.tc_book.specs.declared.stamps.Stamp.{Stamp}
-use Rattle.tc_desk.specs.Headline.{TellsTrue}
+use Rattle.tc_world.specs.EitherLink.{either}
+use Rattle.tc_desk.specs.Promise.{KeepsPromise}
 use Rattle.tc_desk.specs.Loads.{Loading}
 use Rattle.tc_desk.specs.Machine.{stamp_of}
 use Rattle.tc_desk.specs.Replies.{Reply}
 use Rattle.tc_world.specs.declared.configs.Config as configs
 use Rattle.tc_store.specs.Ledgers.{KeptAnswer}
 use Rattle.tc_room.specs.Answers.{AnswersLine, AsksPlaces, RefusesWith}
-use Rattle.tc_room.specs.Joined.{HoldsBook, IsKept, Standing}
+use Rattle.tc_room.specs.Joined.{HoldsBook, IsKept, Standing, desk_in}
 use Rattle.tc_room.specs.Loads.{FailsLoad, RoomLoad, SpellsLoading, loader_of}
 use Rattle.tc_room.specs.Replies.{ended, is_refused}
 use Rattle.tc_room.specs.Room.{FailsStore, IsJustOpened}
@@ -162,14 +163,19 @@ pub record RunsLines {S : Type 0} (g : Ghosts S) (echo : Bool) (start : Standing
   pub written : Appends old new (exchanges echo (answered (script_lines input)) replies ++ ended last)
   pub status_is : status ≡ status_of (replies ++ last ∷ [])
   pub kept : IsKept end.desk.book
-  -- what the rows since the room was opened tell of its link is true
-  pub tells : TellsTrue start.opened end.desk
+  pub opened : end.opened ≡ start.opened
+  -- README's promise is kept
+  pub promise : KeepsPromise either (desk_in end)
   -- the tables hold the book in the end too, and the replies that were stored, while the room goes on; else what the failure of the database left
   pub held : (stored : List KeptAnswer) → HoldsBook g start stored → HoldsBook g after stored
   pub failed : (stored : List KeptAnswer) → HoldsBook g start stored → start.stopped ≡ false → after.stopped ≡ true → HasCleanDisk (state g after.tables)
       → HasFailed g stored start (script_lines input) (replies ++ last ∷ []) after
   -- the numbers that are printed are those of the book
   pub told : (stored : List KeptAnswer) → HoldsBook g start stored → HasCleanDisk (state g after.tables) → TellsBook end.desk.book last
+
+-- Of the text of a script, which is all that its reader held. Where that can be named, the text is it; of a real file it can not, and there is a text all the same.
+abbrev pub OfScript : Option (List ℕ) → (List ℕ → Type 0) → Type 0
+OfScript held Holds = (text : List ℕ) × IfSome held (λ bytes. bytes ≡ text) × Holds text
 
 -- These bytes were read, and their lines run in a room that was just opened over a new database in memory.
 abbrev pub IsAnswered : Bool → configs.Config → List ℕ → ℕ → Option (List FileAnswer) → Option (List FileAnswer) → Option (List ℕ) → Option (List ℕ) → Type 0

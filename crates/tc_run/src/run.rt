@@ -10,7 +10,7 @@ ghost use Rattle.tc_room.specs.Loads.{RoomLoad, loader_of};
 ghost use Rattle.tc_room.specs.Replies.{ended};
 ghost use Rattle.tc_closed.specs.Files.{Gives, file_at, none_at};
 ghost use Rattle.tc_check.specs.Scripts.{is_skipped, script_lines};
-ghost use Rattle.tc_run.specs.Run.{Came, CameLast, IsAnswered, RepliesTo, RunsLines, TakesLine, TakesLines, exchange};
+ghost use Rattle.tc_run.specs.Run.{Came, CameLast, IsAnswered, OfScript, RepliesTo, RunsLines, TakesLine, TakesLines, exchange};
 ghost use Rattle.tc_closed.specs.Scripts.{Ends, IsUnreadable, written_counts};
 ghost use Rattle.tc_run.specs.Stops.{LeavesPart, Stops, StopsAfter, StopsNext, Unanswered};
 ghost use Rattle.tc_closed.specs.declared.paths.PathFault.TheVariants as path_fault;
@@ -49,9 +49,9 @@ pub fn run_script<R: Read, P: Paths, T: Watch, W: Write>(
     writer: &mut Counted<W>,
 ) -> Result<u8, ScriptFault>
     requires unread { counts_of reader.old ≡ no_counts }
-    ensures answered { IfOk result (λ status. IfSome (R.remaining (inner_of reader.old)) (λ input.
+    ensures answered { IfOk result (λ status. OfScript (R.remaining (inner_of reader.old)) (λ input.
         IsAnswered (T.echoes watch.now) config input status (P.given paths.old) (P.given paths.new) (W.contents (inner_of writer.old)) (W.contents (inner_of writer.new)))) }
-    ensures stopped { IfErr result (λ fault. IfSome (R.remaining (inner_of reader.old)) (λ input.
+    ensures stopped { IfErr result (λ fault. OfScript (R.remaining (inner_of reader.old)) (λ input.
         Stops (T.echoes watch.now) config fault (script_lines input) (P.given paths.old) (P.given paths.new) (W.contents (inner_of writer.old)) (W.contents (inner_of writer.new)))) }
     ensures script { result ≡ Err ScriptFault.Script →
         IsUnreadable (counts_of reader.new) (R.remaining (inner_of reader.old)) (R.remaining (inner_of reader.new))
@@ -92,7 +92,7 @@ pub(crate) fn run_room<S: Alter + Drop, P: Paths, T: Watch, W: Write>(
         (λ fault. StopsAfter S.Store (T.echoes watch.now) fault room.old (script_lines text.now) (P.given paths.old) (P.given paths.new) (W.contents (inner_of writer.old)) (W.contents (inner_of writer.new)) room.new) (counts_of writer.old) (counts_of writer.new) result }
 {
     let refused = run_lines(alloc, room, text, paths, watch, writer)?;
-    // read for the proof alone: what the rows tell is true
+    // read for the proof alone: the promise is kept
     let _opened = room.opened();
     let last = run_places(alloc, room, writer)?;
     Ok(status_of(refused | last))

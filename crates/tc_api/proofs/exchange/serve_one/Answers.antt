@@ -11,4 +11,4 @@ returns-clause-kept g c = let read = exchange_read g.S.Store c.exchange-done.res
 pub returns-clause-step : goal.returns-clause-step
 returns-clause-step g c =
     let read = exchange_read g.S.Store c.exchange-done.result _ _ _ _ _ _ c.exchange-done.ensures in
-    (read.0, record { served = read.1; opened = c.exchange-done.ensures.opened; told = c.opened-opened.ensures.told })
+    (read.0, record { served = read.1; opened = c.exchange-done.ensures.opened; promise = c.opened-opened.ensures.promise })

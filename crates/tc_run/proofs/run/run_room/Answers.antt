@@ -19,5 +19,5 @@ returns-in_err-last g c =
 
 pub returns : goal.returns
 returns g c =
-    rw c.status_of.ensures (ends_well _ _ _ _ _ (lines_run g.S.Store _ _ _ _ _ _ _ _ _ _ _ _ c.in_ok-refused.ensures.done c.in_ok-last.ensures.done c.opened-opened.ensures.told)
+    rw c.status_of.ensures (ends_well _ _ _ _ _ (lines_run g.S.Store _ _ _ _ _ _ _ _ _ _ _ _ c.in_ok-refused.ensures.done c.in_ok-last.ensures.done c.opened-opened.ensures.promise)
     (λ none. c.in_ok-last.ensures.counted (c.in_ok-refused.ensures.counted none)))

@@ -33,7 +33,7 @@ pub returns-in-Err-clause-keeps : goal.returns-in-Err-clause-keeps
 returns-in-Err-clause-keeps g c = record {
   stops = (λ acts.
       stops_refused _ _ _ c.in-Err.refusal c.refused.ensures.told c.requires.going c.requires.going (act_text_low c.args.caller.by c.args.text.now c.args.moment c.in-Err.refusal c.in-Err.ensures.judged));
-  told = c.opened-opened.ensures.told;
+  promise = c.opened-opened.ensures.promise;
   kept = kept_book _ c.opened-opened.ensures.good;
   clean = λ clean. clean;
 }

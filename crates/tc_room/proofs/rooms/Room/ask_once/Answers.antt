@@ -35,7 +35,7 @@ pub returns-in_default-clause-acted : goal.returns-in_default-clause-acted
 returns-in_default-clause-acted g c = says_more c.do_once.result.answer _ _ inr c.do_once.ensures.acted
 
 pub returns-in-Ask-clause-keeps : goal.returns-in-Ask-clause-keeps
-returns-in-Ask-clause-keeps g c = record { stops = (λ acts. absurd cc); told = c.opened-opened.ensures.told; kept = kept_book _ c.opened-opened.ensures.good; clean = c.answer_asked-answer.ensures.leaves.clean }
+returns-in-Ask-clause-keeps g c = record { stops = (λ acts. absurd cc); promise = c.opened-opened.ensures.promise; kept = kept_book _ c.opened-opened.ensures.good; clean = c.answer_asked-answer.ensures.leaves.clean }
 
 pub returns-in_default-clause-keeps : goal.returns-in_default-clause-keeps
 returns-in_default-clause-keeps g c = c.do_once.ensures.keeps

@@ -29,7 +29,7 @@ pub returns-in-Err-clause-acted : goal.returns-in-Err-clause-acted
 returns-in-Err-clause-acted g c = says_refused c.in-Err.refusal c.refused.result.answer _ c.refused.ensures.says
 
 pub returns-in-Ok-clause-keeps : goal.returns-in-Ok-clause-keeps
-returns-in-Ok-clause-keeps g c = record { stops = (λ acts. stops_granted _ _ _ _ c.granted.ensures.told c.in-Ok.ensures.keeps.stops); told = c.act_kept.ensures.keeps.told; kept = c.act_kept.ensures.keeps.kept; clean = c.act_kept.ensures.clean }
+returns-in-Ok-clause-keeps g c = record { stops = (λ acts. stops_granted _ _ _ _ c.granted.ensures.told c.in-Ok.ensures.keeps.stops); promise = c.act_kept.ensures.keeps.promise; kept = c.act_kept.ensures.keeps.kept; clean = c.act_kept.ensures.clean }
 
 pub returns-in-Err-clause-keeps : goal.returns-in-Err-clause-keeps
-returns-in-Err-clause-keeps g c = record { stops = (λ acts. stops_told _ _ _ _ c.refused.ensures.told c.in-Err.ensures.keeps.stops); told = c.act_kept.ensures.keeps.told; kept = c.act_kept.ensures.keeps.kept; clean = c.act_kept.ensures.clean }
+returns-in-Err-clause-keeps g c = record { stops = (λ acts. stops_told _ _ _ _ c.refused.ensures.told c.in-Err.ensures.keeps.stops); promise = c.act_kept.ensures.keeps.promise; kept = c.act_kept.ensures.keeps.kept; clean = c.act_kept.ensures.clean }

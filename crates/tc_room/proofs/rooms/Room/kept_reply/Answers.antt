@@ -39,13 +39,13 @@ returns-in-Err-clause-answered g c =
 
 pub returns-then-stopped-clause-looks : goal.returns-then-stopped-clause-looks
 returns-then-stopped-clause-looks g c =
-    looks_by g.S.Store _ _ _ (stops_stopped _ _ refl (sym c.stopped.ensures ∙ c.if-stopped.true)) refl (λ clean. clean) c.opened-opened.ensures.told c.opened-opened.ensures.good
+    looks_by g.S.Store _ _ _ (stops_stopped _ _ refl (sym c.stopped.ensures ∙ c.if-stopped.true)) refl (λ clean. clean) c.opened-opened.ensures.promise c.opened-opened.ensures.good
 
 pub returns-in-Ok-clause-looks : goal.returns-in-Ok-clause-looks
 returns-in-Ok-clause-looks g c =
     let going : c.self.inside.stopped ≡ false = goes_on _ _ _ c.self.view_is c.stopped.ensures c.if-stopped.false in
-    rw (← c.self.view_is) (looks_by g.S.Store _ _ _ (stops_ok _ _ _ going going) refl c.reply_of.ensures.reads.clean (rw (← c.self.view_is) at c.opened-opened.ensures.told) c.self.invariant)
+    rw (← c.self.view_is) (looks_by g.S.Store _ _ _ (stops_ok _ _ _ going going) refl c.reply_of.ensures.reads.clean (rw (← c.self.view_is) at c.opened-opened.ensures.promise) c.self.invariant)
 
 pub returns-in-Err-clause-looks : goal.returns-in-Err-clause-looks
 returns-in-Err-clause-looks g c =
-    rw (← c.self.view_is) (looks_by g.S.Store _ _ _ (stops_failed _ _ _ refl refl) refl c.reply_of.ensures.reads.clean (rw (← c.self.view_is) at c.opened-opened.ensures.told) c.self.invariant)
+    rw (← c.self.view_is) (looks_by g.S.Store _ _ _ (stops_failed _ _ _ refl refl) refl c.reply_of.ensures.reads.clean (rw (← c.self.view_is) at c.opened-opened.ensures.promise) c.self.invariant)

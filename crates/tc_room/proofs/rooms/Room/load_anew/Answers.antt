@@ -35,7 +35,7 @@ pub returns-in-None-clause-keeps : goal.returns-in-None-clause-keeps
 returns-in-None-clause-keeps g c = record {
   stops = (λ acts.
       stops_refused _ _ _ c.unfit.result c.refused.ensures.told c.requires.going c.requires.going (unfit_low c.args.kind c.args.csv.now c.unfit.result c.unfit.ensures));
-  told = c.opened-opened.ensures.told;
+  promise = c.opened-opened.ensures.promise;
   kept = kept_book _ c.opened-opened.ensures.good;
   clean = λ clean. clean;
 }

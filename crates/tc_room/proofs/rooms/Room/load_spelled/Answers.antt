@@ -49,12 +49,12 @@ returns-in_err-loaded-clause-keeps g c =
     let gone : c.from_residual.result ≡ Err c.in_err-loaded.field-0.0 = grind arith in
     let going : c.self.inside.stopped ≡ false = ap (λ (s : Standing _). s.stopped) c.self.view_is ∙ c.requires.going in
     rw (← c.self.view_is)
-    (record { stops = stops_refused _ _ _ _ gone going going (load_told c.args.stamp c.self.inside.desk.parts.book (loading_of c.args.name c.args.spelled.now) _ c.in_err-loaded.ensures.loads.answers.why); opened = c.in_err-loaded.ensures.stays.opened; told = c.in_err-loaded.ensures.stays.told; kept = kept_book _ c.in_err-loaded.ensures.stays.good })
+    (record { stops = stops_refused _ _ _ _ gone going going (load_told c.args.stamp c.self.inside.desk.parts.book (loading_of c.args.name c.args.spelled.now) _ c.in_err-loaded.ensures.loads.answers.why); opened = c.in_err-loaded.ensures.stays.opened; promise = c.in_err-loaded.ensures.stays.promise; kept = kept_book _ c.in_err-loaded.ensures.stays.good })
 
 pub returns-in-Ok-clause-keeps : goal.returns-in-Ok-clause-keeps
 returns-in-Ok-clause-keeps g c =
     let going : c.self.inside.stopped ≡ false = ap (λ (s : Standing _). s.stopped) c.self.view_is ∙ c.requires.going in
-    rw (← c.self.view_is) (record { stops = stops_ok _ _ _ going going; opened = c.in_ok-loaded.ensures.stays.opened; told = c.in_ok-loaded.ensures.stays.told; kept = kept_book _ c.in_ok-loaded.ensures.stays.good })
+    rw (← c.self.view_is) (record { stops = stops_ok _ _ _ going going; opened = c.in_ok-loaded.ensures.stays.opened; promise = c.in_ok-loaded.ensures.stays.promise; kept = kept_book _ c.in_ok-loaded.ensures.stays.good })
 
 pub returns-in-Err-clause-keeps : goal.returns-in-Err-clause-keeps
-returns-in-Err-clause-keeps g c = rw (← c.self.view_is) (record { stops = stops_failed _ _ _ refl refl; opened = c.in_ok-loaded.ensures.stays.opened; told = c.in_ok-loaded.ensures.stays.told; kept = kept_book _ c.in_ok-loaded.ensures.stays.good })
+returns-in-Err-clause-keeps g c = rw (← c.self.view_is) (record { stops = stops_failed _ _ _ refl refl; opened = c.in_ok-loaded.ensures.stays.opened; promise = c.in_ok-loaded.ensures.stays.promise; kept = kept_book _ c.in_ok-loaded.ensures.stays.good })

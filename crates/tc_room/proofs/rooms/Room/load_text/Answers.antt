@@ -41,13 +41,13 @@ pub returns-in-Err-clause-keeps : goal.returns-in-Err-clause-keeps
 returns-in-Err-clause-keeps g c = record {
   stops = (λ acts.
       stops_refused _ _ _ c.in-Err.refusal c.refused.ensures.told c.requires.going c.requires.going (unread_low c.args.kind c.args.csv.now c.in-Err.refusal c.in-Err.ensures.refused));
-  told = c.opened-opened.ensures.told;
+  promise = c.opened-opened.ensures.promise;
   kept = kept_book _ c.opened-opened.ensures.good;
   clean = λ clean. clean;
 }
 
 pub returns-in-Ok-load_kept-clause-keeps : goal.returns-in-Ok-load_kept-clause-keeps
-returns-in-Ok-load_kept-clause-keeps g c = record { stops = (λ acts. stops_granted _ _ _ _ c.granted.ensures.told c.in-Ok-load_kept.ensures.keeps.stops); told = c.load_kept.ensures.keeps.told; kept = c.load_kept.ensures.keeps.kept; clean = c.load_kept.ensures.clean }
+returns-in-Ok-load_kept-clause-keeps g c = record { stops = (λ acts. stops_granted _ _ _ _ c.granted.ensures.told c.in-Ok-load_kept.ensures.keeps.stops); promise = c.load_kept.ensures.keeps.promise; kept = c.load_kept.ensures.keeps.kept; clean = c.load_kept.ensures.clean }
 
 pub returns-clause-keeps : goal.returns-clause-keeps
-returns-clause-keeps g c = record { stops = (λ acts. stops_told _ _ _ _ c.refused-in-Err-load_kept.ensures.told c.in-Err-load_kept.ensures.keeps.stops); told = c.load_kept.ensures.keeps.told; kept = c.load_kept.ensures.keeps.kept; clean = c.load_kept.ensures.clean }
+returns-clause-keeps g c = record { stops = (λ acts. stops_told _ _ _ _ c.refused-in-Err-load_kept.ensures.told c.in-Err-load_kept.ensures.keeps.stops); promise = c.load_kept.ensures.keeps.promise; kept = c.load_kept.ensures.keeps.kept; clean = c.load_kept.ensures.clean }
