@@ -4,6 +4,9 @@ use Rattle.std.specs.Io.KnownBytes.{Consumes}
 use Rattle.tc_types.specs.declared.counted.Counts.{Counts}
 use Rattle.tc_types.specs.Counts.{no_counts}
 use Rattle.tc_front.specs.Write.{one_fault}
+use Rattle.sqlite.specs.declared.error.Error.{Error}
+use Rattle.sqlite.specs.declared.error.Error.TheVariants.{SqliteFailure}
+use Rattle.sqlite.specs.declared.error.ErrorCode.TheVariants.{OutOfMemory}
 use Rattle.tc_closed.specs.declared.scripts.ScriptFault.{ScriptFault}
 use Rattle.tc_closed.specs.declared.scripts.ScriptFault.TheVariants.{Script, Output, Memory, Tables, Config, Path}
 use Rattle.tc_types.specs.declared.refusals.Refusal.{Refusal}
@@ -41,6 +44,11 @@ pub record Ends {X : Type 0} (Done : X → Type 0) (Stopped : ScriptFault → Ty
   pub stopped : IfErr result Stopped
   pub fault : IfErr result (λ fault. fault ≢ Script)
   pub counted : old ≡ no_counts → new ≡ written_counts result
+
+-- what a fault of the database is told as: want of memory as such, any other as that of the tables
+abbrev pub fault_of_database : Error → ScriptFault
+fault_of_database (SqliteFailure OutOfMemory) = Memory
+fault_of_database error = Tables
 
 -- why a run ends where its room could not be opened
 abbrev pub fault_of : Refusal → ScriptFault

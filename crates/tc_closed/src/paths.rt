@@ -1,6 +1,9 @@
 //! Where the texts come from that a script loads.
-ghost use Rattle.std.specs.Prelude.{◌∷◌, [], IfErr, IfOk, List, Option};
+ghost use Rattle.std.specs.Prelude.{◌≡◌, ◌≢◌, ◌∷◌, [], IfErr, IfOk, List, Option};
+ghost use Rattle.std.specs.IoError.{error_kind};
+ghost use Rattle.std.specs.declared.io.ErrorKind.TheVariants.{OutOfMemory};
 ghost use Rattle.tc_closed.specs.Files.{FileAnswer, Gives, file_at, none_at};
+ghost use Rattle.tc_closed.specs.declared.paths.PathFault.TheVariants.{Memory, Unreadable};
 
 use std::alloc::{AllocError, Global};
 use std::io;
@@ -17,7 +20,10 @@ pub enum PathFault {
     Memory,
 }
 
+/// Want of memory as such, and any other error as a path that gives no text.
 impl From<io::Error> for PathFault {
+    ghost from_gives = { λ error fault. (error_kind error ≡ OutOfMemory → fault ≡ Memory) × (error_kind error ≢ OutOfMemory → fault ≡ Unreadable) };
+
     fn from(error: io::Error) -> PathFault {
         if error.kind() == io::ErrorKind::OutOfMemory {
             PathFault::Memory
@@ -28,6 +34,8 @@ impl From<io::Error> for PathFault {
 }
 
 impl From<AllocError> for PathFault {
+    ghost from_gives = { λ _ fault. fault ≡ Memory };
+
     fn from(_error: AllocError) -> PathFault {
         PathFault::Memory
     }

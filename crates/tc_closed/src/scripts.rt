@@ -2,8 +2,7 @@
 ghost use Rattle.std.specs.Prelude.{◌≡◌, ◌≢◌, ◌≤◌, Err, IfErr, IfOk, OnOk, vec_len};
 ghost use Rattle.std.specs.Io.KnownBytes.{Consumes, IsAtEnd};
 ghost use Rattle.tc_types.specs.Counts.{counts_of, inner_of, no_counts};
-ghost use Rattle.tc_closed.specs.Scripts.{IsUnreadable, fault_of};
-ghost use Rattle.tc_closed.specs.Scripts.{IsUnread};
+ghost use Rattle.tc_closed.specs.Scripts.{IsUnread, IsUnreadable, fault_of, fault_of_database};
 ghost use Rattle.tc_closed.specs.declared.scripts.ScriptFault.TheVariants.{Memory, Output};
 
 use sqlite::ErrorCode;
@@ -69,6 +68,8 @@ impl From<Untold> for ScriptFault {
 }
 
 impl From<sqlite::Error> for ScriptFault {
+    ghost from_gives = { λ error fault. fault ≡ fault_of_database error };
+
     /// Want of memory as such, any other error of the database as that of the tables.
     fn from(error: sqlite::Error) -> ScriptFault {
         match error {
