@@ -1,5 +1,5 @@
 -- A desk that was just made or opened: no row came since, and its link claims nothing.
-use Rattle.std.proofs.Common.{◌≡◌, ℕ, List, [], length, drop, refl, sym, ap, subst, arith}
+use Rattle.std.proofs.Common.{◌≡◌, List, [], length, drop, refl, sym, ap, subst, arith}
 use Rattle.std.proofs.Math.Seq.{drop-length}
 use Rattle.tc_types.specs.declared.history.causes.Cause.TheVariants.{Transmit, Confirm}
 use Rattle.tc_types.specs.declared.history.moves.Move.{Move}
