@@ -148,7 +148,7 @@ through g (opening ∷ others) start end replies after (next, opens, later) held
 
 before_only : (book : Book) (replies : List KeptAnswer) (caller : Caller) (ledger : Ledger) → IsMadeOnce book replies caller MakesNothing ledger → ledger ≡ ledger_of book replies
 before_only book replies caller ledger (inl same) = same
-before_only book replies caller ledger (inr made) = absurd made.2.0
+before_only book replies caller ledger (inr made) = absurd made.2
 
 -- nothing was to be made, so a crash leaves what the files held
 leaves_nothing : {S : Type 0} (g : Ghosts S) (replies : List KeptAnswer) (caller : Caller) (old new : Standing S) (reply : Reply) → FailsOnce g replies caller MakesNothing old reply new

@@ -117,8 +117,8 @@ GoesThrough {S} g start replies (exchange read ∷ others) end after =
 GoesThrough {S} g start replies (opening ∷ others) end after = (next : Standing S) × (opens : OpensNext g replies next) × GoesThrough g next opens.ledger.replies others end after
 
 -- The database failed as the kept replies were looked for: the room stops, and its files hold what they held, so nothing was done.
-pub record StopsWithNothing {S : Type 0} (g : Ghosts S) (replies : List KeptAnswer) (old : Standing S) (reply : Reply) (new : Standing S) : Type 0 where
-  pub reply : reply ≡ refusal_reply Store
+pub record StopsWithNothing {S : Type 0} (g : Ghosts S) (replies : List KeptAnswer) (old : Standing S) (told : Reply) (new : Standing S) : Type 0 where
+  pub reply : told ≡ refusal_reply Store
   pub stopped : new.stopped ≡ true
   pub files : Leaves g new.tables (λ ledger. ledger ≡ ledger_of old.desk.book replies)
 
