@@ -16,7 +16,7 @@ from login_asks import NOT_OWN, counted, entered, entry, folder_in, places, word
 from login_peer import ANN, BOB, SITE, Answer, Client, Proxy, StandIn, password_files, replaced, reply, text_of, write
 from tests.asked import TOP
 from tests.http_cases import Cases
-from tests.http_peer import HERE, Fault, Server, free_port
+from tests.http_peer import FAIR, HERE, Fault, Late, Server, free_port
 
 
 AT_ONCE = 200
@@ -26,14 +26,18 @@ def at_once(cases: Cases, proxy: Proxy) -> None:
     """Posts of two persons at the same moment, and all of them again: each is answered, and done once."""
     clients = [Client(proxy, ANN), Client(proxy, BOB)]
     bodies = [(at % 2, entry(1000 + at, ("ann", "bob")[at % 2], act=f"enter {100 + at} a--c no 8 1 - - ok")) for at in range(AT_ONCE)]
-    before = entered(clients[0])
+    before, began = entered(clients[0]), time.monotonic()
     first, again = (together(lambda at: clients[bodies[at][0]].post("/acts", bodies[at][1])) for _ in range(2))
+    questions = together(lambda at: clients[at % 2].get())
+    # a desk that works off others for so long lets a connection go whose request it has not read yet
+    if 502 in {it.status for it in first + again + questions} and time.monotonic() - began > FAIR:
+        raise Late(f"{AT_ONCE} posts at the same moment: {time.monotonic() - began:.1f} s")
     cases.tell(f"{AT_ONCE} posts at the same moment", {200: AT_ONCE}, counted(it.status for it in first))
     cases.tell("each is a request of its own", AT_ONCE, len({words(it)[2] for it in first}))
     cases.tell("each is answered for itself", [f"{100 + at}/0" for at in range(AT_ONCE)], [words(it)[3] for it in first])
     cases.tell("and the same again", first, again)
     cases.tell("and they stand once", before + AT_ONCE, entered(clients[0]))
-    cases.tell(f"{AT_ONCE} questions at the same moment", {200: AT_ONCE}, counted(it.status for it in together(lambda at: clients[at % 2].get())))
+    cases.tell(f"{AT_ONCE} questions at the same moment", {200: AT_ONCE}, counted(it.status for it in questions))
 
 
 def together(call: Callable[[int], Answer]) -> list[Answer]:

@@ -6,6 +6,7 @@ import time
 import unittest
 from contextlib import contextmanager
 from dataclasses import replace
+from functools import partial
 from itertools import count
 from typing import Any, Callable, Iterable, Iterator, Optional, Sequence
 
@@ -13,12 +14,11 @@ from generate.http_words import PLACES, Case, act, get, numbered
 from model.desk import Desk
 from model.rows import Tables
 from tests.asked import ASKED
-from tests.http_peer import FAIR, Ended, Expected, Fault, Late, Server, run
+from tests.http_peer import FAIR, Ended, Expected, Fault, Late, Server, in_time, run
 from tests.plain_runs import kept_tables, unlike
 from tests.runs import quick_folder, write_files
 
 MOST_FAULTS = 20
-TRIES = 5  # of a case that was late
 MOST_ASKED = 300  # requests whose histories are asked for in the end
 LAST_QUESTIONS = ["link", "schedule", "report 0 4102444799", "waiting", "moves 0", "standing Entered 0", "standing Approved 0", "standing Closed 1"]
 
@@ -131,27 +131,32 @@ class Cases:
         self.tell(f"{name}: what the file that was served tells", plain, left)
 
 
-class Served(unittest.TestCase):
-    """Groups of cases, each in a folder of its own; a case that failed is printed as it comes. A group that was late is tried again, in another folder."""
+class Patient(unittest.TestCase):
+    """A test that is tried again, from its `setUp` on, where it was late and found nothing wrong before."""
 
     def __init__(self, methodName: str = "runTest") -> None:
         """A test by the name of its method."""
         super().__init__(methodName)
-        setattr(self, methodName, self.in_time(getattr(self, methodName)))
+        setattr(self, methodName, partial(self.patiently, getattr(self, methodName)))
 
-    def in_time(self, test: Callable[[], None]) -> Callable[[], None]:
-        """That test, which is tried again where it was late, and nothing was wrong before."""
-        def tried() -> None:
-            for _ in range(1, TRIES):
-                try:
-                    return test()
-                except Late as late:
-                    if self.cases.failed:
-                        raise
-                    print(f"{self.id().split('.')[-1]} is tried again: {late}", flush=True)
-                    self.setUp()
-            return test()
-        return tried
+    def patiently(self, test: Callable[[], None]) -> None:
+        """Runs that test."""
+        in_time(test, self.setUp)
+
+
+class Served(Patient):
+    """Groups of cases, each in a folder of its own; a case that failed is printed as it comes. A group that was late is tried again, in another folder."""
+
+    def patiently(self, test: Callable[[], None]) -> None:
+        """Runs that test. It is late no more once a case has failed."""
+        def group() -> None:
+            try:
+                test()
+            except Late as late:
+                if self.cases.failed:
+                    raise Fault(str(late)) from None
+                raise
+        super().patiently(group)
 
     def setUp(self) -> None:
         """A folder to work in, and no case yet."""

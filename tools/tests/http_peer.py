@@ -8,7 +8,7 @@ import socket
 import struct
 import subprocess
 import time
-from typing import Callable, Iterable, Optional, Sequence, Union
+from typing import Callable, Iterable, Optional, Sequence, TypeVar, Union
 
 from generate.http_words import NOTHING, Case
 from model.calls import Calls
@@ -20,9 +20,13 @@ from tests.runs import Ended
 
 PATIENCE = float(os.environ.get("PATIENCE", "60"))  # seconds for one exchange, or for the program to begin or to end
 SLOW = PATIENCE / 12  # seconds in which a request that comes a byte at a time has to be answered: 5, where nobody asks for more patience
+TRIES = 5  # of what was late
 FAIR = 4.0  # seconds in which a test has to send what a server waits for: that lets a peer go of which no byte came for 5
 HERE = "127.0.0.1"
 RST = struct.pack("ii", 1, 0)  # a socket that is closed resets its connection
+
+
+Found = TypeVar("Found")
 
 
 class Fault(Exception):
@@ -32,6 +36,17 @@ class Fault(Exception):
 class Late(Fault):
     """A test or a server had no processor for so long that a peer was let go meanwhile, or nothing could be in time: what came says nothing of the program, and
     the case is tried again."""
+
+
+def in_time(tried: Callable[[], Found], again: Callable[[], object] = lambda: None) -> Found:
+    """What that comes to, which is tried again where it was late, after this; five times at most."""
+    for _ in range(1, TRIES):
+        try:
+            return tried()
+        except Late as late:
+            print(f"tried again: {late}", flush=True)
+            again()
+    return tried()
 
 
 def told_of_one(line: str) -> tuple[int, str]:

@@ -21,8 +21,7 @@ from typing import Callable, Iterator, Optional, Sequence
 
 from generate.http_words import ENTRY, PLACES, Case, act, get
 from tests import http_cases
-from tests.http_cases import TRIES
-from tests.http_peer import FAIR, PATIENCE, Ended, Fault, Late, Server, parted, received, reset, run, send
+from tests.http_peer import FAIR, PATIENCE, TRIES, Ended, Fault, Late, Server, parted, received, reset, run, send
 
 SILENCE, WHOLE, FAREWELL = 5.0, 30.0, 2.0  # seconds: without a byte, for a request, behind an answer
 WAIT = PATIENCE / 60  # seconds that a good peer waits at most, whoever is beside it: 1, where nobody asks for more patience
