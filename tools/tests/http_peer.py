@@ -218,11 +218,16 @@ def is_response(got: bytes) -> bool:
     return bool(end and length and len(body) == int(length[1]))
 
 
-def unread(port: int) -> bool:
-    """Whether something lies before the server at this port: a connection that it has not taken, or bytes that it has not read."""
+def connections() -> list[list[str]]:
+    """The lines of the system's table of sockets for those that listen, are connected, or have been left by their peer alone."""
     with open("/proc/net/tcp", encoding="ascii") as file:
         rows = [line.split() for line in file.readlines()[1:]]
-    return any(row[1].endswith(f":{port:04X}") and int(row[4].split(":")[1], 16) for row in rows if row[3] in ("01", "08", "0A"))
+    return [row for row in rows if row[3] in ("01", "08", "0A")]
+
+
+def unread(port: int) -> bool:
+    """Whether something lies before the server at this port: a connection that it has not taken, or bytes that it has not read."""
+    return any(row[1].endswith(f":{port:04X}") and int(row[4].split(":")[1], 16) for row in connections())
 
 
 def state_of(process: int) -> str:
@@ -257,9 +262,14 @@ def received(peer: socket.socket) -> bytes:
 
 
 def reset(peer: socket.socket) -> None:
-    """Closes a connection by a reset."""
+    """Closes a connection by a reset, and waits until that was sent: a program that another thread just starts has the connection too, until it begins."""
     peer.setsockopt(socket.SOL_SOCKET, socket.SO_LINGER, RST)
+    port, end = peer.getsockname()[1], time.monotonic() + PATIENCE
     peer.close()
+    while any(row[1].endswith(f":{port:04X}") for row in connections()):
+        if time.monotonic() > end:
+            raise Late("a connection that was reset is there still")
+        time.sleep(0.002)
 
 
 # ---- what has to be answered
