@@ -305,7 +305,7 @@ user_cases() {
     server=$!
     wait_until listens "$work/err" $server
     same "the service by hand: what it says" "tcdesk: /var/lib/tcdesk/hand.db is a new desk"$'\n'"tcdesk: listening on 127.0.0.1:$port" "$(<"$work/err")"
-    by_user nobody "exec curl -s --max-time 20 http://127.0.0.1:$port/places"
+    by_user nobody "exec curl -s --max-time 60 http://127.0.0.1:$port/places"
     same "the service by hand is answered" '{"lines":["places 0: 0 0 0 0 0 0 0 0 0 0 0 0 0 0 0"],"more":0,"refusal":0}' "$(<"$work/out")"
     # what the unit of the copies runs, while the desk is served
     line=$(sed -n 's/^ExecStart=//p' "$top/deploy/backup/tcdesk-backup@.service")

@@ -20,6 +20,7 @@ from tests.http_peer import FAIR, HERE, Fault, Late, Server, free_port
 
 
 AT_ONCE = 200
+LETS_GO = 9.0  # seconds in which no peer is let go that stalls: that takes ten
 
 
 def at_once(cases: Cases, proxy: Proxy) -> None:
@@ -57,7 +58,7 @@ def is_there(peer: socket.socket) -> bool:
 
 def stalls(cases: Cases, proxy: Proxy) -> None:
     """Peers that stall, each at another place, while others are served; they are let go."""
-    ann = Client(proxy, ANN)
+    ann, first = Client(proxy, ANN), time.monotonic()
     head = f"POST /acts HTTP/1.1\r\nHost: {SITE}\r\nAuthorization: {ann.head['Authorization']}\r\nContent-Type: application/json\r\n"
     peers: list[tuple[str, socket.socket]] = [("before a word of TLS", socket.create_connection((HERE, proxy.port)))]
     for name, text in (("before a head", ""), ("in a head", head), ("before a body", head + "Content-Length: 90\r\n\r\n"),
@@ -67,12 +68,16 @@ def stalls(cases: Cases, proxy: Proxy) -> None:
     before, began = entered(ann), time.monotonic()
     for at in range(10):
         cases.tell("an act beside peers that stall", 200, ann.post("/acts", entry(2000 + at)).status)
-    cases.tell("and not behind them", [name for name, _ in peers], [name for name, peer in peers if is_there(peer)])
+    stand = [name for name, peer in peers if is_there(peer)]
+    if time.monotonic() - first > LETS_GO:
+        raise Late(f"an act beside peers that stall: {time.monotonic() - first:.1f} s")
+    cases.tell("and not behind them", [name for name, _ in peers], stand)
     for name, peer in peers:
         peer.settimeout(60)
         cases.tell(f"a peer that stalls {name} is let go", b"", last_of(peer))
         peer.close()
-    cases.tell("within a minute", True, time.monotonic() - began < 60)
+    if time.monotonic() - began > 60:
+        raise Late("peers that stall are let go within a minute")
     cases.tell("what stalled was not done", before + 10, entered(ann))
 
 
@@ -160,7 +165,7 @@ def faults(cases: Cases, folder: str) -> None:
             ("says more than any desk", reply(b" " * 1_100_000), None), ("says as much as any desk", reply(b" " * 900_000), 200)]):
         stand, files = StandIn(answer), folder_in(folder, f"fault{at}")
         password_files(files)
-        with Proxy(files, "tcdesk-password", stand.port, {"proxy_read_timeout 60s": "proxy_read_timeout 2s"}) as proxy:
+        with Proxy(files, "tcdesk-password", stand.port, {"proxy_read_timeout 60s": "proxy_read_timeout 2s"} if answer is None else None) as proxy:
             cases.tell(f"an act, where the desk {name}", want, told(Client(proxy, ANN)))
             cases.tell(f"how often the desk is asked that {name}", 1, len(stand.came))
             if not answer:
