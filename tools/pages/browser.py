@@ -116,7 +116,8 @@ class Browser:
         where = f"{self.root}/session/{self.session}{path}" if self.session else f"{self.root}{path}"
         data = None if method != "POST" else json.dumps(body or {}).encode()
         try:
-            with urllib.request.urlopen(urllib.request.Request(where, data, {"Content-Type": "application/json"}, method=method), timeout=PATIENCE) as answer:
+            asked = urllib.request.Request(where, data, {"Content-Type": "application/json"}, method=method)
+            with urllib.request.urlopen(asked, timeout=PATIENCE) as answer:
                 return json.load(answer)["value"]
         except urllib.error.HTTPError as fault:
             raise AssertionError(f"{method} {path} {data!r:.200}: {fault}, {fault.read()!r:.600}") from None
@@ -126,7 +127,7 @@ class Browser:
         return self.asks("POST", "/goog/cdp/execute", {"cmd": command, "params": words})
 
     def opens(self, url: str) -> float:
-        """Opens a page. Answers the seconds until it was there, and laid out: by the clock, or those of processors, where others had these meanwhile."""
+        """Opens a page. Answers the seconds until it was there, and laid out: by the clock, or of processors where that is less, since others may have them."""
         began, spent = time.monotonic(), processor_seconds(self.driver.pid)
         self.asks("POST", "/url", {"url": url})
         self.says("return document.documentElement.scrollHeight")

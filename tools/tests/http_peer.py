@@ -34,8 +34,8 @@ class Fault(Exception):
 
 
 class Late(Fault):
-    """A test or a server had no processor for so long that a peer was let go meanwhile, or nothing could be in time: what came says nothing of the program, and
-    the case is tried again."""
+    """A test or a server had no processor for so long that a peer was let go meanwhile, or that nothing could be in time: what came says nothing of the
+    program, and the case is tried again."""
 
 
 def in_time(tried: Callable[[], Found], again: Callable[[], object] = lambda: None) -> Found:
@@ -56,19 +56,20 @@ def told_of_one(line: str) -> tuple[int, str]:
 
 
 def parted(ended: Ended) -> tuple[Ended, list[str]]:
-    """How a program ended but for what it said of connections; and how it said that each of these ended, in the order in which they were taken: those that end
-    beside each other are told in any order. There has to be one line of each."""
+    """How a program ended but for what it said of connections; and how it said that each of these ended, in the order in which they were taken: those that
+    end beside each other are told in any order. There has to be one line of each."""
     lines = ended.err.splitlines(keepends=True)
     told = sorted(told_of_one(it) for it in lines if it.startswith("tcdesk: connection "))
     is_each = [number for number, _ in told] == list(range(1, len(told) + 1))
-    return ended._replace(err="".join(it for it in lines if not it.startswith("tcdesk: connection "))), [how if is_each else f"{number}: {how}" for number, how in told]
+    rest = "".join(it for it in lines if not it.startswith("tcdesk: connection "))
+    return ended._replace(err=rest), [how if is_each else f"{number}: {how}" for number, how in told]
 
 
 # ---- the server
 
 def reserved_port() -> tuple[socket.socket, int]:
-    """A port that nobody has, below those that the system gives to those who connect, and a socket that holds it. Until that is closed nobody gets the port who asks
-    for one so. A server that is told the port gets it all the same, since both allow that an address is used again, and the socket does not listen."""
+    """A port that nobody has, below those that the system gives to those who connect, and a socket that holds it. Until that is closed nobody else who asks
+    so gets the port. A server that is told it does: both allow that an address is used again, and the socket does not listen."""
     while True:
         held, port = socket.socket(), random.randrange(20000, 30000)
         try:
@@ -188,8 +189,8 @@ class Server:
             time.sleep(0.002)
 
     def exchange(self, raw: bytes, size: Optional[int] = None, pause: float = 0.0, shuts: bool = False) -> bytes:
-        """Sends these bytes, in pieces of this size, and reads the answer to its end; what came of it where the time is over. It is late where the answer is not
-        whole and the server could have let the peer go."""
+        """Sends these bytes, in pieces of this size, and reads the answer to its end; what came of it where the time is over. It is late where the answer is
+        not whole and the server could have let the peer go."""
         began = time.monotonic()
         got = self.exchanged(raw, size, pause, shuts)
         if time.monotonic() - began >= FAIR and not is_response(got):
@@ -262,7 +263,7 @@ def received(peer: socket.socket) -> bytes:
 
 
 def reset(peer: socket.socket) -> None:
-    """Closes a connection by a reset, and waits until that was sent: a program that another thread just starts has the connection too, until it begins."""
+    """Closes a connection by a reset, and waits until that was sent: a program that another thread just starts has the connection until it begins."""
     peer.setsockopt(socket.SOL_SOCKET, socket.SO_LINGER, RST)
     port, end = peer.getsockname()[1], time.monotonic() + PATIENCE
     peer.close()
