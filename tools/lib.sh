@@ -82,8 +82,9 @@ check() {
     tell "$name: status $got"
 }
 
-# take_port NAME: sets a variable to a port that no socket of this machine has. No other script gets it while this one, or what it started, goes on: a lock
-# is held for it. The tests that are Python take theirs below 30000. It asks by no connection: a server that counts its connections would count that one.
+# take_port NAME: sets a variable to a port that no socket of this machine has. No other script gets it while this one, or what it started, goes on: a
+# lock is held for it. The tests that are Python take theirs below 30000. It asks by no connection: a server that counts its connections would count
+# that one.
 take_port() {
     local folder=/tmp/tcdesk-ports-$UID number hold
     mkdir -p "$folder"

@@ -218,8 +218,8 @@ class Watch(threading.Thread):
 
 
 class Steady(Patient):
-    """A test of machines in this process. If it fails, and the process stood still meanwhile, it is tried again: a machine that stood still has to refuse what
-    comes."""
+    """A test of machines in this process. If it fails, and the process stood still meanwhile, it is tried again: a machine that stood still has to
+    refuse what comes."""
 
     def patiently(self, test: Callable[[], None]) -> None:
         """Runs that test."""

@@ -151,7 +151,8 @@ class Trial:
         return max(((it.at - max(it.sent, since), it.history) for client in self.clients for it in client.told if it.at > since), default=(0.0, ""))
 
     def fault(self, planned: Planned, stage: int) -> None:
-        """A fault. In one of one machine, where a client waits too long, it comes again, and the best counts: the programs may have had no processor."""
+        """A fault. In one of one machine, where a client waits too long, it comes again, and the best counts: the programs may have had no
+        processor."""
         waited = [self.fault_once(planned, stage)]
         while planned.is_of_one and waited[-1][0] >= LONGEST and len(waited) < TRIES:
             waited.append(self.fault_once(planned, stage))
@@ -159,8 +160,8 @@ class Trial:
             self.waited.append(min(waited))
 
     def fault_once(self, planned: Planned, stage: int) -> tuple[float, str]:
-        """Half a stage of posts, a fault, and the other half; and then few posts, until all machines are in again. Gives how long a client waited at most, and
-        where."""
+        """Half a stage of posts, a fault, and the other half; and then few posts, until all machines are in again. Gives how long a client waited at
+        most, and where."""
         self.let_go(stage // 2)
         began = time.monotonic()
         more = planned.does()

@@ -158,7 +158,8 @@ class Faults:
         return ""
 
     def timed(self, member: Member) -> tuple[int, float]:
-        """The status of the answer to one more post, 0 where there is none, and after how many seconds it came. Where it came late, another post is sent."""
+        """The status of the answer to one more post, 0 where there is none, and after how many seconds it came. Where it came late, another post is
+        sent."""
         for _ in range(1, TRIES):
             status, took = self.timed_once(member)
             if status != 503 or took <= AT_ONCE_SECONDS:

@@ -289,7 +289,8 @@ def full_disk() -> list[Case]:
 
 
 def stopping(runs: Runs, count: Optional[int], words: Sequence[str], late: bytes) -> tuple[list[bytes], Ended, str]:
-    """What a server whose disk is full answers to a question, to an act, and to this act, whose last byte comes then; how it ended, and what it said first."""
+    """What a server whose disk is full answers to a question, to an act, and to this act, whose last byte comes then; how it ended, and what it said
+    first."""
     with runs.server(count, words=words, first=small_files(5000)) as server:
         server.listening()
         began = time.monotonic()

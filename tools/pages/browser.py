@@ -127,7 +127,8 @@ class Browser:
         return self.asks("POST", "/goog/cdp/execute", {"cmd": command, "params": words})
 
     def opens(self, url: str) -> float:
-        """Opens a page. Answers the seconds until it was there, and laid out: by the clock, or of processors where that is less, since others may have them."""
+        """Opens a page. Answers the seconds until it was there, and laid out: by the clock, or of processors where that is less, since others may
+        have them."""
         began, spent = time.monotonic(), processor_seconds(self.driver.pid)
         self.asks("POST", "/url", {"url": url})
         self.says("return document.documentElement.scrollHeight")

@@ -46,7 +46,8 @@ class Cases:
 
     @contextmanager
     def soon(self, name: str, most: float = FAIR) -> Iterator[None]:
-        """What has to be done within so many seconds, since a server lets a peer go else. Where it was late nothing counts that was told meanwhile."""
+        """What has to be done within so many seconds, since a server lets a peer go else. Where it was late nothing counts that was told
+        meanwhile."""
         began, around, self.waiting = time.monotonic(), self.waiting, []
         try:
             yield
@@ -145,7 +146,8 @@ class Patient(unittest.TestCase):
 
 
 class Served(Patient):
-    """Groups of cases, each in a folder of its own; a case that failed is printed as it comes. A group that was late is tried again in another folder."""
+    """Groups of cases, each in a folder of its own; a case that failed is printed as it comes. A group that was late is tried again in another
+    folder."""
 
     def patiently(self, test: Callable[[], None]) -> None:
         """Runs that test. It is late no more once a case has failed."""

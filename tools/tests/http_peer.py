@@ -34,8 +34,8 @@ class Fault(Exception):
 
 
 class Late(Fault):
-    """A test or a server had no processor for so long that a peer was let go meanwhile, or that nothing could be in time: what came says nothing of the
-    program, and the case is tried again."""
+    """A test or a server had no processor for so long that a peer was let go meanwhile, or that nothing could be in time: what came says nothing of
+    the program, and the case is tried again."""
 
 
 def in_time(tried: Callable[[], Found], again: Callable[[], object] = lambda: None) -> Found:
@@ -56,8 +56,8 @@ def told_of_one(line: str) -> tuple[int, str]:
 
 
 def parted(ended: Ended) -> tuple[Ended, list[str]]:
-    """How a program ended but for what it said of connections; and how it said that each of these ended, in the order in which they were taken: those that
-    end beside each other are told in any order. There has to be one line of each."""
+    """How a program ended but for what it said of connections; and how it said that each of these ended, in the order in which they were taken: those
+    that end beside each other are told in any order. There has to be one line of each."""
     lines = ended.err.splitlines(keepends=True)
     told = sorted(told_of_one(it) for it in lines if it.startswith("tcdesk: connection "))
     is_each = [number for number, _ in told] == list(range(1, len(told) + 1))
@@ -68,8 +68,8 @@ def parted(ended: Ended) -> tuple[Ended, list[str]]:
 # ---- the server
 
 def reserved_port() -> tuple[socket.socket, int]:
-    """A port that nobody has, below those that the system gives to those who connect, and a socket that holds it. Until that is closed nobody else who asks
-    so gets the port. A server that is told it does: both allow that an address is used again, and the socket does not listen."""
+    """A port that nobody has, below those that the system gives to those who connect, and a socket that holds it. Until that is closed nobody else
+    who asks so gets the port. A server that is told it does: both allow that an address is used again, and the socket does not listen."""
     while True:
         held, port = socket.socket(), random.randrange(20000, 30000)
         try:
@@ -189,8 +189,8 @@ class Server:
             time.sleep(0.002)
 
     def exchange(self, raw: bytes, size: Optional[int] = None, pause: float = 0.0, shuts: bool = False) -> bytes:
-        """Sends these bytes, in pieces of this size, and reads the answer to its end; what came of it where the time is over. It is late where the answer is
-        not whole and the server could have let the peer go."""
+        """Sends these bytes, in pieces of this size, and reads the answer to its end; what came of it where the time is over. It is late where the
+        answer is not whole and the server could have let the peer go."""
         began = time.monotonic()
         got = self.exchanged(raw, size, pause, shuts)
         if time.monotonic() - began >= FAIR and not is_response(got):

@@ -1,9 +1,9 @@
 """What could stop a server, over real sockets: peers that say nothing, drip, send what is no request, close half or take nothing, one at a time and crowds
 of them; connections that are kept open; no file handle left, and no place; a COUNT that is not given; and how a server says that it listens and why it ended.
 
-Beside each bad peer a good one has to be answered at once, and in the order in which requests were whole. The bad one has its own time, and nothing that was
-not asked whole is done. The groups run side by side, each on a server of its own. There is a line for each case that failed. A group in which something was
-late says nothing of the program if the machine gave it no processor: it is tried again, and has to be in time once.
+Beside each bad peer a good one has to be answered at once, and in the order in which requests were whole. The bad one has its own time, and nothing
+that was not asked whole is done. The groups run side by side, each on a server of its own. There is a line for each case that failed. A group in
+which something was late says nothing of the program if the machine gave it no processor: it is tried again, and has to be in time once.
 """
 import errno
 import os
@@ -49,8 +49,8 @@ class Cases(http_cases.Cases):
 
 
 def hold(peer: socket.socket, raw: bytes, pause: float, began: float) -> float:
-    """Sends these bytes one by one, with so many seconds between them, until the peer closes. Gives the seconds that it took since that moment. It is late
-    where the peer had to wait for a byte so long that it may close."""
+    """Sends these bytes one by one, with so many seconds between them, until the peer closes. Gives the seconds that it took since that moment. It is
+    late where the peer had to wait for a byte so long that it may close."""
     sent = began
     try:
         for at, byte in enumerate(raw):
