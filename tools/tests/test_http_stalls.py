@@ -398,7 +398,7 @@ def tried(program: str, work: str, group: Callable[[Cases], None], tries: int = 
         group(cases)
     except Late as late:
         if tries > 1 and not cases.failed:
-            print(f"{group.__name__} is tried again: {late}", flush=True)
+            print(f"tried again: {group.__name__}: {late}", flush=True)
             return tried(program, work, group, tries - 1)
         cases.tell(group.__name__, "to be in time", str(late))
     except Fault as fault:
