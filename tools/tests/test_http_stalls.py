@@ -121,6 +121,7 @@ def behind(cases: Cases) -> None:
     """A peer that was answered, and drips on."""
     none, folder = cases.places(), cases.folder()
     with cases.server(folder, 2) as server, ExitStack() as open_ones:
+        server.listening()
         with cases.soon("a peer that drips behind its answer"):
             bad = open_ones.enter_context(server.connect())
             send(bad, PLACES)
@@ -197,6 +198,7 @@ def ordered(cases: Cases) -> None:
     them at once."""
     dice, folder, count = random.Random(SEED), cases.folder(), 12
     with cases.server(folder, 3 * count) as server:
+        server.listening()
         for turn in range(3):
             with ExitStack() as open_ones, cases.soon("requests in their order"):
                 peers = [open_ones.enter_context(server.connect()) for _ in range(count)]
