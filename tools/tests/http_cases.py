@@ -142,23 +142,27 @@ class Patient(unittest.TestCase):
 
     def patiently(self, test: Callable[[], None]) -> None:
         """Runs that test."""
-        in_time(test, self.setUp)
+        def once() -> None:
+            try:
+                test()
+            except Late as late:
+                if self.is_wrong():
+                    raise Fault(str(late)) from None
+                raise
+        in_time(once, self.setUp)
+
+    def is_wrong(self) -> bool:
+        """Whether something was found wrong by now."""
+        return False
 
 
 class Served(Patient):
     """Groups of cases, each in a folder of its own; a case that failed is printed as it comes. A group that was late is tried again in another
     folder."""
 
-    def patiently(self, test: Callable[[], None]) -> None:
-        """Runs that test. It is late no more once a case has failed."""
-        def group() -> None:
-            try:
-                test()
-            except Late as late:
-                if self.cases.failed:
-                    raise Fault(str(late)) from None
-                raise
-        super().patiently(group)
+    def is_wrong(self) -> bool:
+        """Whether a case has failed."""
+        return self.cases.failed > 0
 
     def setUp(self) -> None:
         """A folder to work in, and no case yet."""

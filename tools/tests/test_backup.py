@@ -51,6 +51,10 @@ class Copies(Patient, Tried):
         """No fault may have been found."""
         self.no_faults(self.bad)
 
+    def is_wrong(self) -> bool:
+        """Whether a fault was found."""
+        return bool(self.bad)
+
     def folder(self) -> Folder:
         """A new folder."""
         path = f"{self.work}/{next(self.numbers)}"

@@ -75,6 +75,10 @@ class Pages(Served):
 class Files(Patient, Reported):
     """Boards of files that nobody has open."""
 
+    def is_wrong(self) -> bool:
+        """Whether a case has failed."""
+        return self.cases.failed > 0
+
     def asks(self, name: str, folder: str, desk: Desk, file: str = "desk.db") -> None:
         """The command prints the page of this desk, and leaves the files of the folder."""
         before = digests(folder)

@@ -53,6 +53,10 @@ class Versions(Patient, Worked):
 
     looks_at = "versions"
 
+    def is_wrong(self) -> bool:
+        """Whether a fault was found."""
+        return bool(self.faults)
+
     def made(self, older: Older) -> tuple[str, Tables]:
         """A folder with one of the files, and its tables, which a desk could have written."""
         folder, tables = super().made(older)
