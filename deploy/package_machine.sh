@@ -122,7 +122,7 @@ service_cases() {
 # is room.
 end_cases_of_service() {
     # shellcheck disable=SC2016
-    local id='systemctl show -P MainPID tcdesk@one' said='journalctl -t tcdesk -o cat -u' ask='curl -s --max-time 20 http://127.0.0.1:8080/places'
+    local id='systemctl show -P MainPID tcdesk@one' said='journalctl -t tcdesk -o cat -u' ask='curl -s --max-time 60 http://127.0.0.1:8080/places'
     machine_says "a HUP is nothing to a server" $'the same\n{"lines":["places 1: 0 0 0 0 0 0 0 0 0 0 0 1 0 0 0"],"more":0,"refusal":0}' \
         "before=\$($id); systemctl kill --signal=HUP tcdesk@one; sleep 1; systemctl kill --signal=HUP tcdesk@one; sleep 2
         [[ \$($id) == \$before ]] && echo the same; $ask"
@@ -167,7 +167,7 @@ copy_cases() {
 # removed_cases: what a removal and a purge end, and what they leave.
 removed_cases() {
     in_machine "systemctl enable tcdesk@one; apt-get remove -y tcdesk; systemctl -q is-active tcdesk-backup@one.timer && echo timed
-        curl -s --max-time 5 http://127.0.0.1:8080/places"
+        curl -s --max-time 60 http://127.0.0.1:8080/places"
     [[ $? == 7 && $(<"$work/out") != *timed* ]]
     tell "a removal ends the desks that are served, and the timers"
     machine_says "and leaves them, their copies and their links" \

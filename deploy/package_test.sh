@@ -297,18 +297,15 @@ user_cases() {
     by_user tcdesk "$line"
     [[ $? != 0 && $(<"$work/err") == *"/etc/default/tcdesk-hand has to say PORT=N"* ]]
     tell "the service by hand: no port"
-    port=$(free_port)
+    take_port port
     echo "PORT=$port" >"$root/etc/default/tcdesk-hand"
     # shellcheck disable=SC2016
     unshare --mount bash -c 'umask 077; mount -t proc proc "$0/proc" && exec chroot --userspec="$(stat -c %u:%g "$0/var/lib/tcdesk")" "$0" \
         /usr/bin/env -i PATH=/usr/bin:/bin PORT="$1" ${*:2}' "$root" "$port" "$line" >"$work/out" 2>"$work/err" <&- &
     server=$!
-    for ((turn = 0; turn < 2400; turn++)); do
-        ! grep -q "listening on 127.0.0.1:$port" "$work/err" || break
-        sleep 0.05
-    done
+    wait_until listens "$work/err" $server
     same "the service by hand: what it says" "tcdesk: /var/lib/tcdesk/hand.db is a new desk"$'\n'"tcdesk: listening on 127.0.0.1:$port" "$(<"$work/err")"
-    by_user nobody "exec curl -s --max-time 20 http://127.0.0.1:$port/places"
+    by_user nobody "exec curl -s --max-time 60 http://127.0.0.1:$port/places"
     same "the service by hand is answered" '{"lines":["places 0: 0 0 0 0 0 0 0 0 0 0 0 0 0 0 0"],"more":0,"refusal":0}' "$(<"$work/out")"
     # what the unit of the copies runs, while the desk is served
     line=$(sed -n 's/^ExecStart=//p' "$top/deploy/backup/tcdesk-backup@.service")

@@ -82,10 +82,30 @@ check() {
     tell "$name: status $got"
 }
 
-# free_port: prints a port that no socket of this machine has. It asks by no connection: a server that counts its connections would count that one.
-free_port() {
-    local port
-    for ((port = 20000 + RANDOM % 9000; ; port++)); do
-        grep -qi "^ *[0-9]*: [0-9a-f]*:$(printf %04x "$port") " /proc/net/tcp /proc/net/tcp6 2>/dev/null || { echo "$port"; return; }
+# take_port NAME: sets a variable to a port that no socket of this machine has. No other script gets it while this one, or what it started, goes on: a
+# lock is held for it. The tests that are Python take theirs below 30000. It asks by no connection: a server that counts its connections would count
+# that one.
+take_port() {
+    local folder=/tmp/tcdesk-ports-$UID number hold
+    mkdir -p "$folder"
+    for ((number = 30000 + RANDOM % 2000; ; number = 30000 + (number - 29999) % 2000)); do
+        exec {hold}>"$folder/$number" || exit 1
+        flock -n "$hold" && ! grep -qi "^ *[0-9]*: [0-9a-f]*:$(printf %04x "$number") " /proc/net/tcp /proc/net/tcp6 2>/dev/null && break
+        exec {hold}>&-
     done
+    printf -v "$1" %s "$number"
+}
+
+# wait_until COMMAND..: waits until that succeeds, two minutes at most; its status is that of the last try.
+wait_until() {
+    local end=$((SECONDS + 120))
+    until "$@"; do
+        ((SECONDS < end)) || return 1
+        sleep 0.05
+    done
+}
+
+# listens FILE [PID]: whether the server says in that file that it listens at $port; or it has ended, and says no more.
+listens() {
+    grep -qxF "tcdesk: listening on 127.0.0.1:$port" "$1" || { [[ -n ${2:-} ]] && ! kill -0 "$2" 2>/dev/null; }
 }

@@ -109,9 +109,8 @@ def logged(cases: Cases, folder: str) -> None:
         for login in ("ann:wrong", "eve:secret", None):
             Client(proxy, login).get()
         Client(proxy, "ann:wrong").get("/tcdesk-internal/places")
-        time.sleep(0.2)
-        cases.tell("whom the log names, by password", ["ann 200", "ann 200", "ann 403", "ann 400", "ann 404", "ann 200", "bob 405", "- 401", "- 401", "- 401", "- 404"],
-                   persons(proxy))
+        wanted = ["ann 200", "ann 200", "ann 403", "ann 400", "ann 404", "ann 200", "bob 405", "- 401", "- 401", "- 401", "- 404"]
+        cases.tell("whom the log names, by password", wanted, persons(proxy, len(wanted)))
     files = folder_in(folder, "certificate")
     certificate_files(files)
     with Server(cases.program, folder, "other.db", None) as server, Proxy(files, "tcdesk-certificate", server.port) as proxy:
@@ -122,13 +121,13 @@ def logged(cases: Cases, folder: str) -> None:
         both.post("/acts", entry(2, "bob"))
         Client(proxy, BOB, "two").get()
         Client(proxy, BOB).get()
-        time.sleep(0.2)
-        cases.tell("whom the log names, by certificate", ["ann 200", "ann 200", "ann 403", "- 403", "- 400"], persons(proxy))
+        wanted = ["ann 200", "ann 200", "ann 403", "- 403", "- 400"]
+        cases.tell("whom the log names, by certificate", wanted, persons(proxy, len(wanted)))
 
 
-def persons(proxy: Proxy) -> list[str]:
-    """The person and the status of each request in the log of a proxy."""
-    return [f"{line.split(' ')[2]} {line.split(chr(34))[2].split()[0]}" for line in proxy.noted()]
+def persons(proxy: Proxy, count: int) -> list[str]:
+    """The person and the status of each request in the log of a proxy, once there are so many."""
+    return [f"{line.split(' ')[2]} {line.split(chr(34))[2].split()[0]}" for line in proxy.noted(count)]
 
 
 def heads(cases: Cases, folder: str) -> None:

@@ -13,7 +13,7 @@ import time
 from http.client import HTTPConnection
 from typing import Any, NamedTuple, Optional, Union
 
-from tests.http_peer import HERE, Fault, free_port
+from tests.http_peer import HERE, PATIENCE, Fault, free_port
 
 FOLDER = os.path.dirname(os.path.realpath(__file__))
 MODULE = "/usr/lib/nginx/modules/ngx_http_js_module.so"
@@ -68,7 +68,8 @@ class Proxy:
 
     def __enter__(self) -> "Proxy":
         """Waits until it listens."""
-        for _ in range(400):
+        end = time.monotonic() + PATIENCE
+        while time.monotonic() < end:
             with socket.socket() as asked:
                 if asked.connect_ex((HERE, self.port)) == 0:
                     return self
@@ -84,9 +85,12 @@ class Proxy:
         """Its log of errors."""
         return text_of(f"{self.folder}/error.log")
 
-    def noted(self) -> list[str]:
-        """The lines of its log of requests."""
-        return text_of(f"{self.folder}/access.log").splitlines()
+    def noted(self, count: int) -> list[str]:
+        """The lines of its log of requests, once there are so many: each is written behind the answer."""
+        end = time.monotonic() + PATIENCE
+        while len(lines := text_of(f"{self.folder}/access.log").splitlines()) < count and time.monotonic() < end:
+            time.sleep(0.02)
+        return lines
 
     def forget(self) -> None:
         """Takes away what it knows of wrong passwords: who gave one is slowed for a minute."""
@@ -266,7 +270,8 @@ class Browser:
 
     def shows(self, address: str) -> str:
         """The text of the page, once it is the one of this address."""
-        for _ in range(400):
+        end = time.monotonic() + PATIENCE
+        while time.monotonic() < end:
             if self.run("document.readyState + ' ' + location.href") == f"complete {address}":
                 return self.run("document.body.innerText")
             time.sleep(0.05)

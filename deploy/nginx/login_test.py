@@ -30,7 +30,7 @@ from login_rights import roles, second_person, signatures  # noqa: E402
 from login_shown import browsers, readme  # noqa: E402
 from run import program_of  # noqa: E402
 from tests.http_cases import Cases  # noqa: E402
-from tests.http_peer import Fault, Server  # noqa: E402
+from tests.http_peer import Fault, Server, in_time  # noqa: E402
 from tests.runs import quick_folder  # noqa: E402
 
 
@@ -88,7 +88,7 @@ def main() -> int:
         for name, group in () if lack else GROUPS:
             before, began = cases.passed, time.monotonic()
             try:
-                group(cases, cases.folder())
+                in_time(lambda: group(cases, cases.folder()))
             except (Fault, OSError, HTTPException) as fault:
                 cases.failed += 1
                 print(f"FAILED {name}: {fault!r}")

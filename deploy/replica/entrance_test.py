@@ -14,7 +14,7 @@ from log import Wanted
 from model.http import Refused as RefusedByModel
 from model.http import answer_to
 from model.http import hosts_of as model_hosts
-from stand_ins import LONG, DeskInMemory, Served, StandIn, entry, log_of, quick, whole
+from stand_ins import LONG, DeskInMemory, Served, StandIn, Steady, entry, log_of, quick, whole
 from words import MOST_BODY, hosts_of, of_body, of_head, shortened
 
 SOON = 3.0  # seconds after which somebody is told that nothing is known, where a test waits for that
@@ -25,7 +25,7 @@ def act(text: str, number: int = 1, **more: object) -> bytes:
     return json.dumps({"act": text, "by": "ann", "moment": 0, "number": number, **more}).encode()
 
 
-class ServedAlone(unittest.TestCase):
+class ServedAlone(Steady):
     """A machine that is in."""
 
     def setUp(self) -> None:

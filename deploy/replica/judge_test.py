@@ -8,7 +8,7 @@ import os
 
 from compare import Comparison, Judge
 from present import Present, State, there_of
-from stand_ins import StandIn
+from stand_ins import StandIn, Steady
 from tables import digest_of
 from tests.runs import quick_folder
 
@@ -29,7 +29,7 @@ class Told:
         self.leaves = why
 
 
-class Judges(unittest.TestCase):
+class Judges(Steady):
     """Three machines."""
 
     def setUp(self) -> None:

@@ -7,10 +7,10 @@ from entry import SKIP, TICK, VOID, Entry, Seal, entry_of
 from etcd import JSON, Unanswered
 from log import MOST_AT_ONCE, LogLost, Wanted
 from order import Order, Verdict
-from stand_ins import SEAL, Hand, StandIn, entry, log_of, whole
+from stand_ins import SEAL, Hand, StandIn, Steady, entry, log_of, whole
 
 
-class Clocks(unittest.TestCase):
+class Clocks(Steady):
     """The clock of the log."""
 
     def test_forward(self) -> None:
@@ -57,7 +57,7 @@ class Seals(unittest.TestCase):
             (SKIP, b"12"), (VOID, b"12"), (TICK, b"12"), (SKIP, b"x"), (SKIP, b"9" * 13))])
 
 
-class Logs(unittest.TestCase):
+class Logs(Steady):
     """Appending and following."""
 
     def test_many(self) -> None:

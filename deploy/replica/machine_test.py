@@ -1,5 +1,4 @@
 """Tests: a follower, step by step."""
-import unittest
 from concurrent.futures import TimeoutError as Late
 from queue import Empty
 
@@ -9,7 +8,7 @@ from entry import COMPARE, TICK, VOID, Entry
 from log import Wanted
 from machine import Left, Machine, NotDone, Told
 from order import Item
-from stand_ins import FAR, DeskInMemory, Hand, StandIn, entry, log_of, quick
+from stand_ins import FAR, DeskInMemory, Hand, StandIn, Steady, entry, log_of, quick
 from words import Answer
 
 
@@ -38,7 +37,7 @@ class Writer:
         self.wants.append(f"void {item.place}")
 
 
-class Followed(unittest.TestCase):
+class Followed(Steady):
     """A log of twenty posts, of which the next entry says that they were carried out, and a desk."""
 
     def setUp(self) -> None:

@@ -7,11 +7,10 @@ import subprocess
 import sys
 import tempfile
 import time
-import unittest
 from typing import Optional
 
 from desk import Begun, Desk, Ended, Opening, Way
-from stand_ins import LONG, Served, StandIn, log_of
+from stand_ins import LONG, Served, StandIn, Steady, log_of
 from tables import digest_of
 from tests.asked import ASKED
 from tests.http_peer import free_port, run
@@ -28,7 +27,7 @@ HEADS = (b"PUT /acts HTTP/1.1", b"HEAD /places HTTP/1.1", b"DELETE /places HTTP/
          b"GET /report/1/x HTTP/1.1", b"GET /procedures/A HTTP/1.1", b"POST /acts HTTP/1.1\r\nContent-Length: 2", b"POST /none HTTP/1.1\r\nContent-Length: 0")
 
 
-class Desks(unittest.TestCase):
+class Desks(Steady):
     """Desks of the real program."""
 
     def begin(self, folder: str, port: int, first: str = "") -> subprocess.Popen[bytes]:
@@ -47,7 +46,9 @@ class Desks(unittest.TestCase):
 
     def there(self, desk: Desk) -> Opening:
         """The desk that runs, once it does."""
+        end = time.monotonic() + LONG
         while not (opening := desk.opening()):
+            self.assertLess(time.monotonic(), end, "there is no desk in time")
             time.sleep(0.01)
         return opening
 
@@ -205,10 +206,12 @@ class Two(Desks):
     @staticmethod
     def until_known(served: dict[str, Served], name: str, body: bytes) -> str:
         """What is answered to a post in the end, of this machine or the other."""
-        for at in range(400):
+        at, end = 0, time.monotonic() + LONG
+        while time.monotonic() < end:
             status, _, told = served[name if at % 2 == 0 else "ab".replace(name, "")].ask("POST", "/acts", body)
             if status not in (503, 504):
                 return told
+            at += 1
             time.sleep(0.05)
         raise AssertionError("nothing is known of a post")
 

@@ -13,6 +13,8 @@ import unittest
 from queue import Empty
 from typing import Callable, Optional
 
+from tests.http_cases import Patient
+from tests.http_peer import Late
 from tests.runs import quick_folder
 
 from appender import Appender
@@ -29,6 +31,7 @@ from present import Present
 from words import Answer
 
 LONG = 120.0  # seconds for anything
+STILL, LOOKS = 0.5, 0.05  # seconds after which this process counts as having stood still; and between two looks at that
 SEAL = Seal(b"the key of this desk")
 FAR = 10**15  # a latest moment that never comes
 
@@ -186,6 +189,52 @@ class DeskInMemory(Desk):
     def another(self, mark: str) -> None:
         """Another one begins."""
         self.runs, self.posts, self.is_ended = Opening(mark, 0, 0, 1000), [], False
+
+
+class Watch(threading.Thread):
+    """Sees for how long this process stood still at most, within its block."""
+
+    def __init__(self) -> None:
+        """It runs."""
+        super().__init__(daemon=True)
+        self.ends, self.longest = threading.Event(), 0.0
+
+    def run(self) -> None:
+        """Looks, again and again."""
+        seen = now()
+        while not self.ends.wait(LOOKS):
+            before, seen = seen, now()
+            self.longest = max(self.longest, seen - before)
+
+    def __enter__(self) -> "Watch":
+        """Begins."""
+        self.start()
+        return self
+
+    def __exit__(self, *_: object) -> None:
+        """Ends, with a last look."""
+        self.ends.set()
+        self.join()
+
+
+class Steady(Patient):
+    """A test of machines in this process. If it fails, and the process stood still meanwhile, it is tried again: a machine that stood still has to
+    refuse what comes."""
+
+    def patiently(self, test: Callable[[], None]) -> None:
+        """Runs that test."""
+        def watched() -> None:
+            watch = Watch()
+            try:
+                with watch:
+                    test()
+            except unittest.SkipTest:
+                raise
+            except Exception as why:
+                if watch.longest > STILL:
+                    raise Late(f"{self.id()}: this process stood still for {watch.longest:.1f} s: {why!r:.200}") from why
+                raise
+        super().patiently(watched)
 
 
 def quick(test: unittest.TestCase) -> str:

@@ -4,12 +4,12 @@ import secrets
 import shutil
 import signal
 import time
-from typing import TYPE_CHECKING, Callable, NamedTuple, Optional
+from typing import TYPE_CHECKING, Callable, NamedTuple, Optional, Sequence
 
 from entry import Entry
 from etcd import is_free, put, span
 from log import Log, Wanted
-from tests.http_peer import Fault, free_port
+from tests.http_peer import PATIENCE, TRIES, Fault, free_port
 from tests.runs import made_shim
 from trial_clients import AT_ONCE, LIMIT, Post, Try
 from trial_machines import CutNet, Member, Unit, wait_for
@@ -19,6 +19,7 @@ if TYPE_CHECKING:
 
 NAME = "desk"
 LONGEST = 6.0  # seconds for which a client may be without an answer while one machine of three is down, cut off, or hung
+AT_ONCE_SECONDS = 1.0  # in which a post is refused where it is known that nothing can be done
 FAR = 10**15
 
 
@@ -153,11 +154,20 @@ class Faults:
         self.away = 0
         for it in self.members:
             it.go()
-        self.trial.tell("while etcd is away a post is refused at once", [f"{status} after {took:.1f} s" for status, took in told if status != 503 or took > 1])
+        self.trial.tell("while etcd is away a post is refused at once", not_at_once(told))
         return ""
 
     def timed(self, member: Member) -> tuple[int, float]:
-        """The status of the answer to one more post, 0 where there is none, and after how many seconds it came."""
+        """The status of the answer to one more post, 0 where there is none, and after how many seconds it came. Where it came late, another post is
+        sent."""
+        for _ in range(1, TRIES):
+            status, took = self.timed_once(member)
+            if status != 503 or took <= AT_ONCE_SECONDS:
+                return status, took
+        return self.timed_once(member)
+
+    def timed_once(self, member: Member) -> tuple[int, float]:
+        """The same, of one post."""
         self.trial.posts += 1
         post = Post("/acts", b'{"act":"enter 5 a--c no 8 1 - - ok","by":"tri","moment":1,"number":%d}' % self.trial.posts)
         began = time.monotonic()
@@ -193,7 +203,7 @@ class Faults:
             log.put([wanted])
         line = f"failed 3 times in a row at place {wanted.place}\n"
         wait_for("all machines stay out", lambda: all(it.said(f"stays out: its desks {line}") for it in self.members))
-        end = time.monotonic() + 3  # a machine tells of itself each second
+        end = time.monotonic() + PATIENCE  # a machine tells of itself each second
         while (told := self.members[0].does("status")).count(line) < len(self.members) and time.monotonic() < end:
             time.sleep(0.2)
         wants = [f"machine {it.name} stays out" for it in self.members]
@@ -222,7 +232,7 @@ class Faults:
             self.restart_etcd(it, 0)
         self.members[0].as_root("alarm", "disarm")
         self.trial.tell("while etcd has no room a post is refused at once, and `status` says why",
-                        [f"{status} after {took:.1f} s" for status, took in answers if status != 503 or took > 1] + [told] * ("NOSPACE" not in told))
+                        not_at_once(answers) + [told] * ("NOSPACE" not in told))
         return ""
 
     def restart_etcd(self, member: Member, quota: int) -> None:
@@ -247,6 +257,11 @@ class Faults:
             unit.end()
             shutil.rmtree(folder, ignore_errors=True)
         return f" (found after {took:.1f} s)"
+
+
+def not_at_once(answers: Sequence[tuple[int, float]]) -> list[str]:
+    """What is wrong of answers, by their status and their time, that had to refuse at once."""
+    return [f"{status} after {took:.1f} s" for status, took in answers if status != 503 or took > AT_ONCE_SECONDS]
 
 
 def told_in(path: str, text: str) -> bool:

@@ -23,7 +23,7 @@ from generate import http_posts as posts, http_requests as requests
 from generate.http_words import BODY, ENTRY, PLACES, Case, Want, act, get, load, post
 from model.http import LARGE, NO_PATH, OTHER_METHOD, Refused, answer_to, reply_response
 from tests.asked import ASKED
-from tests.http_peer import PATIENCE, SLOW, Ended, Expected, Fault, Server, parted, received, run, send
+from tests.http_peer import FAIR, PATIENCE, SLOW, Ended, Expected, Fault, Late, Server, in_time, parted, received, run, send
 from tests.plain_runs import kept_tables
 from tests.runs import made_shim, quick_folder
 
@@ -101,17 +101,24 @@ def is_counted(wanted: Counts, counts: tuple[int, int], behind: int) -> bool:
 
 
 def stream(runs: Runs, name: str, raws: Sequence[bytes], wanted: Wanted, within: float = PATIENCE, **settings: int) -> None:
-    """One run with these settings of fail_io.c, on these requests, within so many seconds."""
+    """One run with these settings of fail_io.c, on these requests, within so many seconds. More is late."""
+    in_time(lambda: streamed(runs, name, raws, wanted, within, settings))
+
+
+def streamed(runs: Runs, name: str, raws: Sequence[bytes], wanted: Wanted, within: float, settings: dict[str, int]) -> None:
+    """The same, once."""
     runs.counts["streams"] += 1
     began = time.monotonic()
     with runs.server(len(raws), "fail_io", ("--verbose",), settings={"SOCKETS": 1, **settings}) as server:
         got = [server.exchange(it) for it in raws]
         took, (ended, ends) = time.monotonic() - began, parted(server.end())
+    if took > within:
+        raise Late(f"{name}: {took:.1f} s, and not within {within}")
     reads, writes = (int(it) for it in runs.told().split())
     counts, behind = (reads, writes), MOST_ENDLESS if "READ_LINE_ENDS" in settings else MOST_BEHIND * len(raws)
     found = Wanted(got, wanted.counts if is_counted(wanted.counts, counts, behind) else counts, runs.entered(), ends[0])
-    if found != wanted or ends[1:] != ["answered"] * (len(raws) - 1) or ended != Ended(0, "", server.says) or took > within:
-        runs.bad(f"{name}, {settings}", found, wanted, ended, f"{took:.1f} s")
+    if found != wanted or ends[1:] != ["answered"] * (len(raws) - 1) or ended != Ended(0, "", server.says):
+        runs.bad(f"{name}, {settings}", found, wanted, ended)
 
 
 def each_fails(runs: Runs, request: bytes, entered: int, step: int) -> None:
@@ -201,6 +208,8 @@ def refused(runs: Runs, it: Exchange, at: int) -> bool:
                 got.append(server.exchange(raw))
             ended, ends = parted(server.end())
             look_at_ends(runs, it, got, ends)
+        except Late:
+            raise
         except Fault as fault:
             ended = fault
     if not runs.told():
@@ -218,7 +227,7 @@ def refused(runs: Runs, it: Exchange, at: int) -> bool:
 
 def once(runs: Runs, it: Exchange, name: str) -> None:
     """Sends the request again to a server that lacks nothing: it was done once in all."""
-    got, kept = runs.again([it.raw, PLACES]), kept_tables(f"{runs.folder}/kept.db", "mode=ro&immutable=1")
+    got, kept = in_time(lambda: runs.again([it.raw, PLACES])), kept_tables(f"{runs.folder}/kept.db", "mode=ro&immutable=1")
     if got not in ([it.right, it.after], [it.again, it.after]) or kept is None or (len(kept.request), kept.reply) != (it.enters, it.keeps):
         runs.bad(name, got, kept and kept.reply)
 
@@ -226,9 +235,11 @@ def once(runs: Runs, it: Exchange, name: str) -> None:
 def called(runs: Runs, raw: bytes) -> None:
     """A desk that was called so before, to be left for runs of repeats."""
     runs.left = "left.db"
-    with runs.server(1) as server:
-        server.exchange(raw)
-        server.end()
+    def once_called() -> None:
+        with runs.server(1) as server:
+            server.exchange(raw)
+            server.end()
+    in_time(once_called)
     shutil.copy(f"{runs.folder}/kept.db", f"{runs.folder}/called.db")
 
 
@@ -242,7 +253,7 @@ def memory(runs: Runs) -> None:
             called(runs, raw)
         it, at = Exchange(runs, raw, is_called), 1
         runs.left = it.left
-        while refused(runs, it, at):
+        while in_time(lambda: refused(runs, it, at)):
             at += step
         if at == 1:
             runs.bad(f"{raw[:20]!r}: no request for memory was counted")
@@ -277,22 +288,39 @@ def full_disk() -> list[Case]:
             Case("a long body", post("/acts", "", length=65537), LARGE), Case("a question in the end", PLACES, 32)]
 
 
+def stopping(runs: Runs, count: Optional[int], words: Sequence[str], late: bytes) -> tuple[list[bytes], Ended, str]:
+    """What a server whose disk is full answers to a question, to an act, and to this act, whose last byte comes then; how it ended, and what it said
+    first."""
+    with runs.server(count, words=words, first=small_files(5000)) as server:
+        server.listening()
+        began = time.monotonic()
+        with server.connect() as waits:
+            send(waits, late[:-1])
+            got = [server.exchange(PLACES), server.exchange(act(ENTRY))]
+            send(waits, late[-1:])
+            got.append(received(waits))
+        if time.monotonic() - began > FAIR:
+            raise Late("what is on its way as a desk stops")
+        return got, server.end(), server.listens
+
+
 def stops(runs: Runs) -> None:
     """The same, where the server is to end by that: what is on its way is answered, and it ends with status 3 and its reason, whatever count is left."""
     it, late = Exchange(runs, act(ENTRY)), act(ENTRY, number=8)
     says = "tcdesk: kept.db has stopped: its tables could not be written\n"
     counts: tuple[tuple[Optional[int], list[str]], ...] = ((None, []), (None, ["--end-when-stopped"]), (9, ["--end-when-stopped"]))
     for count, words in counts:
-        with runs.server(count, words=words, first=small_files(5000)) as server, server.connect() as waits:
-            send(waits, late[:-1])
-            got = [server.exchange(PLACES), server.exchange(act(ENTRY))]
-            send(waits, late[-1:])
-            got.append(received(waits))
-            ended = server.end()
+        got, ended, listens = in_time(lambda: stopping(runs, count, words, late))
         runs.counts["disk"] += 1
-        if got != [it.before, STORE, STOPPED] or ended != Ended(3, "", server.listens + says):
+        if got != [it.before, STORE, STOPPED] or ended != Ended(3, "", listens + says):
             runs.bad(f"a server that stops, {count} {words}", got, ended)
         once(runs, it, f"a server that stopped, {count} {words}, and then longer files")
+
+
+def served(runs: Runs, told: Sequence[Case], size: int) -> tuple[list[bytes], Ended, str]:
+    """What a server whose files may not pass this size answers to these cases; how it ended, and what it has to say."""
+    with runs.server(len(told), first=small_files(size)) as server:
+        return [server.exchange(case.raw) for case in told], server.end(), server.says
 
 
 def disk(runs: Runs) -> None:
@@ -303,14 +331,12 @@ def disk(runs: Runs) -> None:
     wanted = [ends.get(case.want, response) for case, response in zip(told, right.responses)]
     # with fewer bytes than some hundred the file cannot be opened
     for size in (1000, 4151, 4152, 5000):
-        with runs.server(len(told), first=small_files(size)) as server:
-            got = [server.exchange(case.raw) for case in told]
-            ended = server.end()
+        got, ended, says = in_time(lambda: served(runs, told, size))
         runs.counts["disk"] += 1
         for case, response, found in zip(told, wanted, got):
             if response != found:
                 runs.bad(f"files of {size} bytes: {case.name}", found, response)
-        if (ended.status, ended.err) not in ((0, server.says), (2, f"{server.says}tcdesk: cannot use kept.db\n")):
+        if (ended.status, ended.err) not in ((0, says), (2, f"{says}tcdesk: cannot use kept.db\n")):
             runs.bad(f"files of {size} bytes", ended)
         once(runs, it, f"files of {size} bytes, and then longer ones")
 

@@ -15,7 +15,6 @@ import shutil
 import tempfile
 from collections import Counter
 from concurrent.futures import ThreadPoolExecutor
-from itertools import count
 from typing import Callable, Iterable, NamedTuple
 
 from faults.kept_runs import stack_of
@@ -25,12 +24,11 @@ from model.facts import MOST_ROWS, Cause, Place
 from model.http import reply_response
 from model.kept import connect, sqlite3
 from tests.asked import ASKED
-from tests.http_peer import Ended, Fault, Server, run
+from tests.http_peer import Ended, Fault, Late, Server, in_time, run
 from tests.new_desks import holds_no_table
 from tests.runs import Tried, made_shim, quick_folder
 
 AT_ONCE = 4
-PORTS = count(20000 + os.getpid() % 9000)  # each server has its own
 ANSWERED, UNHEARD, UNDONE, NOT_HALVED, THE_END = "answered", "done, and not answered", "not done", "nothing to halve", "the end"
 STORE, STOPPED_ROOM = (reply_response([it]) for it in ("refused 31 Store", "refused 32 Stopped"))
 
@@ -168,17 +166,10 @@ class Trial:
             self.send(self.left, list(kind.posted))
 
     def send(self, folder: str, posts: list[bytes], **settings: str) -> Sent:
-        """Sends these posts to a server of the desk in a folder, a connection each; again where another program has taken its port."""
-        while True:
-            sent = self.send_once(folder, posts, settings)
-            if "cannot use port" not in sent.ended.err:
-                return sent
-
-    def send_once(self, folder: str, posts: list[bytes], settings: dict[str, str]) -> Sent:
-        """The same, at one port."""
+        """Sends these posts to a server of the desk in a folder, a connection each."""
         env = {"LD_PRELOAD": self.shim, "STOP_FILE": f"{folder}/desk.db", **settings} if settings else {}
         answers: list[bytes] = []
-        with Server(self.program, folder, "desk.db", len(posts), env=env, port=next(PORTS)) as server:
+        with Server(self.program, folder, "desk.db", len(posts), env=env) as server:
             try:
                 for it in posts:
                     answers.append(server.exchange(it))
@@ -215,6 +206,8 @@ class Trial:
             lies = stands_in(f"{folder}/desk.db")
             how = ANSWERED if sent.is_whole(self.kind.posts) else UNHEARD if self.key in lies.replies else UNDONE
             return self.wrong_left(sent, lies, [self.right]) or self.again(folder, lies) or how
+        except Late:
+            raise
         except (Fault, sqlite3.Error) as fault:
             return f"it goes no further: {fault}"
         finally:
@@ -236,6 +229,8 @@ class Trial:
                 return f"it was told 32, and is done: {lies}"
             how = {self.right: ANSWERED, STORE: f"31, {'' if is_done else 'not '}done", STOPPED_ROOM: "32"}.get(last, "not opened")
             return self.wrong_left(sent, lies, [self.right, STORE, STOPPED_ROOM]) or self.again(folder, lies) or how
+        except Late:
+            raise
         except (Fault, sqlite3.Error) as fault:
             return f"it goes no further: {fault}"
         finally:
@@ -273,9 +268,9 @@ KNOWN = (ANSWERED, UNHEARD, UNDONE, NOT_HALVED, "31, done", "31, not done", "32"
 
 def tell(trial: Trial, pool: ThreadPoolExecutor, how: Callable[[int, str], str], ways: Iterable[str]) -> tuple[Counter[str], list[str]]:
     """Tries a run, disturbed at each call in these ways, some at a time, and says how that went. Gives that, and what was bad."""
-    counts, bad, calls, name = Counter[str](), list[str](), trial.calls(), trial.kind.name
+    counts, bad, calls, name = Counter[str](), list[str](), in_time(trial.calls), trial.kind.name
     tried = [(number, way) for number in range(1, calls + 2) for way in ways]
-    for (number, way), verdict in zip(tried, pool.map(lambda it: how(*it), tried)):
+    for (number, way), verdict in zip(tried, pool.map(lambda it: in_time(lambda: how(*it)), tried)):
         is_known = verdict in KNOWN or verdict == THE_END and number > calls
         counts[verdict if is_known else "bad"] += 1
         bad += [] if is_known else [f"{name}, call {number} of {calls}, {way}: {verdict:.900}"]

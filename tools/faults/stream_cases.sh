@@ -42,7 +42,7 @@ check() {
     local got counts got_out got_err
     # The settings are words of their own.
     # shellcheck disable=SC2086
-    timeout 60 env $settings LD_PRELOAD="$work/fail_io.so" "$program" run "$name" >out 2>err 9>counts 3<&-
+    timeout 300 env $settings LD_PRELOAD="$work/fail_io.so" "$program" run "$name" >out 2>err 9>counts 3<&-
     got=$?
     counts=$(<counts)
     IFS= read -r -d '' got_out <out

@@ -18,24 +18,23 @@ cp -r "$top/examples" "$work" && cd "$work" || exit 1
 
 # start FILE COUNT [PORT]: serves the desk of a file, and waits until it says that it listens.
 start() {
-    port=${3:-$(free_port)}
+    port=${3:-}
+    [[ -n $port ]] || take_port port
     count=$2
     expect_new serve "$1"
+    : >"$work/served.err"
     "$program" serve "$1" "$port" "$count" >"$work/served" 2>"$work/served.err" &
     server=$!
-    for ((i = 0; i < 200; i++)); do
-        grep -qxF "tcdesk: listening on 127.0.0.1:$port" "$work/served.err" && return
-        kill -0 "$server" 2>/dev/null || return
-        sleep 0.05
-    done
+    wait_until listens "$work/served.err" $server
 }
+
+# has_ended PID: whether a process has ended.
+has_ended() { ! kill -0 "$1" 2>/dev/null; }
+
 
 # ended NAME: the server that was started ends by itself, with status 0, and says whether its desk is new, where it listened and why it ended.
 ended() {
-    for ((i = 0; i < 200; i++)); do
-        kill -0 "$server" 2>/dev/null || break
-        sleep 0.05
-    done
+    wait_until has_ended "$server"
     kill "$server" 2>/dev/null
     wait "$server"
     local status=$?
@@ -103,14 +102,11 @@ tell "the desk that is left"
 
 # lose WORD..: a proxy before the server, at the port $front, which loses answers as these words say.
 lose() {
-    front=$(free_port)
+    take_port front
     : >"$work/ready"
     "$top/tools/pages/losing_proxy.py" "$front" "$port" "$server" "$@" >"$work/ready" 2>"$work/proxy.err" &
     proxy=$!
-    for ((i = 0; i < 200; i++)); do
-        [[ ! -s $work/ready ]] || return
-        sleep 0.05
-    done
+    wait_until test -s "$work/ready"
 }
 
 # posted NAME NUMBER LINES WORD..: the function posts an act of eve, which enters a request, by a proxy that loses answers so. It prints the answer of LINES,
@@ -259,7 +255,8 @@ status=$?
 take_beside
 [[ $status == 2 && ! -s $work/out && $(<"$work/err") == "tcdesk: cannot use port $port" ]] && cmp "$work/stood.db" "$work/second.db" >>"$work/err" 2>&1
 tell "a port that is taken, and a desk"
-"$program" serve "$work/first.db" "$(free_port)" 1 >"$work/out" 2>"$work/err"
+take_port other
+"$program" serve "$work/first.db" "$other" 1 >"$work/out" 2>"$work/err"
 status=$?
 take_beside
 [[ $status == 2 && ! -s $work/out && $(<"$work/err") == "tcdesk: cannot use $work/first.db" ]]

@@ -17,7 +17,7 @@ import socket
 import sys
 import time
 
-HERE, LOST, PATIENCE = "127.0.0.1", 5, 20
+HERE, LOST, PATIENCE = "127.0.0.1", 5, 120
 HOST = re.compile(rb"(?<=\r\n)Host: [^\r\n]*\r\n")
 TIMEOUT = b"HTTP/1.1 504 Gateway Time-out\r\nContent-Length: 2\r\n\r\nno"
 

@@ -103,7 +103,7 @@ section "$page" '.Sh DESCRIPTION' | sed -n 's/^\.It Cm //p' >"$work/commands.pag
 compare commands "$work/commands" "$work/commands.page"
 
 # The example of a desk over HTTP, as a script.
-port=$(free_port)
+take_port port
 section "$page" '.Sh EXAMPLES' | awk '/^\.Bd/ { text = ""; next } /^\.Ed/ { if (text ~ /tcdesk serve/) printf "%s", text; next }
     { text = text $0 "\n" }' | sed "s/8080/$port/" >"$work/example"
 mkdir "$work/bin" "$work/folder" && ln -s "$program" "$work/bin/tcdesk" || exit 1

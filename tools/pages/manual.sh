@@ -161,16 +161,13 @@ run_command() {
 
 # start_server WORDS: starts the server of README.md, for one connection, and waits until it says that it listens.
 start_server() {
-    port=$(free_port)
+    take_port port
     expect_said "$1"
     : >"$work/said"
     bash -c "exec ${1/8080/$port} 1" >"$work/served" 2>"$work/said" </dev/null &
     server=$!
-    for ((i = 0; i < 200; i++)); do
-        ! grep -qxF "tcdesk: listening on 127.0.0.1:$port" "$work/said" || return 0
-        kill -0 "$server" 2>/dev/null || break
-        sleep 0.05
-    done
+    wait_until listens "$work/said" $server
+    ! listens "$work/said" || return 0
     fail "README.md's $1 does not listen: $(<"$work/said")"
 }
 

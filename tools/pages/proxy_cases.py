@@ -18,7 +18,7 @@ from typing import Optional
 
 from tests.asked import TOP
 from tests.http_cases import Cases, Served
-from tests.http_peer import HERE, Fault, Server, free_port
+from tests.http_peer import FAIR, HERE, PATIENCE, Fault, Late, Server, free_port
 
 POSTS, AT_ONCE = 300, 60
 PLACES = '{{"lines":["places {0}: {0} 0 0 0 0 0 0 0 0 0 0 0 0 0 0"],"more":0,"refusal":0}}'
@@ -61,8 +61,8 @@ def begin(folder: str, own: int, desk: int) -> subprocess.Popen[bytes]:
         file.write(f"ann:{word}")
     with open(f"{folder}/nginx.conf", "w", encoding="utf-8") as file:
         file.write("user root;\n" * (os.getuid() == 0) + CONFIGURATION.format(folder=folder, text=manual(folder, own, desk)))
-    proxy = subprocess.Popen(["nginx", "-p", folder, "-c", f"{folder}/nginx.conf"], stderr=subprocess.DEVNULL)
-    for _ in range(200):
+    proxy, end = subprocess.Popen(["nginx", "-p", folder, "-c", f"{folder}/nginx.conf"], stderr=subprocess.DEVNULL), time.monotonic() + PATIENCE
+    while time.monotonic() < end:
         with socket.socket() as asked:
             if asked.connect_ex((HERE, own)) == 0:
                 return proxy
@@ -102,14 +102,16 @@ def look(cases: Cases, proxy: Proxy) -> None:
     cases.tell("the act again", first, proxy.ask("POST", "/acts", BODY.format(1, 1)))
     cases.tell("no path of the desk's", 404, proxy.ask("GET", "/none")[0])
     cases.tell("a body that is too long", 413, proxy.ask("POST", "/acts", "x" * 65537)[0])
+    began = time.monotonic()
     with ThreadPoolExecutor(AT_ONCE) as pool:
         got = list(pool.map(lambda at: proxy.ask("POST", "/acts", BODY.format(at + 2, at % 2048))[0], range(POSTS)))
+    # a desk that works off others for so long lets a connection go whose request it has not read yet
+    if 502 in got and time.monotonic() - began > FAIR:
+        raise Late(f"{POSTS} posts, {AT_ONCE} at a time: {time.monotonic() - began:.1f} s")
     cases.tell(f"{POSTS} posts, {AT_ONCE} at a time", {200: POSTS}, {it: got.count(it) for it in set(got)})
     cases.tell("and they stand", (200, PLACES.format(POSTS + 1)), proxy.ask("GET", "/places"))
-    with socket.create_connection((HERE, proxy.port)):
-        began = time.monotonic()
+    with cases.soon("behind a peer that says nothing"), socket.create_connection((HERE, proxy.port)):
         cases.tell("behind a peer that says nothing", (200, PLACES.format(POSTS + 1)), proxy.ask("GET", "/places"))
-        cases.tell("and at once", True, time.monotonic() - began < 4)
 
 
 class Behind(Served):

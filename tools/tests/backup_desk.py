@@ -17,7 +17,7 @@ from model.http import Acts, Loads, answer_to
 from model.kept import sqlite3
 from model.rows import Tables
 from tests.asked import ASKED
-from tests.http_peer import PATIENCE, Fault, Server
+from tests.http_peer import PATIENCE, Fault, Server, in_time
 from tests.new_desks import without_beside
 from tests.plain_runs import kept_tables, unlike
 from tests.runs import Ended
@@ -59,7 +59,7 @@ class Worker(threading.Thread):
             if self.stops.is_set():
                 return
             try:
-                answer = self.server.exchange(raw)
+                answer = in_time(lambda: self.server.exchange(raw))  # the number is the same, and it is done once
             except (Fault, OSError) as why:
                 answer = repr(why).encode()
             if not answer.startswith(b"HTTP/1.1 200"):

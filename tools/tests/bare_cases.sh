@@ -65,14 +65,12 @@ tell "README.md's first command: $command"
 in_root "./tcdesk run --db /tmp/desk.db examples/monday.tc" && [[ $(<"$work/err") == "tcdesk: /tmp/desk.db is a new desk" ]] &&
     diff "$top/examples/monday.out" "$work/out" >&2
 tell "a shift on a file"
-port=$(free_port)
+take_port port
+: >"$work/err"
 "${within[@]}" /bin/bash -c "cd /opt/tcdesk && exec ./tcdesk serve /tmp/desk.db $port 1" >"$work/out" 2>"$work/err" <&- &
 server=$!
-for ((turn = 0; turn < 200; turn++)); do
-    ! grep -q "listening on 127.0.0.1:$port" "$work/err" || break
-    sleep 0.05
-done
-curl -s --max-time 20 "http://127.0.0.1:$port/places" >"$work/answer" && grep -q '^{"lines":\["places 3: ' "$work/answer"
+wait_until listens "$work/err" $server
+curl -s --max-time 60 "http://127.0.0.1:$port/places" >"$work/answer" && grep -q '^{"lines":\["places 3: ' "$work/answer"
 tell "curl is answered from outside the root"
 wait "$server"
 tell "the server ends by itself"

@@ -25,7 +25,7 @@ me=first_run_cases
 cat >"$work/bin/rt" <<'RT'
 #!/bin/bash
 # What rt run prints, where it is asked in the folder of tc_cli: a crate is proved again where its text changed or a crate below was proved.
-# At a crate that the file stop names it waits for the file go, at most 20 seconds, and at one that the file fail names it fails.
+# At a crate that the file stop names it waits for the file go, at most some minutes, and at one that the file fail names it fails.
 [[ $* != version ]] || { echo "toy kit 1"; exit; }
 IFS= read -r -d '' -t 1 input
 echo "$$ $PWD $*, input <$input>" >>"$FIRST_RUN/asked"
@@ -43,7 +43,7 @@ for row in "low" "side low" "mid low" "tc_cli low side mid"; do
     echo "rt: chose --jobs 2 for $name" >&2
     echo "$name" >"$FIRST_RUN/at"
     turn=0
-    while [[ -e $FIRST_RUN/stop && $name == "$(<"$FIRST_RUN/stop")" && ! -e $FIRST_RUN/go ]] && ((turn++ < 1000)); do sleep 0.02; done
+    while [[ -e $FIRST_RUN/stop && $name == "$(<"$FIRST_RUN/stop")" && ! -e $FIRST_RUN/go ]] && ((turn++ < 10000)); do sleep 0.02; done
     if [[ -e $FIRST_RUN/fail && $name == "$(<"$FIRST_RUN/fail")" ]]; then
         printf 'fn %s::echo: not proved\nrt: the library %s did not build, so nothing above it was checked' "$name" "$name" >&2
         exit 1
@@ -123,13 +123,12 @@ steps() {
     tr '\r' '\n' <"$work/seen" | sed 's/ *$//; s/ in [0-9]* s / in N s /' | grep .
 }
 
-# until_seen FILE TEXT: waits until the file holds the text, at most 10 seconds.
+# holds FILE TEXT: whether the file holds the text.
+holds() { grep -qF -- "$2" "$work/$1" 2>/dev/null; }
+
+# until_seen FILE TEXT: waits until the file holds the text.
 until_seen() {
-    local turn
-    for ((turn = 0; turn < 200; turn++)); do
-        ! grep -qF -- "$2" "$work/$1" 2>/dev/null || return 0
-        sleep 0.05
-    done
+    ! wait_until holds "$1" "$2" || return 0
     echo "first_run_cases: $1 never held: $2" >&2
     return 1
 }

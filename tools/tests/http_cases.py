@@ -2,16 +2,19 @@
 import os
 import shutil
 import tempfile
+import time
 import unittest
+from contextlib import contextmanager
 from dataclasses import replace
+from functools import partial
 from itertools import count
-from typing import Any, Iterable, Optional, Sequence
+from typing import Any, Callable, Iterable, Iterator, Optional, Sequence
 
 from generate.http_words import PLACES, Case, act, get, numbered
 from model.desk import Desk
 from model.rows import Tables
 from tests.asked import ASKED
-from tests.http_peer import Ended, Expected, Fault, Server, run
+from tests.http_peer import FAIR, Ended, Expected, Fault, Late, Server, in_time, run
 from tests.plain_runs import kept_tables, unlike
 from tests.runs import quick_folder, write_files
 
@@ -26,9 +29,13 @@ class Cases:
     def __init__(self, program: str, work: str) -> None:
         self.program, self.work, self.passed, self.failed, self.numbers = program, work, 0, 0, count(1)
         self.refusals: set[int] = set()
+        self.waiting: Optional[list[tuple[str, object, object]]] = None
 
     def tell(self, name: str, want: object, got: object) -> None:
-        """Counts a case, and prints it where what came is not what is wanted."""
+        """Counts a case, and prints it where what came is not what is wanted; within `soon`, once that was in time."""
+        if self.waiting is not None:
+            self.waiting.append((name, want, got))
+            return
         is_right = got == want
         self.passed += is_right
         self.failed += not is_right
@@ -36,6 +43,25 @@ class Cases:
             print(f"{name}:\n  wanted {want!r:.600}\n  came   {got!r:.600}", flush=True)
             if self.failed >= MOST_FAULTS:
                 raise Fault("too many cases failed")
+
+    @contextmanager
+    def soon(self, name: str, most: float = FAIR) -> Iterator[None]:
+        """What has to be done within so many seconds, since a server lets a peer go else. Where it was late nothing counts that was told
+        meanwhile."""
+        began, around, self.waiting = time.monotonic(), self.waiting, []
+        try:
+            yield
+        except Exception as why:
+            if time.monotonic() - began > most:
+                raise Late(f"{name}: {why!r:.200}, after {time.monotonic() - began:.1f} s") from None
+            raise
+        finally:
+            told, self.waiting, took = self.waiting, around, time.monotonic() - began
+            if took <= most:
+                for it in told:
+                    self.tell(*it)
+        if took > most:
+            raise Late(f"{name}: {took:.1f} s")
 
     def folder(self) -> str:
         """A new folder."""
@@ -106,8 +132,37 @@ class Cases:
         self.tell(f"{name}: what the file that was served tells", plain, left)
 
 
-class Served(unittest.TestCase):
-    """Groups of cases, each in a folder of its own; a case that failed is printed as it comes."""
+class Patient(unittest.TestCase):
+    """A test that is tried again, from its `setUp` on, where it was late and found nothing wrong before."""
+
+    def __init__(self, methodName: str = "runTest") -> None:
+        """A test by the name of its method."""
+        super().__init__(methodName)
+        setattr(self, methodName, partial(self.patiently, getattr(self, methodName)))
+
+    def patiently(self, test: Callable[[], None]) -> None:
+        """Runs that test."""
+        def once() -> None:
+            try:
+                test()
+            except Late as late:
+                if self.is_wrong():
+                    raise Fault(str(late)) from None
+                raise
+        in_time(once, self.setUp)
+
+    def is_wrong(self) -> bool:
+        """Whether something was found wrong by now."""
+        return False
+
+
+class Served(Patient):
+    """Groups of cases, each in a folder of its own; a case that failed is printed as it comes. A group that was late is tried again in another
+    folder."""
+
+    def is_wrong(self) -> bool:
+        """Whether a case has failed."""
+        return self.cases.failed > 0
 
     def setUp(self) -> None:
         """A folder to work in, and no case yet."""

@@ -8,7 +8,7 @@ import socket
 import struct
 import subprocess
 import time
-from typing import Callable, Iterable, Optional, Sequence, Union
+from typing import Callable, Iterable, Optional, Sequence, TypeVar, Union
 
 from generate.http_words import NOTHING, Case
 from model.calls import Calls
@@ -18,35 +18,77 @@ from model.http import Acts, Asks, Called, Loads, Refused, answer_to, fault_of, 
 from tests.new_desks import said_first, said_then, without_beside
 from tests.runs import Ended
 
-PATIENCE = float(os.environ.get("PATIENCE", "20"))  # seconds for one exchange, or for the program to begin or to end
-SLOW = PATIENCE / 4  # seconds in which a request that comes a byte at a time has to be answered: 5, where nobody asks for more patience
+PATIENCE = float(os.environ.get("PATIENCE", "60"))  # seconds for one exchange, or for the program to begin or to end
+SLOW = PATIENCE / 12  # seconds in which a request that comes a byte at a time has to be answered: 5, where nobody asks for more patience
+TRIES = 5  # of what was late
+FAIR = 4.0  # seconds in which a test has to send what a server waits for: that lets a peer go of which no byte came for 5
 HERE = "127.0.0.1"
 RST = struct.pack("ii", 1, 0)  # a socket that is closed resets its connection
+
+
+Found = TypeVar("Found")
 
 
 class Fault(Exception):
     """What goes no further."""
 
 
+class Late(Fault):
+    """A test or a server had no processor for so long that a peer was let go meanwhile, or that nothing could be in time: what came says nothing of
+    the program, and the case is tried again."""
+
+
+def in_time(tried: Callable[[], Found], again: Callable[[], object] = lambda: None) -> Found:
+    """What that comes to, which is tried again where it was late, after this; five times at most."""
+    for _ in range(1, TRIES):
+        try:
+            return tried()
+        except Late as late:
+            print(f"tried again: {late}", flush=True)
+            again()
+    return tried()
+
+
+def told_of_one(line: str) -> tuple[int, str]:
+    """The number of the connection of which a line tells, and how that ended."""
+    number, how = line.removeprefix("tcdesk: connection ").strip().split(": ")
+    return int(number), how
+
+
 def parted(ended: Ended) -> tuple[Ended, list[str]]:
-    """How a program ended but for what it said of connections, and how it said that each of these ended."""
+    """How a program ended but for what it said of connections; and how it said that each of these ended, in the order in which they were taken: those
+    that end beside each other are told in any order. There has to be one line of each."""
     lines = ended.err.splitlines(keepends=True)
-    told = [it for it in lines if it.startswith("tcdesk: connection ")]
-    return ended._replace(err="".join(it for it in lines if it not in told)), [it.split(": ")[2].strip() for it in told]
+    told = sorted(told_of_one(it) for it in lines if it.startswith("tcdesk: connection "))
+    is_each = [number for number, _ in told] == list(range(1, len(told) + 1))
+    rest = "".join(it for it in lines if not it.startswith("tcdesk: connection "))
+    return ended._replace(err=rest), [how if is_each else f"{number}: {how}" for number, how in told]
 
 
 # ---- the server
 
-def free_port() -> int:
-    """A port that nobody has, below those that the system gives to those who connect."""
+def reserved_port() -> tuple[socket.socket, int]:
+    """A port that nobody has, below those that the system gives to those who connect, and a socket that holds it. Until that is closed nobody else
+    who asks so gets the port. A server that is told it does: both allow that an address is used again, and the socket does not listen."""
     while True:
-        port = random.randrange(20000, 32000)
-        with socket.socket() as asked:
-            try:
-                asked.bind((HERE, port))
-                return port
-            except OSError:
-                pass
+        held, port = socket.socket(), random.randrange(20000, 30000)
+        try:
+            held.bind((HERE, port))
+        except OSError:
+            held.close()
+            continue
+        held.setsockopt(socket.SOL_SOCKET, socket.SO_REUSEADDR, 1)
+        return held, port
+
+
+RESERVED: list[socket.socket] = []  # the ports that were given out, which stay reserved for as long as this process lives
+
+
+def free_port() -> int:
+    """A port that nobody has, for a server that allows that its address is used again."""
+    held, port = reserved_port()
+    RESERVED.append(held)
+    return port
 
 
 class Server:
@@ -61,7 +103,10 @@ class Server:
                 os.dup2(os.open(told, os.O_WRONLY | os.O_CREAT | os.O_TRUNC), 9)
             if first:
                 first()
-        self.port, self.count = port or free_port(), count
+        self.reserved: Optional[socket.socket] = None
+        if port is None:
+            self.reserved, port = reserved_port()
+        self.port, self.count = port, count
         self.first = said_first(folder, ["serve", database])
         self.files = [open(f"{folder}/served.{it}", "w+b") for it in ("out", "err")]
         words = [program, "serve", database, str(self.port), *([] if count is None else [str(count)]), *words]
@@ -77,6 +122,8 @@ class Server:
         self.process.wait()
         for file in self.files:
             file.close()
+        if self.reserved:
+            self.reserved.close()
 
     @property
     def listens(self) -> str:
@@ -122,8 +169,36 @@ class Server:
             raise Fault("the server does not end after its last connection") from None
         return self.said()
 
+    def listening(self) -> None:
+        """Waits until it says that it listens."""
+        end = time.monotonic() + PATIENCE
+        while True:
+            with open(self.files[1].name, encoding="latin-1") as said:
+                if f"tcdesk: listening on {HERE}:{self.port}\n" in said.read():
+                    return
+            if self.process.poll() is not None or time.monotonic() > end:
+                raise Fault(f"the server does not listen: {self.said()}")
+            time.sleep(0.002)
+
+    def quiet(self) -> None:
+        """Waits until it has taken all connections that were made, has read all that was sent to it, and sleeps."""
+        end = time.monotonic() + PATIENCE
+        while unread(self.port) or state_of(self.process.pid) != "S":
+            if time.monotonic() > end:
+                raise Late("the server does not read what was sent to it")
+            time.sleep(0.002)
+
     def exchange(self, raw: bytes, size: Optional[int] = None, pause: float = 0.0, shuts: bool = False) -> bytes:
-        """Sends these bytes, in pieces of this size, and reads the answer to its end; what came of it where the time is over."""
+        """Sends these bytes, in pieces of this size, and reads the answer to its end; what came of it where the time is over. It is late where the
+        answer is not whole and the server could have let the peer go."""
+        began = time.monotonic()
+        got = self.exchanged(raw, size, pause, shuts)
+        if time.monotonic() - began >= FAIR and not is_response(got):
+            raise Late(f"{raw[:20]!r}: {time.monotonic() - began:.1f} s, and no answer")
+        return got
+
+    def exchanged(self, raw: bytes, size: Optional[int], pause: float, shuts: bool) -> bytes:
+        """The same, however long it takes."""
         with self.connect() as peer:
             try:
                 send(peer, raw, size, pause)
@@ -135,6 +210,31 @@ class Server:
                 if fault.errno != 107:  # the peer has closed by now
                     raise
             return received(peer)
+
+
+def is_response(got: bytes) -> bool:
+    """Whether these bytes are a whole response."""
+    head, end, body = got.partition(b"\r\n\r\n")
+    length = re.search(rb"\r\nContent-Length: (\d+)(?:\r\n|\Z)", head)
+    return bool(end and length and len(body) == int(length[1]))
+
+
+def connections() -> list[list[str]]:
+    """The lines of the system's table of sockets for those that listen, are connected, or have been left by their peer alone."""
+    with open("/proc/net/tcp", encoding="ascii") as file:
+        rows = [line.split() for line in file.readlines()[1:]]
+    return [row for row in rows if row[3] in ("01", "08", "0A")]
+
+
+def unread(port: int) -> bool:
+    """Whether something lies before the server at this port: a connection that it has not taken, or bytes that it has not read."""
+    return any(row[1].endswith(f":{port:04X}") and int(row[4].split(":")[1], 16) for row in connections())
+
+
+def state_of(process: int) -> str:
+    """What the system says of a process: R where it runs or waits for a processor, S where it sleeps, T where it was stopped."""
+    with open(f"/proc/{process}/stat", encoding="latin-1") as file:
+        return file.read().rpartition(")")[2].split()[0]
 
 
 def send(peer: socket.socket, raw: bytes, size: Optional[int] = None, pause: float = 0.0) -> None:
@@ -163,9 +263,14 @@ def received(peer: socket.socket) -> bytes:
 
 
 def reset(peer: socket.socket) -> None:
-    """Closes a connection by a reset."""
+    """Closes a connection by a reset, and waits until that was sent: a program that another thread just starts has the connection until it begins."""
     peer.setsockopt(socket.SOL_SOCKET, socket.SO_LINGER, RST)
+    port, end = peer.getsockname()[1], time.monotonic() + PATIENCE
     peer.close()
+    while any(row[1].endswith(f":{port:04X}") for row in connections()):
+        if time.monotonic() > end:
+            raise Late("a connection that was reset is there still")
+        time.sleep(0.002)
 
 
 # ---- what has to be answered

@@ -31,15 +31,11 @@ without_table() {
 
 # serve FILE COUNT: serves a desk, and waits until it listens.
 serve() {
-    port=$(free_port)
+    take_port port
     : >said
     "$program" serve "$1" "$port" "$2" >served 2>said &
     server=$!
-    for ((turn = 0; turn < 400; turn++)); do
-        ! grep -qxF "tcdesk: listening on 127.0.0.1:$port" said || return 0
-        sleep 0.05
-    done
-    return 1
+    wait_until listens said $server
 }
 
 # ask REQUEST: sends the server a request of HTTP, and prints what it answers.

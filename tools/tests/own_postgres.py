@@ -13,7 +13,7 @@ from tests.asked import TOP
 
 LOADER = f"{TOP}/deploy/postgres"
 USER = "nobody"  # who runs it where the tests are root's, since it does not run as root
-PATIENCE = 60.0
+PATIENCE = 300.0
 
 
 def server_folder() -> Optional[str]:

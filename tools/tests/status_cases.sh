@@ -29,16 +29,14 @@ post() {
 # served_full WANTED WORD..: serves a desk on a small disk, by these further words, until a post is refused 31; then one post more, where it goes on, is
 # refused 32. WANTED is the status in which it ends, and what it says then.
 served_full() {
-    local wanted=$1 turn n status
+    local wanted=$1 n status
     shift
     mount -t tmpfs -o size=384k none disk
-    port=$(free_port)
+    take_port port
+    : >err
     "$program" serve disk/desk.db "$port" "$@" >out 2>err &
     server=$!
-    for ((turn = 0; turn < 400; turn++)); do
-        ! grep -qxF "tcdesk: listening on 127.0.0.1:$port" err || break
-        sleep 0.05
-    done
+    wait_until listens err $server
     for ((n = 1; n < 2000; n++)); do
         post "$n" >answer
         ! grep -q '"refusal":31}$' answer || break

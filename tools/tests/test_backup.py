@@ -23,6 +23,7 @@ from faults.stop_kept import NOTHING_TO_HALVE, STOPPED, WAYS
 from model.kept import connect
 from tests.asked import ASKED, TOP
 from tests.backup_desk import COPY, DESK, PARTS, Folder, Follower, Worker, ended, posted, posts, told_of, tables_of_copy, why_not_copy, why_not_told
+from tests.http_cases import Patient
 from tests.http_peer import PATIENCE, Fault, Server
 from tests.runs import Ended, Tried, made_shim, quick_folder
 
@@ -36,7 +37,7 @@ NAMES, UNLOGGED = "it has two names, or its log has", "another program may have 
 UNOPENED = "the log beside it is of another file that a program has open"
 
 
-class Copies(Tried):
+class Copies(Patient, Tried):
     """Copies of desks."""
 
     def setUp(self) -> None:
@@ -49,6 +50,10 @@ class Copies(Tried):
     def tearDown(self) -> None:
         """No fault may have been found."""
         self.no_faults(self.bad)
+
+    def is_wrong(self) -> bool:
+        """Whether a fault was found."""
+        return bool(self.bad)
 
     def folder(self) -> Folder:
         """A new folder."""

@@ -11,7 +11,7 @@ from model.desk import Desk
 from model.rows import Tables, empty_tables
 from model.wall import board_page
 from tests.asked import ASKED
-from tests.http_cases import Served
+from tests.http_cases import Patient, Served
 from tests.http_peer import Server
 from tests.report_cases import Reported, change, digests
 from tests.runs import write_files
@@ -72,8 +72,12 @@ class Pages(Served):
         self.cases.play("many moves", (it._replace(want=None) for it in day_of(desk)), looks=False)
 
 
-class Files(Reported):
+class Files(Patient, Reported):
     """Boards of files that nobody has open."""
+
+    def is_wrong(self) -> bool:
+        """Whether a case has failed."""
+        return self.cases.failed > 0
 
     def asks(self, name: str, folder: str, desk: Desk, file: str = "desk.db") -> None:
         """The command prints the page of this desk, and leaves the files of the folder."""

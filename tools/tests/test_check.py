@@ -36,7 +36,7 @@ from model.script_check import fault_of, script_told
 from tests.asked import ASKED
 from tests.runs import Tried
 
-TEXTS, LEAST, LONGEST = 6000, 20, 60
+TEXTS, LEAST, LONGEST = 6000, 20, 300
 WORDS = ["-", "0", "1", "11", "4", "256", "yes", "no", "ok", "---c", "aspc", "ann", "desk", "done", "places", "setvr", "vs", "1;2", "100;100", "-5", "", "x"]
 LOAD_EACH, INPUT_EACH = 3, 7
 # All lines that may be told, N being the number of a row; each has to be met by random texts.
@@ -237,7 +237,7 @@ CASES: list[tuple[str, int, Union[bytes, re.Pattern[bytes]], Union[bytes, re.Pat
     ('"$0" check stack bad.csv >&-', 2, b"", OUTPUT),
     ('"$0" check stack missing.csv >/dev/full', 2, b"", b"tcdesk: cannot use missing.csv\ntcdesk: because there is no such file\n"),
     ('"$0" check stack missing.csv >&-', 2, b"", b"tcdesk: cannot use missing.csv\ntcdesk: because there is no such file\n"),
-    ('{ sleep 0.2; "$0" check stack good.csv; echo "status $?" >&2; } | true; sleep 0.4', 0, b"", OUTPUT + b"status 2\n"),
+    ('mkfifo gone; exec 7<>gone 8>gone 7>&-; "$0" check stack good.csv >&8; echo "status $?" >&2', 0, b"", OUTPUT + b"status 2\n"),
     ('"$0" check stack good.csv 2>&-', 0, b"ok\n", b""),
     ('"$0" check stack missing.csv 2>&-', 2, b"", b""),
 ]

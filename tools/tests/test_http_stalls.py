@@ -1,8 +1,9 @@
 """What could stop a server, over real sockets: peers that say nothing, drip, send what is no request, close half or take nothing, one at a time and crowds
 of them; connections that are kept open; no file handle left, and no place; a COUNT that is not given; and how a server says that it listens and why it ended.
 
-Beside each bad peer a good one has to be answered at once, and in the order in which requests were whole. The bad one has its own time, and nothing that was
-not asked whole is done. The groups run side by side, each on a server of its own. There is a line for each case that failed.
+Beside each bad peer a good one has to be answered at once, and in the order in which requests were whole. The bad one has its own time, and nothing
+that was not asked whole is done. The groups run side by side, each on a server of its own. There is a line for each case that failed. A group in
+which something was late says nothing of the program if the machine gave it no processor: it is tried again, and has to be in time once.
 """
 import errno
 import os
@@ -14,17 +15,19 @@ import socket
 import threading
 import time
 from concurrent.futures import ThreadPoolExecutor
-from contextlib import ExitStack, contextmanager
+from contextlib import ExitStack, contextmanager, suppress
 from functools import partial
 from typing import Callable, Iterator, Optional, Sequence
 
 from generate.http_words import ENTRY, PLACES, Case, act, get
 from tests import http_cases
-from tests.http_peer import PATIENCE, Ended, Fault, Server, received, reset, run, send
+from tests.http_peer import FAIR, PATIENCE, TRIES, Ended, Fault, Late, Server, parted, received, reset, run, send
 
 SILENCE, WHOLE, FAREWELL = 5.0, 30.0, 2.0  # seconds: without a byte, for a request, behind an answer
-WAIT = PATIENCE / 20  # seconds that a good peer waits at most, whoever is beside it: 1, where nobody asks for more patience
+WAIT = PATIENCE / 60  # seconds that a good peer waits at most, whoever is beside it: 1, where nobody asks for more patience
 CROWD, MOST_PEERS = 20, 256
+MOST_LATE = 3  # of 40 good peers beside crowds, which are answered later than that
+LAST_TRY = 9.0  # seconds in which a handle has to come free: after 10 the server ends
 DRIP = b"GET /places HTTP/1.1\r\nX: " + b"a" * 100
 SEED = 20311127
 EARLY, SLACK = 0.5, 4.0  # seconds by which a peer's clock may begin later than the server's, and that a busy machine may add
@@ -39,17 +42,23 @@ class Cases(http_cases.Cases):
         return self.expected(self.folder(), [Case("", PLACES, 0)]).responses[0]
 
     def within(self, name: str, least: float, most: float, took: float) -> None:
-        """Counts a case by whether something took so many seconds."""
-        self.tell(f"{name}: {least} to {most} s", "", "" if least - EARLY <= took <= most + SLACK else f"{took:.3f} s")
+        """Counts a case by whether something took so many seconds. More than these, and than a busy machine may add, is late."""
+        if took > most + SLACK:
+            raise Late(f"{name}: {took:.1f} s, and not {least} to {most}")
+        self.tell(f"{name}: {least} to {most} s", "", "" if least - EARLY <= took else f"{took:.3f} s")
 
 
-def hold(peer: socket.socket, raw: bytes, pause: float) -> float:
-    """Sends these bytes one by one, with so many seconds between them, until the peer closes. Gives the seconds that it took."""
-    began = time.monotonic()
+def hold(peer: socket.socket, raw: bytes, pause: float, began: float) -> float:
+    """Sends these bytes one by one, with so many seconds between them, until the peer closes. Gives the seconds that it took since that moment. It is
+    late where the peer had to wait for a byte so long that it may close."""
+    sent = began
     try:
         for at, byte in enumerate(raw):
             time.sleep(pause if at else 0)
             peer.sendall(bytes([byte]))
+            before, sent = sent, time.monotonic()
+            if sent - before > FAIR:
+                raise Late(f"a byte came after {sent - before:.1f} s")
         received(peer)
     except OSError:
         pass
@@ -72,16 +81,20 @@ def answered_at_once(cases: Cases, name: str, server: Server, raw: bytes, right:
     got = server.exchange(raw)
     took = time.monotonic() - began
     cases.tell(name, right, got)
-    cases.tell(f"{name}: within {WAIT} s", "", "" if took <= WAIT else f"{took:.3f} s")
+    if took > WAIT:
+        raise Late(f"{name}: {took:.3f} s, and not within {WAIT}")
 
 
 def held(cases: Cases, name: str, raw: bytes, pause: float, least: float, most: float) -> None:
     """A peer that sends these bytes so, and stays: it is let go in time, the good one beside it is answered at once, and no act was made."""
     none, folder = cases.places(), cases.folder()
-    with cases.server(folder, 2, "--verbose") as server, server.connect() as bad, ThreadPoolExecutor(1) as pool:
-        took = pool.submit(hold, bad, raw, pause)
-        time.sleep(EARLY)
-        answered_at_once(cases, f"{name}: the one beside it", server, PLACES, none)
+    with cases.server(folder, 2, "--verbose") as server, ExitStack() as open_ones, ThreadPoolExecutor(1) as pool:
+        server.listening()
+        began = time.monotonic()
+        with cases.soon(name):
+            took = pool.submit(hold, open_ones.enter_context(server.connect()), raw, pause, began)
+            time.sleep(EARLY)
+            answered_at_once(cases, f"{name}: the one beside it", server, PLACES, none)
         cases.within(name, least, most, took.result())
         ended = server.end()
         told = "tcdesk: connection 2: answered\ntcdesk: connection 1: 33 ReadFault\n"
@@ -107,13 +120,15 @@ def dripping(cases: Cases) -> None:
 def behind(cases: Cases) -> None:
     """A peer that was answered, and drips on."""
     none, folder = cases.places(), cases.folder()
-    with cases.server(folder, 2) as server, server.connect() as bad:
-        send(bad, PLACES)
-        cases.tell("a peer that drips behind its answer", none, received(bad))
-        began = time.monotonic()
-        answered_at_once(cases, "the one beside a peer that drips behind its answer", server, PLACES, none)
-        hold(bad, b"x" * 100, 0.3)
-        cases.within("a peer that drips behind its answer", 0, FAREWELL, time.monotonic() - began)
+    with cases.server(folder, 2) as server, ExitStack() as open_ones:
+        server.listening()
+        with cases.soon("a peer that drips behind its answer"):
+            bad = open_ones.enter_context(server.connect())
+            send(bad, PLACES)
+            cases.tell("a peer that drips behind its answer", none, received(bad))
+            began = time.monotonic()
+            answered_at_once(cases, "the one beside a peer that drips behind its answer", server, PLACES, none)
+        cases.within("a peer that drips behind its answer", 0, FAREWELL, hold(bad, b"x" * 100, 0.3, began))
         cases.ended("a peer that drips behind its answer", server)
 
 
@@ -123,13 +138,11 @@ def kept(cases: Cases) -> None:
     none, folder = cases.places(), cases.folder()
     with cases.server(folder, CROWD + 1) as server, ExitStack() as open_ones:
         cases.tell("a peer before them", none, server.exchange(PLACES))
-        began = time.monotonic()
-        for at in range(CROWD):
-            peer = open_ones.enter_context(server.connect())
-            send(peer, PLACES)
-            cases.tell(f"a peer that keeps its connection, {at}", none, received(peer))
-        took = time.monotonic() - began
-        cases.tell(f"{CROWD} peers that keep their connections: within {CROWD / 4 * WAIT} s", "", "" if took <= CROWD / 4 * WAIT else f"{took:.3f} s")
+        with cases.soon(f"{CROWD} peers that keep their connections", min(FAIR, CROWD / 4 * WAIT)):
+            for at in range(CROWD):
+                peer = open_ones.enter_context(server.connect())
+                send(peer, PLACES)
+                cases.tell(f"a peer that keeps its connection, {at}", none, received(peer))
         cases.ended("peers that keep their connections", server)
 
 
@@ -153,21 +166,27 @@ def crowded(server: Server, open_ones: ExitStack) -> list[socket.socket]:
     for at in range(CROWD):
         half = open_ones.enter_context(server.connect())
         send(half, act(ENTRY)[:-1] if at % 2 else PLACES)
-        half.shutdown(socket.SHUT_WR)
+        with suppress(OSError):  # it was let go by now
+            half.shutdown(socket.SHUT_WR)
     return [open_ones.enter_context(server.connect()) for _ in range(CROWD)]
 
 
 def crowd(cases: Cases) -> None:
     """Crowds of dripping, silent and half-closed peers at once, one after the other for longer than a whole request may take: each good one between them is
-    answered at once, and no act of theirs is made."""
-    none, folder, done = cases.places(), cases.folder(), threading.Event()
+    answered at once, and no act of theirs is made. So few may be late on a busy machine."""
+    none, folder, done, late = cases.places(), cases.folder(), threading.Event(), list[Late]()
     with cases.server(folder, None) as server, ExitStack() as open_ones, ThreadPoolExecutor(1) as pool:
         drips = pool.submit(dripped, crowded(server, open_ones), done)
         try:
             for at in range(40):
                 if at and at % 10 == 0:
                     crowded(server, open_ones)
-                answered_at_once(cases, f"a good peer beside crowds, {at}", server, PLACES, none)
+                try:
+                    answered_at_once(cases, f"a good peer beside crowds, {at}", server, PLACES, none)
+                except Late as why:
+                    late.append(why)
+                    if len(late) > MOST_LATE:
+                        raise
                 time.sleep(WHOLE / 40)
         finally:
             done.set()
@@ -179,14 +198,15 @@ def ordered(cases: Cases) -> None:
     them at once."""
     dice, folder, count = random.Random(SEED), cases.folder(), 12
     with cases.server(folder, 3 * count) as server:
+        server.listening()
         for turn in range(3):
-            with ExitStack() as open_ones:
+            with ExitStack() as open_ones, cases.soon("requests in their order"):
                 peers = [open_ones.enter_context(server.connect()) for _ in range(count)]
                 order = dice.sample(range(count), count)
                 raws = [act(ENTRY, number=100 * turn + at + 1) for at in range(count)]
                 for peer, raw in zip(peers, raws):
                     send(peer, raw[:-1])
-                time.sleep(EARLY)
+                server.quiet()  # it has read all of them
                 if turn:
                     with stopped(server):
                         for at in order:
@@ -203,27 +223,29 @@ def crammed(cases: Cases) -> None:
     """So many connections are open at most: the next one waits, and is answered once one of them goes. None of them is lost."""
     none, folder = cases.places(), cases.folder()
     with cases.server(folder, MOST_PEERS + 1) as server, ExitStack() as open_ones:
-        peers = [open_ones.enter_context(server.connect()) for _ in range(MOST_PEERS)]
-        for peer in peers:
-            send(peer, PLACES[:-1])
-        with server.connect() as waits:
-            send(waits, PLACES)
-            waits.settimeout(1)
-            try:
-                cases.tell(f"the connection {MOST_PEERS + 1}", "no answer", waits.recv(1))
-            except TimeoutError:
-                cases.tell(f"the connection {MOST_PEERS + 1} waits", "", "")
-            send(peers[7], PLACES[-1:])
-            cases.tell("one that makes place", none, received(peers[7]))
-            peers[7].close()
-            waits.settimeout(PATIENCE)
-            began = time.monotonic()
-            cases.tell("the one that waited for a place", none, received(waits))
-            cases.within("the one that waited for a place", 0, WAIT, time.monotonic() - began)
-        for at, peer in enumerate(peers):
-            if at != 7:
-                send(peer, PLACES[-1:])
-        cases.tell("all others", {none}, {received(peer) for at, peer in enumerate(peers) if at != 7})
+        server.listening()
+        with cases.soon("a server that had no place for a while"):
+            peers = [open_ones.enter_context(server.connect()) for _ in range(MOST_PEERS)]
+            for peer in peers:
+                send(peer, PLACES[:-1])
+            with server.connect() as waits:
+                send(waits, PLACES)
+                waits.settimeout(1)
+                try:
+                    cases.tell(f"the connection {MOST_PEERS + 1}", "no answer", waits.recv(1))
+                except TimeoutError:
+                    cases.tell(f"the connection {MOST_PEERS + 1} waits", "", "")
+                send(peers[7], PLACES[-1:])
+                cases.tell("one that makes place", none, received(peers[7]))
+                peers[7].close()
+                waits.settimeout(PATIENCE)
+                began = time.monotonic()
+                cases.tell("the one that waited for a place", none, received(waits))
+                cases.within("the one that waited for a place", 0, WAIT, time.monotonic() - began)
+            for at, peer in enumerate(peers):
+                if at != 7:
+                    send(peer, PLACES[-1:])
+            cases.tell("all others", {none}, {received(peer) for at, peer in enumerate(peers) if at != 7})
         for peer in peers:
             peer.close()
         cases.ended("a server that had no place for a while", server)
@@ -255,8 +277,9 @@ def ends(cases: Cases) -> None:
             send(peer, PLACES[:9])
             reset(peer)
         cases.tell("the places in the end", none, server.exchange(PLACES))
-        told = "".join(f"tcdesk: connection {at}: {it}\n" for at, it in enumerate(("answered", "33 ReadFault", "33 ReadFault", "answered"), 1))
-        cases.tell("how they ended", Ended(0, "", server.says.replace("tcdesk: ended", f"{told}tcdesk: ended")), server.end())
+        ended, told = parted(server.end())
+        cases.tell("how it ended", Ended(0, "", server.says), ended)
+        cases.tell("how they ended", ["answered", "33 ReadFault", "33 ReadFault", "answered"], told)
 
 
 def own_address() -> str:
@@ -275,12 +298,14 @@ def lost(cases: Cases) -> None:
     folder = cases.folder()
     right = cases.expected(folder, [Case("", act(ENTRY), 0)]).responses[0]
     with cases.server(folder, 4, "--verbose") as server:
-        peer = server.connect()
-        time.sleep(EARLY)
-        with stopped(server):
-            send(peer, act(ENTRY))
-            reset(peer)
-        cases.tell("the act whose answer was lost", True, b"places 1: 1 0" in server.exchange(PLACES))
+        server.listening()
+        with cases.soon("the act whose answer was lost"):
+            peer = server.connect()
+            server.quiet()  # it has taken the connection
+            with stopped(server):
+                send(peer, act(ENTRY))
+                reset(peer)
+            cases.tell("the act whose answer was lost", True, b"places 1: 1 0" in server.exchange(PLACES))
         cases.tell("the act again", right, server.exchange(act(ENTRY)))
         cases.tell("the act that was sent twice", True, b"places 1: 1 0" in server.exchange(PLACES))
         told = server.end().err
@@ -300,10 +325,23 @@ def uncounted(cases: Cases) -> None:
             cases.tell("where it says that it listens", server.listens, said.read())
 
 
+def sockets(server: Server) -> int:
+    """How many sockets a server has open."""
+    folder, found = f"/proc/{server.process.pid}/fd", 0
+    for it in os.listdir(folder):
+        with suppress(FileNotFoundError):  # it was closed by now
+            found += os.readlink(f"{folder}/{it}").startswith("socket:")
+    return found
+
+
 def limited(server: Server, most: Optional[int] = None) -> None:
     """Lets a server that runs have so many file handles, and no more, or those alone that it has, once its last connection is closed."""
     if most is None:
-        time.sleep(1)
+        end = time.monotonic() + PATIENCE
+        while sockets(server) > 1:
+            if time.monotonic() > end:
+                raise Late("the server does not close its last connection")
+            time.sleep(0.01)
         open_ones = os.listdir(f"/proc/{server.process.pid}/fd")
         most = next(it for it in range(256) if f"{it}" not in open_ones)
     resource.prlimit(server.process.pid, resource.RLIMIT_NOFILE, (most, 256))
@@ -315,17 +353,19 @@ def starved(cases: Cases) -> None:
     with cases.server(folder, 3) as server:
         cases.tell("a question before", none, server.exchange(PLACES))
         limited(server)
-        with server.connect() as peer, server.connect() as second:
+        with ExitStack() as open_ones:
+            with cases.soon("one that waits for a handle", LAST_TRY):
+                peer, second = (open_ones.enter_context(server.connect()) for _ in range(2))
+                for it in (peer, second):
+                    send(it, PLACES)
+                peer.settimeout(3)
+                try:
+                    cases.tell("one that waits for a handle", "no answer", peer.recv(1))
+                except TimeoutError:
+                    cases.tell("one that waits for a handle", "", "")
+                limited(server, 256)
             for it in (peer, second):
-                send(it, PLACES)
-            peer.settimeout(3)
-            try:
-                cases.tell("one that waits for a handle", "no answer", peer.recv(1))
-            except TimeoutError:
-                cases.tell("one that waits for a handle", "", "")
-            limited(server, 256)
-            for it in (peer, second):
-                it.settimeout(WHOLE)
+                it.settimeout(PATIENCE)
                 cases.tell("the ones that waited for a handle", none, received(it))
         cases.ended("a server that had no handle for a while", server)
 
@@ -336,9 +376,9 @@ def exhausted(cases: Cases) -> None:
     with cases.server(folder, 3) as server:
         server.exchange(act(ENTRY))
         limited(server)
+        began = time.monotonic()
         with server.connect() as peer:
             send(peer, PLACES)
-            began = time.monotonic()
             ended = server.end()
             cases.within("a server without a handle", 9, 12, time.monotonic() - began)
         reason = ended.err.replace(server.listens, "")
@@ -351,12 +391,18 @@ def exhausted(cases: Cases) -> None:
 GROUPS = (silent, foreign, dripping, behind, kept, crowd, ordered, crammed, taking, ends, lost, uncounted, starved, exhausted)
 
 
-def tried(program: str, work: str, group: Callable[[Cases], None]) -> Cases:
-    """The cases of a group, once all were tried."""
-    os.mkdir(f"{work}/{group.__name__}")
-    cases = Cases(program, f"{work}/{group.__name__}")
+def tried(program: str, work: str, group: Callable[[Cases], None], tries: int = TRIES) -> Cases:
+    """The cases of a group, once all were tried. Where they were late, and nothing else is wrong, they are tried again."""
+    folder = f"{work}/{group.__name__}{tries}"
+    os.mkdir(folder)
+    cases = Cases(program, folder)
     try:
         group(cases)
+    except Late as late:
+        if tries > 1 and not cases.failed:
+            print(f"tried again: {group.__name__}: {late}", flush=True)
+            return tried(program, work, group, tries - 1)
+        cases.tell(group.__name__, "to be in time", str(late))
     except Fault as fault:
         cases.tell(group.__name__, "to go on", str(fault))
     return cases

@@ -11,11 +11,12 @@ from typing import Any, Sequence
 
 from tests.asked import ASKED
 from tests.backup_desk import posted, posts
+from tests.http_cases import Patient
 from tests.http_peer import Server
 from tests.runs import Ended, Tried
 from tests.test_told import DAMAGED, FOREIGN, JOURNAL, LATER, NAMES, NO_DATABASE, cannot, made
 
-PATIENCE = 60.0
+PATIENCE = 300.0
 NOBODY = 65534
 READER: dict[str, Any] = {"user": NOBODY, "group": NOBODY, "extra_groups": []} if os.geteuid() == 0 else {}
 PAGES = (["report", "{}", "0", "4102444799"], ["report", "{}", "0", "1"], ["board", "{}"])
@@ -29,7 +30,7 @@ def called(words: Sequence[str], folder: str, **more: Any) -> Ended:
     return Ended(it.returncode, it.stdout.decode("latin-1"), it.stderr.decode("latin-1"))
 
 
-class OnlyRead(Tried):
+class OnlyRead(Patient, Tried):
     """Files that may only be read."""
 
     def setUp(self) -> None:

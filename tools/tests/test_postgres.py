@@ -163,7 +163,7 @@ class Loads(unittest.TestCase):
         """A file that a desk has open is not read; nor is anything loaded where the database is not reached, or has no tables."""
         shutil.copy(self.day.path, f"{self.folder}/served.db")
         with Server(ASKED.program, self.folder, "served.db", None) as server:
-            server.connect().close()
+            server.listening()  # a port takes connections before the desk is open
             self.postgres.give(self.folder)
             self.refuses("north", f"{self.folder}/served.db", ".*served.db cannot be read as a desk's file: .*database is locked.*")
         for where, why in (("PGHOST", "psql: error: connection to server on socket .*(\n.*)*"), ("PGDATABASE", "schema \"tcdesk\" does not exist(\n.*)*")):
@@ -179,7 +179,7 @@ class Loads(unittest.TestCase):
         started += [self.postgres.start([f"{LOADER}/load.sh", "south", self.day.path]) for _ in range(2)]
         came = Counter[str]()
         for it in started:
-            out, err = it.communicate(timeout=120)
+            out, err = it.communicate(timeout=600)
             self.assertEqual((0, ""), (it.returncode, err))
             came[out.split()[1]] += int(out.split()[4])
         wanted = rows_of("north", self.next.tables.move) + rows_of("south", self.day.tables.move)
@@ -196,7 +196,7 @@ class Loads(unittest.TestCase):
         self.addCleanup(loader.kill)
         self.wait_for("SELECT FROM pg_stat_activity WHERE application_name = 'tcdesk' AND wait_event_type = 'Lock'")
         self.postgres.ask("SELECT pg_terminate_backend(pid) FROM pg_stat_activity WHERE application_name = 'tcdesk'")
-        _, err = loader.communicate(timeout=60)
+        _, err = loader.communicate(timeout=600)
         self.postgres.ask("SELECT pg_terminate_backend(pid) FROM pg_stat_activity WHERE wait_event = 'PgSleep'")
         self.assertEqual(1, loader.returncode)
         self.assertIn("terminating connection", err)
@@ -205,7 +205,7 @@ class Loads(unittest.TestCase):
 
     def wait_for(self, question: str) -> None:
         """Waits until a question is answered by one row at least."""
-        end = time.monotonic() + 60
+        end = time.monotonic() + 600
         while not self.postgres.ask(f"SELECT 'there' WHERE EXISTS ({question})"):
             self.assertLess(time.monotonic(), end, question)
             time.sleep(0.02)

@@ -15,7 +15,7 @@ from generate.http_days import Call, Exchange, PostedDay, posted_day
 from model.kept import sqlite3
 from model.rows import Tables, empty_tables
 from tests.asked import ASKED
-from tests.http_peer import Ended, Fault, Server, received, send
+from tests.http_peer import Ended, Fault, Late, Server, in_time, received, send
 from tests.plain_runs import kept_tables, unlike
 from tests.runs import Tried
 
@@ -70,7 +70,7 @@ class Desk:
         accepted = [it.call for it in day.exchanges if it.call and it.response.startswith(b"HTTP/1.1 200")]
         day.send(self.dice.choice(accepted or self.sent).changed(number=day.number()))
         it, after = day.exchanges[count], day.desk.tables()
-        is_whole = self.dice.random() < 0.8
+        is_whole = self.dice.random() < 0.8 and self.counts["killed at a front of an act"] > 0  # so each desk meets both
         got = self.cut(server, it, len(it.raw) if is_whole else self.dice.randrange(len(it.raw)))
         if not it.response.startswith(got) or got and not is_whole:
             return f"the post at which it was killed, {it.raw!r:.1500}: {got!r:.600}, and not {it.response!r:.600}"
@@ -112,7 +112,12 @@ class Desk:
 
 
 def share(program: str, work: str, count: int, seed: int) -> tuple[Counter[str], list[str]]:
-    """So many posts by a seed: how they went, and what was wrong."""
+    """So many posts by a seed: how they went, and what was wrong. Where they were late all are sent again, to other desks."""
+    return in_time(lambda: sent(program, tempfile.mkdtemp(dir=work), count, seed))
+
+
+def sent(program: str, work: str, count: int, seed: int) -> tuple[Counter[str], list[str]]:
+    """The same, once."""
     dice, counts, desks = random.Random(seed), Counter[str](), 0
     while counts["posts"] < count:
         desks += 1
@@ -120,6 +125,8 @@ def share(program: str, work: str, count: int, seed: int) -> tuple[Counter[str],
         while desk.counts["posts"] < OF_DESK and counts["posts"] + desk.counts["posts"] < count:
             try:
                 why = desk.go_on(count - counts["posts"] - desk.counts["posts"])
+            except Late:
+                raise
             except Fault as fault:
                 why = str(fault)
             if why:

@@ -3,6 +3,7 @@ each time what is on its way is answered, and the file alone is the whole desk. 
 """
 import os
 import resource
+import select
 import shutil
 import signal
 import socket
@@ -16,7 +17,7 @@ from model.desk import Desk
 from model.http import reply_response
 from tests.asked import ASKED, TOP
 from tests.http_cases import Served
-from tests.http_peer import Ended, Server, received, run, send
+from tests.http_peer import PATIENCE, Ended, Server, received, run, send
 from tests.plain_runs import kept_tables, unlike
 
 LAST, SLACK = 5.0, 4.0  # seconds that what is on its way has at most, and that a busy machine may add
@@ -104,20 +105,18 @@ class Ends(Served):
             desk = Desk()
             right = self.cases.expected(folder, [Case("", act(ENTRY))], desk).responses[0]
             server.exchange(PLACES)  # a port takes connections before the desk is open
-            with server.connect() as late, server.connect() as silent:
-                send(late, act(ENTRY)[:-1])
-                send(silent, PLACES[:-1])
-                time.sleep(0.5)
-                began = time.monotonic()
-                os.close(ours)
-                time.sleep(0.5)
-                self.cases.tell("while something is on its way", None, server.process.poll())
-                send(late, act(ENTRY)[-1:])
-                self.cases.tell("what was on its way", right, received(late))
+            with self.cases.soon("what was on its way", LAST + SLACK), server.connect() as late, server.connect() as silent:
+                with self.cases.soon("what is on its way"):
+                    send(late, act(ENTRY)[:-1])
+                    send(silent, PLACES[:-1])
+                    server.quiet()  # it has taken both
+                    os.close(ours)
+                    time.sleep(0.5)
+                    self.cases.tell("while something is on its way", None, server.process.poll())
+                    send(late, act(ENTRY)[-1:])
+                    self.cases.tell("what was on its way", right, received(late))
                 self.cases.tell("what was never whole", b"", received(silent))
                 self.cases.tell("its end", Ended(0, "", server.listens + BY_INPUT), server.end())
-                took = time.monotonic() - began
-                self.cases.tell(f"its end within {LAST} s", "", "" if took <= LAST + SLACK else f"{took:.1f} s")
         self.whole("what was on its way", folder, desk)
 
     @contextmanager
@@ -149,16 +148,16 @@ class Ends(Served):
 
     def test_killed(self) -> None:
         """The script is killed: its end of the pipe is closed, and the server ends by that, its file whole."""
-        folder = self.cases.folder()
+        folder, (ends, end) = self.cases.folder(), os.pipe()
+        os.set_inheritable(end, True)
         with self.started(folder) as server:
+            os.close(end)  # the script and all that it starts have it, and nobody writes to it
             desk = self.worked("the script is killed", server, folder)
             server.process.kill()
             server.process.wait()
-            end = time.monotonic() + LAST
-            while time.monotonic() < end and BY_INPUT not in server.said().err:
-                time.sleep(0.05)
+            self.cases.tell("its end, in time", [ends], select.select([ends], [], [], PATIENCE)[0])
             self.cases.tell("what it said", server.listens + BY_INPUT, server.said().err)
-        time.sleep(0.5)
+        os.close(ends)
         self.whole("the script was killed", folder, desk)
 
     def test_status(self) -> None:

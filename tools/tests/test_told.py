@@ -16,7 +16,7 @@ from typing import NamedTuple, Optional, Sequence
 from tests.asked import ASKED, TOP
 from tests.runs import Ended, Tried
 
-PATIENCE = 60.0
+PATIENCE = 300.0
 NONE = "places 0: 0 0 0 0 0 0 0 0 0 0 0 0 0 0 0\n"
 STACK = "line,apid,service,subtype,target,time,ack,critical,after,outcome\n"
 FILES = {

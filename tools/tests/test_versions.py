@@ -19,6 +19,7 @@ from model.sound import why_unsound
 from model.tables import opened_moves, opened_tables
 from tests.asked import ASKED
 from tests.changes import why_not_opened
+from tests.http_cases import Patient
 from tests.http_peer import Server
 from tests.made_files import OLD_DAY, OLDER, Older, as_version, make_file
 from tests.plain_runs import Plain, text_of
@@ -47,10 +48,14 @@ def by_plain(tables: Tables, told: list[Exchange]) -> list[bytes]:
     return responses
 
 
-class Versions(Worked):
+class Versions(Patient, Worked):
     """Files of earlier versions."""
 
     looks_at = "versions"
+
+    def is_wrong(self) -> bool:
+        """Whether a fault was found."""
+        return bool(self.faults)
 
     def made(self, older: Older) -> tuple[str, Tables]:
         """A folder with one of the files, and its tables, which a desk could have written."""
