@@ -4,6 +4,8 @@ pub mod CrcLaws
 pub mod Codeblocks
 pub mod CodeblockLaws
 pub mod Randomizer
+pub mod ProfileKeys
+pub mod ProfileTexts
 pub mod TcFrames
 pub mod TmFrames
 pub mod Markers
