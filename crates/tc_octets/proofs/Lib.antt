@@ -1,4 +1,9 @@
 pub mod BitLemmas
+pub mod NumberWords
+pub mod LineLemmas
+pub mod ProfileTextLemmas
+pub mod ProfileLineLemmas
+pub mod ProfileTextLaws
 pub mod RegisterLemmas
 pub mod RandomizerLemmas
 pub mod TcFrameLemmas

@@ -6,6 +6,7 @@ pub mod CodeblockLaws
 pub mod Randomizer
 pub mod ProfileKeys
 pub mod ProfileTexts
+pub mod ProfileParts
 pub mod TcFrames
 pub mod TmFrames
 pub mod Markers

@@ -70,7 +70,7 @@ yes_no true = codes "yes"
 yes_no false = codes "no"
 
 abbrev pub IsYesOrNo : List ℕ → Type 0
-IsYesOrNo value = (yes : Bool) × (value ≡ yes_no yes)
+IsYesOrNo value = (chosen : Bool) × (value ≡ yes_no chosen)
 
 -- what a key may have as its value
 abbrev pub IsValue : Key → List ℕ → Type 0

@@ -16,6 +16,7 @@ fn yes_or_no(yes: bool) -> &'static str
 }
 
 /// The value that a profile has for a key.
+#[derive(Clone, Copy)]
 struct Spelled<'a> {
     profile: &'a Profile,
     key: Key,

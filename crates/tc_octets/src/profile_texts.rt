@@ -1,13 +1,17 @@
 //! A link's profile, read from its text (own).
-ghost use Rattle.std.specs.Prelude.{◌≡◌, ◌≤◌, ◌+◌, ℕ, Some, None, IfSome, IfNone, MatchOption, length, take};
+ghost use Rattle.std.specs.Prelude.{◌≡◌, ◌≤◌, ◌%◌, MatchOption, length, take, ⊤};
 ghost use Rattle.std.specs.Option.{option_copied};
-ghost use Rattle.tc_octets.specs.ProfileKeys.{spelled};
-ghost use Rattle.tc_octets.specs.ProfileTexts.{AreSound, IsFirstFault, Reads, SaysAt, Says, name_of, statements, value_in, value_of};
+ghost use Rattle.std.specs.Fmt.{decimal, signed_decimal};
+ghost use Rattle.tc_octets.specs.declared.keys.Key.{Key as SomeKey};
+ghost use Rattle.tc_octets.specs.declared.keys.Key.TheVariants as keys;
+ghost use Rattle.tc_octets.specs.ProfileKeys.{IsEpoch, IsNumber, IsYesOrNo, ReadsWord, fine_word, map_word, name_of, spelled, yes_no};
+ghost use Rattle.tc_octets.specs.ProfileTexts.{AreSound, IsFirstFault, Reads, Says, said_of, setting, statement_of, statements, value_given, value_in, value_of};
+ghost use Rattle.tc_octets.specs.ProfileParts.{AreValues, HasTc, HasTm, IsNumberIn, value_at};
 
 use crate::keys::{KEYS, Key};
 use crate::profile_values::{epoch, is, is_value, number};
 use crate::profiles::{Map, Profile, TcChannel, TmChannel};
-use crate::statements::{Lines, Statement, statement};
+use crate::statements::{Lines, Statement, read_line};
 
 /// The most octets of a profile's text.
 pub const LONGEST_PROFILE: usize = 4096;
@@ -56,13 +60,17 @@ fn value_given<'a>(statement: &Statement<'a>, key: Key) -> Option<&'a [u8]>
 }
 
 /// Returns the value that the first lines of a text give a key.
+#[tactic(auto, using(crate::proofs::ProfileTextLemmas::value_step, crate::proofs::ProfileTextLemmas::value_found, crate::proofs::ProfileTextLemmas::value_end))]
 fn value_in(text: &[u8], key: Key, count: usize) -> Option<&[u8]>
     ensures { option_copied result ≡ value_in key (take count (statements text.now)) }
 {
     let mut lines = Lines::new(text);
-    for _ in 0..count {
-        let line = lines.next()?;
-        let given = value_given(&statement(line), key);
+    for _place in 0..count {
+        let line = match lines.next() {
+            Some(line) => line,
+            None => return None,
+        };
+        let given = value_given(&read_line(line), key);
         if given.is_some() {
             return given;
         }
@@ -71,6 +79,7 @@ fn value_in(text: &[u8], key: Key, count: usize) -> Option<&[u8]>
 }
 
 /// Returns the value of a key: the one that a text gives, or the default.
+#[tactic(auto, using(crate::proofs::ProfileTextLemmas::given_is, crate::proofs::ProfileTextLemmas::default_is))]
 fn value_of(text: &[u8], key: Key) -> &[u8]
     ensures { result.now ≡ value_of key (statements text.now) }
 {
@@ -102,7 +111,7 @@ fn fault_of_setting(text: &[u8], count: usize, name: &[u8], value: &[u8]) -> Opt
 fn fault_of(text: &[u8], count: usize, line: &[u8]) -> Option<ProfileWord>
     ensures { Says (take count (statements text.now)) (statement_of line.now) result }
 {
-    match statement(line) {
+    match read_line(line) {
         Statement::Blank => None,
         Statement::Setting { name, value } => fault_of_setting(text, count, name, value),
         Statement::Bad => Some(ProfileWord::BadText),
@@ -128,60 +137,108 @@ fn first_fault(text: &[u8]) -> Option<ProfileFault>
     None
 }
 
-/// Returns the number that a key has.
-fn number_of(text: &[u8], key: Key) -> u32
+/// Returns the number of this range that a key has.
+fn number_of(text: &[u8], key: Key, least: u32, most: u32) -> u32
+    requires { IsNumber least most (value_at text.now key) }
+    ensures { IsNumberIn least most result (value_at text.now key) }
 {
-    number(value_of(text, key)).unwrap_or(0)
+    number(value_of(text, key)).unwrap_or(least)
 }
 
 /// Returns whether a key is `yes`.
 fn is_yes(text: &[u8], key: Key) -> bool
+    requires { IsYesOrNo (value_at text.now key) }
+    ensures { yes_no result ≡ value_at text.now key }
 {
     is(value_of(text, key), "yes")
 }
 
 /// Returns the MAP of the segment header.
 fn map_of(text: &[u8]) -> Option<Map>
+    requires { AreValues text.now }
+    ensures { map_word result ≡ value_at text.now keys.TcMap }
 {
     let id = number(value_of(text, Key::TcMap))?;
     Some(Map { id: id as u8 })
 }
 
-/// Returns the telecommand channel of a text without faults.
-fn tc_channel(text: &[u8]) -> TcChannel
+/// Returns the width of FARM-1's sliding window.
+fn window_of(text: &[u8]) -> u8
+    requires { AreValues text.now }
+    ensures digits { decimal result ≡ value_at text.now keys.TcWindow }
+    ensures least { 2 ≤ result }
+    ensures most { result ≤ 254 }
+    ensures even { result % 2 ≡ 0 }
 {
+    number_of(text, Key::TcWindow, 2, 254) as u8
+}
+
+/// Returns the telecommand channel.
+fn tc_channel(text: &[u8]) -> TcChannel
+    requires { AreValues text.now }
+    ensures { HasTc result text.now }
+{
+    let vcid = number_of(text, Key::TcVcid, 0, 63);
+    let idle = number_of(text, Key::TcIdle, 0, 255);
     TcChannel {
-        vcid: number_of(text, Key::TcVcid) as u8,
+        vcid: vcid as u8,
         map: map_of(text),
-        window: number_of(text, Key::TcWindow) as u8,
+        window: window_of(text),
         fecf: is_yes(text, Key::TcFecf),
         randomizer: is_yes(text, Key::TcRandomizer),
-        idle: number_of(text, Key::TcIdle) as u8,
+        idle: idle as u8,
         correct: is_yes(text, Key::TcCorrect),
     }
 }
 
-/// Returns the telemetry channel of a text without faults.
+/// Returns the telemetry channel.
 fn tm_channel(text: &[u8]) -> TmChannel
+    requires { AreValues text.now }
+    ensures { HasTm result text.now }
 {
+    let length = number_of(text, Key::TmLength, 32, 2048);
+    let vcid = number_of(text, Key::TmVcid, 0, 7);
     TmChannel {
-        length: number_of(text, Key::TmLength) as u16,
-        vcid: number_of(text, Key::TmVcid) as u8,
+        length: length as u16,
+        vcid: vcid as u8,
         fecf: is_yes(text, Key::TmFecf),
     }
 }
 
-/// Returns the profile of a text without faults.
-fn profile_of(text: &[u8]) -> Profile
+/// Returns the Unix second of time 0 on board.
+fn epoch_of(text: &[u8]) -> i64
+    requires { AreValues text.now }
+    ensures digits { signed_decimal result ≡ value_at text.now keys.TimeEpoch }
+    ensures range { IsEpoch result }
 {
+    epoch(value_of(text, Key::TimeEpoch)).unwrap_or(0)
+}
+
+/// Returns whether times have two octets of fraction.
+fn is_fine(text: &[u8]) -> bool
+    requires { AreValues text.now }
+    ensures { fine_word result ≡ value_at text.now keys.TimeFine }
+{
+    is(value_of(text, Key::TimeFine), "2")
+}
+
+/// Returns the profile of a text whose lines have no fault.
+fn profile_of(text: &[u8]) -> Profile
+    requires { AreValues text.now }
+    ensures values { (key : SomeKey) → spelled result key ≡ value_at text.now key }
+    ensures range { IsEpoch result.epoch }
+{
+    let scid = number_of(text, Key::Scid, 0, 1023);
+    let apid = number_of(text, Key::Apid, 1, 2046);
+    let source = number_of(text, Key::Source, 0, 65_535);
     Profile {
-        scid: number_of(text, Key::Scid) as u16,
+        scid: scid as u16,
         tc: tc_channel(text),
         tm: tm_channel(text),
-        apid: number_of(text, Key::Apid) as u16,
-        source: number_of(text, Key::Source) as u16,
-        epoch: epoch(value_of(text, Key::TimeEpoch)).unwrap_or(0),
-        fine: is(value_of(text, Key::TimeFine), "2"),
+        apid: apid as u16,
+        source: source as u16,
+        epoch: epoch_of(text),
+        fine: is_fine(text),
         rehearsal: is_yes(text, Key::Rehearsal),
     }
 }

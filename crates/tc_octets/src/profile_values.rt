@@ -6,6 +6,12 @@ ghost use Rattle.tc_octets.specs.ProfileKeys.{IsEpoch, IsNumber, IsValue, IsWind
 use crate::keys::Key;
 use std::str;
 
+/// The most seconds before 1 January 1970: an epoch is 1 January 1958 at the earliest.
+const BEFORE: u32 = 378_691_200;
+
+/// The most seconds after 1 January 1970: an epoch is the last second of 2099 at the latest.
+const AFTER: u32 = 4_102_444_799;
+
 /// Whether a word has no plus in front, and no zero that it could lack.
 fn is_shortest(word: &[u8]) -> bool
     ensures { IsTrue result ↔ ((slice_index word.now 0 ≢ 43) × (slice_index word.now 0 ≡ 48 → length word.now ≡ 1)) }
@@ -35,7 +41,10 @@ fn before_zero(digits: &[u8]) -> Option<i64>
     ensures { ReadsWord signed_decimal IsEpoch (45 ∷ digits.now) result }
 {
     let seconds = number(digits)?;
-    if seconds == 0 || seconds > 378_691_200 {
+    if seconds == 0 {
+        return None;
+    }
+    if seconds > BEFORE {
         return None;
     }
     Some(-i64::from(seconds))
@@ -47,7 +56,7 @@ fn after_zero(digits: &[u8]) -> Option<i64>
     ensures { ReadsWord signed_decimal IsEpoch digits.now result }
 {
     let seconds = number(digits)?;
-    if seconds > 4_102_444_799 {
+    if seconds > AFTER {
         return None;
     }
     Some(i64::from(seconds))

@@ -1,8 +1,8 @@
 //! The lines of a profile's text, and what each of them says.
-ghost use Rattle.std.specs.Prelude.{◌≡◌, ◌<◌, ◌≤◌, IfSome, IfNone, [], ◌∷◌, length, take};
+ghost use Rattle.std.specs.Prelude.{◌≡◌, ◌==◌, ◌<◌, IfSome, IfNone, [], ◌∷◌, length};
 ghost use Rattle.std.specs.List.{list_all, position};
 ghost use Rattle.tc_octets.specs.ProfileTexts.{is_equals, is_printable, said_of, statement_in, statement_of, trimmed, trimmed_start};
-ghost use Rattle.std.specs.Str.Lines.{strip_carriage_return};
+ghost use Rattle.std.specs.Str.Lines.{lines, strip_carriage_return};
 
 use std::marker::Model;
 
@@ -22,8 +22,6 @@ impl<'a> Model for Lines<'a> {
 }
 
 impl<'a> Lines<'a> {
-    ghost use Rattle.std.specs.Str.Lines.{lines};
-
     /// Returns the lines of a text. LF ends a line, and the last LF may be missing.
     pub(crate) fn new(text: &'a [u8]) -> Lines<'a>
         ensures { result ≡ lines text.now }
@@ -39,18 +37,27 @@ impl<'a> Lines<'a> {
         if self.rest.is_empty() {
             return None;
         }
-        match self.rest.iter().position(|octet| *octet == b'\n') {
-            Some(place) => {
-                let line = without_cr(&self.rest[..place]);
-                self.rest = &self.rest[place + 1..];
-                Some(line)
-            }
-            None => {
-                let line = self.rest;
-                self.rest = &[];
-                Some(line)
-            }
-        }
+        let (line, rest) = first_line(self.rest);
+        self.rest = rest;
+        Some(line)
+    }
+}
+
+/// Returns where the first LF stands.
+fn first_end(text: &[u8]) -> Option<usize>
+    ensures { result ≡ position (λ octet. octet == 10) text.now }
+{
+    text.iter().position(|octet| *octet == b'\n')
+}
+
+/// Returns the first line of a text that is not empty, and what stands after its LF.
+fn first_line(text: &[u8]) -> (&[u8], &[u8])
+    requires { 0 < length text.now }
+    ensures { lines text.now ≡ result.0.now ∷ lines result.1.now }
+{
+    match first_end(text) {
+        Some(place) => (without_cr(&text[..place]), &text[place + 1..]),
+        None => (text, &text[text.len()..]),
     }
 }
 
@@ -81,6 +88,7 @@ pub(crate) enum Statement<'a> {
 }
 
 /// Drops the spaces in front.
+#[tactic(auto, using(crate::proofs::LineLemmas::start_step, crate::proofs::LineLemmas::start_stays))]
 fn trim_start(text: &[u8]) -> &[u8]
     ensures { result.now ≡ trimmed_start text.now }
 {
@@ -92,6 +100,7 @@ fn trim_start(text: &[u8]) -> &[u8]
 }
 
 /// Drops the spaces around a text.
+#[tactic(auto, using(crate::proofs::LineLemmas::end_step, crate::proofs::LineLemmas::end_stays))]
 pub(crate) fn trim(text: &[u8]) -> &[u8]
     ensures { result.now ≡ trimmed text.now }
 {
@@ -117,27 +126,31 @@ fn first_equals(words: &[u8]) -> Option<usize>
 }
 
 /// Returns what a line without spaces around it says.
-fn statement_among(words: &[u8]) -> Statement<'_>
+#[tactic(auto, using(crate::proofs::LineLemmas::says_nothing, crate::proofs::LineLemmas::comment_in))]
+fn read_words(words: &[u8]) -> Statement<'_>
     ensures { said_of result ≡ statement_in words.now }
 {
-    match words.first() {
-        None | Some(b'#') => Statement::Blank,
-        Some(_) => match first_equals(words) {
-            Some(place) => Statement::Setting {
-                name: trim(&words[..place]),
-                value: trim(&words[place + 1..]),
-            },
-            None => Statement::Bad,
+    if words.is_empty() {
+        return Statement::Blank;
+    }
+    if words[0] == b'#' {
+        return Statement::Blank;
+    }
+    match first_equals(words) {
+        Some(place) => Statement::Setting {
+            name: trim(&words[..place]),
+            value: trim(&words[place + 1..]),
         },
+        None => Statement::Bad,
     }
 }
 
 /// Returns what a line says.
-pub(crate) fn statement(line: &[u8]) -> Statement<'_>
+pub(crate) fn read_line(line: &[u8]) -> Statement<'_>
     ensures { said_of result ≡ statement_of line.now }
 {
     if is_plain(line) {
-        statement_among(trim(line))
+        read_words(trim(line))
     } else {
         Statement::Bad
     }
