@@ -1,6 +1,7 @@
 -- A text has one answer, a printed profile comes back, and different profiles have different texts.
-use Rattle.std.proofs.Common.{◌≡◌, ◌≢◌, ◌⊎◌, inl, inr, ℕ, ℤ, pos, negsuc, ◌+◌, ◌-◌, ◌%◌, ◌<◌, ◌≤◌, ◌^◌, ◌≤ℤ◌, zero, suc, Bool, true, false, Option, Some, None, Result, Ok, Err, List, [], ◌∷◌, length, refl, ap, ◌∙◌, sym, ⊎_elim, arith}
+use Rattle.std.proofs.Common.{◌≡◌, ◌≢◌, ◌⊎◌, inl, inr, ℕ, ℤ, pos, negsuc, ◌+◌, ◌-◌, ◌%◌, ◌<◌, ◌≤◌, ◌^◌, ◌≤ℤ◌, zero, suc, Bool, true, false, Option, Some, None, Result, Ok, Err, List, [], ◌∷◌, length, take, get_or, refl, subst, ap, ◌∙◌, sym, ⊎_elim, arith}
 use Rattle.std.specs.Prelude.{codes, IsNone, IsSome}
+use Rattle.std.specs.List.{slice_index_or}
 use Rattle.std.specs.Fmt.{decimal, signed_decimal}
 use Rattle.std.proofs.lemmas.Bool.{cases_lt}
 use Rattle.std.proofs.lemmas.Fmt.{decimal_injective, signed_decimal_injective}
@@ -33,8 +34,8 @@ same_choice false false e = refl
 
 same_fine : (a b : Bool) → fine_word a ≡ fine_word b → a ≡ b
 same_fine true true e = refl
-same_fine true false e = absurd (cc)
-same_fine false true e = absurd (cc)
+same_fine true false e = absurd (let wrong : 50 ≡ 48 = ap (λ octets. get_or octets 0 0) e in omega arith)
+same_fine false true e = absurd (let wrong : 48 ≡ 50 = ap (λ octets. get_or octets 0 0) e in omega arith)
 same_fine false false e = refl
 
 same_map : (a b : Map) → a.id ≡ b.id → a ≡ b
@@ -128,8 +129,8 @@ same_profile a b h k each =
 -- ---- one answer
 
 some_none : (given : Option (List ℕ)) → IsNone given → IsSome given → ⊥
-some_none None h k = k
-some_none (Some value) h k = h
+some_none None h k = absurd (cc)
+some_none (Some value) h k = absurd (cc)
 
 one_key : (name : List ℕ) (a b : Key) → name ≡ name_of a → name ≡ name_of b → a ≡ b
 one_key name a b h k = name_tells a b (sym h ∙ k)
@@ -205,7 +206,7 @@ how text line words.BadValue h = fault h.0 h.1
 first_line : (said : List Said) (a b : ℕ) (v w : ProfileWord) → IsFirstFault said a v → IsFirstFault said b w → a < b → ⊥
 first_line said a b v w h k less =
     let least = h.least in
-    never_both _ _ v (k.before (a - 1) (omega arith)) h.here
+    never_both (take (a - 1) said) (slice_index_or said (a - 1) blank) v (k.before (a - 1) (omega arith)) h.here
 
 one_line : (said : List Said) (a b : ℕ) (v w : ProfileWord) → IsFirstFault said a v → IsFirstFault said b w → a ≡ b
 one_line said a b v w h k =
@@ -217,7 +218,7 @@ not_sound : (text : List ℕ) (line : ℕ) (word : ProfileWord) → IsReadable t
 not_sound text line word h k =
     let least = k.least in
     let most = k.most in
-    never_both _ _ word (h.sound (line - 1) (omega arith)) k.here
+    never_both (take (line - 1) (statements text)) (slice_index_or (statements text) (line - 1) blank) word (h.sound (line - 1) (omega arith)) k.here
 
 one_how : (text : List ℕ) (a b : ℕ) (v w : ProfileWord) → How text a v → How text b w → (a ≡ b) × (v ≡ w)
 one_how text a b v w (long h e l) (long k f m) = (h ∙ sym k, e ∙ sym f)
@@ -230,7 +231,7 @@ one_how text a b v w (fault h e) (long k f m) = absurd (omega arith)
 one_how text a b v w (fault h e) (clash k f m c) = absurd (not_sound text a v m e)
 one_how text a b v w (fault h e) (fault k f) =
     let same : a ≡ b = one_line (statements text) a b v w e f in
-    (same, one_word _ _ v w (rw same at e.here) f.here)
+    (same, one_word (take (b - 1) (statements text)) (slice_index_or (statements text) (b - 1) blank) v w (rw same at e.here) f.here)
 
 yes_true : (b : Bool) → yes_no b ≡ codes "yes" → b ≡ true
 yes_true true e = refl
@@ -304,5 +305,6 @@ comes_back profile read h r = one_answer (profile_text profile) read (Ok profile
 
 pub texts_differ : ProfileTextsDiffer
 texts_differ a b h k e =
-    let back : Reads (profile_text b) (Ok a) = rw e at (reads_back a h) in
+    let P : List ℕ → Type 0 = λ text. Reads text (Ok a) in
+    let back : Reads (profile_text b) (Ok a) = subst P e (reads_back a h) in
     let same : ◌≡◌ {A = Result Profile ProfileFault} (Ok a) (Ok b) = one_answer (profile_text b) (Ok a) (Ok b) back (reads_back b k) in cc

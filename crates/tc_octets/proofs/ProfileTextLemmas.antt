@@ -219,7 +219,7 @@ yes_is word b is h = by_choice b is.0 is.1 h
     by_choice false false e k = sym e
 
 -- digits are no word
-no_word : (n : ℕ) → n < 2 ^ 64 → codes "none" ≡ decimal n → ⊥
+pub no_word : (n : ℕ) → n < 2 ^ 64 → codes "none" ≡ decimal n → ⊥
 no_word n small e =
     let range = first_digit n small in
     let first : 110 ≡ get_or (decimal n) 0 0 = ap (λ octets. get_or octets 0 0) e in

@@ -1,6 +1,6 @@
 //! A link's profile, printed as its text (own).
 ghost use Rattle.std.specs.Prelude.{◌≡◌, Some};
-ghost use Rattle.tc_octets.specs.ProfileKeys.{spelled, yes_no};
+ghost use Rattle.tc_octets.specs.ProfileKeys.{fine_word, spelled, yes_no};
 ghost use Rattle.tc_octets.specs.ProfileTexts.{fault_line, profile_text, word_name};
 
 use crate::keys::{KEYS, Key};
@@ -13,6 +13,13 @@ fn yes_or_no(yes: bool) -> &'static str
     ensures { result.now ≡ yes_no yes }
 {
     if yes { "yes" } else { "no" }
+}
+
+/// Returns the octets of the fraction of a second as a text spells them.
+fn fine_digits(fine: bool) -> &'static str
+    ensures { result.now ≡ fine_word fine }
+{
+    if fine { "2" } else { "0" }
 }
 
 /// The value that a profile has for a key.
@@ -45,7 +52,7 @@ impl fmt::Display for Spelled<'_> {
             Key::Apid => write!(f, "{}", profile.apid),
             Key::Source => write!(f, "{}", profile.source),
             Key::TimeEpoch => write!(f, "{}", profile.epoch),
-            Key::TimeFine => write!(f, "{}", if profile.fine { "2" } else { "0" }),
+            Key::TimeFine => write!(f, "{}", fine_digits(profile.fine)),
             Key::Rehearsal => write!(f, "{}", yes_or_no(profile.rehearsal)),
         }
     }

@@ -8,4 +8,4 @@ overflow_cast-result c =
     let small : c.in_ok-id.id ≤ 63 = some_map _ _ c.in_ok-id.ensures (rw c.value_of.ensures (c.requires.each keys.TcMap)) in omega arith
 
 pub invariant_of-result : goal.invariant_of-result
-invariant_of-result c = some_map _ _ c.in_ok-id.ensures (rw c.value_of.ensures (c.requires.each keys.TcMap))
+invariant_of-result c = record { id_fits = some_map _ _ c.in_ok-id.ensures (rw c.value_of.ensures (c.requires.each keys.TcMap)) }
