@@ -25,6 +25,8 @@ loop-line-preserved c =
     let left : drop c.loop-line.count (statements c.args.text.now) ≡ statement_of c.in-Some.line.now ∷ map statement_of c.next.new.self =
         c.loop-line.invariant.left ∙ ap (map statement_of) c.in-Some.ensures.some in
     record {
-      left = left_more _ _ _ _ left;
-      sound = sound_more _ _ _ _ left c.loop-line.invariant.sound c.in_default-fault_of.ensures;
+      left = left_more (statements c.args.text.now) (map statement_of c.next.new.self) c.loop-line.count (statement_of c.in-Some.line.now) left;
+      sound =
+          sound_more (statements c.args.text.now) (map statement_of c.next.new.self) c.loop-line.count (statement_of c.in-Some.line.now) left
+          c.loop-line.invariant.sound c.in_default-fault_of.ensures;
     }
