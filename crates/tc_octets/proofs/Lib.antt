@@ -3,6 +3,7 @@ pub mod NumberWords
 pub mod LineLemmas
 pub mod ProfileTextLemmas
 pub mod ProfileLineLemmas
+pub mod ProfilePrintLemmas
 pub mod ProfileTextLaws
 pub mod RegisterLemmas
 pub mod RandomizerLemmas
