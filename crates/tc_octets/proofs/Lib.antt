@@ -2,6 +2,7 @@ pub mod BitLemmas
 pub mod NumberWords
 pub mod LineLemmas
 pub mod ProfileTextLemmas
+pub mod ProfileValueLemmas
 pub mod ProfileLineLemmas
 pub mod ProfilePrintLemmas
 pub mod ProfileTextLaws
@@ -26,3 +27,4 @@ pub mod IdleLemmas
 pub mod FrameBackLemmas
 pub mod CltuFrameLemmas
 mod CltuCases
+mod ProfileCases

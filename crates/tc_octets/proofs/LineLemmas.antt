@@ -43,7 +43,7 @@ ended_line text place e =
     let found = place_of is_end text place e in
     let rest : take (length text - (place + 1)) (drop (place + 1) text) ≡ drop (place + 1) text = rw (← length-drop (place + 1) text) (take-length (drop (place + 1) text)) in
     let parts : slice_split is_end text ≡ take place text ∷ slice_split is_end (take (length text - (place + 1)) (drop (place + 1) text)) =
-        rw (rest, found.1) (slice_split_first is_end text 0 found.0) in
+    rw (rest, found.1) (slice_split_first is_end text 0 found.0) in
     ap lines_of_parts parts ∙ more_parts (take place text) _ (parts_nonempty (take (length text - (place + 1)) (drop (place + 1) text)))
 
 take_nothing : (n : ℕ) (xs : List ℕ) → xs ≡ [] → take n xs ≡ []
@@ -54,7 +54,7 @@ take_nothing (suc n) xs e = rw e refl
 pub last_line : (text : List ℕ) → 0 < length text → position is_end text ≡ None → lines text ≡ text ∷ lines (take (length text - length text) (drop (length text) text))
 last_line text some e =
     let parts : slice_split is_end text ≡ text ∷ [] =
-        slice_split_none is_end text (λ k d h. fails_before_first is_end text k d (omega (arith, no_place is_end text e))) in
+    slice_split_none is_end text (λ k d h. fails_before_first is_end text k d (omega (arith, no_place is_end text e))) in
     let gone : take (length text - length text) (drop (length text) text) ≡ [] = take_nothing (length text - length text) (drop (length text) text) (drop_all (length text) text (omega arith)) in
     rw gone (ap lines_of_parts parts ∙ one_part text some)
 

@@ -208,7 +208,7 @@ line_trimmed : (key : Key) (word : List ℕ) → IsWord word → trimmed (line_w
 line_trimmed key word h =
     let last = last_solid word h.some h.solid in
     let ends : line_with key word ≡ (name_of key ++ codes " = " ++ last.0) ++ (last.1 ∷ []) =
-        ap (λ octets. name_of key ++ codes " = " ++ octets) last.2 ∙ sym (append_assoc (name_of key ++ codes " = ") last.0 (last.1 ∷ [])) in
+    ap (λ octets. name_of key ++ codes " = " ++ octets) last.2 ∙ sym (append_assoc (name_of key ++ codes " = ") last.0 (last.1 ∷ [])) in
     rw (start_line key word) (end_stays (line_with key word) (name_of key ++ codes " = " ++ last.0) last.1 ends last.3)
 
 line_printable : (key : Key) (word : List ℕ) → IsWord word → list_all is_printable (line_with key word) ≡ true
@@ -246,7 +246,7 @@ lines_back line some printable [] = refl
 lines_back line some printable (key ∷ others) =
     let rest : List ℕ = flat_map (λ key. line key ++ (10 ∷ [])) others in
     let parts : slice_split is_end ((line key ++ (10 ∷ [])) ++ rest) ≡ line key ∷ slice_split is_end rest =
-        ap (slice_split is_end) (append_assoc (line key) (10 ∷ []) rest) ∙ slice_split_at is_end (line key) 10 rest (no_end (line key) (printable key)) refl in
+    ap (slice_split is_end) (append_assoc (line key) (10 ∷ []) rest) ∙ slice_split_at is_end (line key) 10 rest (no_end (line key) (printable key)) refl in
     ap lines_of_parts parts ∙ more_parts (line key) (slice_split is_end rest) (parts_nonempty rest)
     ∙ rw (no_return (line key) (some key) (printable key), lines_back line some printable others) refl
 

@@ -18,7 +18,7 @@ pieces a b c d = sym (append_assoc (a ++ b) c d ∙ append_assoc a b (c ++ d))
 
 pub lines_more : (profile : Profile) (index : ℕ) (other : Key) (name : List ℕ) → index < length KEYS → name ≡ name_of (get_or KEYS index other)
     → flat_map (ended profile) (take index KEYS) ++ (name ++ (codes " = " ++ (spelled profile (get_or KEYS index other) ++ codes "\n")))
-        ≡ flat_map (ended profile) (take (index + 1) KEYS)
+    ≡ flat_map (ended profile) (take (index + 1) KEYS)
 lines_more profile index other name below e =
     ap (λ start. flat_map (ended profile) (take index KEYS) ++ (start ++ (codes " = " ++ (spelled profile (get_or KEYS index other) ++ codes "\n")))) e
     ∙ ap (λ line. flat_map (ended profile) (take index KEYS) ++ line) (pieces (name_of (get_or KEYS index other)) (codes " = ") (spelled profile (get_or KEYS index other)) (codes "\n"))

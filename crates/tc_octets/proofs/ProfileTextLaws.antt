@@ -20,8 +20,9 @@ use Rattle.tc_octets.specs.declared.profile_texts.ProfileWord.{ProfileWord}
 use Rattle.tc_octets.specs.declared.profile_texts.ProfileWord.TheVariants as words
 use Rattle.tc_octets.specs.declared.profile_texts.ProfileFault.{ProfileFault}
 use Rattle.tc_octets.specs.ProfileKeys.{name_of, spelled, IsValue, IsNumber, IsEpoch, yes_no, map_word, fine_word}
-use Rattle.tc_octets.specs.ProfileTexts.{Said, blank, setting, bad, statements, value_in, value_of, Says, SaysAt, AreSound, IsFirstFault, Clashes, IsReadable, IsProfile, Reads, Refuses, profile_text, OneAnswer, ProfilesComeBack, ProfileTextsDiffer}
-use Rattle.tc_octets.proofs.ProfileTextLemmas.{name_tells, no_word}
+use Rattle.tc_octets.specs.ProfileTexts.{Said, blank, setting, bad, statements, value_in, value_of, Says, SaysAt, AreSound, IsFirstFault, Clashes, IsReadable, IsProfile, ProfileReads, Refuses, profile_text, OneAnswer, ProfilesComeBack, ProfileTextsDiffer}
+use Rattle.tc_octets.proofs.ProfileTextLemmas.{name_tells}
+use Rattle.tc_octets.proofs.ProfileValueLemmas.{no_word}
 use Rattle.tc_octets.proofs.ProfileLineLemmas.{value_word, text_short, text_says, settings_give, settings_sound, settings_with}
 
 -- ---- profiles with the same values
@@ -114,13 +115,13 @@ same_profile a b h k each =
     let idle = h.idle in
     let idle' = k.idle in
     let tc : a.tc ≡ b.tc =
-        same_tc a.tc b.tc (same_number a.tc.vcid b.tc.vcid (omega arith) (omega arith) (each keys.TcVcid)) (same_maps a.tc.map b.tc.map (each keys.TcMap))
-        (same_number a.tc.window b.tc.window (omega arith) (omega arith) (each keys.TcWindow)) (same_choice a.tc.fecf b.tc.fecf (each keys.TcFecf))
-        (same_choice a.tc.randomizer b.tc.randomizer (each keys.TcRandomizer)) (same_number a.tc.idle b.tc.idle (omega arith) (omega arith) (each keys.TcIdle))
-        (same_choice a.tc.correct b.tc.correct (each keys.TcCorrect)) in
+    same_tc a.tc b.tc (same_number a.tc.vcid b.tc.vcid (omega arith) (omega arith) (each keys.TcVcid)) (same_maps a.tc.map b.tc.map (each keys.TcMap))
+    (same_number a.tc.window b.tc.window (omega arith) (omega arith) (each keys.TcWindow)) (same_choice a.tc.fecf b.tc.fecf (each keys.TcFecf))
+    (same_choice a.tc.randomizer b.tc.randomizer (each keys.TcRandomizer)) (same_number a.tc.idle b.tc.idle (omega arith) (omega arith) (each keys.TcIdle))
+    (same_choice a.tc.correct b.tc.correct (each keys.TcCorrect)) in
     let tm : a.tm ≡ b.tm =
-        same_tm a.tm b.tm (same_number a.tm.length b.tm.length (omega arith) (omega arith) (each keys.TmLength))
-        (same_number a.tm.vcid b.tm.vcid (omega arith) (omega arith) (each keys.TmVcid)) (same_choice a.tm.fecf b.tm.fecf (each keys.TmFecf)) in
+    same_tm a.tm b.tm (same_number a.tm.length b.tm.length (omega arith) (omega arith) (each keys.TmLength))
+    (same_number a.tm.vcid b.tm.vcid (omega arith) (omega arith) (each keys.TmVcid)) (same_choice a.tm.fecf b.tm.fecf (each keys.TmFecf)) in
     same_parts a b (same_number a.scid b.scid (omega arith) (omega arith) (each keys.Scid)) tc tm
     (same_number a.apid b.apid (omega arith) (omega arith) (each keys.Apid)) (same_number a.source b.source h.source k.source (each keys.Source))
     (signed_decimal_injective a.epoch b.epoch (small_mag a.epoch h.epoch) (small_mag b.epoch k.epoch) (each keys.TimeEpoch))
@@ -242,7 +243,7 @@ no_false true e = absurd (cc)
 no_false false e = refl
 
 -- what is read is not refused
-not_refused : (text : List ℕ) (profile : Profile) (line : ℕ) (word : ProfileWord) → Reads text (Ok profile) → How text line word → ⊥
+not_refused : (text : List ℕ) (profile : Profile) (line : ℕ) (word : ProfileWord) → ProfileReads text (Ok profile) → How text line word → ⊥
 not_refused text profile line word h (long e f l) = let short = h.0.short in omega arith
 not_refused text profile line word h (clash e f l c) =
     let correct : profile.tc.correct ≡ true = yes_true profile.tc.correct (h.2 keys.TcCorrect ∙ c.0) in
@@ -290,14 +291,14 @@ profile_values profile h keys.TimeEpoch = (profile.epoch, h.epoch, refl)
 profile_values profile h keys.TimeFine = fine_value profile.fine
 profile_values profile h keys.Rehearsal = (profile.rehearsal, refl)
 
-reads_back : (profile : Profile) → IsProfile profile → Reads (profile_text profile) (Ok profile)
+reads_back : (profile : Profile) → IsProfile profile → ProfileReads (profile_text profile) (Ok profile)
 reads_back profile h =
     let values = profile_values profile h in
     let words = λ (key : Key). value_word key (spelled profile key) (values key) in
     let said : statements (profile_text profile) ≡ settings_with (spelled profile) = text_says (spelled profile) words in
     let sixteen : length (settings_with (spelled profile)) ≡ 16 = refl in
     let sound : AreSound (length (settings_with (spelled profile))) (settings_with (spelled profile)) =
-        λ place below. settings_sound (spelled profile) values place (omega arith) in
+    λ place below. settings_sound (spelled profile) values place (omega arith) in
     (record { short = text_short (spelled profile) words; sound = rw said sound }, h, λ key. rw said (sym (settings_give (spelled profile) key)))
 
 pub comes_back : ProfilesComeBack
@@ -305,6 +306,6 @@ comes_back profile read h r = one_answer (profile_text profile) read (Ok profile
 
 pub texts_differ : ProfileTextsDiffer
 texts_differ a b h k e =
-    let P : List ℕ → Type 0 = λ text. Reads text (Ok a) in
-    let back : Reads (profile_text b) (Ok a) = subst P e (reads_back a h) in
+    let P : List ℕ → Type 0 = λ text. ProfileReads text (Ok a) in
+    let back : ProfileReads (profile_text b) (Ok a) = subst P e (reads_back a h) in
     let same : ◌≡◌ {A = Result Profile ProfileFault} (Ok a) (Ok b) = one_answer (profile_text b) (Ok a) (Ok b) back (reads_back b k) in cc

@@ -130,9 +130,9 @@ pub record IsProfile (profile : Profile) : Type 0 where
   pub checked : profile.tc.correct ≡ true → profile.tc.fecf ≡ true
 
 -- What a reader answers: the profile with the value of each key, or why the text is refused.
-abbrev pub Reads : List ℕ → Result Profile ProfileFault → Type 0
-Reads text (Ok profile) = IsReadable text × IsProfile profile × ((key : Key) → spelled profile key ≡ value_of key (statements text))
-Reads text (Err fault) = Refuses text fault.line fault.word
+abbrev pub ProfileReads : List ℕ → Result Profile ProfileFault → Type 0
+ProfileReads text (Ok profile) = IsReadable text × IsProfile profile × ((key : Key) → spelled profile key ≡ value_of key (statements text))
+ProfileReads text (Err fault) = Refuses text fault.line fault.word
 
 -- ---- what is printed
 
@@ -160,11 +160,11 @@ fault_line fault = if fault.line == 0 then word_name fault.word else codes "line
 
 -- a text has one answer
 abbrev pub OneAnswer : Type 0
-OneAnswer = (text : List ℕ) (a b : Result Profile ProfileFault) → Reads text a → Reads text b → a ≡ b
+OneAnswer = (text : List ℕ) (a b : Result Profile ProfileFault) → ProfileReads text a → ProfileReads text b → a ≡ b
 
 -- what a reader answers to the text that is printed of a profile is that profile
 abbrev pub ProfilesComeBack : Type 0
-ProfilesComeBack = (profile : Profile) (read : Result Profile ProfileFault) → IsProfile profile → Reads (profile_text profile) read → read ≡ Ok profile
+ProfilesComeBack = (profile : Profile) (read : Result Profile ProfileFault) → IsProfile profile → ProfileReads (profile_text profile) read → read ≡ Ok profile
 
 -- different profiles have different texts
 abbrev pub ProfileTextsDiffer : Type 0

@@ -2,7 +2,7 @@
 ghost use Rattle.std.specs.Prelude.{◌≡◌};
 ghost use Rattle.tc_octets.specs.ProfileKeys.{default_of, name_of};
 
-/// A key of a profile's text (own).
+/// A key of a profile's text.
 #[derive(Clone, Copy, Debug, PartialEq, Eq)]
 pub enum Key {
     /// The spacecraft id of all frames.

@@ -1,4 +1,4 @@
-//! A link's profile, printed as its text (own).
+//! A link's profile, printed as its text. The format is this project's own.
 ghost use Rattle.std.specs.Prelude.{◌≡◌, Some};
 ghost use Rattle.tc_octets.specs.ProfileKeys.{fine_word, spelled, yes_no};
 ghost use Rattle.tc_octets.specs.ProfileTexts.{fault_line, profile_text, word_name};

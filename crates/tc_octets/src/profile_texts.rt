@@ -1,11 +1,13 @@
-//! A link's profile, read from its text (own).
+//! A link's profile, read from its text. The format is this project's own.
+//!
+//! Nothing is kept of a text but the text: the value of a key is searched anew where it is needed.
 ghost use Rattle.std.specs.Prelude.{◌≡◌, ◌≤◌, ◌%◌, MatchOption, length, take, ⊤};
 ghost use Rattle.std.specs.Option.{option_copied};
 ghost use Rattle.std.specs.Fmt.{decimal, signed_decimal};
 ghost use Rattle.tc_octets.specs.declared.keys.Key.{Key as SomeKey};
 ghost use Rattle.tc_octets.specs.declared.keys.Key.TheVariants as keys;
 ghost use Rattle.tc_octets.specs.ProfileKeys.{IsEpoch, IsNumber, IsYesOrNo, ReadsWord, fine_word, map_word, name_of, spelled, yes_no};
-ghost use Rattle.tc_octets.specs.ProfileTexts.{AreSound, IsFirstFault, Reads, Says, said_of, setting, statement_of, statements, value_given, value_in, value_of};
+ghost use Rattle.tc_octets.specs.ProfileTexts.{AreSound, IsFirstFault, ProfileReads, Says, said_of, setting, statement_of, statements, value_given, value_in, value_of};
 ghost use Rattle.tc_octets.specs.ProfileParts.{AreValues, HasTc, HasTm, IsNumberIn, value_at};
 
 use crate::keys::{KEYS, Key};
@@ -46,7 +48,9 @@ pub struct ProfileFault {
 fn key_named(name: &[u8]) -> Option<Key>
     ensures { ReadsWord name_of (λ key. ⊤) name.now result }
 {
-    KEYS.iter().copied().find(|key| name == key.name().as_bytes())
+    KEYS.iter()
+        .copied()
+        .find(|key| name == key.name().as_bytes())
 }
 
 /// Returns the value that a statement gives a key.
@@ -54,7 +58,11 @@ fn value_given<'a>(statement: &Statement<'a>, key: Key) -> Option<&'a [u8]>
     ensures { option_copied result ≡ value_given key (said_of statement.now) }
 {
     match statement {
-        Statement::Setting { name, value } => if is(name, key.name()) { Some(value) } else { None },
+        Statement::Setting { name, value } => if is(name, key.name()) {
+            Some(value)
+        } else {
+            None
+        },
         _ => None,
     }
 }
@@ -137,7 +145,7 @@ fn first_fault(text: &[u8]) -> Option<ProfileFault>
     None
 }
 
-/// Returns the number of this range that a key has.
+/// Returns the number of this range that a key has. The text has no fault, so there is one.
 fn number_of(text: &[u8], key: Key, least: u32, most: u32) -> u32
     requires { IsNumber least most (value_at text.now key) }
     ensures { IsNumberIn least most result (value_at text.now key) }
@@ -205,7 +213,7 @@ fn tm_channel(text: &[u8]) -> TmChannel
     }
 }
 
-/// Returns the Unix second of time 0 on board.
+/// Returns the Unix second of time 0 on board. The text has no fault, so there is one.
 fn epoch_of(text: &[u8]) -> i64
     requires { AreValues text.now }
     ensures digits { signed_decimal result ≡ value_at text.now keys.TimeEpoch }
@@ -250,9 +258,9 @@ fn whole(word: ProfileWord) -> ProfileFault
     ProfileFault { line: 0, word }
 }
 
-/// Reads a profile. A key that the text does not give has its default. Returns the first fault if the text has one. Takes no memory.
+/// ProfileReads a profile. A key that the text does not give has its default. Returns the first fault if the text has one. Takes no memory.
 pub fn read_profile(text: &[u8]) -> Result<Profile, ProfileFault>
-    ensures { Reads text.now result }
+    ensures { ProfileReads text.now result }
 {
     if text.len() > LONGEST_PROFILE {
         return Err(whole(ProfileWord::TooLong));

@@ -122,10 +122,7 @@ pub(crate) fn is_value(key: Key, value: &[u8]) -> bool
         Key::Source => is_number(value, 0, 65_535),
         Key::TimeEpoch => epoch(value).is_some(),
         Key::TimeFine => is(value, "0") || is(value, "2"),
-        Key::TcFecf
-        | Key::TcRandomizer
-        | Key::TcCorrect
-        | Key::TmFecf
-        | Key::Rehearsal => is_yes_or_no(value),
+        Key::TcFecf | Key::TcRandomizer | Key::TcCorrect | Key::TmFecf | Key::Rehearsal =>
+            is_yes_or_no(value),
     }
 }

@@ -23,7 +23,7 @@ returns-in-Some-fault_of c =
 pub loop-line-preserved : goal.loop-line-preserved
 loop-line-preserved c =
     let left : drop c.loop-line.count (statements c.args.text.now) ≡ statement_of c.in-Some.line.now ∷ map statement_of c.next.new.self =
-        c.loop-line.invariant.left ∙ ap (map statement_of) c.in-Some.ensures.some in
+    c.loop-line.invariant.left ∙ ap (map statement_of) c.in-Some.ensures.some in
     record {
       left = left_more (statements c.args.text.now) (map statement_of c.next.new.self) c.loop-line.count (statement_of c.in-Some.line.now) left;
       sound =

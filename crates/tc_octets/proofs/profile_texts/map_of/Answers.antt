@@ -1,6 +1,6 @@
 use Rattle.std.proofs.Common.{◌≤◌, arith}
 use Rattle.tc_octets.specs.declared.keys.Key.TheVariants as keys
-use Rattle.tc_octets.proofs.ProfileTextLemmas.{some_map}
+use Rattle.tc_octets.proofs.ProfileValueLemmas.{some_map}
 use Rattle.tc_octets.proofs.profile_texts.map_of.Goals as goal
 
 pub overflow_cast-result : goal.overflow_cast-result

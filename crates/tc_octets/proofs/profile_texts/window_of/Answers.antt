@@ -1,5 +1,5 @@
 use Rattle.tc_octets.specs.declared.keys.Key.TheVariants as keys
-use Rattle.tc_octets.proofs.ProfileTextLemmas.{window_even, window_number}
+use Rattle.tc_octets.proofs.ProfileValueLemmas.{window_even, window_number}
 use Rattle.tc_octets.proofs.profile_texts.window_of.Goals as goal
 
 pub number_of-requires : goal.number_of-requires
