@@ -1,8 +1,8 @@
 -- Worked cases of a profile's text, carried out by the definitions.
-use Rattle.std.proofs.Common.{◌≡◌, List, [], ◌∷◌, ◌++◌, Some, None, refl}
+use Rattle.std.proofs.Common.{◌≡◌, [], ◌∷◌, refl}
 use Rattle.std.specs.Prelude.{codes}
 use Rattle.tc_octets.specs.declared.keys.Key.TheVariants as keys
-use Rattle.tc_octets.specs.ProfileTexts.{blank, setting, bad, statements, value_in, value_of}
+use Rattle.tc_octets.specs.ProfileTexts.{blank, setting, bad, statements, value_of}
 
 empty_text : statements [] ≡ []
 empty_text = refl

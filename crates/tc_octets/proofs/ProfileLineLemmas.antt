@@ -1,23 +1,22 @@
 -- What is printed of a profile reads back.
-use Rattle.std.proofs.Common.{◌≡◌, ◌≢◌, ◌⊎◌, inl, inr, ℕ, ℤ, pos, negsuc, ◌+◌, ◌-◌, ◌*◌, ◌<◌, ◌≤◌, ◌^◌, zero, suc, Bool, true, false, ◌&&◌, Option, Some, None, List, [], ◌∷◌, ◌++◌, length, take, drop, map, reverse, get_or, refl, ap, ◌∙◌, sym, ⊎_elim, arith, lit≤, lit<, ◌≤ℤ◌}
-use Rattle.std.specs.Prelude.{codes, if◌then◌else◌, nat_le}
+use Rattle.std.proofs.Common.{◌≡◌, ◌≢◌, ◌⊎◌, ℕ, ℤ, pos, negsuc, ◌+◌, ◌-◌, ◌*◌, ◌<◌, ◌≤◌, ◌^◌, zero, suc, Bool, true, false, ◌&&◌, None, List, [], ◌∷◌, ◌++◌, length, map, get_or, refl, ap, ◌∙◌, sym, ⊎_elim, arith, lit≤, lit<, ◌≤ℤ◌}
+use Rattle.std.specs.Prelude.{codes, nat_le}
 use Rattle.std.specs.List.{list_all, flat_map, slice_split, All}
 use Rattle.std.specs.Fmt.{decimal, signed_decimal, digits}
 use Rattle.std.specs.Str.Lines.{lines, lines_of_parts, strip_carriage_return}
 use Rattle.std.specs.Str.Parse.{AllDigits}
-use Rattle.std.proofs.lemmas.Bool.{eq-eqb, ne_eqb, le-leb, leb-true, and_parts}
-use Rattle.std.proofs.lemmas.Fmt.{decimal_nonempty, digits_decimal, length-decimal-le, decimal_injective}
+use Rattle.std.proofs.lemmas.Bool.{ne_eqb, le-leb, leb-true, and_parts}
+use Rattle.std.proofs.lemmas.Fmt.{decimal_nonempty, digits_decimal, length-decimal-le}
 use Rattle.std.proofs.lemmas.Int.{ints}
-use Rattle.std.proofs.lemmas.List.{length-append, append_assoc, reverse-append, reverse-reverse}
-use Rattle.std.proofs.lemmas.List.Folds.{list_all-append}
+use Rattle.std.proofs.lemmas.List.{length-append, append_assoc}
 use Rattle.std.proofs.lemmas.List.Sums.{AllPass-from_list_all}
 use Rattle.std.proofs.lemmas.List.Splits.{slice_split_at}
 use Rattle.std.proofs.lemmas.Str.Parse.{digit_from_value}
 use Rattle.tc_octets.specs.declared.keys.Key.{Key}
 use Rattle.tc_octets.specs.declared.keys.Key.TheVariants as keys
 use Rattle.tc_octets.specs.declared.keys.TheConstants.{KEYS}
-use Rattle.tc_octets.specs.ProfileKeys.{name_of, IsValue, IsNumber, IsWindow, IsYesOrNo, IsSeconds, yes_no}
-use Rattle.tc_octets.specs.ProfileTexts.{Said, blank, setting, bad, is_printable, trimmed, trimmed_start, statement_in, statement_of, statements, value_of, SaysAt}
+use Rattle.tc_octets.specs.ProfileKeys.{name_of, IsValue, IsNumber, IsWindow, yes_no}
+use Rattle.tc_octets.specs.ProfileTexts.{Said, setting, bad, is_printable, trimmed, trimmed_start, statement_in, statement_of, statements, value_of, SaysAt}
 use Rattle.tc_octets.proofs.NumberWords.{numeral}
 use Rattle.tc_octets.proofs.LineLemmas.{is_end, parts_nonempty, more_parts, start_stays, end_stays}
 

@@ -1,8 +1,8 @@
 -- A text has one answer, a printed profile comes back, and different profiles have different texts.
-use Rattle.std.proofs.Common.{◌≡◌, ◌≢◌, ◌⊎◌, inl, inr, ℕ, ℤ, pos, negsuc, ◌+◌, ◌-◌, ◌%◌, ◌<◌, ◌≤◌, ◌^◌, ◌≤ℤ◌, zero, suc, Bool, true, false, Option, Some, None, Result, Ok, Err, List, [], ◌∷◌, length, take, get_or, refl, subst, ap, ◌∙◌, sym, ⊎_elim, arith}
+use Rattle.std.proofs.Common.{◌≡◌, ◌⊎◌, inl, inr, ℕ, ℤ, pos, negsuc, ◌-◌, ◌%◌, ◌<◌, ◌≤◌, ◌^◌, Bool, true, false, Option, Some, None, Result, Ok, Err, List, length, take, get_or, refl, subst, ap, ◌∙◌, sym, ⊎_elim, arith}
 use Rattle.std.specs.Prelude.{codes, IsNone, IsSome}
 use Rattle.std.specs.List.{slice_index_or}
-use Rattle.std.specs.Fmt.{decimal, signed_decimal}
+use Rattle.std.specs.Fmt.{decimal}
 use Rattle.std.proofs.lemmas.Bool.{cases_lt}
 use Rattle.std.proofs.lemmas.Fmt.{decimal_injective, signed_decimal_injective}
 use Rattle.std.proofs.lemmas.Int.{ints}
@@ -20,7 +20,7 @@ use Rattle.tc_octets.specs.declared.profile_texts.ProfileWord.{ProfileWord}
 use Rattle.tc_octets.specs.declared.profile_texts.ProfileWord.TheVariants as words
 use Rattle.tc_octets.specs.declared.profile_texts.ProfileFault.{ProfileFault}
 use Rattle.tc_octets.specs.ProfileKeys.{name_of, spelled, IsValue, IsNumber, IsEpoch, yes_no, map_word, fine_word}
-use Rattle.tc_octets.specs.ProfileTexts.{Said, blank, setting, bad, statements, value_in, value_of, Says, SaysAt, AreSound, IsFirstFault, Clashes, IsReadable, IsProfile, ProfileReads, Refuses, profile_text, OneAnswer, ProfilesComeBack, ProfileTextsDiffer}
+use Rattle.tc_octets.specs.ProfileTexts.{Said, blank, setting, bad, statements, value_in, Says, AreSound, IsFirstFault, Clashes, IsReadable, IsProfile, ProfileReads, Refuses, profile_text, OneAnswer, ProfilesComeBack, ProfileTextsDiffer}
 use Rattle.tc_octets.proofs.ProfileTextLemmas.{name_tells}
 use Rattle.tc_octets.proofs.ProfileValueLemmas.{no_word}
 use Rattle.tc_octets.proofs.ProfileLineLemmas.{value_word, text_short, text_says, settings_give, settings_sound, settings_with}

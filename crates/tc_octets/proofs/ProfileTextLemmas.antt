@@ -1,5 +1,5 @@
 -- What lines give and are refused for, one after the other.
-use Rattle.std.proofs.Common.{◌≡◌, inl, ℕ, pos, ◌+◌, ◌-◌, ◌<◌, ◌≤◌, add-one, below_more, zero, suc, Bool, true, false, nat_eq, Option, Some, None, List, [], ◌∷◌, ◌++◌, length, take, drop, map, get_or, refl, ap, ◌∙◌, sym, arith}
+use Rattle.std.proofs.Common.{◌≡◌, inl, ℕ, pos, ◌+◌, ◌-◌, ◌<◌, ◌≤◌, add-one, below_more, zero, suc, Bool, true, false, nat_eq, Option, Some, None, List, [], ◌∷◌, length, take, drop, get_or, refl, ap, ◌∙◌, sym, arith}
 use Rattle.std.specs.Prelude.{if◌then◌else◌, ⊤, IfSome}
 use Rattle.std.specs.List.{find}
 use Rattle.std.specs.Option.{unwrap_or}
@@ -7,7 +7,7 @@ use Rattle.std.specs.Fmt.{digits}
 use Rattle.std.proofs.lemmas.Int.{ints}
 use Rattle.std.specs.Str.Lines.{lines}
 use Rattle.std.specs.Cmp.Lexicographic.{pointwise, bytes_decides}
-use Rattle.std.proofs.lemmas.List.{take_all, length-map, drop-map}
+use Rattle.std.proofs.lemmas.List.{take_all, length-map}
 use Rattle.tc_octets.specs.declared.keys.Key.{Key}
 use Rattle.tc_octets.specs.declared.keys.Key.TheVariants as keys
 use Rattle.tc_octets.specs.declared.keys.TheConstants.{KEYS}

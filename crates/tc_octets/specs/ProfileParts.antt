@@ -1,11 +1,11 @@
 -- The parts of a profile whose text has no fault.
 use Rattle.std.specs.Prelude.{◌≡◌, ℕ, ◌≤◌, List}
-use Rattle.std.specs.Fmt.{decimal, signed_decimal}
+use Rattle.std.specs.Fmt.{decimal}
 use Rattle.tc_octets.specs.declared.profiles.TcChannel.{TcChannel}
 use Rattle.tc_octets.specs.declared.profiles.TmChannel.{TmChannel}
 use Rattle.tc_octets.specs.declared.keys.Key.{Key}
 use Rattle.tc_octets.specs.declared.keys.Key.TheVariants as keys
-use Rattle.tc_octets.specs.ProfileKeys.{IsEpoch, IsValue, map_word, yes_no}
+use Rattle.tc_octets.specs.ProfileKeys.{IsValue, map_word, yes_no}
 use Rattle.tc_octets.specs.ProfileTexts.{statements, value_of}
 
 -- the value that a text gives a key, or its default

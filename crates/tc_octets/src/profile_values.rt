@@ -1,5 +1,5 @@
 //! The values of a profile's keys.
-ghost use Rattle.std.specs.Prelude.{◌≡◌, ◌≢◌, ◌≤◌, ◌<◌, ◌^◌, ◌↔◌, ℕ, ℤ, IsTrue, IfSome, IfNone, ◌∷◌, length, slice_index, ⊤};
+ghost use Rattle.std.specs.Prelude.{◌≡◌, ◌≢◌, ◌<◌, ◌^◌, ◌↔◌, IsTrue, ◌∷◌, length, slice_index};
 ghost use Rattle.std.specs.Fmt.{decimal, signed_decimal};
 ghost use Rattle.tc_octets.specs.ProfileKeys.{IsEpoch, IsNumber, IsValue, IsWindow, IsYesOrNo, ReadsWord};
 

@@ -1,5 +1,5 @@
 -- One line more.
-use Rattle.std.proofs.Common.{◌≡◌, ◌∷◌, ◌<◌, ◌∙◌, ap, drop, map, refl, arith}
+use Rattle.std.proofs.Common.{◌≡◌, ◌∷◌, ◌∙◌, ap, drop, map, refl, arith}
 use Rattle.tc_octets.specs.ProfileTexts.{statement_of, statements}
 use Rattle.tc_octets.proofs.ProfileTextLemmas.{few_left, fault_here, left_more, sound_more}
 use Rattle.tc_octets.proofs.profile_texts.first_fault.Goals as goal
