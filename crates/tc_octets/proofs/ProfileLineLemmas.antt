@@ -14,8 +14,7 @@ use Rattle.std.proofs.lemmas.List.Splits.{slice_split_at}
 use Rattle.std.proofs.lemmas.Str.Parse.{digit_from_value}
 use Rattle.tc_octets.specs.declared.keys.Key.{Key}
 use Rattle.tc_octets.specs.declared.keys.Key.TheVariants as keys
-use Rattle.tc_octets.specs.declared.keys.TheConstants.{KEYS}
-use Rattle.tc_octets.specs.ProfileKeys.{name_of, IsValue, IsNumber, IsWindow, yes_no}
+use Rattle.tc_octets.specs.ProfileKeys.{all_keys, name_of, IsValue, IsNumber, IsWindow, yes_no}
 use Rattle.tc_octets.specs.ProfileTexts.{Said, setting, bad, is_printable, trimmed, trimmed_start, statement_in, statement_of, statements, value_of, SaysAt}
 use Rattle.tc_octets.proofs.NumberWords.{numeral}
 use Rattle.tc_octets.proofs.LineLemmas.{is_end, parts_nonempty, more_parts, start_stays, end_stays}
@@ -259,15 +258,15 @@ few_octets line short (key ∷ others) =
 -- ---- the text of words, one for each key
 
 abbrev pub text_with : (Key → List ℕ) → List ℕ
-text_with words = flat_map (λ key. line_with key (words key) ++ (10 ∷ [])) KEYS
+text_with words = flat_map (λ key. line_with key (words key) ++ (10 ∷ [])) all_keys
 
 abbrev pub settings_with : (Key → List ℕ) → List Said
-settings_with words = map (λ key. setting (name_of key) (words key)) KEYS
+settings_with words = map (λ key. setting (name_of key) (words key)) all_keys
 
 pub text_short : (words : Key → List ℕ) → ((key : Key) → IsWord (words key)) → length (text_with words) ≤ 4096
 text_short words h =
-    let few : length (text_with words) ≤ 37 * length KEYS = few_octets (λ key. line_with key (words key)) (λ key. line_short key (words key) (h key)) KEYS in
-    let sixteen : length KEYS ≡ 16 = refl in omega arith
+    let few : length (text_with words) ≤ 37 * length all_keys = few_octets (λ key. line_with key (words key)) (λ key. line_short key (words key) (h key)) all_keys in
+    let sixteen : length all_keys ≡ 16 = refl in omega arith
 
 lines_say : (words : Key → List ℕ) → ((key : Key) → IsWord (words key)) → (all : List Key)
     → map statement_of (map (λ key. line_with key (words key)) all) ≡ map (λ key. setting (name_of key) (words key)) all
@@ -276,8 +275,8 @@ lines_say words h (key ∷ others) = rw (line_says key (words key) (h key), line
 
 pub text_says : (words : Key → List ℕ) → ((key : Key) → IsWord (words key)) → statements (text_with words) ≡ settings_with words
 text_says words h =
-    ap (map statement_of) (lines_back (λ key. line_with key (words key)) (λ key. line_some key (words key) (h key)) (λ key. line_printable key (words key) (h key)) KEYS)
-    ∙ lines_say words h KEYS
+    ap (map statement_of) (lines_back (λ key. line_with key (words key)) (λ key. line_some key (words key) (h key)) (λ key. line_printable key (words key) (h key)) all_keys)
+    ∙ lines_say words h all_keys
 
 pub settings_give : (words : Key → List ℕ) (key : Key) → value_of key (settings_with words) ≡ words key
 settings_give words keys.Scid = refl

@@ -1,11 +1,18 @@
 -- The sixteen keys of a profile's text: their names, their defaults and their values (all of them this project's own).
-use Rattle.std.specs.Prelude.{◌≡◌, ◌⊎◌, ℕ, ℤ, pos, negsuc, ◌%◌, ◌≤◌, ◌≤ℤ◌, Bool, true, false, if◌then◌else◌, List, Option, Some, None, IfSome, codes}
+use Rattle.std.specs.Prelude.{◌≡◌, ◌⊎◌, ℕ, ℤ, pos, negsuc, ◌%◌, ◌≤◌, ◌≤ℤ◌, Bool, true, false, if◌then◌else◌, List, [], ◌∷◌, Option, Some, None, IfSome, codes}
 use Rattle.std.specs.Fmt.{decimal, signed_decimal}
 use Rattle.tc_octets.specs.declared.profiles.Map.{Map}
 use Rattle.tc_octets.specs.declared.profiles.Profile.{Profile}
 use Rattle.tc_octets.specs.declared.keys.Key.{Key}
 use Rattle.tc_octets.specs.declared.keys.Key.TheVariants as keys
 
+-- all keys, in the order in which a profile is printed
+abbrev pub all_keys : List Key
+all_keys =
+    keys.Scid ∷ keys.TcVcid ∷ keys.TcMap ∷ keys.TcWindow ∷ keys.TcFecf ∷ keys.TcRandomizer ∷ keys.TcIdle ∷ keys.TcCorrect
+    ∷ keys.TmLength ∷ keys.TmVcid ∷ keys.TmFecf ∷ keys.Apid ∷ keys.Source ∷ keys.TimeEpoch ∷ keys.TimeFine ∷ keys.Rehearsal ∷ []
+
+-- the name of a key
 abbrev pub name_of : Key → List ℕ
 name_of keys.Scid = codes "scid"
 name_of keys.TcVcid = codes "tc.vcid"

@@ -8,24 +8,23 @@ use Rattle.std.specs.Cmp.Lexicographic.{pointwise}
 use Rattle.tc_octets.specs.declared.profiles.Profile.{Profile}
 use Rattle.tc_octets.specs.declared.keys.Key.{Key}
 use Rattle.tc_octets.specs.declared.keys.Key.TheVariants as keys
-use Rattle.tc_octets.specs.declared.keys.TheConstants.{KEYS}
 use Rattle.tc_octets.specs.declared.statements.Statement.{Statement}
 use Rattle.tc_octets.specs.declared.statements.Statement.TheVariants as forms
 use Rattle.tc_octets.specs.declared.profile_texts.ProfileWord.{ProfileWord}
 use Rattle.tc_octets.specs.declared.profile_texts.ProfileWord.TheVariants as words
 use Rattle.tc_octets.specs.declared.profile_texts.ProfileFault.{ProfileFault}
-use Rattle.tc_octets.specs.ProfileKeys.{name_of, default_of, spelled, IsValue, IsEpoch}
+use Rattle.tc_octets.specs.ProfileKeys.{all_keys, name_of, default_of, spelled, IsValue, IsEpoch}
 
 -- ---- what a line says
 
--- an octet from space to ~
+-- an octet from space to ~; an equals sign
 abbrev pub is_printable : ℕ → Bool
 is_printable octet = nat_le 32 octet && nat_le octet 126
 
 abbrev pub is_equals : ℕ → Bool
 is_equals octet = octet == 61
 
--- a text without the spaces in front of it, and without those around it
+-- a text without the spaces in front of it; one without the spaces around it
 abbrev pub trimmed_start : List ℕ → List ℕ
 trimmed_start [] = []
 trimmed_start (octet ∷ octets) = if octet == 32 then trimmed_start octets else octet ∷ octets
@@ -61,7 +60,7 @@ statements text = map statement_of (lines text)
 
 -- ---- what a text gives
 
--- the value that a statement gives a key, if it does, and the first that several give it
+-- the value that a statement gives a key, if it does; the first that several statements give it
 abbrev pub value_given : Key → Said → Option (List ℕ)
 value_given key blank = None
 value_given key (setting name value) = if pointwise nat_eq name (name_of key) then Some value else None
@@ -81,7 +80,7 @@ value_of key said = unwrap_or (value_in key said) (default_of key)
 
 -- ---- what a reader answers
 
--- What a statement is refused for after those before it, or that it is not: the first that applies of BadText, UnknownKey, KeyTwice and BadValue.
+-- Why a statement is refused, or that it is not, after those before it: the first that applies of BadText, UnknownKey, KeyTwice and BadValue.
 abbrev pub Says : List Said → Said → Option ProfileWord → Type 0
 Says earlier blank None = ⊤
 Says earlier (setting name value) None = (key : Key) × (name ≡ name_of key) × IsNone (value_in key earlier) × IsValue key value
@@ -107,7 +106,7 @@ pub record IsFirstFault (said : List Said) (line : ℕ) (word : ProfileWord) : T
   pub before : AreSound (line - 1) said
   pub here : SaysAt said (line - 1) (Some word)
 
--- A decoder that corrects lets wrong frames through, and frames without a check cannot be told.
+-- A decoder that corrects lets wrong frames through, and only a check of the frames finds them.
 abbrev pub Clashes : List Said → Type 0
 Clashes said = (value_of keys.TcCorrect said ≡ codes "yes") × (value_of keys.TcFecf said ≡ codes "no")
 
@@ -142,7 +141,7 @@ line_of profile key = name_of key ++ codes " = " ++ spelled profile key
 
 -- all keys in their order, each in a line that ends with LF
 abbrev pub profile_text : Profile → List ℕ
-profile_text profile = flat_map (λ key. line_of profile key ++ 10 ∷ []) KEYS
+profile_text profile = flat_map (λ key. line_of profile key ++ 10 ∷ []) all_keys
 
 -- a fault as it is printed: line N: Word, and the word alone if it is of the text as a whole
 abbrev pub word_name : ProfileWord → List ℕ
