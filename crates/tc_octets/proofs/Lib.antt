@@ -1,4 +1,11 @@
 pub mod BitLemmas
+pub mod NumberWords
+pub mod LineLemmas
+pub mod ProfileTextLemmas
+pub mod ProfileValueLemmas
+pub mod ProfileLineLemmas
+pub mod ProfilePrintLemmas
+pub mod ProfileTextLaws
 pub mod RegisterLemmas
 pub mod RandomizerLemmas
 pub mod TcFrameLemmas
@@ -20,3 +27,4 @@ pub mod IdleLemmas
 pub mod FrameBackLemmas
 pub mod CltuFrameLemmas
 mod CltuCases
+mod ProfileCases

@@ -4,6 +4,9 @@ pub mod CrcLaws
 pub mod Codeblocks
 pub mod CodeblockLaws
 pub mod Randomizer
+pub mod ProfileKeys
+pub mod ProfileTexts
+pub mod ProfileParts
 pub mod TcFrames
 pub mod TmFrames
 pub mod Markers

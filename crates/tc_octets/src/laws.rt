@@ -3,6 +3,7 @@ ghost use Rattle.std.specs.Prelude.{◌≡◌, List, ℕ};
 ghost use Rattle.tc_octets.specs.CrcLaws.{BurstsAreFound, CrcIsLinear, CrcOfTheWhole, OddErrorsAreFound, TwoErrorsAreFound};
 ghost use Rattle.tc_octets.specs.CodeblockLaws.{OneIsMended, TailIsRefused, ThreeAreFound, TwoAreRefused, WholeIsTaken};
 ghost use Rattle.tc_octets.specs.Markers.{FewWait, MarkedFramesAreHeard, MarkedPiecesDoNotMatter, OctetsAreHeard};
+ghost use Rattle.tc_octets.specs.ProfileTexts.{OneAnswer, ProfileTextsDiffer, ProfilesComeBack};
 ghost use Rattle.tc_octets.specs.Randomizer.{randomized};
 ghost use Rattle.tc_octets.specs.TcFrames.{TcFramesComeBack, TcFramesDiffer};
 ghost use Rattle.tc_octets.specs.TmFrames.{TmFramesComeBack, TmFramesDiffer};
@@ -133,4 +134,19 @@ pub fn a_frame_comes_back()
 /// So does each telecommand transfer frame of a link.
 pub fn a_transfer_frame_comes_back()
     ensures { (mode : SomeMode) → TcFrameComesBack mode }
+{}
+
+/// A profile's text has one answer: one profile, or one fault.
+pub fn profile_texts_have_one_answer()
+    ensures { OneAnswer }
+{}
+
+/// The text that is printed of a profile reads as that profile.
+pub fn profiles_come_back()
+    ensures { ProfilesComeBack }
+{}
+
+/// Different profiles have different texts.
+pub fn profile_texts_differ()
+    ensures { ProfileTextsDiffer }
 {}
