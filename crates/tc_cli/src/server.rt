@@ -130,7 +130,6 @@ impl<'a> Server<'a> {
         for _ in 0..u64::MAX {
             let now = Instant::now(self.rt)?;
             self.take_all(now);
-            self.give_up(now);
             if let Some((end, _)) = self.ending
                 && self.is_idle()
             {
@@ -142,6 +141,8 @@ impl<'a> Server<'a> {
             for event in events.iter() {
                 self.go_on(event.token(), now);
             }
+            // after the events: a server that stood still finds what came meanwhile before it lets a peer go
+            self.give_up(now);
             self.serve_all(room, now);
         }
         Ok(End::Count)

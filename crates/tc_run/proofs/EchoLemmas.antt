@@ -7,7 +7,7 @@ use Rattle.tc_room.specs.Joined.{Standing}
 use Rattle.tc_room.specs.Replies.{ended}
 use Rattle.tc_closed.specs.Files.{FileAnswer}
 use Rattle.tc_check.specs.Scripts.{is_skipped}
-use Rattle.tc_run.specs.Run.{AnswersScriptLine, TakesLine, TakesLines, answered, exchange, exchanges}
+use Rattle.tc_run.specs.Run.{AnswersScriptLine, TakesLines, answered, exchange, exchanges}
 
 module _ {S : Type 0} (g : Ghosts S) (echo : Bool) where
   -- one more line is written behind those before

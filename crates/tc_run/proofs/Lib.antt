@@ -3,6 +3,5 @@ mod EchoLemmas
 mod HoldLemmas
 mod KeptLemmas
 mod RunLemmas
-mod ScriptLemmas
 mod StopLemmas
 mod TakeLemmas

@@ -1,5 +1,5 @@
 -- The loop over the lines of a script.
-use Rattle.std.proofs.Common.{◌≡◌, ◌∙◌, ℕ, Bool, true, false, Option, List, [], ◌∷◌, ◌++◌, refl, sym, ap, subst, append_assoc, append-nil}
+use Rattle.std.proofs.Common.{◌≡◌, ◌∙◌, ℕ, Bool, true, false, Option, List, [], ◌∷◌, ◌++◌, refl, sym, ap, subst, append-nil}
 use Rattle.std.specs.Prelude.{◌||◌, IsOkAnd, ◌↔◌, Result, Ok, Err, if◌then◌else◌}
 use Rattle.std.specs.List.{list_any}
 use Rattle.std.specs.Io.KnownBytes.{Appends}
@@ -21,7 +21,7 @@ use Rattle.tc_desk.specs.Replies.{Reply}
 use Rattle.tc_world.specs.declared.configs.Config as configs
 use Rattle.tc_room.specs.Answers.{RefusesWith}
 use Rattle.tc_room.specs.Joined.{Standing, desk_in}
-use Rattle.tc_room.specs.Replies.{ended, is_refused}
+use Rattle.tc_room.specs.Replies.{is_refused}
 use Rattle.tc_room.specs.Room.{IsJustOpened}
 use Rattle.tc_closed.specs.Files.{FileAnswer, Gives}
 use Rattle.tc_check.specs.Scripts.{IsLoadLine, is_skipped, script_lines}

@@ -1,6 +1,6 @@
 -- A run that stops: which fault comes of what, and what is left.
 use Rattle.std.proofs.Common.{◌≡◌, ◌∙◌, ℕ, Bool, false, Option, Some, None, List, [], ◌∷◌, ◌++◌, refl, sym, ap, subst, ◌⊎◌, inl, inr, append-nil}
-use Rattle.std.specs.Prelude.{◌≢◌, ◌↔◌, IfErr, IfSome, IsErrAnd, Result, Ok, Err}
+use Rattle.std.specs.Prelude.{◌≢◌, ◌↔◌, IfErr, IsErrAnd, Result, Ok, Err}
 use Rattle.std.specs.Io.KnownBytes.{Appends}
 use Rattle.std.proofs.KnownBytes.{Appends-trans, Appends-nil}
 use Rattle.sqlite_trees.specs.declared.memory.MemStore.{MemStore}
@@ -28,7 +28,7 @@ use Rattle.tc_closed.specs.declared.scripts.ScriptFault.TheVariants.{Script, Out
 use Rattle.tc_closed.specs.Files.{FileAnswer, Gives, file_at, none_at}
 use Rattle.tc_closed.specs.Scripts.{Ends, fault_of, written_counts}
 use Rattle.tc_check.specs.Scripts.{IsLoadLine, is_skipped, script_lines}
-use Rattle.tc_run.specs.Run.{AnswersScriptLine, Came, RepliesTo, TakesFront, TakesLine, TakesLines, answered, exchange, exchanges}
+use Rattle.tc_run.specs.Run.{AnswersScriptLine, Came, OfScript, RepliesTo, TakesFront, TakesLine, TakesLines, answered, exchange, exchanges}
 use Rattle.tc_run.specs.Stops.{AnswersNext, IsCutShort, IsUnopened, IsUntouched, LeavesPart, Stops, StopsAfter, StopsNext, Unanswered, UnansweredNext}
 use Rattle.tc_closed.specs.Scripts.{IsUnread}
 use Rattle.tc_closed.proofs.EndsLemmas.{ends_by}
@@ -277,9 +277,9 @@ run_unopened {X = X} Done echo config lines p w counts why (Err fault) unfit kin
 
 -- a run whose script could not be read
 pub stops_unread : (echo : Bool) (config : configs.Config) (read : Option (List ℕ)) (p : Option (List FileAnswer)) (w : Option (List ℕ)) (fault : ScriptFault) → IsUnread fault
-    → IfSome read (λ input. Stops echo config fault (script_lines input) p p w w)
-stops_unread echo config None p w fault is = tt
-stops_unread echo config (Some input) p w fault is = inl (inl is, untouched p w)
+    → OfScript read (λ input. Stops echo config fault (script_lines input) p p w w)
+stops_unread echo config None p w fault is = ([], tt, inl (inl is, untouched p w))
+stops_unread echo config (Some input) p w fault is = (input, refl, inl (inl is, untouched p w))
 
 -- a run that stopped after some of its lines
 pub run_stopped : (echo : Bool) (config : configs.Config) (lines : List (List ℕ)) (start after : Standing MemStore) (gave gives : Option (List FileAnswer)) (old new : Option (List ℕ)) (fault : ScriptFault)

@@ -23,7 +23,7 @@ use Rattle.tc_run.specs.Run.{AnswersScriptLine, HasFailed, TakesFront, answered,
 use Rattle.tc_closed.specs.declared.paths.PathFault.{PathFault}
 use Rattle.tc_closed.specs.declared.paths.PathFault.TheVariants as path_fault
 use Rattle.tc_closed.specs.declared.scripts.ScriptFault.{ScriptFault}
-use Rattle.tc_closed.specs.declared.scripts.ScriptFault.TheVariants.{Script, Output, Memory, Tables, Config, Path}
+use Rattle.tc_closed.specs.declared.scripts.ScriptFault.TheVariants.{Output, Memory, Tables, Config, Path}
 
 -- ---- at a line
 

@@ -4,7 +4,6 @@ use Rattle.std.proofs.lemmas.Result.{IfErr-weaker, IfOk-weaker}
 use Rattle.std.proofs.KnownBytes.{Consumes-whole}
 use Rattle.std.specs.Io.KnownBytes.{Consumes}
 use Rattle.tc_types.specs.Counts.{inner_of}
-use Rattle.tc_run.proofs.ScriptLemmas.{of_any}
 use Rattle.tc_run.proofs.StopLemmas.{stops_unread}
 use Rattle.tc_run.proofs.run.run_script.Given as given
 use Rattle.tc_run.proofs.run.run_script.Goals as goal
@@ -12,10 +11,10 @@ use Rattle.tc_run.proofs.run.run_script.Goals as goal
 pub returns-in_err-text-clause-stopped : goal.returns-in_err-text-clause-stopped
 returns-in_err-text-clause-stopped g c =
     let gone : c.from_residual.result ≡ Err c.in_err-text.field-0.0 = grind arith in
-    rw gone (of_any (g.R.Read.remaining (inner_of c.args.reader.now)) _ (λ text. stops_unread _ _ _ _ _ _ c.in_err-text.ensures.fault))
+    rw gone (stops_unread _ _ _ _ _ _ c.in_err-text.ensures.fault)
 
 -- the text is all that the reader held
-whole : (g : given.Over) (c : goal.After-run_text g) → IfSome (g.R.Read.remaining (inner_of c.args.reader.now)) (λ bytes. bytes ≡ c.deref.result.now)
+whole : (g : given.Over) (c : goal.After-drop-text g) → IfSome (g.R.Read.remaining (inner_of c.args.reader.now)) (λ bytes. bytes ≡ c.deref.result.now)
 whole g c =
     Consumes-whole _ _ _ _
     (subst (λ (bytes : List ℕ). Consumes (g.R.Read.remaining (inner_of c.args.reader.now)) (g.R.Read.remaining (inner_of c.read_script.new.reader)) bytes)
