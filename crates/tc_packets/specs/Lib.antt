@@ -1,0 +1,5 @@
+pub mod OctetFields
+pub mod SpacePackets
+pub mod Identities
+pub mod Times
+pub mod Outcomes

@@ -1,0 +1,24 @@
+//! The packets of a link: space packets and ECSS telecommand packets, written and read.
+//!
+//! Everything here is a function of values. Nothing reads a socket or a clock.
+#![tactic(auto)]
+
+mod identities;
+mod octet_fields;
+mod outcomes;
+mod space_packets;
+mod times;
+
+pub use identities::{
+    ActivityName, NAME, REQUEST_ID, flies, put_name, put_request_id, read_name, read_request_id,
+};
+pub use outcomes::{OUTCOME, put_outcome, read_outcome};
+pub use space_packets::{
+    FEWEST_PACKET, HEADER, IDLE_APID, MOST_PACKET, PacketHeader, PacketType, SequenceFlags,
+    SpaceFault, SpacePacket, put_header, put_idle_packet, read_space_packet, space_packet,
+    whole_length,
+};
+pub use times::{
+    first_on_board, fits_offset, has_time, last_on_board, put_offset, put_time, read_offset,
+    read_time, time_octets,
+};
