@@ -3,3 +3,8 @@ pub mod SpacePackets
 pub mod Identities
 pub mod Times
 pub mod Outcomes
+pub mod ApplicationData
+pub mod Flights
+pub mod Telecommands
+pub mod TelecommandReaders
+pub mod TelecommandLaws
