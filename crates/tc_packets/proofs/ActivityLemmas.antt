@@ -60,9 +60,9 @@ request_some profile octets identity ack plain small passes heads says = (
   heads_fly profile octets identity ack passes heads,
   says.0,
   packet_again profile octets identity ack small passes heads
-  ∙ ap (λ n. packet_of profile identity ack n (subtype_in octets) (data_in octets)) (sym says.1)
-  ∙ ap (λ n. packet_of profile identity ack plain.service n (data_in octets)) (sym says.2)
-  ∙ ap (packet_of profile identity ack plain.service plain.subtype) says.3,
+      ∙ ap (λ n. packet_of profile identity ack n (subtype_in octets) (data_in octets)) (sym says.1)
+      ∙ ap (λ n. packet_of profile identity ack plain.service n (data_in octets)) (sym says.2)
+      ∙ ap (packet_of profile identity ack plain.service plain.subtype) says.3,
 )
 
 -- ---- the packet after a time
@@ -73,8 +73,7 @@ begins_inside : (profile : Profile) (octets : List ℕ) (activity : FlightActivi
 begins_inside profile octets activity begins =
     let size = packet_length profile activity.identity activity.ack activity.plain.service activity.plain.subtype (plain_data_of activity.plain) in
     let cut : length (take (length (activity_packet_of profile activity)) (drop (time_length profile) octets)) ≡ length (activity_packet_of profile activity) =
-    ap length begins.packet in
-    (
+    ap length begins.packet in (
       omega arith,
       omega (arith, length-take (length (activity_packet_of profile activity)) (drop (time_length profile) octets), length-drop (time_length profile) octets),
     )
@@ -126,7 +125,7 @@ activity_some profile octets packet activity has timed says =
         packet = ap (λ n. take n (drop (time_length profile) octets)) (sym (ap length whole) ∙ cut) ∙ sym has.there ∙ whole;
       };
       size = ap (λ l. time_length profile + length l) whole;
-      inside = has.inside;
+      inside = omega arith;
     }
 
 -- ---- activities one after the other
@@ -209,8 +208,9 @@ all_read profile octets left number places (Some read) has some few none_left fo
       subst (AllByRecursion (FitsActivity profile)) (sym value) has.fit,
       ap length value ∙ front,
       subst (λ (l : List FlightActivity). HasActivities profile octets l []) (sym value)
-      (subst (λ (l : List ℕ). HasActivities profile octets (take number places) l) none_left has.there),
+          (subst (λ (l : List ℕ). HasActivities profile octets (take number places) l) none_left has.there),
     )
 all_read profile octets left number places None has some few none_left found value =
     let front = front_size places number has.eight few in
-    absurd (found.1 (record { some = omega arith; few = omega arith }))
+    let is_there : IsSome {T = List FlightActivity} None = found.1 (record { some = omega arith; few = omega arith }) in
+    absurd (cc)

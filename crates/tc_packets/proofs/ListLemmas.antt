@@ -49,3 +49,6 @@ flat_more f xs k x within is =
     ap (flat_map f) (take_more xs k x within ∙ ap (λ (y : _). take k xs ++ y ∷ []) (sym is))
     ∙ flat_map-append f (take k xs) (x ∷ [])
     ∙ ap (λ l. flat_map f (take k xs) ++ l) (append-nil (f x))
+
+pub flat_all : {X : Type 0} (f : X → List ℕ) (xs : List X) (k : ℕ) → length xs ≤ k → flat_map f (take k xs) ≡ flat_map f xs
+flat_all f xs k all = ap (flat_map f) (take_all k xs all)

@@ -141,8 +141,7 @@ outcome_same (outcomes.Fails m) other e = absurd (omega (arith, ap (λ (l : List
 -- two lists before ends of one length
 ends_same : (d e p q : List ℕ) → length p ≡ length q → d ++ p ≡ e ++ q → (d ≡ e) × (p ≡ q)
 ends_same d e p q h same =
-    let fronts : length d ≡ length e = omega (arith, length-append d p, length-append e q, ap length same) in
-    (
+    let fronts : length d ≡ length e = omega (arith, length-append d p, length-append e q, ap length same) in (
       sym (take_at d p (length d) refl) ∙ ap (take (length d)) same ∙ take_at e q (length d) (sym fronts),
       sym (drop_at d p (length d) refl) ∙ ap (drop (length d)) same ∙ drop_at e q (length d) (sym fronts),
     )

@@ -50,18 +50,24 @@ quad_small fine n = omega (arith, length-append (quad n) (fraction fine), fracti
 
 activity_small : (profile : Profile) (activity : FlightActivity) → FitsActivity profile activity → length (activity_of profile activity) ≤ 118
 activity_small profile activity h =
-    omega
-    (arith, length-append (time_of profile activity.time) (activity_packet_of profile activity), quad_small profile.fine (seconds_since profile.epoch activity.time),
-    packet_length profile activity.identity activity.ack activity.plain.service activity.plain.subtype (plain_data_of activity.plain),
-    plain_small profile activity.plain h.asked)
+    omega (
+      arith,
+      length-append (time_of profile activity.time) (activity_packet_of profile activity),
+      quad_small profile.fine (seconds_since profile.epoch activity.time),
+      packet_length profile activity.identity activity.ack activity.plain.service activity.plain.subtype (plain_data_of activity.plain),
+      plain_small profile activity.plain h.asked,
+    )
 
 activities_small : (profile : Profile) (activities : List FlightActivity) → AllByRecursion (FitsActivity profile) activities
     → length (flat_map (activity_of profile) activities) ≤ 118 * length activities
 activities_small profile [] h = omega arith
 activities_small profile (activity ∷ others) h =
-    omega
-    (arith, length-append (activity_of profile activity) (flat_map (activity_of profile) others), activity_small profile activity h.0,
-    activities_small profile others h.1)
+    omega (
+      arith,
+      length-append (activity_of profile activity) (flat_map (activity_of profile) others),
+      activity_small profile activity h.0,
+      activities_small profile others h.1,
+    )
 
 pub data_small : (profile : Profile) (task : FlightTask) → FitsTask profile task → length (data_of profile task) ≤ 945
 data_small profile (tasks.Plain plain) h = omega (arith, plain_small profile plain h)
@@ -79,6 +85,8 @@ data_small profile tasks.SummarizeAll h = omega arith
 
 pub telecommands_short : TelecommandsAreShort
 telecommands_short profile flight h =
-    omega
-    (arith, packet_length profile flight.identity flight.ack (service_of flight.task) (subtype_of flight.task) (data_of profile flight.task),
-    data_small profile flight.task h.asked)
+    omega (
+      arith,
+      packet_length profile flight.identity flight.ack (service_of flight.task) (subtype_of flight.task) (data_of profile flight.task),
+      data_small profile flight.task h.asked,
+    )

@@ -12,13 +12,14 @@ use Rattle.tc_types.specs.declared.requests.Outcome.{Outcome}
 use Rattle.tc_octets.specs.Bits.{pair_at}
 use Rattle.tc_octets.specs.declared.profiles.Profile.{Profile}
 use Rattle.tc_octets.proofs.TcFrameLemmas.{AreOctets}
-use Rattle.tc_packets.specs.Identities.{Flies}
+use Rattle.tc_packets.specs.Identities.{Flies, ReadsName, name_of}
+use Rattle.tc_packets.specs.declared.identities.ActivityName.{ActivityName}
 use Rattle.tc_packets.specs.Times.{FitsOffset, HasSeconds, complement, seconds_since, time_length}
 use Rattle.tc_packets.specs.Outcomes.{outcome_octets_of}
 use Rattle.tc_packets.specs.ApplicationData.{most_data}
 use Rattle.tc_packets.specs.Flights.{FitsActivity, FitsOutcome, FitsPlain, FitsTask}
 use Rattle.tc_packets.specs.Telecommands.{activity_packet_of, outcome_part, packet_of, plain_data_of, service_of, subtype_of, target_of}
-use Rattle.tc_packets.specs.TelecommandReaders.{BeginsWith, HasActivities, HasData, HeadersSay, IsBare, IsTelecommand, Passes, Reads, ReadsActivities, ReadsParts, ReadsPlain, ReadsTask, activity_length, data_in, service_in, subtype_in}
+use Rattle.tc_packets.specs.TelecommandReaders.{BeginsWith, HasActivities, HasData, HeadersSay, IsBare, IsTelecommand, Passes, Reads, ReadsActivities, ReadsParts, ReadsPlain, ReadsTarget, ReadsTask, activity_length, data_in, service_in, subtype_in}
 use Rattle.tc_packets.specs.declared.flights.Plain.{Plain}
 use Rattle.tc_packets.specs.declared.flights.FlightActivity.{FlightActivity}
 use Rattle.tc_packets.specs.declared.flights.FlightTask.{FlightTask}
@@ -88,8 +89,7 @@ real_none octets many application (Some outcome) few fits e = absurd fits
 three_last : (octets application three : List ℕ) → length three ≡ 3 → octets ≡ application ++ three
     → (take (length octets - 3) octets ≡ application) × (drop (length octets - 3) octets ≡ three)
 three_last octets application three size e =
-    let end : length application ≡ length octets - 3 = omega (arith, length-append application three, ap length e) in
-    (
+    let end : length application ≡ length octets - 3 = omega (arith, length-append application three, ap length e) in (
       ap (take (length octets - 3)) e ∙ take_at application three (length octets - 3) end,
       ap (drop (length octets - 3)) e ∙ drop_at application three (length octets - 3) end,
     )
@@ -140,6 +140,19 @@ pub delete_none : (profile : Profile) (octets : List ℕ) → ((target : Identit
 delete_none profile octets none (tasks.DeleteActivity target) fit s t has = none target fit has
 delete_none profile octets none (tasks.Plain plain) fit s t has = absurd (fit.service_known.2 s)
 delete_none profile octets none other fit s t has = absurd (omega (arith, t))
+
+-- no name stands after the count
+pub target_unnamed : (profile : Profile) (octets : List ℕ) → ReadsName (drop 1 octets) None → ReadsTarget profile octets None
+target_unnamed profile octets none target flies e = none (record { source = profile.source; identity = target }) flies (ap (drop 1) e)
+
+-- the name of another source
+pub target_other : (profile : Profile) (octets : List ℕ) (name : ActivityName) → drop 1 octets ≡ name_of name → name.source ≢ profile.source
+    → ReadsTarget profile octets None
+target_other profile octets name is other target flies e =
+    let same : name_of name ≡ name_of (record { source = profile.source; identity = target }) = sym is ∙ ap (drop 1) e in
+    let high : name.source / 256 ≡ profile.source / 256 = ap (λ (l : List ℕ). get_or l 0 0) same in
+    let low : name.source % 256 ≡ profile.source % 256 = ap (λ (l : List ℕ). get_or l 1 0) same in
+    other (omega arith)
 
 pub shift_none : (profile : Profile) (octets : List ℕ)
     → ((target : Identity) → Flies target → ¬ (drop (time_length profile) octets ≡ target_of profile target)) → ReadsTask profile 11 7 octets None

@@ -21,7 +21,7 @@ use Rattle.tc_packets.proofs.SameLemmas.{flight_parts, flight_same}
 -- ---- what is written stands there
 
 time_size : (profile : Profile) (n : ℕ) → length (quad n ++ fraction profile.fine) ≡ time_length profile
-time_size profile n = ap (λ k. 4 + k) (fraction_is profile.fine)
+time_size profile n = omega (arith, length-append (quad n) (fraction profile.fine), fraction_is profile.fine)
 
 seconds_there : (profile : Profile) (n : ℕ) → HasSeconds profile (quad n ++ fraction profile.fine) n
 seconds_there profile n = record { size = time_size profile n; whole = refl }
@@ -59,8 +59,8 @@ activities_there profile [] = refl
 activities_there profile (activity ∷ others) = (
   begins_there profile activity (flat_map (activity_of profile) others),
   subst (λ (l : List ℕ). HasActivities profile l others [])
-  (sym (drop_at (activity_of profile activity) (flat_map (activity_of profile) others) (activity_length profile activity) (activity_size profile activity)))
-  (activities_there profile others),
+      (sym (drop_at (activity_of profile activity) (flat_map (activity_of profile) others) (activity_length profile activity) (activity_size profile activity)))
+      (activities_there profile others),
 )
 
 data_there : (profile : Profile) (task : FlightTask) → HasData profile (data_of profile task) task

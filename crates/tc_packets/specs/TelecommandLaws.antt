@@ -14,7 +14,8 @@ TelecommandsComeBack = (profile : Profile) (flight : Flight) (read : Result Flig
 
 -- different requests that fit have different octets
 abbrev pub TelecommandsDiffer : Type 0
-TelecommandsDiffer = (profile : Profile) (a b : Flight) → Fits profile a → Fits profile b → telecommand_of profile a ≡ telecommand_of profile b → a ≡ b
+TelecommandsDiffer = (profile : Profile) (a b : Flight) → Fits profile a → Fits profile b → telecommand_of profile a ≡ telecommand_of profile b
+    → a ≡ b
 
 -- the packet of a request that fits has at most 958 octets
 abbrev pub TelecommandsAreShort : Type 0

@@ -154,7 +154,7 @@ ReadsRequest profile octets None =
 -- the packet after a time at the front of octets, by its own length
 pub record BeginsWithPacket (profile : Profile) (octets packet : List ℕ) : Type 0 where
   pub there : packet ≡ take (whole_length_in (drop (time_length profile) octets)) (drop (time_length profile) octets)
-  pub inside : time_length profile + length packet ≤ length octets
+  pub inside : time_length profile + whole_length_in (drop (time_length profile) octets) ≤ length octets
 
 -- no time and packet of an activity
 abbrev pub BeginsWithNone : Profile → List ℕ → Type 0

@@ -184,7 +184,7 @@ fn fits_task(profile: &Profile, task: &FlightTask) -> bool
     }
 }
 
-/// Whether a request can fly under this profile: its numbers have octets, and plain requests have an outcome just if the profile says that outcomes fly.
+/// Whether a request can fly under this profile: its numbers have octets, and plain requests have an outcome exactly if outcomes fly.
 pub fn fits(profile: &Profile, flight: &Flight) -> bool
     ensures { IsTrue result ↔ Fits profile.now flight.now }
 {

@@ -16,9 +16,7 @@ mod telecommands;
 mod times;
 
 pub use application_data::{ApplicationData, MOST_DATA};
-pub use flights::{
-    Flight, FlightActivities, FlightActivity, FlightTask, Plain, fits,
-};
+pub use flights::{Flight, FlightActivities, FlightActivity, FlightTask, Plain, fits};
 pub use identities::{
     ActivityName, NAME, REQUEST_ID, flies, put_name, put_request_id, read_name, read_request_id,
 };
@@ -28,9 +26,7 @@ pub use space_packets::{
     SpaceFault, SpacePacket, put_header, put_idle_packet, read_space_packet, space_packet,
     whole_length,
 };
-pub use telecommand_readers::{
-    PacketFault, named_in, read_telecommand, rejection, rejection_code,
-};
+pub use telecommand_readers::{PacketFault, named_in, read_telecommand, rejection, rejection_code};
 pub use telecommands::{MOST_TELECOMMAND, telecommand};
 pub use times::{
     first_on_board, fits_offset, has_time, last_on_board, put_offset, put_time, read_offset,

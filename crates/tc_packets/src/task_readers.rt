@@ -1,11 +1,13 @@
 //! What the application data of telecommand packets say.
-ghost use Rattle.std.specs.Prelude.{◌≤◌};
+ghost use Rattle.std.specs.Prelude.{◌≡◌, ◌≤◌, drop, false, length, take, true};
 ghost use Rattle.std.specs.Option.{MatchOption};
-ghost use Rattle.tc_packets.specs.TelecommandReaders.{BeginsWithNone, BeginsWithPacket, IsBare, ReadsActivities, ReadsActivity, ReadsParts, ReadsPlain, ReadsRequest, ReadsTarget, ReadsTask};
+ghost use Rattle.tc_packets.specs.Times.{time_length};
+ghost use Rattle.tc_packets.specs.TelecommandReaders.{BeginsWithNone, BeginsWithPacket, IsBare, Passes, ReadsActivities, ReadsActivity, ReadsParts, ReadsPlain, ReadsRequest, ReadsTarget, ReadsTask};
 
 use crate::application_data::ApplicationData;
 use crate::flights::{FlightActivities, FlightActivity, FlightTask, Plain};
 use crate::identities::{NAME, read_name};
+use crate::octet_fields::{octets_before, octets_from};
 use crate::outcomes::{OUTCOME, read_outcome};
 use crate::space_packets::{HEADER, whole_length};
 use crate::telecommand_readers::{ack_in, data_in, header_fault, identity_in};
@@ -31,8 +33,8 @@ fn rehearsal_parts(octets: &[u8]) -> Option<(ApplicationData, Option<Outcome>)>
         return None;
     }
     let end = octets.len() - OUTCOME;
-    let application = ApplicationData::of(&octets[..end])?;
-    let outcome = read_outcome(&octets[end..])?;
+    let application = ApplicationData::of(octets_before(octets, end))?;
+    let outcome = read_outcome(octets_from(octets, end))?;
     Some((application, Some(outcome)))
 }
 
@@ -65,29 +67,54 @@ fn plain_in(profile: &Profile, service: u8, subtype: u8, octets: &[u8]) -> Optio
 }
 
 /// The activity of our source that these octets name, alone.
+#[tactic(auto, using(crate::proofs::TaskLemmas::target_unnamed, crate::proofs::TaskLemmas::target_other))]
 fn target_in(profile: &Profile, octets: &[u8]) -> Option<Identity>
     ensures { ReadsTarget profile.now octets.now result }
 {
     if octets.len() != 1 + NAME || octets[0] != 1 {
         return None;
     }
-    let name = read_name(&octets[1..])?;
-    if name.source != profile.source {
-        return None;
+    match read_name(octets_from(octets, 1)) {
+        Some(name) if name.source == profile.source => Some(name.identity),
+        _ => None,
     }
-    Some(name.identity)
+}
+
+/// The plain request in a packet whose headers nothing is said against.
+#[tactic(auto, using(crate::proofs::ActivityLemmas::request_none))]
+fn plain_request_in(profile: &Profile, octets: &[u8]) -> Option<(Identity, Ack, Plain)>
+    requires { Passes profile.now octets.now }
+    ensures { ReadsRequest profile.now octets.now result }
+{
+    let plain = plain_in(profile, octets[7], octets[8], data_in(octets))?;
+    Some((identity_in(octets), ack_in(octets), plain))
 }
 
 /// The plain request whose packet these octets are: its identity, the reports that it asks for, and what it asks for.
-#[tactic(auto, using(crate::proofs::ActivityLemmas::request_headless, crate::proofs::ActivityLemmas::request_none))]
+#[tactic(auto, using(crate::proofs::ActivityLemmas::request_headless))]
 fn request_in(profile: &Profile, octets: &[u8]) -> Option<(Identity, Ack, Plain)>
     ensures { ReadsRequest profile.now octets.now result }
 {
-    if header_fault(profile, octets).is_some() {
-        return None;
+    match header_fault(profile, octets) {
+        Some(_) => None,
+        None => plain_request_in(profile, octets),
     }
-    let plain = plain_in(profile, octets[7], octets[8], data_in(octets))?;
-    Some((identity_in(octets), ack_in(octets), plain))
+}
+
+/// The octets of a time at the front.
+fn time_before<'a>(profile: &Profile, octets: &'a [u8]) -> &'a [u8]
+    requires { time_length profile.now ≤ length octets.now }
+    ensures { result.now ≡ take (time_length profile.now) octets.now }
+{
+    octets_before(octets, time_octets(profile))
+}
+
+/// The octets after a time at the front.
+fn after_time<'a>(profile: &Profile, octets: &'a [u8]) -> &'a [u8]
+    requires { time_length profile.now ≤ length octets.now }
+    ensures { result.now ≡ drop (time_length profile.now) octets.now }
+{
+    octets_from(octets, time_octets(profile))
 }
 
 /// The packet after the time at the front of octets, as long as it says that it is.
@@ -95,26 +122,24 @@ fn request_in(profile: &Profile, octets: &[u8]) -> Option<(Identity, Ack, Plain)
 fn packet_in<'a>(profile: &Profile, octets: &'a [u8]) -> Option<&'a [u8]>
     ensures { MatchOption result (BeginsWithNone profile.now octets.now) (λ packet. BeginsWithPacket profile.now octets.now packet.now) }
 {
-    let begin = time_octets(profile);
-    if octets.len() < begin + HEADER {
+    if octets.len() < time_octets(profile) + HEADER {
         return None;
     }
-    let after = &octets[begin..];
+    let after = after_time(profile, octets);
     let length = whole_length(after);
     if after.len() < length {
         return None;
     }
-    Some(&after[..length])
+    Some(octets_before(after, length))
 }
 
 /// The activity that octets begin with, and how many octets it takes.
-#[tactic(auto, using(crate::proofs::ActivityLemmas::activity_no_packet, crate::proofs::ActivityLemmas::activity_no_time, crate::proofs::ActivityLemmas::activity_no_request, crate::proofs::ActivityLemmas::activity_some))]
+#[tactic(auto, using(crate::proofs::ActivityLemmas::activity_no_packet, crate::proofs::ActivityLemmas::activity_no_time, crate::proofs::ActivityLemmas::activity_no_request))]
 fn activity_in(profile: &Profile, octets: &[u8]) -> Option<(FlightActivity, usize)>
     ensures { ReadsActivity profile.now octets.now result }
 {
     let packet = packet_in(profile, octets)?;
-    let begin = time_octets(profile);
-    let time = read_time(profile, &octets[..begin])?;
+    let time = read_time(profile, time_before(profile, octets))?;
     let (identity, ack, plain) = request_in(profile, packet)?;
     let activity = FlightActivity {
         time,
@@ -122,11 +147,11 @@ fn activity_in(profile: &Profile, octets: &[u8]) -> Option<(FlightActivity, usiz
         ack,
         plain,
     };
-    Some((activity, begin + packet.len()))
+    Some((activity, time_octets(profile) + packet.len()))
 }
 
 /// So many activities, which are all of these octets.
-#[tactic(auto, using(crate::proofs::ActivityLemmas::read_first, crate::proofs::ActivityLemmas::read_next, crate::proofs::ActivityLemmas::first_none, crate::proofs::ActivityLemmas::next_none, crate::proofs::ActivityLemmas::left_none, crate::proofs::ActivityLemmas::all_read))]
+#[tactic(auto, using(crate::proofs::ActivityLemmas::read_first, crate::proofs::ActivityLemmas::read_next, crate::proofs::ActivityLemmas::first_none, crate::proofs::ActivityLemmas::next_none, crate::proofs::ActivityLemmas::left_none))]
 fn activities_in(profile: &Profile, number: u8, octets: &[u8]) -> Option<FlightActivities>
     requires least { 1 ≤ number }
     requires most { number ≤ 8 }
@@ -134,11 +159,15 @@ fn activities_in(profile: &Profile, number: u8, octets: &[u8]) -> Option<FlightA
 {
     let (first, length) = activity_in(profile, octets)?;
     let mut places = [first; MOST_INSERTED];
-    let mut left = &octets[length..];
+    let mut left = octets_from(octets, length);
     for at in 1..usize::from(number) {
-        let (activity, length) = activity_in(profile, left)?;
-        places[at] = activity;
-        left = &left[length..];
+        match activity_in(profile, left) {
+            Some((activity, length)) => {
+                places[at] = activity;
+                left = octets_from(left, length);
+            }
+            None => return None,
+        }
     }
     if !left.is_empty() {
         return None;
@@ -164,12 +193,11 @@ fn insert_in(profile: &Profile, octets: &[u8]) -> Option<FlightTask>
 fn shift_in(profile: &Profile, octets: &[u8]) -> Option<FlightTask>
     ensures { ReadsTask profile.now 11 7 octets.now result }
 {
-    let begin = time_octets(profile);
-    if octets.len() < begin {
+    if octets.len() < time_octets(profile) {
         return None;
     }
-    let offset = read_offset(profile, &octets[..begin])?;
-    let target = target_in(profile, &octets[begin..])?;
+    let offset = read_offset(profile, time_before(profile, octets))?;
+    let target = target_in(profile, after_time(profile, octets))?;
     Some(FlightTask::ShiftActivity { target, offset })
 }
 

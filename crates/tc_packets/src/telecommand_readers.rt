@@ -2,7 +2,7 @@
 ghost use Rattle.std.specs.Prelude.{◌≡◌, ◌≤◌, ◌↔◌, IsTrue, length, slice_index, ◌%◌, ◌^◌};
 ghost use Rattle.tc_octets.specs.Bits.{pair_at};
 ghost use Rattle.tc_packets.specs.Telecommands.{ack_bits};
-ghost use Rattle.tc_packets.specs.TelecommandReaders.{HasHeader, HasType, HeadersSay, IsChecked, IsLong, Names, Reads, Rejects, data_in, rejection_code};
+ghost use Rattle.tc_packets.specs.TelecommandReaders.{HasHeader, HasType, HeadersSay, IsChecked, IsLong, Names, Passes, Reads, Rejects, data_in, rejection_code};
 
 use crate::flights::{Flight, FlightTask};
 use crate::identities::{REQUEST, REQUEST_ID, WHOLE, read_request_id};
@@ -132,14 +132,12 @@ pub(crate) fn data_in(octets: &[u8]) -> &[u8]
     &octets[HEADERS..octets.len() - CHECK]
 }
 
-/// The request whose packet these octets are (ECSS-E-ST-70-41C, 7.4.4): all of them, no more and no fewer. Fractions of a second are ignored. Else the
-/// first fault that applies. Takes no memory.
-pub fn read_telecommand(profile: &Profile, octets: &[u8]) -> Result<Flight, PacketFault>
+/// The request in a packet whose headers nothing is said against.
+#[tactic(auto, using(crate::proofs::TaskLemmas::read_err))]
+fn flight_in(profile: &Profile, octets: &[u8]) -> Result<Flight, PacketFault>
+    requires { Passes profile.now octets.now }
     ensures { Reads profile.now octets.now result }
 {
-    if let Some(fault) = header_fault(profile, octets) {
-        return Err(fault);
-    }
     match task_in(profile, octets[7], octets[8], data_in(octets)) {
         Some(task) => Ok(Flight {
             identity: identity_in(octets),
@@ -147,6 +145,18 @@ pub fn read_telecommand(profile: &Profile, octets: &[u8]) -> Result<Flight, Pack
             task,
         }),
         None => Err(PacketFault::Data),
+    }
+}
+
+/// The request whose packet these octets are (ECSS-E-ST-70-41C, 7.4.4): all of them, no more and no fewer. Fractions of a second are ignored.
+/// Else the first fault that applies. Takes no memory.
+#[tactic(auto, using(crate::proofs::TaskLemmas::header_err))]
+pub fn read_telecommand(profile: &Profile, octets: &[u8]) -> Result<Flight, PacketFault>
+    ensures { Reads profile.now octets.now result }
+{
+    match header_fault(profile, octets) {
+        Some(fault) => Err(fault),
+        None => flight_in(profile, octets),
     }
 }
 

@@ -106,7 +106,13 @@ fn packet<A: Allocator + Copy>(
     ensures { IfOk result (λ octets. octets.items ≡ packet_of profile.now request.0 request.1 message_type.0 message_type.1 application.now) }
 {
     let mut octets = Vec::new(alloc);
-    put_headers(&mut octets, profile, request, message_type, application.len())?;
+    put_headers(
+        &mut octets,
+        profile,
+        request,
+        message_type,
+        application.len(),
+    )?;
     octets.extend_from_slice(application)?;
     let check = crc(&octets);
     put_pair(&mut octets, check)?;
@@ -173,7 +179,7 @@ fn put_activity<A: Allocator + Copy>(
 }
 
 /// Adds activities, one after the other.
-#[tactic(auto, using(crate::proofs::ListLemmas::each_here, crate::proofs::ListLemmas::flat_more))]
+#[tactic(auto, using(crate::proofs::ListLemmas::each_here, crate::proofs::ListLemmas::flat_more, crate::proofs::ListLemmas::flat_all))]
 fn put_activities<A: Allocator + Copy>(
     alloc: A,
     out: &mut Vec<u8, A>,
