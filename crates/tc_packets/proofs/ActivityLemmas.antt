@@ -200,15 +200,19 @@ left_none profile octets left number places has few more_left more fit size all 
     let same = activities_same profile octets (take number places) more left [] has.fit fit (omega arith) has.there all in
     more_left same.left
 
+no_items : (xs : List ℕ) → length xs ≡ 0 → xs ≡ []
+no_items [] e = refl
+no_items (x ∷ xs) e = absurd (omega arith)
+
 pub all_read : (profile : Profile) (octets left : List ℕ) (number : ℕ) (places : List FlightActivity) (read : Option (List FlightActivity))
-    → HasRead profile octets left number places → 1 ≤ number → number ≤ 8 → left ≡ []
+    → HasRead profile octets left number places → 1 ≤ number → number ≤ 8 → length left ≡ 0
     → (IsSome read ↔ IsInsert (take number places)) → IfSome read (λ a. a ≡ take number places) → ReadsActivities profile number octets read
 all_read profile octets left number places (Some read) has some few none_left found value =
     let front = front_size places number has.eight few in (
       subst (AllByRecursion (FitsActivity profile)) (sym value) has.fit,
       ap length value ∙ front,
       subst (λ (l : List FlightActivity). HasActivities profile octets l []) (sym value)
-          (subst (λ (l : List ℕ). HasActivities profile octets (take number places) l) none_left has.there),
+          (subst (λ (l : List ℕ). HasActivities profile octets (take number places) l) (no_items left none_left) has.there),
     )
 all_read profile octets left number places None has some few none_left found value =
     let front = front_size places number has.eight few in

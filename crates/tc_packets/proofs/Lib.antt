@@ -5,3 +5,4 @@ pub mod SameLemmas
 pub mod WrittenLemmas
 pub mod TaskLemmas
 pub mod ActivityLemmas
+mod PacketCases

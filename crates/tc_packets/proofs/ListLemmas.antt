@@ -2,7 +2,7 @@
 use Rattle.std.proofs.Common.{◌≡◌, ℕ, zero, suc, ◌+◌, ◌-◌, ◌<◌, ◌≤◌, List, [], ◌∷◌, ◌++◌, length, take, drop, get_or, replicate, slice_index_or, refl, sym, ap, ◌∙◌, subst, arith}
 use Rattle.std.specs.List.{AllByRecursion, flat_map}
 use Rattle.std.proofs.Math.Seq.{take-append_seam}
-use Rattle.std.proofs.lemmas.List.{drop-replicate, length-append, length-replicate, take_more, take_all, append-nil}
+use Rattle.std.proofs.lemmas.List.{drop-replicate, length-append, length-replicate, take_more, take_all, append-nil, append_assoc}
 use Rattle.std.proofs.lemmas.List.Concat.{flat_map-append}
 use Rattle.tc_packets.specs.ApplicationData.{most_data, padded_data}
 
@@ -52,3 +52,8 @@ flat_more f xs k x within is =
 
 pub flat_all : {X : Type 0} (f : X → List ℕ) (xs : List X) (k : ℕ) → length xs ≤ k → flat_map f (take k xs) ≡ flat_map f xs
 flat_all f xs k all = ap (flat_map f) (take_all k xs all)
+
+pub added : {X : Type 0} (f : X → List ℕ) (xs : List X) (k : ℕ) (x : X) (before old new_octets : List ℕ) → k < length xs → x ≡ slice_index_or xs k x
+    → old ≡ before ++ flat_map f (take k xs) → new_octets ≡ old ++ f x → new_octets ≡ before ++ flat_map f (take (k + 1) xs)
+added f xs k x before old new_octets within is begun one =
+    one ∙ ap (λ l. l ++ f x) begun ∙ append_assoc before (flat_map f (take k xs)) (f x) ∙ ap (λ l. before ++ l) (sym (flat_more f xs k x within is))

@@ -20,8 +20,17 @@ abbrev link : ℕ → ℤ → Bool → Bool → Profile
 link source epoch fine rehearsal = record {
   scid = 1;
   tc = record {
-    vcid = 3; map = None; window = 20; fecf = true; randomizer = false; idle = 0; correct = false;
-    vcid_fits = omega arith; window_fits = omega arith; window_stands = omega arith; window_even = refl;
+    vcid = 3;
+    map = None;
+    window = 20;
+    fecf = true;
+    randomizer = false;
+    idle = 0;
+    correct = false;
+    vcid_fits = omega arith;
+    window_fits = omega arith;
+    window_stands = omega arith;
+    window_even = refl;
   };
   tm = record { length = 1115; vcid = 0; fecf = true; length_fits = omega arith; length_stands = omega arith; vcid_fits = omega arith };
   apid = 1;
@@ -186,4 +195,3 @@ case_25 : telecommand_of (link 0 (pos 0) false true) (flight (at 5 2) (asking fa
     ≡ 0x18 ∷ 0x05 ∷ 0xc0 ∷ 0x02 ∷ 0x00 ∷ 0x0a ∷ 0x28 ∷ 0x0b ∷ 0x0f ∷ 0x00 ∷ 0x00 ∷ 0x80 ∷ 0x00 ∷ 0x00 ∷ 0x00 ∷ 0xd3 ∷ 0xee ∷ []
 unfolding octet_bits crc_step
 case_25 = refl
-

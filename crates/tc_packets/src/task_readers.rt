@@ -1,5 +1,6 @@
 //! What the application data of telecommand packets say.
-ghost use Rattle.std.specs.Prelude.{◌≡◌, ◌≤◌, drop, false, length, take, true};
+ghost use Rattle.std.specs.Prelude.{◌≡◌, ◌≤◌, ◌↔◌, IfSome, IsSome, drop, false, length, take, true};
+ghost use Rattle.tc_types.specs.Inserts.{IsInsert};
 ghost use Rattle.std.specs.Option.{MatchOption};
 ghost use Rattle.tc_packets.specs.Times.{time_length};
 ghost use Rattle.tc_packets.specs.TelecommandReaders.{BeginsWithNone, BeginsWithPacket, IsBare, Passes, ReadsActivities, ReadsActivity, ReadsParts, ReadsPlain, ReadsRequest, ReadsTarget, ReadsTask};
@@ -81,7 +82,7 @@ fn target_in(profile: &Profile, octets: &[u8]) -> Option<Identity>
 }
 
 /// The plain request in a packet whose headers nothing is said against.
-#[tactic(auto, using(crate::proofs::ActivityLemmas::request_none))]
+
 fn plain_request_in(profile: &Profile, octets: &[u8]) -> Option<(Identity, Ack, Plain)>
     requires { Passes profile.now octets.now }
     ensures { ReadsRequest profile.now octets.now result }
@@ -134,7 +135,7 @@ fn packet_in<'a>(profile: &Profile, octets: &'a [u8]) -> Option<&'a [u8]>
 }
 
 /// The activity that octets begin with, and how many octets it takes.
-#[tactic(auto, using(crate::proofs::ActivityLemmas::activity_no_packet, crate::proofs::ActivityLemmas::activity_no_time, crate::proofs::ActivityLemmas::activity_no_request))]
+#[tactic(auto, using(crate::proofs::ActivityLemmas::activity_no_packet, crate::proofs::ActivityLemmas::activity_no_time))]
 fn activity_in(profile: &Profile, octets: &[u8]) -> Option<(FlightActivity, usize)>
     ensures { ReadsActivity profile.now octets.now result }
 {
@@ -150,9 +151,18 @@ fn activity_in(profile: &Profile, octets: &[u8]) -> Option<(FlightActivity, usiz
     Some((activity, time_octets(profile) + packet.len()))
 }
 
+/// The list of the first so many of these places.
+fn gathered(places: &[FlightActivity], number: usize) -> Option<FlightActivities>
+    requires { number ≤ length places.now }
+    ensures found { IsSome result ↔ IsInsert (take number places.now) }
+    ensures value { IfSome result (λ a. a ≡ take number places.now) }
+{
+    FlightActivities::of(&places[..number])
+}
+
 /// So many activities, which are all of these octets.
-#[tactic(auto, using(crate::proofs::ActivityLemmas::read_first, crate::proofs::ActivityLemmas::read_next, crate::proofs::ActivityLemmas::first_none, crate::proofs::ActivityLemmas::next_none, crate::proofs::ActivityLemmas::left_none))]
-fn activities_in(profile: &Profile, number: u8, octets: &[u8]) -> Option<FlightActivities>
+#[tactic(auto, using(crate::proofs::ActivityLemmas::read_first, crate::proofs::ActivityLemmas::first_none, crate::proofs::ActivityLemmas::left_none))]
+fn activities_in(profile: &Profile, number: usize, octets: &[u8]) -> Option<FlightActivities>
     requires least { 1 ≤ number }
     requires most { number ≤ 8 }
     ensures { ReadsActivities profile.now number octets.now result }
@@ -160,7 +170,7 @@ fn activities_in(profile: &Profile, number: u8, octets: &[u8]) -> Option<FlightA
     let (first, length) = activity_in(profile, octets)?;
     let mut places = [first; MOST_INSERTED];
     let mut left = octets_from(octets, length);
-    for at in 1..usize::from(number) {
+    for at in 1..number {
         match activity_in(profile, left) {
             Some((activity, length)) => {
                 places[at] = activity;
@@ -172,7 +182,7 @@ fn activities_in(profile: &Profile, number: u8, octets: &[u8]) -> Option<FlightA
     if !left.is_empty() {
         return None;
     }
-    FlightActivities::of(&places[..usize::from(number)])
+    gathered(&places, number)
 }
 
 /// What the application data of an insert are.
@@ -184,7 +194,7 @@ fn insert_in(profile: &Profile, octets: &[u8]) -> Option<FlightTask>
     if *number == 0 || usize::from(*number) > MOST_INSERTED {
         return None;
     }
-    let activities = activities_in(profile, *number, others)?;
+    let activities = activities_in(profile, usize::from(*number), others)?;
     Some(FlightTask::InsertActivities(activities))
 }
 

@@ -179,7 +179,7 @@ fn put_activity<A: Allocator + Copy>(
 }
 
 /// Adds activities, one after the other.
-#[tactic(auto, using(crate::proofs::ListLemmas::each_here, crate::proofs::ListLemmas::flat_more, crate::proofs::ListLemmas::flat_all))]
+#[tactic(auto, using(crate::proofs::ListLemmas::each_here, crate::proofs::ListLemmas::flat_all))]
 fn put_activities<A: Allocator + Copy>(
     alloc: A,
     out: &mut Vec<u8, A>,
