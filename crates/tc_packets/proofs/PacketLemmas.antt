@@ -9,10 +9,10 @@ use Rattle.tc_octets.specs.Crc.{crc_of}
 use Rattle.tc_octets.specs.declared.profiles.Profile.{Profile}
 use Rattle.tc_octets.proofs.TcFrameLaws.{two_are, closed_checked}
 use Rattle.tc_octets.proofs.TcFrameLemmas.{AreOctets, closed_again}
-use Rattle.tc_packets.specs.SpacePackets.{flag_bit, header_of, whole_length_in}
+use Rattle.tc_packets.specs.SpacePackets.{flag_bit, header_of}
 use Rattle.tc_packets.specs.Identities.{Flies, request_header}
 use Rattle.tc_packets.specs.Telecommands.{ack_bits, packet_of, schedule, secondary_header_of}
-use Rattle.tc_packets.specs.TelecommandReaders.{HasHeader, HasType, IsChecked, IsLong, Passes, data_in, is_schedule_subtype, service_in, subtype_in}
+use Rattle.tc_packets.specs.TelecommandReaders.{IsChecked, Passes, data_in, is_schedule_subtype, service_in, subtype_in}
 
 -- what stands before the check of a packet
 abbrev pub front_of : Profile → Identity → Ack → ℕ → ℕ → List ℕ → List ℕ

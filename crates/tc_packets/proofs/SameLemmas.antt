@@ -1,6 +1,6 @@
 -- Octets are the packet of one request at most.
-use Rattle.std.proofs.Common.{◌≡◌, ℕ, ◌+◌, ◌-◌, ◌*◌, ◌/◌, ◌%◌, ◌^◌, ◌<◌, ◌≤◌, Bool, true, false, List, [], ◌∷◌, ◌++◌, take, drop, length, get_or, Some, None, refl, sym, ap, ◌∙◌, subst, arith}
-use Rattle.std.specs.Prelude.{ℤ, pos, negsuc, ◌≢◌, Option}
+use Rattle.std.proofs.Common.{◌≡◌, ℕ, ◌+◌, ◌*◌, ◌/◌, ◌%◌, ◌^◌, ◌≤◌, Bool, true, false, List, [], ◌∷◌, ◌++◌, take, drop, length, get_or, Some, None, refl, sym, ap, ◌∙◌, subst, arith}
+use Rattle.std.specs.Prelude.{ℤ, pos, negsuc, Option}
 use Rattle.std.specs.List.{AllByRecursion}
 use Rattle.std.proofs.lemmas.List.{take_at, drop_at, length-append, append-nil, get_or-take}
 use Rattle.std.proofs.lemmas.Int.{ints}
@@ -8,7 +8,7 @@ use Rattle.tc_types.specs.declared.requests.Ack.{Ack}
 use Rattle.tc_types.specs.declared.requests.Identity.{Identity}
 use Rattle.tc_types.specs.declared.requests.Outcome.{Outcome}
 use Rattle.tc_types.specs.declared.requests.Outcome.TheVariants as outcomes
-use Rattle.tc_octets.specs.Bits.{pair, pair_at}
+use Rattle.tc_octets.specs.Bits.{pair_at}
 use Rattle.tc_octets.specs.declared.profiles.Profile.{Profile}
 use Rattle.tc_packets.specs.OctetFields.{quad}
 use Rattle.tc_packets.specs.SpacePackets.{flag_bit}
@@ -22,7 +22,7 @@ use Rattle.tc_packets.specs.declared.flights.FlightActivity.{FlightActivity}
 use Rattle.tc_packets.specs.declared.flights.FlightTask.{FlightTask}
 use Rattle.tc_packets.specs.declared.flights.FlightTask.TheVariants as tasks
 use Rattle.tc_packets.specs.declared.flights.Flight.{Flight}
-use Rattle.tc_packets.proofs.PacketLemmas.{Parts, packet_length, parts_there, parts_of_packet}
+use Rattle.tc_packets.proofs.PacketLemmas.{Parts, parts_there, parts_of_packet}
 use Rattle.tc_packets.proofs.SizeLemmas.{outcome_three}
 
 -- ---- numbers

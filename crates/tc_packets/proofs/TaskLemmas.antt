@@ -1,35 +1,32 @@
 -- What the application data of a telecommand are read as.
-use Rattle.std.proofs.Common.{◌≡◌, ℕ, suc, ◌+◌, ◌-◌, ◌*◌, ◌/◌, ◌%◌, ◌^◌, ◌<◌, ◌≤◌, Bool, true, false, List, [], ◌∷◌, ◌++◌, take, drop, set, length, get_or, Some, None, Ok, Err, refl, sym, ap, ◌∙◌, subst, arith}
-use Rattle.std.specs.Prelude.{◌≢◌, ◌↔◌, Option, IsSome, IfSome}
+use Rattle.std.proofs.Common.{◌≡◌, ℕ, ◌-◌, ◌/◌, ◌%◌, ◌<◌, ◌≤◌, Bool, true, false, List, [], ◌∷◌, ◌++◌, take, drop, length, get_or, Some, None, Err, sym, ap, ◌∙◌, subst, arith}
+use Rattle.std.specs.Prelude.{◌≢◌, Option}
 use Rattle.std.specs.List.{AllByRecursion}
-use Rattle.std.proofs.lemmas.List.{take_at, drop_at, drop-drop, take-append-drop, length-append, append-nil, length-take, length-drop, drop_more}
+use Rattle.std.proofs.lemmas.List.{take_at, drop_at, take-append-drop, length-append, length-take}
 use Rattle.tc_types.specs.Inserts.{IsInsert}
 use Rattle.tc_types.specs.Numbers.{IsService, IsSubtype}
 use Rattle.tc_types.specs.Grammar.{IsOutcome}
 use Rattle.tc_types.specs.declared.requests.Ack.{Ack}
 use Rattle.tc_types.specs.declared.requests.Identity.{Identity}
 use Rattle.tc_types.specs.declared.requests.Outcome.{Outcome}
-use Rattle.tc_octets.specs.Bits.{pair_at}
 use Rattle.tc_octets.specs.declared.profiles.Profile.{Profile}
 use Rattle.tc_octets.proofs.TcFrameLemmas.{AreOctets}
 use Rattle.tc_packets.specs.Identities.{Flies, ReadsName, name_of}
 use Rattle.tc_packets.specs.declared.identities.ActivityName.{ActivityName}
-use Rattle.tc_packets.specs.Times.{FitsOffset, HasSeconds, complement, seconds_since, time_length}
+use Rattle.tc_packets.specs.Times.{time_length}
 use Rattle.tc_packets.specs.Outcomes.{outcome_octets_of}
 use Rattle.tc_packets.specs.ApplicationData.{most_data}
-use Rattle.tc_packets.specs.Flights.{FitsActivity, FitsOutcome, FitsPlain, FitsTask}
-use Rattle.tc_packets.specs.Telecommands.{activity_packet_of, outcome_part, packet_of, plain_data_of, service_of, subtype_of, target_of}
-use Rattle.tc_packets.specs.TelecommandReaders.{BeginsWith, HasActivities, HasData, HeadersSay, IsBare, IsTelecommand, Passes, Reads, ReadsActivities, ReadsParts, ReadsPlain, ReadsTarget, ReadsTask, activity_length, data_in, service_in, subtype_in}
-use Rattle.tc_packets.specs.declared.flights.Plain.{Plain}
+use Rattle.tc_packets.specs.Flights.{FitsActivity}
+use Rattle.tc_packets.specs.Telecommands.{packet_of, service_of, target_of}
+use Rattle.tc_packets.specs.TelecommandReaders.{HasActivities, HeadersSay, IsBare, IsTelecommand, Passes, Reads, ReadsParts, ReadsPlain, ReadsTarget, ReadsTask, data_in, service_in, subtype_in}
 use Rattle.tc_packets.specs.declared.flights.FlightActivity.{FlightActivity}
 use Rattle.tc_packets.specs.declared.flights.FlightTask.{FlightTask}
 use Rattle.tc_packets.specs.declared.flights.FlightTask.TheVariants as tasks
-use Rattle.tc_packets.specs.declared.flights.Flight.{Flight}
 use Rattle.tc_packets.specs.declared.telecommand_readers.PacketFault.{PacketFault}
 use Rattle.tc_packets.specs.declared.telecommand_readers.PacketFault.TheVariants as faults
 use Rattle.tc_packets.proofs.PacketLemmas.{Heads, packet_again}
 use Rattle.tc_packets.proofs.SizeLemmas.{outcome_three}
-use Rattle.tc_packets.proofs.SameLemmas.{activities_same, activity_same, flight_parts}
+use Rattle.tc_packets.proofs.SameLemmas.{flight_parts}
 
 -- ---- whole packets
 

@@ -1,12 +1,12 @@
 -- What is written for a request is read as that request.
-use Rattle.std.proofs.Common.{◌≡◌, ℕ, ◌+◌, ◌-◌, ◌≤◌, Bool, true, false, List, [], ◌∷◌, ◌++◌, take, drop, length, Ok, Err, refl, sym, ap, ◌∙◌, subst, arith}
+use Rattle.std.proofs.Common.{◌≡◌, ℕ, ◌+◌, ◌≤◌, false, List, [], ◌∷◌, ◌++◌, take, drop, length, Ok, Err, refl, sym, ap, ◌∙◌, subst, arith}
 use Rattle.std.specs.Prelude.{◌≢◌, IsTrue, flat_map}
 use Rattle.std.proofs.lemmas.List.{take_at, take_all, drop_at, drop-drop, take-append-drop, length-append, append_assoc}
 use Rattle.tc_octets.specs.declared.profiles.Profile.{Profile}
 use Rattle.tc_packets.specs.OctetFields.{quad}
 use Rattle.tc_packets.specs.Times.{HasSeconds, complement, fraction, fraction_length, offset_of, seconds_since, time_length, time_of}
 use Rattle.tc_packets.specs.Flights.{Fits, FitsTask}
-use Rattle.tc_packets.specs.Telecommands.{activity_of, activity_packet_of, data_of, packet_of, plain_data_of, schedule, service_of, subtype_of, target_of, telecommand_of}
+use Rattle.tc_packets.specs.Telecommands.{activity_of, activity_packet_of, data_of, packet_of, schedule, service_of, subtype_of, target_of, telecommand_of}
 use Rattle.tc_packets.specs.TelecommandReaders.{BeginsWith, HasActivities, HasData, IsTelecommand, Passes, activity_length, data_in, is_schedule_subtype}
 use Rattle.tc_packets.specs.TelecommandLaws.{NothingElseIsRead, TelecommandsComeBack, TelecommandsDiffer}
 use Rattle.tc_packets.specs.declared.flights.FlightActivity.{FlightActivity}
@@ -34,8 +34,6 @@ seconds_first profile n others =
 
 begins_there : (profile : Profile) (activity : FlightActivity) (others : List ℕ) → BeginsWith profile (activity_of profile activity ++ others) activity
 begins_there profile activity others =
-    let time = time_of profile activity.time in
-    let packet = activity_packet_of profile activity in
     let parted : activity_of profile activity ++ others ≡ time_of profile activity.time ++ (activity_packet_of profile activity ++ others) =
     append_assoc (time_of profile activity.time) (activity_packet_of profile activity) others in
     record {

@@ -1,5 +1,5 @@
 -- The application data of a plain request as a value: a list of 0 to 96 octets.
-use Rattle.std.specs.Prelude.{ℕ, ◌≤◌, ◌-◌, List, ◌++◌, length, replicate}
+use Rattle.std.specs.Prelude.{ℕ, ◌-◌, List, ◌++◌, length, replicate}
 use Rattle.tc_packets.specs.declared.application_data.TheConstants.{MOST_DATA}
 
 abbrev pub most_data : ℕ

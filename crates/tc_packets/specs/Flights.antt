@@ -1,5 +1,5 @@
 -- Requests that fly: those whose numbers have octets under a profile.
-use Rattle.std.specs.Prelude.{ℕ, ◌≤◌, Bool, true, false, Option, Some, None, length, ⊤}
+use Rattle.std.specs.Prelude.{◌≤◌, Bool, true, false, Option, Some, None, length, ⊤}
 use Rattle.std.specs.List.{AllByRecursion}
 use Rattle.tc_types.specs.Grammar.{IsOutcome}
 use Rattle.tc_types.specs.Inserts.{IsInsert}

@@ -1,6 +1,5 @@
 -- Space packets (CCSDS 133.0-B, 4.1).
-use Rattle.std.specs.Prelude.{◌≡◌, ◌≢◌, ℕ, ◌+◌, ◌*◌, ◌/◌, ◌^◌, ◌-◌, ◌≤◌, Bool, if◌then◌else◌, true, false, List, ◌++◌, length, Result, Ok, Err, replicate}
-use Rattle.tc_types.specs.declared.requests.Identity.{Identity}
+use Rattle.std.specs.Prelude.{◌≡◌, ◌≢◌, ℕ, ◌+◌, ◌*◌, ◌/◌, ◌^◌, ◌-◌, ◌≤◌, Bool, if◌then◌else◌, false, List, ◌++◌, length, Result, Ok, Err, replicate}
 use Rattle.tc_octets.specs.Bits.{pair, pair_at}
 use Rattle.tc_packets.specs.declared.space_packets.PacketType.{PacketType}
 use Rattle.tc_packets.specs.declared.space_packets.PacketType.TheVariants as types

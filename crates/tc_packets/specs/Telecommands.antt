@@ -1,16 +1,15 @@
 -- Telecommand packets (ECSS-E-ST-70-41C, 7.4.4, 8.11.2): space packets of requests.
-use Rattle.std.specs.Prelude.{◌≡◌, ◌≢◌, ℕ, ◌+◌, ◌*◌, ◌/◌, ◌%◌, ◌^◌, ◌-◌, ◌≤◌, Option, Some, None, Result, Ok, Err, List, [], ◌∷◌, ◌++◌, length, take, drop, flat_map}
+use Rattle.std.specs.Prelude.{ℕ, ◌+◌, ◌*◌, ◌^◌, Option, Some, None, List, [], ◌∷◌, ◌++◌, length, flat_map}
 use Rattle.tc_types.specs.declared.requests.Ack.{Ack}
 use Rattle.tc_types.specs.declared.requests.Identity.{Identity}
 use Rattle.tc_types.specs.declared.requests.Outcome.{Outcome}
-use Rattle.tc_octets.specs.Bits.{pair, pair_at}
+use Rattle.tc_octets.specs.Bits.{pair}
 use Rattle.tc_octets.specs.Crc.{crc_of}
 use Rattle.tc_octets.specs.declared.profiles.Profile.{Profile}
-use Rattle.tc_packets.specs.SpacePackets.{flag_bit, header_of, whole_length_in}
+use Rattle.tc_packets.specs.SpacePackets.{flag_bit, header_of}
 use Rattle.tc_packets.specs.Identities.{request_header, name_of}
-use Rattle.tc_packets.specs.Times.{HasSeconds, complement, offset_of, seconds_since, time_length, time_of}
+use Rattle.tc_packets.specs.Times.{offset_of, time_of}
 use Rattle.tc_packets.specs.Outcomes.{outcome_octets_of}
-use Rattle.tc_packets.specs.Flights.{Fits, FitsActivity, FitsTask}
 use Rattle.tc_packets.specs.declared.flights.Plain.{Plain}
 use Rattle.tc_packets.specs.declared.flights.FlightActivity.{FlightActivity}
 use Rattle.tc_packets.specs.declared.flights.FlightTask.{FlightTask}

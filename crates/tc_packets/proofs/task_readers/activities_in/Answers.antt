@@ -1,6 +1,5 @@
 -- One more activity was read, or none more is there; and all were.
-use Rattle.std.proofs.Common.{◌≡◌, ℕ, ◌+◌, ◌<◌, List, [], set, length, sym, subst, arith}
-use Rattle.tc_packets.specs.declared.flights.FlightActivity.{FlightActivity}
+use Rattle.std.proofs.Common.{◌≡◌, ℕ, ◌+◌, ◌<◌, List, set, length, sym, subst, arith}
 use Rattle.tc_packets.proofs.ActivityLemmas.{HasRead, all_read, next_none, read_next}
 use Rattle.tc_packets.proofs.task_readers.activities_in.Goals as goal
 

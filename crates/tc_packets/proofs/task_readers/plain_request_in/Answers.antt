@@ -1,5 +1,5 @@
 -- What the application data were read as is what the octets are.
-use Rattle.std.proofs.Common.{◌≡◌, ℕ, ◌<◌, List, Some, None, subst, arith}
+use Rattle.std.proofs.Common.{◌≡◌, ℕ, List, Some, None, subst, arith}
 use Rattle.tc_packets.specs.TelecommandReaders.{ReadsPlain, service_in, subtype_in}
 use Rattle.tc_packets.proofs.ActivityLemmas.{request_none, request_some}
 use Rattle.tc_packets.proofs.task_readers.plain_request_in.Goals as goal

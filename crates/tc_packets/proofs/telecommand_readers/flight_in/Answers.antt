@@ -1,5 +1,5 @@
 -- What the application data were read as is what the octets are.
-use Rattle.std.proofs.Common.{ℕ, ◌<◌, List, Some, subst, arith}
+use Rattle.std.proofs.Common.{ℕ, List, Some, subst, arith}
 use Rattle.tc_packets.specs.TelecommandReaders.{ReadsTask, service_in, subtype_in}
 use Rattle.tc_packets.proofs.TaskLemmas.{read_ok}
 use Rattle.tc_packets.proofs.telecommand_readers.flight_in.Goals as goal

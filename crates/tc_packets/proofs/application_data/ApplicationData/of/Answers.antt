@@ -1,4 +1,4 @@
-use Rattle.std.proofs.Common.{◌≡◌, ◌≤◌, length, rules, arith}
+use Rattle.std.proofs.Common.{◌≡◌, ◌≤◌, length, arith}
 use Rattle.tc_packets.specs.ApplicationData.{most_data}
 use Rattle.tc_packets.proofs.ListLemmas.{laid_out}
 use Rattle.tc_packets.proofs.application_data.ApplicationData.of.Goals as goal
