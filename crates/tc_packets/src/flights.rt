@@ -1,9 +1,8 @@
 //! Requests as they fly: what a telecommand packet carries.
-ghost use Rattle.std.specs.Prelude.{◌≡◌, ◌↔◌, ℕ, IsSome, IfSome, IsTrue};
+ghost use Rattle.std.specs.Prelude.{◌≡◌, ◌↔◌, IsSome, IfSome, IsTrue};
 ghost use Rattle.std.specs.List.{AllByRecursion};
 ghost use Rattle.tc_types.specs.Inserts.{IsInsert};
 ghost use Rattle.tc_packets.specs.Flights.{Fits, FitsActivity, FitsOutcome, FitsPlain, FitsTask};
-ghost use Rattle.tc_packets.specs.declared.flights.FlightActivity.{FlightActivity as SomeActivity};
 
 use crate::application_data::ApplicationData;
 use crate::identities::flies;

@@ -4,7 +4,7 @@ ghost use Rattle.tc_octets.specs.Bits.{pair_at};
 ghost use Rattle.tc_packets.specs.Telecommands.{ack_bits};
 ghost use Rattle.tc_packets.specs.TelecommandReaders.{HasHeader, HasType, HeadersSay, IsChecked, IsLong, Names, Passes, Reads, Rejects, data_in, rejection_code};
 
-use crate::flights::{Flight, FlightTask};
+use crate::flights::Flight;
 use crate::identities::{REQUEST, REQUEST_ID, WHOLE, read_request_id};
 use crate::octet_fields::pair_in;
 use crate::space_packets::{IDLE_APID, whole_length};

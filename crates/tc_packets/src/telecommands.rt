@@ -1,10 +1,10 @@
 //! Telecommand packets.
 ghost use Rattle.std.specs.Prelude.{◌≡◌, ◌+◌, ◌++◌, ◌<◌, ◌≤◌, ◌^◌, IfOk, OnOk, flat_map, length};
 ghost use Rattle.std.specs.List.{AllByRecursion};
-ghost use Rattle.tc_packets.specs.Flights.{Fits, FitsActivity, FitsPlain, FitsTask};
+ghost use Rattle.tc_packets.specs.Flights.{Fits, FitsActivity, FitsTask};
 ghost use Rattle.tc_packets.specs.Identities.{request_header};
 ghost use Rattle.tc_packets.specs.SpacePackets.{header_of};
-ghost use Rattle.tc_packets.specs.Telecommands.{ack_bits, activity_of, activity_packet_of, checked, data_of, outcome_part, packet_of, plain_data_of, secondary_header_of, service_of, subtype_of, target_of, telecommand_of};
+ghost use Rattle.tc_packets.specs.Telecommands.{ack_bits, activity_of, activity_packet_of, data_of, outcome_part, packet_of, plain_data_of, secondary_header_of, service_of, subtype_of, target_of, telecommand_of};
 
 use crate::flights::{Flight, FlightActivity, FlightTask, Plain};
 use crate::identities::{ActivityName, put_name};
@@ -14,7 +14,7 @@ use crate::space_packets::{PacketHeader, PacketType, SequenceFlags, put_header};
 use crate::times::{put_offset, put_time};
 use std::alloc::{AllocError, Allocator};
 use tc_octets::{Profile, crc};
-use tc_types::{Ack, Identity, Offset, Outcome};
+use tc_types::{Ack, Identity, Outcome};
 
 /// The most octets of a telecommand packet: those of an insert of eight activities.
 pub const MOST_TELECOMMAND: usize = 958;

@@ -1,6 +1,6 @@
 //! Times on board.
-ghost use Rattle.std.specs.Prelude.{◌≡◌, ◌++◌, ◌↔◌, IsTrue, OnOk, SomeIff, length};
-ghost use Rattle.tc_packets.specs.Times.{FitsOffset, HasTime, IsEpoch, ReadsOffset, ReadsTime, complement, first_on_board, fraction, last_on_board, offset_of, seconds_since, time_length, time_of};
+ghost use Rattle.std.specs.Prelude.{◌≡◌, ◌++◌, ◌↔◌, IsTrue, OnOk, length};
+ghost use Rattle.tc_packets.specs.Times.{FitsOffset, HasTime, IsEpoch, ReadsOffset, ReadsTime, complement, first_on_board, fraction, last_on_board, offset_of, time_length, time_of};
 
 use crate::octet_fields::{put_quad, quad_in};
 use std::alloc::{AllocError, Allocator};
