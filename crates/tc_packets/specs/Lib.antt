@@ -1,0 +1,10 @@
+pub mod OctetFields
+pub mod SpacePackets
+pub mod Identities
+pub mod Times
+pub mod Outcomes
+pub mod ApplicationData
+pub mod Flights
+pub mod Telecommands
+pub mod TelecommandReaders
+pub mod TelecommandLaws
