@@ -1,0 +1,4 @@
+pub mod EntryLemmas
+pub mod ReportLemmas
+pub mod ReportBackLemmas
+pub mod ReportLawLemmas

@@ -3,3 +3,4 @@ pub mod SpacePackets
 pub mod Identities
 pub mod Times
 pub mod Outcomes
+pub mod Reports
