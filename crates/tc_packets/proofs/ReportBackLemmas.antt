@@ -1,22 +1,20 @@
 -- What source data tell: a report's tell that report, and none other.
-use Rattle.std.proofs.Common.{◌≡◌, ℕ, ℤ, pos, negsuc, suc, ◌+◌, ◌-◌, ◌*◌, ◌/◌, ◌%◌, ◌^◌, ◌<◌, ◌≤◌, Bool, true, false, List, [], ◌∷◌, ◌++◌, take, drop, map, length, get_or, Option, Some, None, refl, sym, ap, ◌∙◌, subst, arith}
+use Rattle.std.proofs.Common.{◌≡◌, ℕ, ℤ, pos, negsuc, suc, ◌+◌, ◌*◌, ◌/◌, ◌%◌, ◌^◌, Bool, true, false, List, [], ◌∷◌, ◌++◌, take, drop, map, length, get_or, Option, Some, None, refl, sym, ap, ◌∙◌, subst, arith}
 use Rattle.std.specs.Prelude.{◌==◌, if◌then◌else◌, All, ◌≤ℤ◌}
 use Rattle.std.specs.List.{cons_option, filter_map, flat_map}
-use Rattle.std.proofs.lemmas.List.{append_assoc, append-nil, length-append, length-map, take_at, drop_at}
+use Rattle.std.proofs.lemmas.List.{append_assoc, append-nil, length-map, take_at, drop_at}
 use Rattle.std.proofs.lemmas.Int.{ints}
 use Rattle.std.proofs.lemmas.Bool.Decides.{nat_tests}
 use Rattle.tc_types.specs.LinkLines.{verification_subtype}
-use Rattle.tc_types.specs.Limits.{most_activities}
 use Rattle.tc_types.specs.declared.requests.Identity.{Identity}
 use Rattle.tc_types.specs.declared.link.reports.Verification.{Verification}
 use Rattle.tc_types.specs.declared.link.reports.Verification.TheVariants as verification
-use Rattle.tc_octets.specs.Bits.{pair}
 use Rattle.tc_octets.specs.declared.profiles.Profile.{Profile}
 use Rattle.tc_packets.specs.OctetFields.{quad}
-use Rattle.tc_packets.specs.Times.{HasSeconds, HasTime, IsTime, fraction, fraction_length, seconds_since, time_length, time_of}
-use Rattle.tc_packets.specs.Identities.{Flies, name_of, request_id_of}
+use Rattle.tc_packets.specs.Times.{HasTime, IsTime, fraction, seconds_since, time_length, time_of}
+use Rattle.tc_packets.specs.Identities.{name_of, request_id_of}
 use Rattle.tc_packets.specs.declared.identities.ActivityName.{ActivityName}
-use Rattle.tc_packets.specs.Reports.{AreEntries, Entry, HasDetails, IsEntry, IsListed, IsReported, Lists, Summarizes, Tells, Verifies, activity_octets, details_of, entry_length, our_activity, service_of, source_data, status_of, subtype_of}
+use Rattle.tc_packets.specs.Reports.{AreEntries, Entry, HasDetails, IsEntry, IsListed, IsReported, Summarizes, Tells, activity_octets, details_of, entry_length, our_activity, service_of, source_data, status_of, subtype_of}
 use Rattle.tc_packets.specs.declared.told.ScheduledActivity.{ScheduledActivity}
 use Rattle.tc_packets.specs.declared.told.ScheduleSummary.{ScheduleSummary}
 use Rattle.tc_packets.specs.declared.told.Told.{Told}

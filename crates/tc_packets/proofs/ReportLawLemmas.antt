@@ -1,6 +1,5 @@
 -- Reports come back, and different ones have different octets.
-use Rattle.std.proofs.Common.{◌≡◌, ℕ, suc, ◌+◌, ◌-◌, ◌*◌, ◌/◌, ◌%◌, ◌^◌, ◌<◌, ◌≤◌, Bool, true, false, List, [], ◌∷◌, ◌++◌, take, drop, length, get_or, Option, Some, None, Result, Ok, Err, refl, sym, ap, ◌∙◌, subst, inl, inr, arith}
-use Rattle.std.specs.Prelude.{slice_range}
+use Rattle.std.proofs.Common.{◌≡◌, ℕ, ◌+◌, ◌-◌, ◌*◌, ◌/◌, ◌%◌, ◌^◌, ◌<◌, ◌≤◌, Bool, true, false, List, ◌++◌, take, drop, length, Result, Ok, Err, refl, sym, ap, ◌∙◌, subst, inl, inr, arith}
 use Rattle.std.proofs.lemmas.List.{append_assoc, drop-drop, drop_at, length-append, take_at}
 use Rattle.tc_types.specs.LinkLines.{verification_subtype}
 use Rattle.tc_types.specs.declared.requests.Identity.{Identity}
@@ -11,9 +10,9 @@ use Rattle.tc_octets.specs.Crc.{crc_of}
 use Rattle.tc_octets.specs.CrcLaws.{CrcOfTheWhole}
 use Rattle.tc_octets.specs.declared.profiles.Profile.{Profile}
 use Rattle.tc_octets.proofs.CrcLawLemmas.{from_small}
-use Rattle.tc_packets.specs.SpacePackets.{IsField, IsWhole, ReadsPacket, flag_bit, header_of, identification, sequence_bits, sequence_control, space_packet_of, type_bit, version_in}
-use Rattle.tc_packets.specs.Times.{HasTime, IsTime, time_length, time_of}
-use Rattle.tc_packets.specs.Reports.{HandsOn, HasRoom, IsHeader, IsIdle, IsKnown, IsLong, IsOurs, IsReportHeader, IsReported, IsSame, IsSound, Judges, ReadsReport, ReportsComeBack, ReportsDiffer, destination_in, heard_of, pus_version_in, report_field, report_header, report_of, service_in, service_of, source_data, source_data_in, subtype_in, subtype_of, Tells}
+use Rattle.tc_packets.specs.SpacePackets.{ReadsPacket, flag_bit, header_of, identification, sequence_bits, sequence_control, space_packet_of, type_bit}
+use Rattle.tc_packets.specs.Times.{IsTime, time_length, time_of}
+use Rattle.tc_packets.specs.Reports.{HandsOn, HasRoom, IsHeader, IsKnown, IsOurs, IsReported, Judges, ReportsComeBack, ReportsDiffer, destination_in, heard_of, pus_version_in, report_field, report_header, report_of, service_in, service_of, source_data, source_data_in, subtype_in, subtype_of, Tells}
 use Rattle.tc_packets.specs.declared.space_packets.PacketType.{PacketType}
 use Rattle.tc_packets.specs.declared.space_packets.PacketType.TheVariants as types
 use Rattle.tc_packets.specs.declared.space_packets.SequenceFlags.{SequenceFlags}
@@ -29,7 +28,7 @@ use Rattle.tc_packets.specs.declared.told.Heard.{Heard}
 use Rattle.tc_packets.specs.declared.told.Heard.TheVariants as heard
 use Rattle.tc_packets.specs.declared.told.ReportFault.{ReportFault}
 use Rattle.tc_packets.specs.declared.told.ReportFault.TheVariants as faults
-use Rattle.tc_packets.proofs.ReportBackLemmas.{SameTold, identity_same, pair_same, tells_itself, tells_one, time_same, time_size, time_there}
+use Rattle.tc_packets.proofs.ReportBackLemmas.{identity_same, tells_itself, tells_one, time_same, time_size, time_there}
 
 -- ---- the parts of a space packet
 

@@ -1,5 +1,5 @@
 -- Reports: how many octets activities have, and what no reader finds.
-use Rattle.std.proofs.Common.{◌≡◌, ℕ, suc, ◌+◌, ◌-◌, ◌*◌, ◌<◌, ◌≤◌, Bool, true, false, List, [], ◌∷◌, ◌++◌, take, drop, length, Option, Some, None, refl, sym, ap, ◌∙◌, subst, inl, inr, arith}
+use Rattle.std.proofs.Common.{◌≡◌, ℕ, ◌+◌, ◌*◌, Bool, true, false, List, [], ◌∷◌, ◌++◌, length, Option, None, sym, ap, ◌∙◌, subst, inl, inr, arith}
 use Rattle.std.specs.List.{flat_map}
 use Rattle.std.proofs.lemmas.List.{length-append}
 use Rattle.tc_types.specs.LinkLines.{verification_subtype}
@@ -8,10 +8,9 @@ use Rattle.tc_types.specs.declared.link.reports.Verification.{Verification}
 use Rattle.tc_octets.specs.declared.profiles.Profile.{Profile}
 use Rattle.tc_packets.specs.Times.{fraction, fraction_length}
 use Rattle.tc_packets.specs.Identities.{name_of}
-use Rattle.tc_packets.specs.Reports.{IsKnown, Lists, ReadsField, ReadsSource, Summarizes, Tells, Verifies, activity_octets, service_in, source_data_in, status_of, subtype_in}
+use Rattle.tc_packets.specs.Reports.{IsKnown, Lists, ReadsField, ReadsSource, Summarizes, Verifies, activity_octets, service_in, source_data_in, status_of, subtype_in}
 use Rattle.tc_packets.specs.declared.told.ScheduledActivity.{ScheduledActivity}
 use Rattle.tc_packets.specs.declared.told.ScheduleSummary.{ScheduleSummary}
-use Rattle.tc_packets.specs.declared.told.Told.{Told}
 use Rattle.tc_packets.specs.declared.told.Told.TheVariants as told
 use Rattle.tc_packets.specs.declared.told.HeardReport.{HeardReport}
 use Rattle.tc_packets.proofs.EntryLemmas.{same_rest}
@@ -56,8 +55,8 @@ no_status profile origin octets number entries rest activities passed e lists no
     subst (λ (l : List ℕ). ReadsSource profile origin 11 13 l None) (sym e)
     (no_summary profile origin (number ∷ entries)
     (λ summary others says.
-        none summary.enabled
-        (same_rest profile entries rest (status_of summary.enabled) lists.entries says.1.entries (lists.count ∙ sym says.1.count) lists.listed says.1.listed)))
+    none summary.enabled
+    (same_rest profile entries rest (status_of summary.enabled) lists.entries says.1.entries (lists.count ∙ sym says.1.count) lists.listed says.1.listed)))
 
 -- A report that is no summary is a verification.
 pub read_verification : (profile : Profile) (origin : Identity) (field octets : List ℕ) (read : Option HeardReport) → IsKnown (service_in field) (subtype_in field)

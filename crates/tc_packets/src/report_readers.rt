@@ -218,11 +218,7 @@ fn is_report_header(header: &PacketHeader) -> bool
 }
 
 /// What a sound packet tells.
-fn heard_in(
-    profile: &Profile,
-    octets: &[u8],
-    packet: &SpacePacket,
-) -> Result<Heard, ReportFault>
+fn heard_in(profile: &Profile, octets: &[u8], packet: &SpacePacket) -> Result<Heard, ReportFault>
     requires { IsSound profile.now octets.now packet.now.header packet.now.field.now }
     ensures { Judges profile.now octets.now packet.now.header packet.now.field.now result }
 {

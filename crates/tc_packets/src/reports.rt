@@ -10,7 +10,7 @@ use crate::identities::{ActivityName, put_name, put_request_id};
 use crate::octet_fields::put_pair;
 use crate::space_packets::{PacketHeader, PacketType, SequenceFlags, put_header};
 use crate::times::{put_time, time_octets};
-use crate::told::{ScheduledActivity, ScheduleSummary, Told};
+use crate::told::{ScheduleSummary, ScheduledActivity, Told};
 use std::alloc::{AllocError, Allocator};
 use tc_octets::{Profile, crc};
 use tc_types::{Apid, Identity, Moment, SequenceCount, Verification};

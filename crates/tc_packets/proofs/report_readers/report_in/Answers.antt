@@ -1,4 +1,3 @@
-use Rattle.std.proofs.Common.{◌≡◌, arith}
 use Rattle.tc_packets.proofs.ReportLemmas.{read_verification}
 use Rattle.tc_packets.proofs.report_readers.report_in.Goals as goal
 
