@@ -5,7 +5,7 @@ use Rattle.std.proofs.lemmas.List.{length-append, length-drop, length-take}
 use Rattle.std.proofs.lemmas.List.Elements.{filter_map-append}
 use Rattle.tc_octets.specs.declared.profiles.Profile.{Profile}
 use Rattle.tc_packets.specs.Times.{time_length}
-use Rattle.tc_packets.specs.Reports.{AreEntries, Entry, IsEntry, Lists, entry_length, our_activity}
+use Rattle.tc_packets.specs.ReportReaders.{AreEntries, Entry, IsEntry, Lists, entry_length, our_activity}
 use Rattle.tc_packets.specs.declared.told.ScheduledActivity.{ScheduledActivity}
 
 -- an entry has as many octets as each

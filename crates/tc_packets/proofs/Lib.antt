@@ -2,3 +2,4 @@ pub mod EntryLemmas
 pub mod ReportLemmas
 pub mod ReportBackLemmas
 pub mod ReportLawLemmas
+mod ReportCases

@@ -14,7 +14,8 @@ use Rattle.tc_packets.specs.OctetFields.{quad}
 use Rattle.tc_packets.specs.Times.{HasTime, IsTime, fraction, seconds_since, time_length, time_of}
 use Rattle.tc_packets.specs.Identities.{name_of, request_id_of}
 use Rattle.tc_packets.specs.declared.identities.ActivityName.{ActivityName}
-use Rattle.tc_packets.specs.Reports.{AreEntries, Entry, HasDetails, IsEntry, IsListed, IsReported, Summarizes, Tells, activity_octets, details_of, entry_length, our_activity, service_of, source_data, status_of, subtype_of}
+use Rattle.tc_packets.specs.Reports.{IsListed, IsReportable, activity_octets, details_of, service_of, source_data, status_of, subtype_of}
+use Rattle.tc_packets.specs.ReportReaders.{AreEntries, Entry, HasDetails, IsEntry, Summarizes, Tells, entry_length, our_activity}
 use Rattle.tc_packets.specs.declared.told.ScheduledActivity.{ScheduledActivity}
 use Rattle.tc_packets.specs.declared.told.ScheduleSummary.{ScheduleSummary}
 use Rattle.tc_packets.specs.declared.told.Told.{Told}
@@ -212,7 +213,7 @@ summary_same profile (number ∷ octets) a b a_passed b_passed x y =
 -- ---- source data of either kind
 
 -- the source data of a report tell that report, with nothing passed over
-pub tells_itself : (profile : Profile) (t : Told) → IsReported profile t → Tells profile (source_data profile t) t 0
+pub tells_itself : (profile : Profile) (t : Told) → IsReportable profile t → Tells profile (source_data profile t) t 0
 tells_itself profile (told.Verification v request) h = (record { flies = h; request_id = refl; details = details_there v }, refl)
 tells_itself profile (told.Summary summary) h = (
   h.1,

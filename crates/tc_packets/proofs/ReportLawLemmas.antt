@@ -12,7 +12,9 @@ use Rattle.tc_octets.specs.declared.profiles.Profile.{Profile}
 use Rattle.tc_octets.proofs.CrcLawLemmas.{from_small}
 use Rattle.tc_packets.specs.SpacePackets.{ReadsPacket, flag_bit, header_of, identification, sequence_bits, sequence_control, space_packet_of, type_bit}
 use Rattle.tc_packets.specs.Times.{IsTime, time_length, time_of}
-use Rattle.tc_packets.specs.Reports.{HandsOn, HasRoom, IsHeader, IsKnown, IsOurs, IsReported, Judges, ReportsComeBack, ReportsDiffer, destination_in, heard_of, pus_version_in, report_field, report_header, report_of, service_in, service_of, source_data, source_data_in, subtype_in, subtype_of, Tells}
+use Rattle.tc_packets.specs.Reports.{IsReportable, report_field, report_header, report_of, service_of, source_data, subtype_of}
+use Rattle.tc_packets.specs.ReportReaders.{HandsOn, HasRoom, IsHeader, IsKnown, IsOurs, Judges, destination_in, pus_version_in, service_in, source_data_in, subtype_in, Tells}
+use Rattle.tc_packets.specs.ReportLaws.{CanBeSent, ReportsComeBack, ReportsDiffer, Sent, heard_of, octets_of}
 use Rattle.tc_packets.specs.declared.space_packets.PacketType.{PacketType}
 use Rattle.tc_packets.specs.declared.space_packets.PacketType.TheVariants as types
 use Rattle.tc_packets.specs.declared.space_packets.SequenceFlags.{SequenceFlags}
@@ -182,8 +184,8 @@ heard_same a b origin contents passed =
     ∙ ap (λ (x : ℕ). let h : HeardReport = record { origin = b.origin; told = b.told; passed = x } in h) passed
 
 judged : (profile : Profile) (count now : ℕ) (t : Told) (header : PacketHeader) (field : List ℕ) (read : Result Heard ReportFault) → CrcOfTheWhole → profile.apid ≤ 2046
-    → IsReported profile t → ReportIs profile count now t header field → FieldIs profile now t field
-    → Judges profile (report_of profile count now t) header field read → read ≡ Ok (heard.Report (heard_of profile count t))
+    → IsReportable profile t → ReportIs profile count now t header field → FieldIs profile now t field
+    → Judges profile (report_of profile count now t) header field read → read ≡ Ok (heard.Report (heard_of profile (record { count = count; time = now; contents = t })))
 judged profile count now t header field (Ok heard.Idle) law fits reported is parts says = absurd (omega (arith, is.apid, says))
 judged profile count now t header field (Ok (heard.Other service subtype)) law fits reported is parts says = absurd (says.1 (ours_there profile now t field parts))
 judged profile count now t header field (Ok (heard.Report report)) law fits reported is parts says =
@@ -192,7 +194,7 @@ judged profile count now t header field (Ok (heard.Report report)) law fits repo
     let same =
     tells_one profile (source_data_in profile field) report.told t report.passed 0 (tells.1 ∙ parts.service) (tells.2 ∙ parts.subtype) tells.3
     (subst (λ (l : List ℕ). Tells profile l t 0) (sym parts.content) (tells_itself profile t reported)) in
-    ap (λ (h : HeardReport). let r : Result Heard ReportFault = Ok (heard.Report h) in r) (heard_same report (heard_of profile count t) origin same.told same.passed)
+    ap (λ (h : HeardReport). let r : Result Heard ReportFault = Ok (heard.Report h) in r) (heard_same report (heard_of profile (record { count = count; time = now; contents = t })) origin same.told same.passed)
 judged profile count now t header field (Err faults.Length) law fits reported is parts says = absurd (says.2 parts.room)
 judged profile count now t header field (Err faults.Version) law fits reported is parts says = absurd says
 judged profile count now t header field (Err faults.Header) law fits reported is parts (inl says) =
@@ -203,8 +205,8 @@ judged profile count now t header field (Err faults.Data) law fits reported is p
     absurd (says.2 t 0 (sym parts.service) (sym parts.subtype) (subst (λ (l : List ℕ). Tells profile l t 0) (sym parts.content) (tells_itself profile t reported)))
 
 handed : (profile : Profile) (count now : ℕ) (t : Told) (packet : Result SpacePacket SpaceFault) (read : Result Heard ReportFault) → CrcOfTheWhole → profile.apid ≤ 2046
-    → count < 2 ^ 14 → IsReported profile t → ReadsPacket (report_of profile count now t) packet → HandsOn profile (report_of profile count now t) packet read
-    → read ≡ Ok (heard.Report (heard_of profile count t))
+    → count < 2 ^ 14 → IsReportable profile t → ReadsPacket (report_of profile count now t) packet → HandsOn profile (report_of profile count now t) packet read
+    → read ≡ Ok (heard.Report (heard_of profile (record { count = count; time = now; contents = t })))
 handed profile count now t (Ok packet) read law fits small reported reads hands =
     let is = packet_is profile count now t packet.header packet.field.now fits small hands.0 reads.1 in
     judged profile count now t packet.header packet.field.now read law fits reported is (whole_there profile count now t packet.field.now is.content) hands.1
@@ -220,21 +222,29 @@ handed profile count now t (Err space.Version) read law fits small reported read
     absurd (reads.1 (omega arith))
 
 pub reports_come_back : CrcOfTheWhole → ReportsComeBack
-reports_come_back law profile count now t read small has reported reads =
-    handed profile count now t reads.packet read law profile.apid_fits small reported reads.reads reads.judges
+reports_come_back law profile sent read can reads =
+    handed profile sent.count sent.time sent.contents reads.packet read law profile.apid_fits can.counted can.reportable reads.reads reads.judges
+
+sent_same : (a b : Sent) → a.count ≡ b.count → a.time ≡ b.time → a.contents ≡ b.contents → a ≡ b
+sent_same a b count time contents =
+    ap (λ (x : ℕ). let s : Sent = record { count = x; time = a.time; contents = a.contents } in s) count
+    ∙ ap (λ (x : ℕ). let s : Sent = record { count = b.count; time = x; contents = a.contents } in s) time
+    ∙ ap (λ (x : Told). let s : Sent = record { count = b.count; time = b.time; contents = x } in s) contents
 
 pub reports_differ : ReportsDiffer
-reports_differ profile a_count b_count a_now b_now a b a_has b_has a_small b_small a_reported b_reported e =
+reports_differ profile a b a_can b_can e =
     let fits = profile.apid_fits in
-    let ranged : IsHeader (report_header profile b_count) = record { apid = omega arith; count = b_small } in
+    let ranged : IsHeader (report_header profile b.count) = record { apid = omega arith; count = b_can.counted } in
+    let field : List ℕ = whole_field profile b.count b.time b.contents in
     let is =
-    packet_is profile a_count a_now a (report_header profile b_count) (whole_field profile b_count b_now b) profile.apid_fits a_small ranged (e ∙ report_is profile b_count b_now b) in
-    let x = whole_there profile a_count a_now a (whole_field profile b_count b_now b) is.content in
-    let y = whole_there profile b_count b_now b (whole_field profile b_count b_now b) refl in
+    packet_is profile a.count a.time a.contents (report_header profile b.count) field profile.apid_fits a_can.counted ranged (e ∙ report_is profile b.count b.time b.contents) in
+    let x = whole_there profile a.count a.time a.contents field is.content in
+    let y = whole_there profile b.count b.time b.contents field refl in
     let time =
-    time_same profile (time_of profile a_now) a_now b_now (time_there profile a_now a_has)
-    (subst (λ (l : List ℕ). IsTime profile l b_now) (sym y.time ∙ x.time) (time_there profile b_now b_has)) in
+    time_same profile (time_of profile a.time) a.time b.time (time_there profile a.time a_can.timed)
+    (subst (λ (l : List ℕ). IsTime profile l b.time) (sym y.time ∙ x.time) (time_there profile b.time b_can.timed)) in
     let same =
-    tells_one profile (source_data profile a) a b 0 0 (sym x.service ∙ y.service) (sym x.subtype ∙ y.subtype) (tells_itself profile a a_reported)
-    (subst (λ (l : List ℕ). Tells profile l b 0) (sym y.content ∙ x.content) (tells_itself profile b b_reported)) in
-    record { counts = sym is.counted; times = time; contents = same.told }
+    tells_one profile (source_data profile a.contents) a.contents b.contents 0 0 (sym x.service ∙ y.service) (sym x.subtype ∙ y.subtype)
+    (tells_itself profile a.contents a_can.reportable)
+    (subst (λ (l : List ℕ). Tells profile l b.contents 0) (sym y.content ∙ x.content) (tells_itself profile b.contents b_can.reportable)) in
+    sent_same a b (sym is.counted) time same.told

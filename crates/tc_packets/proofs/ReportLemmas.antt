@@ -8,7 +8,8 @@ use Rattle.tc_types.specs.declared.link.reports.Verification.{Verification}
 use Rattle.tc_octets.specs.declared.profiles.Profile.{Profile}
 use Rattle.tc_packets.specs.Times.{fraction, fraction_length}
 use Rattle.tc_packets.specs.Identities.{name_of}
-use Rattle.tc_packets.specs.Reports.{IsKnown, Lists, ReadsField, ReadsSource, Summarizes, Verifies, activity_octets, service_in, source_data_in, status_of, subtype_in}
+use Rattle.tc_packets.specs.Reports.{activity_octets, status_of}
+use Rattle.tc_packets.specs.ReportReaders.{IsKnown, Lists, ReadsField, ReadsSource, Summarizes, Verifies, service_in, source_data_in, subtype_in}
 use Rattle.tc_packets.specs.declared.told.ScheduledActivity.{ScheduledActivity}
 use Rattle.tc_packets.specs.declared.told.ScheduleSummary.{ScheduleSummary}
 use Rattle.tc_packets.specs.declared.told.Told.TheVariants as told

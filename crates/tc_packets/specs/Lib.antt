@@ -4,3 +4,5 @@ pub mod Identities
 pub mod Times
 pub mod Outcomes
 pub mod Reports
+pub mod ReportReaders
+pub mod ReportLaws

@@ -18,7 +18,7 @@ pub use identities::{
 };
 pub use outcomes::{OUTCOME, put_outcome, read_outcome};
 pub use report_readers::read_report;
-pub use reports::report;
+pub use reports::{is_reportable, report};
 pub use space_packets::{
     FEWEST_PACKET, HEADER, IDLE_APID, MOST_PACKET, PacketHeader, PacketType, SequenceFlags,
     SpaceFault, SpacePacket, put_header, put_idle_packet, read_space_packet, space_packet,

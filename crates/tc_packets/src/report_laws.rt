@@ -1,5 +1,5 @@
 //! What holds of telemetry reports. These functions do nothing: their clauses are the laws.
-ghost use Rattle.tc_packets.specs.Reports.{ReportsComeBack, ReportsDiffer};
+ghost use Rattle.tc_packets.specs.ReportLaws.{ReportsComeBack, ReportsDiffer};
 
 /// The octets of a report are read as that report.
 pub fn reports_come_back()

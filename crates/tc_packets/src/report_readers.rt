@@ -4,7 +4,8 @@ ghost use Rattle.std.specs.List.{filter_map};
 ghost use Rattle.std.specs.Option.{MatchOption};
 ghost use Rattle.tc_types.specs.Limits.{most_activities};
 ghost use Rattle.tc_octets.specs.declared.profiles.Profile.{Profile as SomeProfile};
-ghost use Rattle.tc_packets.specs.Reports.{AreEntries, Entry as SomeEntry, HasRoom, IsEntry, IsHeader, IsKnown, IsOurs, IsReportHeader, IsSound, Judges, Lists, ReadsDetails, ReadsField, ReadsReport, ReadsSource, entry_length, our_activity, source_data_in, status_of};
+ghost use Rattle.tc_packets.specs.Reports.{status_of};
+ghost use Rattle.tc_packets.specs.ReportReaders.{AreEntries, Entry as SomeEntry, HasRoom, IsEntry, IsHeader, IsKnown, IsOurs, IsReportHeader, IsSound, Judges, Lists, ReadsDetails, ReadsField, ReadsReport, ReadsSource, entry_length, our_activity, source_data_in};
 
 use crate::identities::{ActivityName, NAME, REQUEST_ID, read_name, read_request_id};
 use crate::octet_fields::pair_in;

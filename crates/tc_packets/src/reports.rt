@@ -1,15 +1,15 @@
 //! Telemetry reports as they are written.
-ghost use Rattle.std.specs.Prelude.{◌≡◌, ◌∷◌, ◌++◌, ◌≤◌, All, IfOk, OnOk, length, true};
+ghost use Rattle.std.specs.Prelude.{◌≡◌, ◌∷◌, ◌++◌, ◌≤◌, ◌↔◌, All, IfOk, IsTrue, OnOk, length, true};
 ghost use Rattle.std.specs.List.{flat_map};
 ghost use Rattle.tc_types.specs.Limits.{most_activities};
 ghost use Rattle.tc_octets.specs.TcFrames.{closed};
 ghost use Rattle.tc_packets.specs.Times.{HasTime};
-ghost use Rattle.tc_packets.specs.Reports.{IsListed, IsReported, activity_octets, details_of, report_field, report_header, report_of, secondary_header, service_of, source_data, status_of, subtype_of};
+ghost use Rattle.tc_packets.specs.Reports.{IsListed, IsReportable, activity_octets, details_of, report_field, report_header, report_of, secondary_header, service_of, source_data, status_of, subtype_of};
 
-use crate::identities::{ActivityName, put_name, put_request_id};
+use crate::identities::{ActivityName, flies, put_name, put_request_id};
 use crate::octet_fields::put_pair;
 use crate::space_packets::{PacketHeader, PacketType, SequenceFlags, put_header};
-use crate::times::{put_time, time_octets};
+use crate::times::{has_time, put_time, time_octets};
 use crate::told::{ScheduleSummary, ScheduledActivity, Told};
 use std::alloc::{AllocError, Allocator};
 use tc_octets::{Profile, crc};
@@ -32,6 +32,32 @@ pub(crate) const SECONDARY: usize = 7;
 
 /// The octets of a CRC.
 pub(crate) const CRC: usize = 2;
+
+/// Whether a summary can list an activity.
+fn is_listed(profile: &Profile, activity: &ScheduledActivity) -> bool
+    ensures { IsTrue result ↔ IsListed profile.now activity.now }
+{
+    has_time(profile, activity.time) && flies(activity.identity)
+}
+
+/// Whether a summary can list all these activities.
+fn are_listed(profile: &Profile, activities: &[ScheduledActivity]) -> bool
+    ensures { IsTrue result ↔ All (IsListed profile.now) activities.now }
+{
+    activities
+        .iter()
+        .all(|activity| is_listed(profile, activity))
+}
+
+/// Whether a report can tell this: the requests fly (`flies`), and the release times have octets (`has_time`).
+pub fn is_reportable(profile: &Profile, told: &Told) -> bool
+    ensures { IsTrue result ↔ IsReportable profile.now told.now }
+{
+    match told {
+        Told::Verification { request, .. } => flies(*request),
+        Told::Summary(summary) => are_listed(profile, summary.activities.as_slice()),
+    }
+}
 
 /// Appends the CRC-16 of the octets before it.
 fn put_crc<A: Allocator + Copy>(out: &mut Vec<u8, A>) -> Result<(), AllocError>
@@ -189,7 +215,7 @@ fn put_source_data<A: Allocator + Copy>(
     profile: &Profile,
     told: &Told,
 ) -> Result<(), AllocError>
-    requires { IsReported profile.now told.now }
+    requires { IsReportable profile.now told.now }
     ensures { OnOk result (out.new.items ≡ out.old.items ++ source_data profile.now told.now) }
 {
     match told {
@@ -206,7 +232,7 @@ fn put_source_data<A: Allocator + Copy>(
 
 /// Returns how many octets the source data of a report have, at most 770.
 fn source_octets(profile: &Profile, told: &Told) -> usize
-    requires { IsReported profile.now told.now }
+    requires { IsReportable profile.now told.now }
     ensures octets { result ≡ length (source_data profile.now told.now) }
     ensures few { result ≤ 770 }
 {
@@ -251,7 +277,7 @@ fn report_header(profile: &Profile, count: SequenceCount) -> PacketHeader
 }
 
 /// Returns the octets of a telemetry report (ECSS-E-ST-70-41C, 7.4.3, 8.1.2, 8.11.2). `count` is the sequence count of its packet, and `now` the time on board.
-/// A moment has to have octets (`has_time`), and a request to fly (`flies`). Fails if memory is refused.
+/// The time has to have octets (`has_time`), and the contents to be reportable (`is_reportable`). Fails if memory is refused.
 pub fn report<A: Allocator + Copy>(
     alloc: A,
     profile: &Profile,
@@ -260,7 +286,7 @@ pub fn report<A: Allocator + Copy>(
     told: &Told,
 ) -> Result<Vec<u8, A>, AllocError>
     requires timely { HasTime profile.now.epoch now }
-    requires reported { IsReported profile.now told.now }
+    requires reported { IsReportable profile.now told.now }
     ensures { IfOk result (λ octets. octets.items ≡ report_of profile.now count now told.now) }
 {
     let mut octets = Vec::new(alloc);

@@ -1,6 +1,6 @@
 -- One entry more, and what stands where there is none.
 use Rattle.std.proofs.Common.{◌≡◌, ℕ, ◌+◌, List, take, drop, None, sym, ap, ◌∙◌, subst, arith}
-use Rattle.tc_packets.specs.Reports.{Entry, IsEntry, Lists, entry_length}
+use Rattle.tc_packets.specs.ReportReaders.{Entry, IsEntry, Lists, entry_length}
 use Rattle.tc_packets.proofs.EntryLemmas.{lists_more, no_entry, too_few}
 use Rattle.tc_packets.proofs.report_readers.entries_in.Goals as goal
 

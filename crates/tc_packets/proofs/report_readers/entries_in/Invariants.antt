@@ -1,5 +1,5 @@
 -- So many entries were read, and these octets are left.
-use Rattle.tc_packets.specs.Reports.{Lists}
+use Rattle.tc_packets.specs.ReportReaders.{Lists}
 use Rattle.tc_packets.proofs.report_readers.entries_in.Given as goal
 
 abbrev pub invariant-loop : goal.invariant-loop
