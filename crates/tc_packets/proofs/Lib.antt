@@ -2,4 +2,5 @@ pub mod EntryLemmas
 pub mod ReportLemmas
 pub mod ReportBackLemmas
 pub mod ReportLawLemmas
+pub mod ReportOneLemmas
 mod ReportCases

@@ -37,14 +37,14 @@ use Rattle.tc_packets.proofs.ReportBackLemmas.{identity_same, tells_itself, tell
 two_are : (n : ℕ) → n / 256 * 256 + n % 256 ≡ n
 two_are n = omega arith
 
-record PartsAre (octets : List ℕ) (header : PacketHeader) (field : List ℕ) : Type 0 where
+pub record PartsAre (octets : List ℕ) (header : PacketHeader) (field : List ℕ) : Type 0 where
   pub first : pair_at octets 0 ≡ identification header
   pub second : pair_at octets 2 ≡ sequence_control header
   pub third : pair_at octets 4 ≡ length field - 1
   pub rest : drop 6 octets ≡ field
   pub size : length octets ≡ 6 + length field
 
-parts_there : (header : PacketHeader) (field : List ℕ) → PartsAre (space_packet_of header field) header field
+pub parts_there : (header : PacketHeader) (field : List ℕ) → PartsAre (space_packet_of header field) header field
 parts_there header field = record {
   first = two_are (identification header);
   second = two_are (sequence_control header);
@@ -177,7 +177,7 @@ crc_zero law octets = (law octets (crc_of octets) (from_small 65535 (bits_of oct
 
 -- ---- what a reader says of a report
 
-heard_same : (a b : HeardReport) → a.origin ≡ b.origin → a.told ≡ b.told → a.passed ≡ b.passed → a ≡ b
+pub heard_same : (a b : HeardReport) → a.origin ≡ b.origin → a.told ≡ b.told → a.passed ≡ b.passed → a ≡ b
 heard_same a b origin contents passed =
     ap (λ (x : Identity). let h : HeardReport = record { origin = x; told = a.told; passed = a.passed } in h) origin
     ∙ ap (λ (x : Told). let h : HeardReport = record { origin = b.origin; told = x; passed = a.passed } in h) contents

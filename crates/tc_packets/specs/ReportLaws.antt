@@ -36,3 +36,7 @@ ReportsComeBack = (profile : Profile) (sent : Sent) (read : Result Heard ReportF
 -- different reports have different octets
 abbrev pub ReportsDiffer : Type 0
 ReportsDiffer = (profile : Profile) (a b : Sent) → CanBeSent profile a → CanBeSent profile b → octets_of profile a ≡ octets_of profile b → a ≡ b
+
+-- octets are read as one thing
+abbrev pub OneReading : Type 0
+OneReading = (profile : Profile) (octets : List ℕ) (a b : Result Heard ReportFault) → ReadsReport profile octets a → ReadsReport profile octets b → a ≡ b

@@ -1,5 +1,5 @@
 //! What holds of telemetry reports. These functions do nothing: their clauses are the laws.
-ghost use Rattle.tc_packets.specs.ReportLaws.{ReportsComeBack, ReportsDiffer};
+ghost use Rattle.tc_packets.specs.ReportLaws.{OneReading, ReportsComeBack, ReportsDiffer};
 
 /// The octets of a report are read as that report.
 pub fn reports_come_back()
@@ -11,4 +11,9 @@ pub fn reports_come_back()
 /// Different reports have different octets.
 pub fn reports_differ()
     ensures { ReportsDiffer }
+{}
+
+/// Octets are read as one thing: what a reader says of them is determined.
+pub fn octets_have_one_reading()
+    ensures { OneReading }
 {}
