@@ -1,5 +1,5 @@
 -- Worked cases of reports, which show that the definitions are the ones that were meant.
-use Rattle.std.proofs.Common.{◌≡◌, ℕ, ℤ, pos, Bool, true, false, List, [], ◌∷◌, Some, None, refl, arith}
+use Rattle.std.proofs.Common.{◌≡◌, ℕ, ℤ, pos, Bool, true, false, [], ◌∷◌, Some, None, refl, arith}
 use Rattle.tc_types.specs.declared.link.reports.Verification.TheVariants as verification
 use Rattle.tc_octets.specs.Bits.{octet_bits}
 use Rattle.tc_octets.specs.Crc.{crc_step}

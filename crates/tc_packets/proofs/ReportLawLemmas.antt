@@ -14,7 +14,7 @@ use Rattle.tc_packets.specs.SpacePackets.{ReadsPacket, flag_bit, header_of, iden
 use Rattle.tc_packets.specs.Times.{IsTime, time_length, time_of}
 use Rattle.tc_packets.specs.Reports.{IsReportable, report_field, report_header, report_of, service_of, source_data, subtype_of}
 use Rattle.tc_packets.specs.ReportReaders.{HandsOn, HasRoom, IsHeader, IsKnown, IsOurs, Judges, destination_in, pus_version_in, service_in, source_data_in, subtype_in, Tells}
-use Rattle.tc_packets.specs.ReportLaws.{CanBeSent, ReportsComeBack, ReportsDiffer, Sent, heard_of, octets_of}
+use Rattle.tc_packets.specs.ReportLaws.{ReportsComeBack, ReportsDiffer, Sent, heard_of}
 use Rattle.tc_packets.specs.declared.space_packets.PacketType.{PacketType}
 use Rattle.tc_packets.specs.declared.space_packets.PacketType.TheVariants as types
 use Rattle.tc_packets.specs.declared.space_packets.SequenceFlags.{SequenceFlags}

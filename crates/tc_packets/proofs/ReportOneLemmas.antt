@@ -1,5 +1,5 @@
 -- Octets are read as one thing.
-use Rattle.std.proofs.Common.{◌≡◌, ℕ, zero, suc, ◌+◌, ◌-◌, ◌*◌, ◌/◌, ◌%◌, ◌^◌, ◌<◌, ◌≤◌, Bool, true, false, List, drop, length, Option, Some, None, Result, Ok, Err, refl, sym, ap, ◌∙◌, subst, inl, inr, arith}
+use Rattle.std.proofs.Common.{◌≡◌, ℕ, zero, suc, ◌+◌, ◌<◌, ◌≤◌, Bool, true, false, List, drop, length, Option, Some, None, Result, Ok, Err, refl, sym, ap, ◌∙◌, subst, inl, inr, arith}
 use borrow.Author.Count.{below_more, below_none}
 use Rattle.std.specs.Prelude.{◌≢◌}
 use Rattle.std.proofs.lemmas.Bool.{cases_lt}
@@ -8,7 +8,7 @@ use Rattle.tc_octets.specs.Bits.{pair_at}
 use Rattle.tc_octets.specs.Crc.{crc_of}
 use Rattle.tc_octets.specs.declared.profiles.Profile.{Profile}
 use Rattle.tc_packets.specs.SpacePackets.{IsWhole, ReadsPacket, flag_bit, identification, sequence_bits, sequence_control, space_packet_of, type_bit, version_in}
-use Rattle.tc_packets.specs.ReportReaders.{HandsOn, HasRoom, IsHeader, IsIdle, IsLong, IsOurs, IsReportHeader, IsSound, Judges, ReadsField, ReadsReport, pus_version_in, service_in, source_data_in, subtype_in}
+use Rattle.tc_packets.specs.ReportReaders.{HandsOn, HasRoom, IsHeader, IsIdle, IsLong, IsOurs, IsReportHeader, IsSound, Judges, ReadsField, pus_version_in, service_in, source_data_in, subtype_in}
 use Rattle.tc_packets.specs.ReportLaws.{OneReading}
 use Rattle.tc_packets.specs.declared.space_packets.PacketType.{PacketType}
 use Rattle.tc_packets.specs.declared.space_packets.PacketType.TheVariants as types

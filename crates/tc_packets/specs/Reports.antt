@@ -1,5 +1,5 @@
 -- Telemetry reports as they are written (ECSS-E-ST-70-41C, 7.4.3): request verification (8.1.2), and the summary of the schedule on board (8.11.2).
-use Rattle.std.specs.Prelude.{ℕ, ◌+◌, ◌-◌, ◌≤◌, if◌then◌else◌, Bool, true, List, [], ◌∷◌, ◌++◌, length, All, Option, Some, None}
+use Rattle.std.specs.Prelude.{ℕ, ◌+◌, ◌≤◌, if◌then◌else◌, Bool, true, List, [], ◌∷◌, ◌++◌, length, All, Option, Some, None}
 use Rattle.std.specs.List.{flat_map}
 use Rattle.tc_types.specs.LinkLines.{verification_subtype}
 use Rattle.tc_types.specs.Limits.{most_activities}
