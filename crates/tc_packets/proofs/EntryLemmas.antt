@@ -17,7 +17,8 @@ entry_size profile octets entry is =
 -- one entry more
 pub entry_more : (profile : Profile) (octets left : List ℕ) (entries : List Entry) (entry : Entry) → AreEntries profile octets entries left
     → IsEntry profile (take (entry_length profile) left) entry → AreEntries profile octets (entries ++ entry ∷ []) (drop (entry_length profile) left)
-entry_more profile octets left [] entry are is = (subst (λ (l : List ℕ). IsEntry profile (take (entry_length profile) l) entry) (sym are) is, ap (drop (entry_length profile)) are)
+entry_more profile octets left [] entry are is =
+    (subst (λ (l : List ℕ). IsEntry profile (take (entry_length profile) l) entry) (sym are) is, ap (drop (entry_length profile)) are)
 entry_more profile octets left (first ∷ entries) entry are is =
     (are.0, entry_more profile (drop (entry_length profile) octets) left entries entry are.1 is)
 
@@ -27,7 +28,8 @@ pub record Stands (profile : Profile) (octets : List ℕ) : Type 0 where
   pub is : IsEntry profile octets entry
 
 -- If there are more entries than these, one stands in what is left.
-pub entry_left : (profile : Profile) (octets left rest : List ℕ) (before all : List Entry) → AreEntries profile octets before left → AreEntries profile octets all rest
+pub entry_left : (profile : Profile) (octets left rest : List ℕ) (before all : List Entry) → AreEntries profile octets before left
+    → AreEntries profile octets all rest
     → length before < length all → Stands profile (take (entry_length profile) left)
 entry_left profile octets left rest before [] are all_are h = absurd (omega arith)
 entry_left profile octets left rest [] (entry ∷ all) are all_are h =
@@ -36,7 +38,8 @@ entry_left profile octets left rest (first ∷ before) (entry ∷ all) are all_a
     entry_left profile (drop (entry_length profile) octets) left rest before all are.1 all_are.1 (omega arith)
 
 -- As many entries leave the same rest.
-pub same_rest : (profile : Profile) (octets left rest : List ℕ) (xs ys : List Entry) → length xs ≡ length ys → AreEntries profile octets xs left → AreEntries profile octets ys rest
+pub same_rest : (profile : Profile) (octets left rest : List ℕ) (xs ys : List Entry) → length xs ≡ length ys → AreEntries profile octets xs left
+    → AreEntries profile octets ys rest
     → left ≡ rest
 same_rest profile octets left rest [] [] e xs_are ys_are = sym xs_are ∙ ys_are
 same_rest profile octets left rest [] (y ∷ ys) e xs_are ys_are = absurd (omega arith)
@@ -77,7 +80,8 @@ pub too_few : (profile : Profile) (i number : ℕ) (octets left : List ℕ) (act
 too_few profile i number octets left activities passed lists h short entries rest count are =
     let before = lists.count in
     let found = entry_left profile octets left rest lists.entries entries lists.listed are (omega arith) in
-    let size : length (take (entry_length profile) left) ≡ entry_length profile = entry_size profile (take (entry_length profile) left) found.entry found.is in
+    let size : length (take (entry_length profile) left) ≡ entry_length profile =
+    entry_size profile (take (entry_length profile) left) found.entry found.is in
     omega (arith, length-take (entry_length profile) left)
 
 -- What is left does not begin with an entry, though entries are missing.

@@ -69,7 +69,9 @@ name_same a b e =
 
 pub request_same : (a b : Identity) → request_id_of a ≡ request_id_of b → a ≡ b
 request_same a b e =
-    let apid = pair_same (1 * 2 ^ 12 + 1 * 2 ^ 11 + a.apid) (1 * 2 ^ 12 + 1 * 2 ^ 11 + b.apid) (ap (λ (l : List ℕ). get_or l 0 0) e) (ap (λ (l : List ℕ). get_or l 1 0) e) in
+    let apid =
+    pair_same (1 * 2 ^ 12 + 1 * 2 ^ 11 + a.apid) (1 * 2 ^ 12 + 1 * 2 ^ 11 + b.apid) (ap (λ (l : List ℕ). get_or l 0 0) e)
+    (ap (λ (l : List ℕ). get_or l 1 0) e) in
     let count = pair_same (3 * 2 ^ 14 + a.count) (3 * 2 ^ 14 + b.count) (ap (λ (l : List ℕ). get_or l 2 0) e) (ap (λ (l : List ℕ). get_or l 3 0) e) in
     identity_same a b (omega arith) (omega arith)
 
@@ -91,23 +93,29 @@ first_same a b e = ap (λ (l : List ℕ). get_or l 0 0) e
 second_same : (a b c d : ℕ) → a ∷ c ∷ [] ≡ b ∷ d ∷ [] → c ≡ d
 second_same a b c d e = ap (λ (l : List ℕ). get_or l 1 0) e
 
-pub details_same : (octets : List ℕ) (a b : Verification) → verification_subtype a ≡ verification_subtype b → HasDetails octets a → HasDetails octets b → a ≡ b
+pub details_same : (octets : List ℕ) (a b : Verification) → verification_subtype a ≡ verification_subtype b → HasDetails octets a
+    → HasDetails octets b → a ≡ b
 details_same octets verification.Accepted verification.Accepted same x y = refl
 details_same octets verification.Accepted b same x y = absurd (omega arith)
-details_same octets (verification.AcceptanceFailed code) (verification.AcceptanceFailed other) same x y = ap (λ n. verification.AcceptanceFailed n) (first_same code other (sym x ∙ y))
+details_same octets (verification.AcceptanceFailed code) (verification.AcceptanceFailed other) same x y =
+    ap (λ n. verification.AcceptanceFailed n) (first_same code other (sym x ∙ y))
 details_same octets (verification.AcceptanceFailed code) b same x y = absurd (omega arith)
 details_same octets verification.Started verification.Started same x y = refl
 details_same octets verification.Started b same x y = absurd (omega arith)
-details_same octets (verification.StartFailed code) (verification.StartFailed other) same x y = ap (λ n. verification.StartFailed n) (first_same code other (sym x ∙ y))
+details_same octets (verification.StartFailed code) (verification.StartFailed other) same x y =
+    ap (λ n. verification.StartFailed n) (first_same code other (sym x ∙ y))
 details_same octets (verification.StartFailed code) b same x y = absurd (omega arith)
-details_same octets (verification.StepDone step) (verification.StepDone other) same x y = ap (λ n. verification.StepDone n) (first_same step other (sym x ∙ y))
+details_same octets (verification.StepDone step) (verification.StepDone other) same x y =
+    ap (λ n. verification.StepDone n) (first_same step other (sym x ∙ y))
 details_same octets (verification.StepDone step) b same x y = absurd (omega arith)
 details_same octets (verification.StepFailed step code) (verification.StepFailed step' code') same x y =
-    ap (λ n. verification.StepFailed n code) (ap (λ (l : List ℕ). get_or l 0 0) (sym x ∙ y)) ∙ ap (λ n. verification.StepFailed step' n) (second_same step step' code code' (sym x ∙ y))
+    ap (λ n. verification.StepFailed n code) (ap (λ (l : List ℕ). get_or l 0 0) (sym x ∙ y))
+    ∙ ap (λ n. verification.StepFailed step' n) (second_same step step' code code' (sym x ∙ y))
 details_same octets (verification.StepFailed step code) b same x y = absurd (omega arith)
 details_same octets verification.Completed verification.Completed same x y = refl
 details_same octets verification.Completed b same x y = absurd (omega arith)
-details_same octets (verification.CompletionFailed code) (verification.CompletionFailed other) same x y = ap (λ n. verification.CompletionFailed n) (first_same code other (sym x ∙ y))
+details_same octets (verification.CompletionFailed code) (verification.CompletionFailed other) same x y =
+    ap (λ n. verification.CompletionFailed n) (first_same code other (sym x ∙ y))
 details_same octets (verification.CompletionFailed code) b same x y = absurd (omega arith)
 
 -- ---- summaries
@@ -116,7 +124,8 @@ details_same octets (verification.CompletionFailed code) b same x y = absurd (om
 abbrev entry_of : Profile → ScheduledActivity → Entry
 entry_of profile activity = record { time = activity.time; name = record { source = profile.source; identity = activity.identity } }
 
-entry_there : (profile : Profile) (activity : ScheduledActivity) → IsListed profile activity → IsEntry profile (activity_octets profile activity) (entry_of profile activity)
+entry_there : (profile : Profile) (activity : ScheduledActivity) → IsListed profile activity
+    → IsEntry profile (activity_octets profile activity) (entry_of profile activity)
 entry_there profile activity listed =
     let name : List ℕ = name_of (record { source = profile.source; identity = activity.identity }) in
     let time : take (time_length profile) (activity_octets profile activity) ≡ time_of profile activity.time =
@@ -143,7 +152,8 @@ entries_there profile (activity ∷ activities) rest all =
     let back : drop (entry_length profile) ((first ++ others) ++ rest) ≡ others ++ rest =
     ap (drop (entry_length profile)) joined ∙ drop_at first (others ++ rest) (entry_length profile) (entry_long profile activity) in (
       subst (λ (l : List ℕ). IsEntry profile l (entry_of profile activity)) (sym front) (entry_there profile activity (all 0 activity (omega arith))),
-      subst (λ (l : List ℕ). AreEntries profile l (map (entry_of profile) activities) rest) (sym back) (entries_there profile activities rest (λ k d h. all (suc k) d (omega arith))),
+      subst (λ (l : List ℕ). AreEntries profile l (map (entry_of profile) activities) rest) (sym back)
+          (entries_there profile activities rest (λ k d h. all (suc k) d (omega arith))),
     )
 
 same_number : (n : ℕ) → (n == n) ≡ true
@@ -154,11 +164,14 @@ abbrev cond_more : Bool → ScheduledActivity → List ScheduledActivity → Lis
 cond_more ours activity activities = cons_option (if ours then Some activity else None) activities
 
 -- all of them are ours
-ours_there : (profile : Profile) (activities : List ScheduledActivity) → activities ≡ filter_map (our_activity profile.source) (map (entry_of profile) activities)
+ours_there : (profile : Profile) (activities : List ScheduledActivity)
+    → activities ≡ filter_map (our_activity profile.source) (map (entry_of profile) activities)
 ours_there profile [] = refl
 ours_there profile (activity ∷ activities) =
     ap (λ l. activity ∷ l) (ours_there profile activities)
-    ∙ sym (ap (λ (b : Bool). cond_more b activity (filter_map (our_activity profile.source) (map (entry_of profile) activities))) (same_number profile.source))
+    ∙ sym
+    (ap (λ (b : Bool). cond_more b activity (filter_map (our_activity profile.source) (map (entry_of profile) activities)))
+    (same_number profile.source))
 
 entry_same : (profile : Profile) (octets : List ℕ) (a b : Entry) → IsEntry profile octets a → IsEntry profile octets b → a ≡ b
 entry_same profile octets a b is_a is_b =
@@ -167,7 +180,8 @@ entry_same profile octets a b is_a is_b =
     ap (λ (n : ℕ). let e : Entry = record { time = n; name = a.name } in e) time
     ∙ ap (λ (n : ActivityName). let e : Entry = record { time = b.time; name = n } in e) name
 
-entries_same : (profile : Profile) (octets left rest : List ℕ) (xs ys : List Entry) → length xs ≡ length ys → AreEntries profile octets xs left → AreEntries profile octets ys rest → xs ≡ ys
+entries_same : (profile : Profile) (octets left rest : List ℕ) (xs ys : List Entry) → length xs ≡ length ys → AreEntries profile octets xs left
+    → AreEntries profile octets ys rest → xs ≡ ys
 entries_same profile octets left rest [] [] e xs_are ys_are = refl
 entries_same profile octets left rest [] (y ∷ ys) e xs_are ys_are = absurd (omega arith)
 entries_same profile octets left rest (x ∷ xs) [] e xs_are ys_are = absurd (omega arith)
@@ -205,7 +219,8 @@ summary_same profile (number ∷ octets) a b a_passed b_passed x y =
     let b_all = y.1.others in
     record {
       told =
-          ap (λ (s : Option Bool). let m : ScheduleSummary = record { enabled = s; activities = a.activities } in m) (status_same a.enabled b.enabled rest)
+          ap (λ (s : Option Bool). let m : ScheduleSummary = record { enabled = s; activities = a.activities } in m)
+          (status_same a.enabled b.enabled rest)
           ∙ ap (λ (l : List ScheduledActivity). let m : ScheduleSummary = record { enabled = b.enabled; activities = l } in m) activities;
       passed = omega arith;
     }

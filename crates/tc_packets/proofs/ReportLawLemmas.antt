@@ -54,7 +54,8 @@ parts_there header field = record {
 }
 
 kind_is : (kind : PacketType) (secondary : Bool) (apid a : ℕ) → apid < 2 ^ 11 → a < 2 ^ 11
-    → type_bit kind * 2 ^ 12 + flag_bit secondary * 2 ^ 11 + apid ≡ 0 * 2 ^ 12 + 1 * 2 ^ 11 + a → (kind ≡ types.Telemetry) × (secondary ≡ true) × (apid ≡ a)
+    → type_bit kind * 2 ^ 12 + flag_bit secondary * 2 ^ 11 + apid ≡ 0 * 2 ^ 12 + 1 * 2 ^ 11 + a
+    → (kind ≡ types.Telemetry) × (secondary ≡ true) × (apid ≡ a)
 kind_is types.Telemetry true apid a h k e = (refl, refl, omega arith)
 kind_is types.Telemetry false apid a h k e = absurd (omega arith)
 kind_is types.Telecommand true apid a h k e = absurd (omega arith)
@@ -76,13 +77,15 @@ front_of profile count now t = header_of (report_header profile count) (length (
 abbrev whole_field : Profile → ℕ → ℕ → Told → List ℕ
 whole_field profile count now t = report_field profile now t ++ pair (crc_of (front_of profile count now t))
 
-report_is : (profile : Profile) (count now : ℕ) (t : Told) → report_of profile count now t ≡ space_packet_of (report_header profile count) (whole_field profile count now t)
+report_is : (profile : Profile) (count now : ℕ) (t : Told)
+    → report_of profile count now t ≡ space_packet_of (report_header profile count) (whole_field profile count now t)
 report_is profile count now t =
     let size : length (report_field profile now t) + 2 ≡ length (whole_field profile count now t) =
     omega (arith, length-append (report_field profile now t) (pair (crc_of (front_of profile count now t)))) in
     ap (λ n. header_of (report_header profile count) n ++ whole_field profile count now t) size
 
-report_parts : (profile : Profile) (count now : ℕ) (t : Told) → PartsAre (report_of profile count now t) (report_header profile count) (whole_field profile count now t)
+report_parts : (profile : Profile) (count now : ℕ) (t : Told)
+    → PartsAre (report_of profile count now t) (report_header profile count) (whole_field profile count now t)
 report_parts profile count now t =
     subst (λ (l : List ℕ). PartsAre l (report_header profile count) (whole_field profile count now t)) (sym (report_is profile count now t))
     (parts_there (report_header profile count) (whole_field profile count now t))
@@ -99,13 +102,16 @@ record ReportIs (profile : Profile) (count now : ℕ) (t : Told) (header : Packe
   pub counted : header.identity.count ≡ count
   pub content : field ≡ whole_field profile count now t
 
-packet_is : (profile : Profile) (count now : ℕ) (t : Told) (header : PacketHeader) (field : List ℕ) → profile.apid ≤ 2046 → count < 2 ^ 14 → IsHeader header
+packet_is : (profile : Profile) (count now : ℕ) (t : Told) (header : PacketHeader) (field : List ℕ) → profile.apid ≤ 2046 → count < 2 ^ 14
+    → IsHeader header
     → report_of profile count now t ≡ space_packet_of header field → ReportIs profile count now t header field
 packet_is profile count now t header field fits small ranged e =
     let a = report_parts profile count now t in
     let b = parts_there header field in
-    let first : identification header ≡ identification (report_header profile count) = sym b.first ∙ sym (ap (λ (l : List ℕ). pair_at l 0) e) ∙ a.first in
-    let second : sequence_control header ≡ sequence_control (report_header profile count) = sym b.second ∙ sym (ap (λ (l : List ℕ). pair_at l 2) e) ∙ a.second in
+    let first : identification header ≡ identification (report_header profile count) =
+    sym b.first ∙ sym (ap (λ (l : List ℕ). pair_at l 0) e) ∙ a.first in
+    let second : sequence_control header ≡ sequence_control (report_header profile count) =
+    sym b.second ∙ sym (ap (λ (l : List ℕ). pair_at l 2) e) ∙ a.second in
     let kind = kind_is header.kind header.secondary header.identity.apid profile.apid ranged.apid (omega arith) first in
     let sequence = sequence_is header.sequence header.identity.count count ranged.count small second in
     record {
@@ -128,7 +134,8 @@ record FieldIs (profile : Profile) (now : ℕ) (t : Told) (field : List ℕ) : T
   pub time : take (time_length profile) (drop 7 field) ≡ time_of profile now
   pub content : source_data_in profile field ≡ source_data profile t
 
-field_there : (profile : Profile) (now : ℕ) (t : Told) (check : List ℕ) → length check ≡ 2 → FieldIs profile now t (report_field profile now t ++ check)
+field_there : (profile : Profile) (now : ℕ) (t : Told) (check : List ℕ) → length check ≡ 2
+    → FieldIs profile now t (report_field profile now t ++ check)
 field_there profile now t check two =
     let time : List ℕ = time_of profile now in
     let content : List ℕ = source_data profile t in
@@ -138,7 +145,8 @@ field_there profile now t check two =
     omega (arith, length-append (time ++ content) check, length-append time content, time_size profile now) in
     let end : (length field - 2) - (7 + time_length profile) ≡ length content = omega arith in
     let after : drop (7 + time_length profile) field ≡ content ++ check =
-    sym (drop-drop (time_length profile) 7 field) ∙ ap (drop (time_length profile)) behind ∙ drop_at time (content ++ check) (time_length profile) (time_size profile now) in
+    sym (drop-drop (time_length profile) 7 field) ∙ ap (drop (time_length profile)) behind
+    ∙ drop_at time (content ++ check) (time_length profile) (time_size profile now) in
     record {
       version = refl;
       service = refl;
@@ -146,7 +154,8 @@ field_there profile now t check two =
       destination = two_are profile.source;
       room = omega arith;
       time = ap (take (time_length profile)) behind ∙ take_at time (content ++ check) (time_length profile) (time_size profile now);
-      content = ap (λ n. take n (drop (7 + time_length profile) field)) end ∙ ap (take (length content)) after ∙ take_at content check (length content) refl;
+      content = ap (λ n. take n (drop (7 + time_length profile) field)) end ∙ ap (take (length content)) after
+          ∙ take_at content check (length content) refl;
     }
 
 whole_there : (profile : Profile) (count now : ℕ) (t : Told) (field : List ℕ) → field ≡ whole_field profile count now t → FieldIs profile now t field
@@ -183,33 +192,44 @@ heard_same a b origin contents passed =
     ∙ ap (λ (x : Told). let h : HeardReport = record { origin = b.origin; told = x; passed = a.passed } in h) contents
     ∙ ap (λ (x : ℕ). let h : HeardReport = record { origin = b.origin; told = b.told; passed = x } in h) passed
 
-judged : (profile : Profile) (count now : ℕ) (t : Told) (header : PacketHeader) (field : List ℕ) (read : Result Heard ReportFault) → CrcOfTheWhole → profile.apid ≤ 2046
+judged : (profile : Profile) (count now : ℕ) (t : Told) (header : PacketHeader) (field : List ℕ) (read : Result Heard ReportFault) → CrcOfTheWhole
+    → profile.apid ≤ 2046
     → IsReportable profile t → ReportIs profile count now t header field → FieldIs profile now t field
-    → Judges profile (report_of profile count now t) header field read → read ≡ Ok (heard.Report (heard_of profile (record { count = count; time = now; contents = t })))
+    → Judges profile (report_of profile count now t) header field read
+    → read ≡ Ok (heard.Report (heard_of profile (record { count = count; time = now; contents = t })))
 judged profile count now t header field (Ok heard.Idle) law fits reported is parts says = absurd (omega (arith, is.apid, says))
-judged profile count now t header field (Ok (heard.Other service subtype)) law fits reported is parts says = absurd (says.1 (ours_there profile now t field parts))
+judged profile count now t header field (Ok (heard.Other service subtype)) law fits reported is parts says =
+    absurd (says.1 (ours_there profile now t field parts))
 judged profile count now t header field (Ok (heard.Report report)) law fits reported is parts says =
     let tells = says.2 in
-    let origin = identity_same report.origin (record { apid = profile.apid; count = count }) (ap (λ (i : Identity). i.apid) tells.0 ∙ is.apid) (ap (λ (i : Identity). i.count) tells.0 ∙ is.counted) in
+    let origin =
+    identity_same report.origin (record { apid = profile.apid; count = count }) (ap (λ (i : Identity). i.apid) tells.0 ∙ is.apid)
+    (ap (λ (i : Identity). i.count) tells.0 ∙ is.counted) in
     let same =
     tells_one profile (source_data_in profile field) report.told t report.passed 0 (tells.1 ∙ parts.service) (tells.2 ∙ parts.subtype) tells.3
     (subst (λ (l : List ℕ). Tells profile l t 0) (sym parts.content) (tells_itself profile t reported)) in
-    ap (λ (h : HeardReport). let r : Result Heard ReportFault = Ok (heard.Report h) in r) (heard_same report (heard_of profile (record { count = count; time = now; contents = t })) origin same.told same.passed)
+    ap (λ (h : HeardReport). let r : Result Heard ReportFault = Ok (heard.Report h) in r)
+    (heard_same report (heard_of profile (record { count = count; time = now; contents = t })) origin same.told same.passed)
 judged profile count now t header field (Err faults.Length) law fits reported is parts says = absurd (says.2 parts.room)
 judged profile count now t header field (Err faults.Version) law fits reported is parts says = absurd says
 judged profile count now t header field (Err faults.Header) law fits reported is parts (inl says) =
     absurd (says.1 (record { kind = is.kind; secondary = is.secondary; sequence = is.sequence }))
 judged profile count now t header field (Err faults.Header) law fits reported is parts (inr says) = absurd (says.2 parts.version)
-judged profile count now t header field (Err faults.Check) law fits reported is parts says = absurd (says.1 (crc_zero law (front_of profile count now t)))
+judged profile count now t header field (Err faults.Check) law fits reported is parts says =
+    absurd (says.1 (crc_zero law (front_of profile count now t)))
 judged profile count now t header field (Err faults.Data) law fits reported is parts says =
-    absurd (says.2 t 0 (sym parts.service) (sym parts.subtype) (subst (λ (l : List ℕ). Tells profile l t 0) (sym parts.content) (tells_itself profile t reported)))
+    let tells = subst (λ (l : List ℕ). Tells profile l t 0) (sym parts.content) (tells_itself profile t reported) in
+    absurd (says.2 t 0 (sym parts.service) (sym parts.subtype) tells)
 
-handed : (profile : Profile) (count now : ℕ) (t : Told) (packet : Result SpacePacket SpaceFault) (read : Result Heard ReportFault) → CrcOfTheWhole → profile.apid ≤ 2046
-    → count < 2 ^ 14 → IsReportable profile t → ReadsPacket (report_of profile count now t) packet → HandsOn profile (report_of profile count now t) packet read
+handed : (profile : Profile) (count now : ℕ) (t : Told) (packet : Result SpacePacket SpaceFault) (read : Result Heard ReportFault) → CrcOfTheWhole
+    → profile.apid ≤ 2046
+    → count < 2 ^ 14 → IsReportable profile t → ReadsPacket (report_of profile count now t) packet
+    → HandsOn profile (report_of profile count now t) packet read
     → read ≡ Ok (heard.Report (heard_of profile (record { count = count; time = now; contents = t })))
 handed profile count now t (Ok packet) read law fits small reported reads hands =
     let is = packet_is profile count now t packet.header packet.field.now fits small hands.0 reads.1 in
-    judged profile count now t packet.header packet.field.now read law fits reported is (whole_there profile count now t packet.field.now is.content) hands.1
+    judged profile count now t packet.header packet.field.now read law fits reported is
+    (whole_there profile count now t packet.field.now is.content) hands.1
 handed profile count now t (Err space.Length) read law fits small reported reads hands =
     let parts = report_parts profile count now t in
     let size = whole_size profile count now t in
@@ -237,7 +257,8 @@ reports_differ profile a b a_can b_can e =
     let ranged : IsHeader (report_header profile b.count) = record { apid = omega arith; count = b_can.counted } in
     let field : List ℕ = whole_field profile b.count b.time b.contents in
     let is =
-    packet_is profile a.count a.time a.contents (report_header profile b.count) field profile.apid_fits a_can.counted ranged (e ∙ report_is profile b.count b.time b.contents) in
+    packet_is profile a.count a.time a.contents (report_header profile b.count) field profile.apid_fits a_can.counted ranged
+    (e ∙ report_is profile b.count b.time b.contents) in
     let x = whole_there profile a.count a.time a.contents field is.content in
     let y = whole_there profile b.count b.time b.contents field refl in
     let time =

@@ -72,10 +72,13 @@ header_same a b a_in b_in first second =
     let secondary = flag_same a.secondary b.secondary (omega arith) in
     let sequence = sequence_same a.sequence b.sequence (omega arith) in
     let identity = identity_same a.identity b.identity (omega arith) (omega arith) in
-    ap (λ (x : PacketType). let h : PacketHeader = record { kind = x; secondary = a.secondary; identity = a.identity; sequence = a.sequence } in h) kind
+    ap (λ (x : PacketType). let h : PacketHeader = record { kind = x; secondary = a.secondary; identity = a.identity; sequence = a.sequence } in h)
+    kind
     ∙ ap (λ (x : Bool). let h : PacketHeader = record { kind = b.kind; secondary = x; identity = a.identity; sequence = a.sequence } in h) secondary
-    ∙ ap (λ (x : Identity). let h : PacketHeader = record { kind = b.kind; secondary = b.secondary; identity = x; sequence = a.sequence } in h) identity
-    ∙ ap (λ (x : SequenceFlags). let h : PacketHeader = record { kind = b.kind; secondary = b.secondary; identity = b.identity; sequence = x } in h) sequence
+    ∙ ap (λ (x : Identity). let h : PacketHeader = record { kind = b.kind; secondary = b.secondary; identity = x; sequence = a.sequence } in h)
+    identity
+    ∙ ap (λ (x : SequenceFlags). let h : PacketHeader = record { kind = b.kind; secondary = b.secondary; identity = b.identity; sequence = x } in h)
+    sequence
 
 -- octets that are a packet are whole, and of version 000
 packet_whole : (octets : List ℕ) (header : PacketHeader) (field : List ℕ) → 1 ≤ length field → octets ≡ space_packet_of header field → IsWhole octets
@@ -85,7 +88,8 @@ packet_whole octets header field some e =
     let size = parts.size in
     record { least = omega arith; told = omega arith }
 
-packet_version : (octets : List ℕ) (header : PacketHeader) (field : List ℕ) → IsHeader header → octets ≡ space_packet_of header field → version_in octets ≡ 0
+packet_version : (octets : List ℕ) (header : PacketHeader) (field : List ℕ) → IsHeader header → octets ≡ space_packet_of header field
+    → version_in octets ≡ 0
 packet_version octets header field ranged e =
     let parts : PartsAre octets header field = subst (λ (l : List ℕ). PartsAre l header field) (sym e) (parts_there header field) in
     let first = parts.first in
@@ -138,33 +142,43 @@ record EndsAt (profile : Profile) (octets : List ℕ) (header : PacketHeader) (f
 abbrev Goes : Profile → List ℕ → PacketHeader → List ℕ → ℕ → Type 0
 Goes profile octets header field n = (k : ℕ) → k < n → ¬ Ends profile octets header field k
 
-on : (profile : Profile) (octets : List ℕ) (header : PacketHeader) (field : List ℕ) (n : ℕ) → Goes profile octets header field n → ¬ Ends profile octets header field n
+on : (profile : Profile) (octets : List ℕ) (header : PacketHeader) (field : List ℕ) (n : ℕ) → Goes profile octets header field n
+    → ¬ Ends profile octets header field n
     → Goes profile octets header field (n + 1)
 on profile octets header field n before here = below_more (λ (k : ℕ). ¬ Ends profile octets header field k) n before here
 
 to_1 : (profile : Profile) (octets : List ℕ) (header : PacketHeader) (field : List ℕ) → ¬ IsIdle header → Goes profile octets header field 1
 to_1 profile octets header field busy = on profile octets header field 0 (below_none (λ (k : ℕ). ¬ Ends profile octets header field k)) busy
 
-to_2 : (profile : Profile) (octets : List ℕ) (header : PacketHeader) (field : List ℕ) → ¬ IsIdle header → IsReportHeader header → Goes profile octets header field 2
+to_2 : (profile : Profile) (octets : List ℕ) (header : PacketHeader) (field : List ℕ) → ¬ IsIdle header → IsReportHeader header
+    → Goes profile octets header field 2
 to_2 profile octets header field busy good = on profile octets header field 1 (to_1 profile octets header field busy) (λ ends. ends good)
 
-to_3 : (profile : Profile) (octets : List ℕ) (header : PacketHeader) (field : List ℕ) → IsLong profile header field → Goes profile octets header field 3
-to_3 profile octets header field long = on profile octets header field 2 (to_2 profile octets header field long.busy long.good) (λ ends. ends long.room)
+to_3 : (profile : Profile) (octets : List ℕ) (header : PacketHeader) (field : List ℕ) → IsLong profile header field
+    → Goes profile octets header field 3
+to_3 profile octets header field long =
+    on profile octets header field 2 (to_2 profile octets header field long.busy long.good) (λ ends. ends long.room)
 
-to_4 : (profile : Profile) (octets : List ℕ) (header : PacketHeader) (field : List ℕ) → IsLong profile header field → crc_of octets ≡ 0 → Goes profile octets header field 4
+to_4 : (profile : Profile) (octets : List ℕ) (header : PacketHeader) (field : List ℕ) → IsLong profile header field → crc_of octets ≡ 0
+    → Goes profile octets header field 4
 to_4 profile octets header field long right = on profile octets header field 3 (to_3 profile octets header field long) (λ ends. ends right)
 
-to_5 : (profile : Profile) (octets : List ℕ) (header : PacketHeader) (field : List ℕ) → IsSound profile octets header field → Goes profile octets header field 5
-to_5 profile octets header field sound = on profile octets header field 4 (to_4 profile octets header field sound.long sound.checked) (λ ends. ends sound.version)
+to_5 : (profile : Profile) (octets : List ℕ) (header : PacketHeader) (field : List ℕ) → IsSound profile octets header field
+    → Goes profile octets header field 5
+to_5 profile octets header field sound =
+    on profile octets header field 4 (to_4 profile octets header field sound.long sound.checked) (λ ends. ends sound.version)
 
-to_6 : (profile : Profile) (octets : List ℕ) (header : PacketHeader) (field : List ℕ) → IsSound profile octets header field → IsOurs profile field → Goes profile octets header field 6
+to_6 : (profile : Profile) (octets : List ℕ) (header : PacketHeader) (field : List ℕ) → IsSound profile octets header field → IsOurs profile field
+    → Goes profile octets header field 6
 to_6 profile octets header field sound ours = on profile octets header field 5 (to_5 profile octets header field sound) (λ ends. ends ours)
 
 other_same : (a b c d : ℕ) → a ≡ b → c ≡ d → (let r : Result Heard ReportFault = Ok (heard.Other a c) in r) ≡ Ok (heard.Other b d)
 other_same a b c d service subtype =
-    ap (λ (n : ℕ). let r : Result Heard ReportFault = Ok (heard.Other n c) in r) service ∙ ap (λ (n : ℕ). let r : Result Heard ReportFault = Ok (heard.Other b n) in r) subtype
+    ap (λ (n : ℕ). let r : Result Heard ReportFault = Ok (heard.Other n c) in r) service
+    ∙ ap (λ (n : ℕ). let r : Result Heard ReportFault = Ok (heard.Other b n) in r) subtype
 
-ends_at : (profile : Profile) (octets : List ℕ) (header : PacketHeader) (field : List ℕ) (a : Result Heard ReportFault) → Judges profile octets header field a
+ends_at : (profile : Profile) (octets : List ℕ) (header : PacketHeader) (field : List ℕ) (a : Result Heard ReportFault)
+    → Judges profile octets header field a
     → EndsAt profile octets header field a
 ends_at profile octets header field (Ok heard.Idle) y =
     record { step = 0; few = omega arith; before = below_none (λ (k : ℕ). ¬ Ends profile octets header field k); here = λ h. y; answers = refl }
@@ -233,7 +247,8 @@ answer_same profile header field a b (suc (suc (suc (suc (suc zero))))) x y = x 
 answer_same profile header field a b (suc (suc (suc (suc (suc (suc n)))))) x y =
     x.is ∙ ap told_of (report_same profile header field x.report y.report x.reads y.reads) ∙ sym y.is
 
-judged_one : (profile : Profile) (octets : List ℕ) (header : PacketHeader) (field : List ℕ) (a b : Result Heard ReportFault) → Judges profile octets header field a
+judged_one : (profile : Profile) (octets : List ℕ) (header : PacketHeader) (field : List ℕ) (a b : Result Heard ReportFault)
+    → Judges profile octets header field a
     → Judges profile octets header field b → a ≡ b
 judged_one profile octets header field a b x y =
     let at_a = ends_at profile octets header field a x in
@@ -243,18 +258,20 @@ judged_one profile octets header field a b x y =
 
 -- ---- one reading
 
-handed_one : (profile : Profile) (octets : List ℕ) (p q : Result SpacePacket SpaceFault) (a b : Result Heard ReportFault) → ReadsPacket octets p → ReadsPacket octets q
+handed_one : (profile : Profile) (octets : List ℕ) (p q : Result SpacePacket SpaceFault) (a b : Result Heard ReportFault) → ReadsPacket octets p
+    → ReadsPacket octets q
     → HandsOn profile octets p a → HandsOn profile octets q b → a ≡ b
 handed_one profile octets (Ok p) (Ok q) a b p_reads q_reads p_hands q_hands =
     let p_parts = parts_there p.header p.field.now in
     let q_parts = parts_there q.header q.field.now in
     let same : space_packet_of p.header p.field.now ≡ space_packet_of q.header q.field.now = sym p_reads.1 ∙ q_reads.1 in
     let first : identification p.header ≡ identification q.header = sym p_parts.first ∙ ap (λ (l : List ℕ). pair_at l 0) same ∙ q_parts.first in
-    let second : sequence_control p.header ≡ sequence_control q.header = sym p_parts.second ∙ ap (λ (l : List ℕ). pair_at l 2) same ∙ q_parts.second in
+    let second : sequence_control p.header ≡ sequence_control q.header =
+    sym p_parts.second ∙ ap (λ (l : List ℕ). pair_at l 2) same ∙ q_parts.second in
     let header = header_same p.header q.header p_hands.0 q_hands.0 first second in
     let field : p.field.now ≡ q.field.now = ap (λ (l : List ℕ). drop 6 l) same in
-    judged_one profile octets q.header q.field.now a b
-    (subst (λ (l : List ℕ). Judges profile octets q.header l a) field (subst (λ (h : PacketHeader). Judges profile octets h p.field.now a) header p_hands.1)) q_hands.1
+    let judges = subst (λ (h : PacketHeader). Judges profile octets h p.field.now a) header p_hands.1 in
+    judged_one profile octets q.header q.field.now a b (subst (λ (l : List ℕ). Judges profile octets q.header l a) field judges) q_hands.1
 handed_one profile octets (Ok p) (Err space.Length) a b p_reads q_reads p_hands q_hands =
     absurd (q_reads (packet_whole octets p.header p.field.now p_reads.0.least p_reads.1))
 handed_one profile octets (Ok p) (Err space.Version) a b p_reads q_reads p_hands q_hands =

@@ -39,4 +39,5 @@ ReportsDiffer = (profile : Profile) (a b : Sent) → CanBeSent profile a → Can
 
 -- octets are read as one thing
 abbrev pub OneReading : Type 0
-OneReading = (profile : Profile) (octets : List ℕ) (a b : Result Heard ReportFault) → ReadsReport profile octets a → ReadsReport profile octets b → a ≡ b
+OneReading = (profile : Profile) (octets : List ℕ) (a b : Result Heard ReportFault)
+    → ReadsReport profile octets a → ReadsReport profile octets b → a ≡ b

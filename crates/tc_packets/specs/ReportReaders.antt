@@ -1,5 +1,5 @@
--- What telemetry packets tell (ECSS-E-ST-70-41C, 7.4.3, 8.1.2, 8.11.2). Time reference status, message type counter, time on board and fractions of a second
--- are ignored.
+-- What telemetry packets tell (ECSS-E-ST-70-41C, 7.4.3, 8.1.2, 8.11.2).
+-- Time reference status, message type counter, time on board and fractions of a second are ignored.
 use Rattle.std.specs.Prelude.{◌≡◌, ◌≢◌, ◌⊎◌, ℕ, ◌+◌, ◌/◌, ◌^◌, ◌-◌, ◌<◌, ◌≤◌, ◌==◌, if◌then◌else◌, Bool, true, false, List, [], ◌∷◌, length, take, drop, slice_index, slice_range, Option, Some, None, Result, Ok, Err}
 use Rattle.std.specs.List.{filter_map}
 use Rattle.tc_types.specs.LinkLines.{verification_subtype}
@@ -45,12 +45,15 @@ is_failure (verification.CompletionFailed code) = true
 
 -- Parameters may follow the code of a failure, and are ignored. A success report ends where it ends.
 abbrev pub HasDetails : List ℕ → Verification → Type 0
-HasDetails octets verification = (if is_failure verification then take (length (details_of verification)) octets else octets) ≡ details_of verification
+HasDetails octets verification =
+    (if is_failure verification then take (length (details_of verification)) octets else octets) ≡ details_of verification
 
+-- what a reader says of octets after a request id, in a report of this subtype
 abbrev pub ReadsDetails : ℕ → List ℕ → Option Verification → Type 0
 ReadsDetails subtype octets (Some verification) = (verification_subtype verification ≡ subtype) × HasDetails octets verification
 ReadsDetails subtype octets None = (verification : Verification) → verification_subtype verification ≡ subtype → ¬ HasDetails octets verification
 
+-- octets are this verification's: the request id, and its details
 pub record Verifies (octets : List ℕ) (verification : Verification) (request : Identity) : Type 0 where
   pub flies : Flies request
   pub request_id : take 4 octets ≡ request_id_of request
@@ -75,6 +78,10 @@ abbrev pub AreEntries : Profile → List ℕ → List Entry → List ℕ → Typ
 AreEntries profile octets [] rest = octets ≡ rest
 AreEntries profile octets (entry ∷ entries) rest =
     IsEntry profile (take (entry_length profile) octets) entry × AreEntries profile (drop (entry_length profile) octets) entries rest
+
+-- octets do not begin with so many entries
+abbrev pub HasNoEntries : Profile → ℕ → List ℕ → Type 0
+HasNoEntries profile number octets = (entries : List Entry) (rest : List ℕ) → length entries ≡ number → ¬ AreEntries profile octets entries rest
 
 -- An activity is ours if its request has our source.
 abbrev pub our_activity : ℕ → Entry → Option ScheduledActivity
@@ -102,7 +109,8 @@ Tells profile octets (told.Summary summary) passed = Summarizes profile octets s
 -- what a reader says of source data of a report of this type, or that no report has them
 abbrev pub ReadsSource : Profile → Identity → ℕ → ℕ → List ℕ → Option HeardReport → Type 0
 ReadsSource profile origin service subtype octets (Some report) =
-    (report.origin ≡ origin) × (service_of report.told ≡ service) × (subtype_of report.told ≡ subtype) × Tells profile octets report.told report.passed
+    (report.origin ≡ origin) × (service_of report.told ≡ service) × (subtype_of report.told ≡ subtype)
+    × Tells profile octets report.told report.passed
 ReadsSource profile origin service subtype octets None =
     (told : Told) (passed : ℕ) → service_of told ≡ service → subtype_of told ≡ subtype → ¬ Tells profile octets told passed
 

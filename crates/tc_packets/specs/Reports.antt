@@ -15,6 +15,7 @@ use Rattle.tc_packets.specs.declared.space_packets.PacketType.TheVariants as typ
 use Rattle.tc_packets.specs.declared.space_packets.SequenceFlags.TheVariants as sequences
 use Rattle.tc_packets.specs.declared.space_packets.PacketHeader.{PacketHeader}
 use Rattle.tc_packets.specs.declared.told.ScheduledActivity.{ScheduledActivity}
+use Rattle.tc_packets.specs.declared.told.ScheduleSummary.{ScheduleSummary}
 use Rattle.tc_packets.specs.declared.told.Told.{Told}
 use Rattle.tc_packets.specs.declared.told.Told.TheVariants as told
 
@@ -47,11 +48,14 @@ abbrev pub status_of : Option Bool → List ℕ
 status_of None = []
 status_of (Some enabled) = (if enabled then 1 else 0) ∷ []
 
+-- the source data of a summary: the number of activities, each of them, and the status
+abbrev pub summary_data : Profile → ScheduleSummary → List ℕ
+summary_data profile summary = length summary.activities ∷ flat_map (activity_octets profile) summary.activities ++ status_of summary.enabled
+
 -- the source data of a report
 abbrev pub source_data : Profile → Told → List ℕ
 source_data profile (told.Verification verification request) = request_id_of request ++ details_of verification
-source_data profile (told.Summary summary) =
-    length summary.activities ∷ flat_map (activity_octets profile) summary.activities ++ status_of summary.enabled
+source_data profile (told.Summary summary) = summary_data profile summary
 
 -- Secondary header: PUS version 2 and time reference status 0, service, subtype, message type counter 0, destination, time on board.
 abbrev pub secondary_header : Profile → ℕ → Told → List ℕ

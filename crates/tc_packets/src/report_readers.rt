@@ -5,7 +5,7 @@ ghost use Rattle.std.specs.Option.{MatchOption};
 ghost use Rattle.tc_types.specs.Limits.{most_activities};
 ghost use Rattle.tc_octets.specs.declared.profiles.Profile.{Profile as SomeProfile};
 ghost use Rattle.tc_packets.specs.Reports.{status_of};
-ghost use Rattle.tc_packets.specs.ReportReaders.{AreEntries, Entry as SomeEntry, HasRoom, IsEntry, IsHeader, IsKnown, IsOurs, IsReportHeader, IsSound, Judges, Lists, ReadsDetails, ReadsField, ReadsReport, ReadsSource, entry_length, our_activity, source_data_in};
+ghost use Rattle.tc_packets.specs.ReportReaders.{Entry as SomeEntry, HasNoEntries, HasRoom, IsEntry, IsHeader, IsKnown, IsOurs, IsReportHeader, IsSound, Judges, Lists, ReadsDetails, ReadsField, ReadsReport, ReadsSource, entry_length, our_activity, source_data_in};
 
 use crate::identities::{ActivityName, NAME, REQUEST_ID, read_name, read_request_id};
 use crate::octet_fields::pair_in;
@@ -84,7 +84,8 @@ struct Listing {
 /// Reads an activity of a summary.
 fn read_entry(profile: &Profile, octets: &[u8]) -> Option<Entry>
     requires { length octets.now ≡ entry_length profile.now }
-    ensures { MatchOption result ((entry : SomeEntry) → ¬ IsEntry profile.now octets.now entry) (λ entry. IsEntry profile.now octets.now (record { time = entry.time; name = entry.name })) }
+    ensures { MatchOption result ((entry : SomeEntry) → ¬ IsEntry profile.now octets.now entry)
+        (λ entry. IsEntry profile.now octets.now (record { time = entry.time; name = entry.name })) }
 {
     let (time, name) = octets.split_at(time_octets(profile));
     Some(Entry {
@@ -96,7 +97,8 @@ fn read_entry(profile: &Profile, octets: &[u8]) -> Option<Entry>
 /// Appends an activity of our source, and counts one of another.
 fn add_entry(listing: &mut Listing, source: u16, entry: &Entry)
     requires { length listing.old.activities + listing.old.passed < most_activities }
-    ensures ours { listing.new.activities ≡ listing.old.activities ++ filter_map (our_activity source) (record { time = entry.now.time; name = entry.now.name } ∷ []) }
+    ensures ours { let it : SomeEntry = record { time = entry.now.time; name = entry.now.name } in
+        listing.new.activities ≡ listing.old.activities ++ filter_map (our_activity source) (it ∷ []) }
     ensures all { length listing.new.activities + listing.new.passed ≡ length listing.old.activities + listing.old.passed + 1 }
 {
     if entry.name.source == source {
@@ -119,7 +121,8 @@ fn entries_in<'a>(
     requires few { number ≤ most_activities }
     requires none { listing.old.activities ≡ [] }
     requires passed { listing.old.passed ≡ 0 }
-    ensures { MatchOption result ((entries : List SomeEntry) (rest : List ℕ) → length entries ≡ number → ¬ AreEntries profile.now octets.now entries rest) (λ rest. Lists profile.now number octets.now rest.now listing.new.activities listing.new.passed) }
+    ensures { MatchOption result (HasNoEntries profile.now number octets.now)
+        (λ rest. Lists profile.now number octets.now rest.now listing.new.activities listing.new.passed) }
 {
     let each = time_octets(profile) + NAME;
     let mut left = octets;
@@ -260,9 +263,14 @@ fn judge(profile: &Profile, octets: &[u8], packet: &SpacePacket) -> Result<Heard
     heard_in(profile, octets, packet)
 }
 
-/// Reads a telemetry packet (ECSS-E-ST-70-41C, 7.4.3): a report for the desk, an idle packet, or one that is not for the desk. Else the first fault that
-/// applies: length, version, header, length of a report's headers, check, PUS version, source data. Activities of other sources are passed over and counted.
-/// Takes no memory.
+/// Reads a telemetry packet (ECSS-E-ST-70-41C, 7.4.3): a report for the desk, an idle packet, or a packet that is not for the desk. Takes no memory.
+///
+/// Activities of other sources in a summary are passed over and counted. Octets after the code of a failure report are ignored.
+///
+/// # Errors
+///
+/// The first of these that applies: `Length`, `Version`, `Header`, `Length` (too few octets for a report's headers), `Check`,
+/// `Header` (another PUS version), `Data`. An idle packet is told after `Version`, and a packet that is not for the desk before `Data`.
 pub fn read_report(profile: &Profile, octets: &[u8]) -> Result<Heard, ReportFault>
     ensures { ReadsReport profile.now octets.now result }
 {

@@ -4,7 +4,7 @@ ghost use Rattle.std.specs.List.{flat_map};
 ghost use Rattle.tc_types.specs.Limits.{most_activities};
 ghost use Rattle.tc_octets.specs.TcFrames.{closed};
 ghost use Rattle.tc_packets.specs.Times.{HasTime};
-ghost use Rattle.tc_packets.specs.Reports.{IsListed, IsReportable, activity_octets, details_of, report_field, report_header, report_of, secondary_header, service_of, source_data, status_of, subtype_of};
+ghost use Rattle.tc_packets.specs.Reports.{IsListed, IsReportable, activity_octets, details_of, report_field, report_header, report_of, secondary_header, service_of, source_data, status_of, subtype_of, summary_data};
 
 use crate::identities::{ActivityName, flies, put_name, put_request_id};
 use crate::octet_fields::put_pair;
@@ -201,7 +201,7 @@ fn put_summary<A: Allocator + Copy>(
 ) -> Result<(), AllocError>
     requires listed { All (IsListed profile.now) summary.now.activities }
     requires few { length summary.now.activities ≤ most_activities }
-    ensures { OnOk result (out.new.items ≡ out.old.items ++ length summary.now.activities ∷ flat_map (activity_octets profile.now) summary.now.activities ++ status_of summary.now.enabled) }
+    ensures { OnOk result (out.new.items ≡ out.old.items ++ summary_data profile.now summary.now) }
 {
     let activities = summary.activities.as_slice();
     out.push(activities.len() as u8)?;
@@ -276,8 +276,14 @@ fn report_header(profile: &Profile, count: SequenceCount) -> PacketHeader
     }
 }
 
-/// Returns the octets of a telemetry report (ECSS-E-ST-70-41C, 7.4.3, 8.1.2, 8.11.2). `count` is the sequence count of its packet, and `now` the time on board.
-/// The time has to have octets (`has_time`), and the contents to be reportable (`is_reportable`). Fails if memory is refused.
+/// Returns the octets of a telemetry report (ECSS-E-ST-70-41C, 7.4.3, 8.1.2, 8.11.2).
+///
+/// `count` is the sequence count of its packet, and `now` the time on board.
+/// The time has to have octets (`has_time`), and the contents to be reportable (`is_reportable`).
+///
+/// # Errors
+///
+/// Fails if memory is refused.
 pub fn report<A: Allocator + Copy>(
     alloc: A,
     profile: &Profile,
