@@ -1,5 +1,5 @@
 //! The contents of telemetry reports.
-ghost use Rattle.std.specs.Prelude.{◌≡◌, ◌<◌, ◌≤◌, [], ◌∷◌, ◌++◌, length};
+ghost use Rattle.std.specs.Prelude.{◌≡◌, ◌<◌, ◌≤◌, ◌↔◌, [], ◌∷◌, ◌++◌, IsTrue, length};
 ghost use Rattle.tc_types.specs.Limits.{most_activities};
 
 use std::marker::Model;
@@ -52,7 +52,14 @@ impl ScheduledActivities {
         }
     }
 
-    /// Appends an activity to a list of fewer than 64.
+    /// Whether the list has fewer than 64 activities.
+    pub fn has_room(&self) -> bool
+        ensures { IsTrue result ↔ (length self.now < most_activities) }
+    {
+        usize::from(self.count) < MOST_ACTIVITIES
+    }
+
+    /// Appends an activity to a list of fewer than 64 (`has_room`).
     pub fn push(&mut self, activity: ScheduledActivity)
         requires { length self.old < most_activities }
         ensures { self.new ≡ self.old ++ activity ∷ [] }
