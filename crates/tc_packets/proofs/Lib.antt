@@ -3,4 +3,11 @@ pub mod ReportLemmas
 pub mod ReportBackLemmas
 pub mod ReportLawLemmas
 pub mod ReportOneLemmas
+pub mod ListLemmas
+pub mod PacketLemmas
+pub mod SizeLemmas
+pub mod SameLemmas
+pub mod WrittenLemmas
+pub mod TaskLemmas
+pub mod ActivityLemmas
 mod ReportCases

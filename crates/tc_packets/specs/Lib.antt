@@ -6,3 +6,8 @@ pub mod Outcomes
 pub mod Reports
 pub mod ReportReaders
 pub mod ReportLaws
+pub mod ApplicationData
+pub mod Flights
+pub mod Telecommands
+pub mod TelecommandReaders
+pub mod TelecommandLaws

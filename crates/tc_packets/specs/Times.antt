@@ -1,4 +1,5 @@
--- Times on board (CCSDS 301.0-B, the unsegmented time code CUC): no preamble, four octets of seconds since the link's epoch, and two of fraction if times are fine.
+-- Times on board (CCSDS 301.0-B, the unsegmented time code CUC): no preamble, four octets of seconds since the link's epoch, and two of fraction if
+-- times are fine.
 use Rattle.std.specs.Prelude.{◌≡◌, ℕ, ℤ, pos, negsuc, ◌+◌, ◌-◌, ◌^◌, ◌<◌, ◌≤◌, ◌≤ℤ◌, ◌+ℤ◌, min, Bool, if◌then◌else◌, Option, Some, None, List, [], ◌∷◌, ◌++◌, length, take}
 use Rattle.tc_types.specs.Limits.{last_moment}
 use Rattle.tc_types.specs.Numbers.{IsMoment, IsOffset}

@@ -3,16 +3,24 @@
 //! Everything here is a function of values. Nothing reads a socket or a clock.
 #![tactic(auto)]
 
+mod application_data;
+mod flights;
 mod identities;
+pub mod laws;
 mod octet_fields;
 mod outcomes;
 pub mod report_laws;
 mod report_readers;
 mod reports;
 mod space_packets;
+mod task_readers;
+mod telecommand_readers;
+mod telecommands;
 mod times;
 mod told;
 
+pub use application_data::{ApplicationData, MOST_DATA};
+pub use flights::{Flight, FlightActivities, FlightActivity, FlightTask, Plain, fits};
 pub use identities::{
     ActivityName, NAME, REQUEST_ID, flies, put_name, put_request_id, read_name, read_request_id,
 };
@@ -24,6 +32,8 @@ pub use space_packets::{
     SpaceFault, SpacePacket, put_header, put_idle_packet, read_space_packet, space_packet,
     whole_length,
 };
+pub use telecommand_readers::{PacketFault, named_in, read_telecommand, rejection, rejection_code};
+pub use telecommands::{MOST_TELECOMMAND, telecommand};
 pub use times::{
     first_on_board, fits_offset, has_time, last_on_board, put_offset, put_time, read_offset,
     read_time, time_octets,

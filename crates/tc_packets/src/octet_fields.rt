@@ -1,5 +1,5 @@
 //! Numbers of two and of four octets.
-ghost use Rattle.std.specs.Prelude.{◌≡◌, ◌++◌, ◌+◌, ◌<◌, OnOk, length};
+ghost use Rattle.std.specs.Prelude.{◌≡◌, ◌++◌, ◌+◌, ◌<◌, ◌≤◌, OnOk, drop, length, take};
 ghost use Rattle.tc_octets.specs.Bits.{pair, pair_at};
 ghost use Rattle.tc_packets.specs.OctetFields.{quad, quad_at};
 
@@ -34,6 +34,22 @@ pub(crate) fn pair_in(octets: &[u8], at: usize) -> u16
     ensures { result ≡ pair_at octets.now at }
 {
     u16::from(octets[at]) * 256 + u16::from(octets[at + 1])
+}
+
+/// The first so many octets.
+pub(crate) fn octets_before(octets: &[u8], at: usize) -> &[u8]
+    requires { at ≤ length octets.now }
+    ensures { result.now ≡ take at octets.now }
+{
+    &octets[..at]
+}
+
+/// The octets after the first so many.
+pub(crate) fn octets_from(octets: &[u8], at: usize) -> &[u8]
+    requires { at ≤ length octets.now }
+    ensures { result.now ≡ drop at octets.now }
+{
+    &octets[at..]
 }
 
 /// The number that four octets are.

@@ -41,10 +41,7 @@ pub fn read_outcome(octets: &[u8]) -> Option<Outcome>
         [1, steps, 0] => Some(Outcome::CompletesInSteps(Steps::new(*steps)?)),
         [2, 0, code] => Some(Outcome::Refuses(FailureCode::new(*code)?)),
         [3, 0, code] => Some(Outcome::StartFails(FailureCode::new(*code)?)),
-        [4, steps, code] => Some(Outcome::Halts(
-            Steps::new(*steps)?,
-            FailureCode::new(*code)?,
-        )),
+        [4, steps, code] => Some(Outcome::Halts(Steps::new(*steps)?, FailureCode::new(*code)?)),
         [5, 0, code] => Some(Outcome::Fails(FailureCode::new(*code)?)),
         _ => None,
     }

@@ -1,0 +1,184 @@
+-- What is written for a request is read as that request.
+use Rattle.std.proofs.Common.{◌≡◌, ℕ, ◌+◌, ◌-◌, ◌≤◌, Bool, true, false, List, [], ◌∷◌, ◌++◌, take, drop, length, Ok, Err, refl, sym, ap, ◌∙◌, subst, arith}
+use Rattle.std.specs.Prelude.{◌≢◌, IsTrue, flat_map}
+use Rattle.std.proofs.lemmas.List.{take_at, take_all, drop_at, drop-drop, take-append-drop, length-append, append_assoc}
+use Rattle.tc_octets.specs.declared.profiles.Profile.{Profile}
+use Rattle.tc_packets.specs.OctetFields.{quad}
+use Rattle.tc_packets.specs.Times.{HasSeconds, complement, fraction, fraction_length, offset_of, seconds_since, time_length, time_of}
+use Rattle.tc_packets.specs.Flights.{Fits, FitsTask}
+use Rattle.tc_packets.specs.Telecommands.{activity_of, activity_packet_of, data_of, packet_of, plain_data_of, schedule, service_of, subtype_of, target_of, telecommand_of}
+use Rattle.tc_packets.specs.TelecommandReaders.{BeginsWith, HasActivities, HasData, IsTelecommand, Passes, activity_length, data_in, is_schedule_subtype}
+use Rattle.tc_packets.specs.TelecommandLaws.{NothingElseIsRead, TelecommandsComeBack, TelecommandsDiffer}
+use Rattle.tc_packets.specs.declared.flights.FlightActivity.{FlightActivity}
+use Rattle.tc_packets.specs.declared.flights.FlightTask.{FlightTask}
+use Rattle.tc_packets.specs.declared.flights.FlightTask.TheVariants as tasks
+use Rattle.tc_packets.specs.declared.flights.Flight.{Flight}
+use Rattle.tc_packets.specs.declared.telecommand_readers.PacketFault.TheVariants as faults
+use Rattle.tc_packets.proofs.PacketLemmas.{parts_there, passes_there}
+use Rattle.tc_packets.proofs.SizeLemmas.{fraction_is}
+use Rattle.tc_packets.proofs.SameLemmas.{flight_parts, flight_same}
+
+-- ---- what is written stands there
+
+time_size : (profile : Profile) (n : ℕ) → length (quad n ++ fraction profile.fine) ≡ time_length profile
+time_size profile n = omega (arith, length-append (quad n) (fraction profile.fine), fraction_is profile.fine)
+
+seconds_there : (profile : Profile) (n : ℕ) → HasSeconds profile (quad n ++ fraction profile.fine) n
+seconds_there profile n = record { size = time_size profile n; whole = refl }
+
+-- seconds before others
+seconds_first : (profile : Profile) (n : ℕ) (others : List ℕ) → HasSeconds profile (take (time_length profile) ((quad n ++ fraction profile.fine) ++ others)) n
+seconds_first profile n others =
+    subst (λ (l : List ℕ). HasSeconds profile l n) (sym (take_at (quad n ++ fraction profile.fine) others (time_length profile) (time_size profile n)))
+    (seconds_there profile n)
+
+begins_there : (profile : Profile) (activity : FlightActivity) (others : List ℕ) → BeginsWith profile (activity_of profile activity ++ others) activity
+begins_there profile activity others =
+    let time = time_of profile activity.time in
+    let packet = activity_packet_of profile activity in
+    let parted : activity_of profile activity ++ others ≡ time_of profile activity.time ++ (activity_packet_of profile activity ++ others) =
+    append_assoc (time_of profile activity.time) (activity_packet_of profile activity) others in
+    record {
+      timed =
+          subst (λ (l : List ℕ). HasSeconds profile (take (time_length profile) l) (seconds_since profile.epoch activity.time)) (sym parted)
+          (seconds_first profile (seconds_since profile.epoch activity.time) (activity_packet_of profile activity ++ others));
+      packet =
+          ap (λ l. take (length (activity_packet_of profile activity)) (drop (time_length profile) l)) parted
+          ∙ ap (λ l. take (length (activity_packet_of profile activity)) l)
+          (drop_at (time_of profile activity.time) (activity_packet_of profile activity ++ others) (time_length profile) (time_size profile (seconds_since profile.epoch activity.time)))
+          ∙ take_at (activity_packet_of profile activity) others (length (activity_packet_of profile activity)) refl;
+    }
+
+activity_size : (profile : Profile) (activity : FlightActivity) → length (activity_of profile activity) ≡ activity_length profile activity
+activity_size profile activity =
+    length-append (time_of profile activity.time) (activity_packet_of profile activity)
+    ∙ ap (λ n. n + length (activity_packet_of profile activity)) (time_size profile (seconds_since profile.epoch activity.time))
+
+activities_there : (profile : Profile) (activities : List FlightActivity) → HasActivities profile (flat_map (activity_of profile) activities) activities []
+activities_there profile [] = refl
+activities_there profile (activity ∷ others) = (
+  begins_there profile activity (flat_map (activity_of profile) others),
+  subst (λ (l : List ℕ). HasActivities profile l others [])
+      (sym (drop_at (activity_of profile activity) (flat_map (activity_of profile) others) (activity_length profile activity) (activity_size profile activity)))
+      (activities_there profile others),
+)
+
+data_there : (profile : Profile) (task : FlightTask) → HasData profile (data_of profile task) task
+data_there profile (tasks.Plain plain) = refl
+data_there profile tasks.EnableSchedule = refl
+data_there profile tasks.DisableSchedule = refl
+data_there profile tasks.ResetSchedule = refl
+data_there profile (tasks.InsertActivities activities) = (refl, activities_there profile activities)
+data_there profile (tasks.DeleteActivity target) = refl
+data_there profile (tasks.ShiftActivity target offset) = (
+  seconds_first profile (complement offset) (target_of profile target),
+  drop_at (offset_of profile offset) (target_of profile target) (time_length profile) (time_size profile (complement offset)),
+)
+data_there profile (tasks.ShiftAll offset) = seconds_there profile (complement offset)
+data_there profile tasks.SummarizeAll = refl
+
+pub telecommand_there : (profile : Profile) (flight : Flight) → Fits profile flight → IsTelecommand profile (telecommand_of profile flight) flight
+telecommand_there profile flight fit =
+    let parts = parts_there profile flight.identity flight.ack (service_of flight.task) (subtype_of flight.task) (data_of profile flight.task) in
+    record {
+      fit = fit;
+      application = subst (λ (l : List ℕ). HasData profile l flight.task) (sym parts.carries) (data_there profile flight.task);
+      whole = ap (packet_of profile flight.identity flight.ack (service_of flight.task) (subtype_of flight.task)) (sym parts.carries);
+    }
+
+pub telecommands_differ : TelecommandsDiffer
+telecommands_differ profile a b fa fb e =
+    flight_same profile (telecommand_of profile a) a b (telecommand_there profile a fa)
+    (subst (λ (l : List ℕ). IsTelecommand profile l b) (sym e) (telecommand_there profile b fb))
+
+-- ---- a reader says nothing against it
+
+-- a service and a subtype of the link
+record IsKnown (service subtype : ℕ) : Type 0 where
+  pub service_some : service ≢ 0
+  pub subtype_some : subtype ≢ 0
+  pub scheduled : service ≡ schedule → IsTrue (is_schedule_subtype subtype)
+
+of_schedule : (subtype : ℕ) → subtype ≢ 0 → IsTrue (is_schedule_subtype subtype) → IsKnown schedule subtype
+of_schedule subtype some known = record { service_some = λ e. absurd (omega (arith, e)); subtype_some = some; scheduled = λ e. known }
+
+some_is : (n : ℕ) → 1 ≤ n → n ≢ 0
+some_is n h e = absurd (omega arith)
+
+task_known : (profile : Profile) (task : FlightTask) → FitsTask profile task → IsKnown (service_of task) (subtype_of task)
+task_known profile (tasks.Plain plain) fit = record {
+  service_some = some_is plain.service fit.service_known.0;
+  subtype_some = some_is plain.subtype fit.subtype_known.0;
+  scheduled = λ e. absurd (fit.service_known.2 e);
+}
+task_known profile tasks.EnableSchedule fit = of_schedule 1 (some_is 1 (omega arith)) refl
+task_known profile tasks.DisableSchedule fit = of_schedule 2 (some_is 2 (omega arith)) refl
+task_known profile tasks.ResetSchedule fit = of_schedule 3 (some_is 3 (omega arith)) refl
+task_known profile (tasks.InsertActivities activities) fit = of_schedule 4 (some_is 4 (omega arith)) refl
+task_known profile (tasks.DeleteActivity target) fit = of_schedule 5 (some_is 5 (omega arith)) refl
+task_known profile (tasks.ShiftActivity target offset) fit = of_schedule 7 (some_is 7 (omega arith)) refl
+task_known profile (tasks.ShiftAll offset) fit = of_schedule 15 (some_is 15 (omega arith)) refl
+task_known profile tasks.SummarizeAll fit = of_schedule 17 (some_is 17 (omega arith)) refl
+
+pub flight_passes : (profile : Profile) (octets : List ℕ) (flight : Flight) → IsTelecommand profile octets flight → Passes profile octets
+flight_passes profile octets flight is =
+    let known = task_known profile flight.task is.fit.asked in
+    passes_there profile octets flight.identity flight.ack (service_of flight.task) (subtype_of flight.task) (data_in octets)
+    (flight_parts profile octets flight is) is.fit.flying known.service_some known.subtype_some known.scheduled
+
+pub telecommands_come_back : TelecommandsComeBack
+telecommands_come_back profile flight (Ok read) fit says =
+    ap Ok (flight_same profile (telecommand_of profile flight) read flight says (telecommand_there profile flight fit))
+telecommands_come_back profile flight (Err faults.Length) fit says =
+    let passes = flight_passes profile (telecommand_of profile flight) flight (telecommand_there profile flight fit) in absurd (says passes.long)
+telecommands_come_back profile flight (Err faults.Check) fit says =
+    let passes = flight_passes profile (telecommand_of profile flight) flight (telecommand_there profile flight fit) in absurd (says.1 passes.right)
+telecommands_come_back profile flight (Err faults.Header) fit says =
+    let passes = flight_passes profile (telecommand_of profile flight) flight (telecommand_there profile flight fit) in absurd (says.2 passes.header)
+telecommands_come_back profile flight (Err faults.Subtype) fit says =
+    let passes = flight_passes profile (telecommand_of profile flight) flight (telecommand_there profile flight fit) in absurd (says.3 passes.kind)
+telecommands_come_back profile flight (Err faults.Data) fit says = absurd (says.1 flight (telecommand_there profile flight fit))
+
+-- ---- where times have no fraction, nothing else is read
+
+seconds_written : (profile : Profile) (octets : List ℕ) (n : ℕ) → profile.fine ≡ false → HasSeconds profile octets n → octets ≡ quad n ++ fraction profile.fine
+seconds_written profile octets n coarse has =
+    let size : length octets ≡ 4 = has.size ∙ ap (λ f. 4 + fraction_length f) coarse in
+    sym (take_all 4 octets (omega arith)) ∙ has.whole ∙ ap (λ f. quad n ++ fraction f) (sym coarse)
+
+activities_written : (profile : Profile) (octets : List ℕ) (activities : List FlightActivity) → profile.fine ≡ false
+    → HasActivities profile octets activities [] → octets ≡ flat_map (activity_of profile) activities
+activities_written profile octets [] coarse has = sym has
+activities_written profile octets (activity ∷ others) coarse has =
+    let time = seconds_written profile (take (time_length profile) octets) (seconds_since profile.epoch activity.time) coarse has.0.timed in
+    let behind =
+    ap (λ l. l ++ drop (length (activity_packet_of profile activity)) (drop (time_length profile) octets)) has.0.packet
+    ∙ ap (λ l. activity_packet_of profile activity ++ l)
+    (drop-drop (length (activity_packet_of profile activity)) (time_length profile) octets
+    ∙ activities_written profile (drop (activity_length profile activity) octets) others coarse has.1) in
+    sym (take-append-drop (time_length profile) octets)
+    ∙ ap (λ l. l ++ drop (time_length profile) octets) time
+    ∙ ap (λ l. time_of profile activity.time ++ l) (sym (take-append-drop (length (activity_packet_of profile activity)) (drop (time_length profile) octets)) ∙ behind)
+    ∙ sym (append_assoc (time_of profile activity.time) (activity_packet_of profile activity) (flat_map (activity_of profile) others))
+
+data_written : (profile : Profile) (octets : List ℕ) (task : FlightTask) → profile.fine ≡ false → HasData profile octets task → octets ≡ data_of profile task
+data_written profile octets (tasks.Plain plain) coarse has = has
+data_written profile octets tasks.EnableSchedule coarse has = has
+data_written profile octets tasks.DisableSchedule coarse has = has
+data_written profile octets tasks.ResetSchedule coarse has = has
+data_written profile octets (tasks.InsertActivities activities) coarse has =
+    sym (take-append-drop 1 octets) ∙ ap (λ l. l ++ drop 1 octets) has.0
+    ∙ ap (λ l. length activities ∷ l) (activities_written profile (drop 1 octets) activities coarse has.1)
+data_written profile octets (tasks.DeleteActivity target) coarse has = has
+data_written profile octets (tasks.ShiftActivity target offset) coarse has =
+    sym (take-append-drop (time_length profile) octets)
+    ∙ ap (λ l. l ++ drop (time_length profile) octets) (seconds_written profile (take (time_length profile) octets) (complement offset) coarse has.0)
+    ∙ ap (λ l. offset_of profile offset ++ l) has.1
+data_written profile octets (tasks.ShiftAll offset) coarse has = seconds_written profile octets (complement offset) coarse has
+data_written profile octets tasks.SummarizeAll coarse has = has
+
+pub nothing_else : NothingElseIsRead
+nothing_else profile octets flight coarse is =
+    is.whole
+    ∙ ap (packet_of profile flight.identity flight.ack (service_of flight.task) (subtype_of flight.task))
+    (data_written profile (data_in octets) flight.task coarse is.application)
