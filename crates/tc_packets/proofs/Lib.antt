@@ -11,3 +11,4 @@ pub mod WrittenLemmas
 pub mod TaskLemmas
 pub mod ActivityLemmas
 mod ReportCases
+mod PacketCases
