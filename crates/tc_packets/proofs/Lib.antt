@@ -1,3 +1,8 @@
+pub mod EntryLemmas
+pub mod ReportLemmas
+pub mod ReportBackLemmas
+pub mod ReportLawLemmas
+pub mod ReportOneLemmas
 pub mod ListLemmas
 pub mod PacketLemmas
 pub mod SizeLemmas
@@ -5,4 +10,5 @@ pub mod SameLemmas
 pub mod WrittenLemmas
 pub mod TaskLemmas
 pub mod ActivityLemmas
+mod ReportCases
 mod PacketCases

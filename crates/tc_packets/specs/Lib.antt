@@ -3,6 +3,9 @@ pub mod SpacePackets
 pub mod Identities
 pub mod Times
 pub mod Outcomes
+pub mod Reports
+pub mod ReportReaders
+pub mod ReportLaws
 pub mod ApplicationData
 pub mod Flights
 pub mod Telecommands

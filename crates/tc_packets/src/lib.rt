@@ -1,4 +1,4 @@
-//! The packets of a link: space packets and ECSS telecommand packets, written and read.
+//! The packets of a link: space packets, ECSS telecommand packets and telemetry reports, written and read.
 //!
 //! Everything here is a function of values. Nothing reads a socket or a clock.
 #![tactic(auto)]
@@ -9,11 +9,15 @@ mod identities;
 pub mod laws;
 mod octet_fields;
 mod outcomes;
+pub mod report_laws;
+mod report_readers;
+mod reports;
 mod space_packets;
 mod task_readers;
 mod telecommand_readers;
 mod telecommands;
 mod times;
+mod told;
 
 pub use application_data::{ApplicationData, MOST_DATA};
 pub use flights::{Flight, FlightActivities, FlightActivity, FlightTask, Plain, fits};
@@ -21,6 +25,8 @@ pub use identities::{
     ActivityName, NAME, REQUEST_ID, flies, put_name, put_request_id, read_name, read_request_id,
 };
 pub use outcomes::{OUTCOME, put_outcome, read_outcome};
+pub use report_readers::read_report;
+pub use reports::{is_reportable, report};
 pub use space_packets::{
     FEWEST_PACKET, HEADER, IDLE_APID, MOST_PACKET, PacketHeader, PacketType, SequenceFlags,
     SpaceFault, SpacePacket, put_header, put_idle_packet, read_space_packet, space_packet,
@@ -31,4 +37,7 @@ pub use telecommands::{MOST_TELECOMMAND, telecommand};
 pub use times::{
     first_on_board, fits_offset, has_time, last_on_board, put_offset, put_time, read_offset,
     read_time, time_octets,
+};
+pub use told::{
+    Heard, HeardReport, ReportFault, ScheduleSummary, ScheduledActivities, ScheduledActivity, Told,
 };
