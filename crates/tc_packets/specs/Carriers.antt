@@ -1,0 +1,72 @@
+-- Packets over telemetry frames (CCSDS 132.0-B, 4.1): the frames that carry a list of packets, each with a first header pointer.
+use Rattle.std.specs.Prelude.{ℕ, ◌+◌, ◌*◌, ◌-◌, ◌/◌, ◌%◌, ◌^◌, ◌==◌, ◌&&◌, nat_le, nat_lt, if◌then◌else◌, List, [], ◌∷◌, ◌++◌, length, take, drop, map, replicate, Some}
+use Rattle.std.specs.List.{concat, range_with_len}
+use Rattle.tc_octets.specs.Bits.{pair}
+use Rattle.tc_octets.specs.TcFrames.{check_length}
+use Rattle.tc_octets.specs.TmFrames.{TmParts}
+use Rattle.tc_octets.specs.declared.profiles.Profile.{Profile}
+use Rattle.tc_packets.specs.declared.tm_senders.TmSender.{TmSender}
+
+-- an idle packet of so many octets, seven or more (CCSDS 133.0-B, 4.1)
+abbrev pub idle_packet : ℕ → List ℕ
+idle_packet size = 0x07 ∷ 0xff ∷ 0xc0 ∷ 0x00 ∷ pair (size - 7) ++ replicate (size - 6) 0x55
+
+-- how many octets the data field of a frame with a control word has
+abbrev pub data_length : Profile → ℕ
+data_length profile = profile.tm.length - 10 - check_length profile.tm.fecf
+
+-- how many octets the last data field lacks, where so many octets are cut into data fields
+abbrev pub lacking : ℕ → ℕ → ℕ
+lacking size octets = (size - octets % size) % size
+
+-- The idle packet that fills the last data field, or that and one more: it has seven octets or more.
+abbrev pub idle_length : ℕ → ℕ → ℕ
+idle_length size left = if nat_lt left 7 then left + size else left
+
+abbrev pub filled_up : ℕ → ℕ → List (List ℕ) → List (List ℕ)
+filled_up size left packets = if left == 0 then packets else packets ++ idle_packet (idle_length size left) ∷ []
+
+-- packets, and an idle packet after them if they do not fill the last data field
+unfoldable pub filled : ℕ → List (List ℕ) → List (List ℕ)
+filled size packets = filled_up size (lacking size (length (concat packets))) packets
+
+-- the places where packets begin, the first of them at this one
+abbrev pub starts : ℕ → List (List ℕ) → List ℕ
+starts at [] = []
+starts at (packet ∷ packets) = at ∷ starts (at + length packet) packets
+
+-- The first header pointer of the data field that begins at a place: how far after it the first of these starts in it is, or 2047 if none is.
+abbrev pub pointer_in : ℕ → ℕ → List ℕ → ℕ
+pointer_in begin size [] = 2047
+pointer_in begin size (start ∷ more) = if nat_le begin start && nat_lt start (begin + size) then start - begin else pointer_in begin size more
+
+-- The frame that a sender sends after so many others: it has the control word, and no secondary header, no synchronization, no other packet order and the
+-- segment length identifier 11.
+abbrev pub frame_after : Profile → TmSender → ℕ → ℕ → ℕ → List ℕ → TmParts
+frame_after profile sender word count pointer content = record {
+  vcid = profile.tm.vcid;
+  master_count = (sender.master_count + count) % 2 ^ 8;
+  channel_count = (sender.channel_count + count) % 2 ^ 8;
+  status = 3 * 2 ^ 11 + pointer;
+  content = content;
+  word = Some word;
+}
+
+-- one of the frames that packets fill: the octets that are its turn, and the first start among them
+abbrev pub carrying : Profile → TmSender → ℕ → List (List ℕ) → ℕ → TmParts
+carrying profile sender word packets count =
+    frame_after profile sender word count (pointer_in (count * data_length profile) (data_length profile) (starts 0 packets))
+    (take (data_length profile) (drop (count * data_length profile) (concat packets)))
+
+-- the frames that packets fill
+abbrev pub carriers : Profile → TmSender → ℕ → List (List ℕ) → List TmParts
+carriers profile sender word packets = map (carrying profile sender word packets) (range_with_len 0 (length (concat packets) / data_length profile))
+
+-- What a sender sends: the frames of these packets with their fill; one frame of idle data if there are none.
+unfoldable pub frames_of : Profile → TmSender → ℕ → List (List ℕ) → List TmParts
+frames_of profile sender word [] = frame_after profile sender word 0 2046 (replicate (data_length profile) 0x55) ∷ []
+frames_of profile sender word (packet ∷ packets) = carriers profile sender word (filled (data_length profile) (packet ∷ packets))
+
+-- a sender that has sent so many more frames
+abbrev pub later : TmSender → ℕ → TmSender
+later sender count = record { master_count = (sender.master_count + count) % 2 ^ 8; channel_count = (sender.channel_count + count) % 2 ^ 8 }
