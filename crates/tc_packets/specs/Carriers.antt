@@ -1,11 +1,14 @@
 -- Packets over telemetry frames (CCSDS 132.0-B, 4.1): the frames that carry a list of packets, each with a first header pointer.
-use Rattle.std.specs.Prelude.{ℕ, ◌+◌, ◌*◌, ◌-◌, ◌/◌, ◌%◌, ◌^◌, ◌==◌, ◌&&◌, nat_le, nat_lt, if◌then◌else◌, List, [], ◌∷◌, ◌++◌, length, take, drop, map, replicate, Some}
+use Rattle.std.specs.Prelude.{ℕ, Vec, ◌+◌, ◌*◌, ◌-◌, ◌/◌, ◌%◌, ◌^◌, ◌==◌, ◌&&◌, nat_le, nat_lt, if◌then◌else◌, List, [], ◌∷◌, ◌++◌, length, take, drop, map, replicate, Some}
 use Rattle.std.specs.List.{concat, range_with_len}
 use Rattle.tc_octets.specs.Bits.{pair}
 use Rattle.tc_octets.specs.TcFrames.{check_length}
 use Rattle.tc_octets.specs.TmFrames.{TmParts}
 use Rattle.tc_octets.specs.declared.profiles.Profile.{Profile}
 use Rattle.tc_packets.specs.declared.tm_senders.TmSender.{TmSender}
+
+abbrev pub octets_of : {A : Type 0} → Vec ℕ A → List ℕ
+octets_of octets = octets.items
 
 -- an idle packet of so many octets, seven or more (CCSDS 133.0-B, 4.1)
 abbrev pub idle_packet : ℕ → List ℕ
@@ -23,12 +26,13 @@ lacking size octets = (size - octets % size) % size
 abbrev pub idle_length : ℕ → ℕ → ℕ
 idle_length size left = if nat_lt left 7 then left + size else left
 
-abbrev pub filled_up : ℕ → ℕ → List (List ℕ) → List (List ℕ)
-filled_up size left packets = if left == 0 then packets else packets ++ idle_packet (idle_length size left) ∷ []
+-- the fill after so many octets of packets: an idle packet, or nothing if they fill the last data field
+abbrev pub fill_of : ℕ → ℕ → List (List ℕ)
+fill_of size octets = if lacking size octets == 0 then [] else idle_packet (idle_length size (lacking size octets)) ∷ []
 
--- packets, and an idle packet after them if they do not fill the last data field
-unfoldable pub filled : ℕ → List (List ℕ) → List (List ℕ)
-filled size packets = filled_up size (lacking size (length (concat packets))) packets
+-- packets and their fill
+abbrev pub filled : ℕ → List (List ℕ) → List (List ℕ)
+filled size packets = packets ++ fill_of size (length (concat packets))
 
 -- the places where packets begin, the first of them at this one
 abbrev pub starts : ℕ → List (List ℕ) → List ℕ
@@ -52,20 +56,24 @@ frame_after profile sender word count pointer content = record {
   word = Some word;
 }
 
--- one of the frames that packets fill: the octets that are its turn, and the first start among them
-abbrev pub carrying : Profile → TmSender → ℕ → List (List ℕ) → ℕ → TmParts
-carrying profile sender word packets count =
-    frame_after profile sender word count (pointer_in (count * data_length profile) (data_length profile) (starts 0 packets))
-    (take (data_length profile) (drop (count * data_length profile) (concat packets)))
+-- one of the frames that octets fill, where packets start at these places: the octets that are its turn, and the first start among them
+abbrev pub carrying : Profile → TmSender → ℕ → List ℕ → List ℕ → ℕ → TmParts
+carrying profile sender word octets places count =
+    frame_after profile sender word count (pointer_in (count * data_length profile) (data_length profile) places)
+    (take (data_length profile) (drop (count * data_length profile) octets))
 
--- the frames that packets fill
-abbrev pub carriers : Profile → TmSender → ℕ → List (List ℕ) → List TmParts
-carriers profile sender word packets = map (carrying profile sender word packets) (range_with_len 0 (length (concat packets) / data_length profile))
+-- the frames that octets fill
+abbrev pub carriers : Profile → TmSender → ℕ → List ℕ → List ℕ → List TmParts
+carriers profile sender word octets places = map (carrying profile sender word octets places) (range_with_len 0 (length octets / data_length profile))
+
+abbrev pub idle_frame : Profile → TmSender → ℕ → TmParts
+idle_frame profile sender word = frame_after profile sender word 0 2046 (replicate (data_length profile) 0x55)
 
 -- What a sender sends: the frames of these packets with their fill; one frame of idle data if there are none.
-unfoldable pub frames_of : Profile → TmSender → ℕ → List (List ℕ) → List TmParts
-frames_of profile sender word [] = frame_after profile sender word 0 2046 (replicate (data_length profile) 0x55) ∷ []
-frames_of profile sender word (packet ∷ packets) = carriers profile sender word (filled (data_length profile) (packet ∷ packets))
+abbrev pub frames_of : Profile → TmSender → ℕ → List (List ℕ) → List TmParts
+frames_of profile sender word [] = idle_frame profile sender word ∷ []
+frames_of profile sender word (packet ∷ packets) =
+    carriers profile sender word (concat (filled (data_length profile) (packet ∷ packets))) (starts 0 (filled (data_length profile) (packet ∷ packets)))
 
 -- a sender that has sent so many more frames
 abbrev pub later : TmSender → ℕ → TmSender

@@ -1,7 +1,7 @@
 //! The receiver of packets over telemetry frames of one virtual channel.
 ghost use Rattle.std.specs.Prelude.{◌≡◌, ◌++◌, ◌∷◌, [], ◌<◌, ◌≤◌, ◌+◌, List, ℕ, Some, nat_lt, true, OnErr, OnOk, IfOk, length, map};
 ghost use Rattle.tc_octets.specs.TmFrames.{tm_parts};
-ghost use Rattle.tc_packets.specs.Receivers.{Appends, Received, begun, carried, continued, counted, dropped, ended, fresh, given_of, is_skipped, looked_at, packet_length, received, received_to};
+ghost use Rattle.tc_packets.specs.Receivers.{Appends, Received, begun, carried, continued, counted, dropped, ended, fresh, given_of, is_next, is_skipped, looked_at, packet, packet_length, received, received_to};
 
 use std::alloc::{AllocError, Allocator};
 use std::marker::Model;
@@ -95,6 +95,7 @@ fn end_part<A: Allocator + Copy + Drop>(
 }
 
 /// Goes on with the packet in progress, if there is one.
+#[tactic(auto, unfolding(crate::specs::Receivers::continued))]
 fn go_on<A: Allocator + Copy + Drop>(
     alloc: A,
     part: &[u8],
@@ -138,6 +139,7 @@ fn begin<A: Allocator + Copy + Drop>(
 }
 
 /// Takes a data field by its first header pointer.
+#[tactic(auto, unfolding(crate::specs::Receivers::carried))]
 fn carry<A: Allocator + Copy + Drop>(
     alloc: A,
     pointer: usize,
@@ -159,6 +161,7 @@ fn carry<A: Allocator + Copy + Drop>(
 }
 
 /// Whether a frame with this data field status is skipped.
+#[tactic(auto, unfolding(crate::specs::Receivers::is_skipped))]
 fn is_skipped(status: u16, size: usize) -> bool
     ensures { result ≡ is_skipped status size }
 {
@@ -167,6 +170,7 @@ fn is_skipped(status: u16, size: usize) -> bool
 }
 
 /// Takes a frame that came next.
+#[tactic(auto, unfolding(crate::specs::Receivers::looked_at))]
 fn look_at<A: Allocator + Copy + Drop>(
     alloc: A,
     status: u16,
@@ -194,6 +198,7 @@ fn is_next(expected: Option<u8>, count: u8) -> bool
 }
 
 /// Takes a frame.
+#[tactic(auto, unfolding(crate::specs::Receivers::received, crate::specs::Receivers::counted))]
 fn receive<A: Allocator + Copy + Drop>(
     alloc: A,
     part: &[u8],
