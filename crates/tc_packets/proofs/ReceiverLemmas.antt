@@ -27,5 +27,31 @@ begun_at : (octets : List ℕ) → 0 < length octets → begun 0 octets ≡ from
 begun_at [] h = absurd (omega arith)
 begun_at (octet ∷ octets) h = begun_cons octet octets
 
-cut_at : Received
-cut_at = record { given = cut ∷ []; part = [] }
+abbrev cut_off : Received
+cut_off = record { given = cut ∷ []; part = [] }
+
+abbrev later : List ℕ → Received → Received
+later octets rest = if nat_lt (length octets) (packet_length octets) then quiet octets else marked (packet (take (packet_length octets) octets)) rest
+
+begun_none : (octets : List ℕ) → 0 < length octets → 2 ^ 5 ≤ get_or octets 0 0 → begun 0 octets ≡ cut_off
+begun_none octets h k =
+    begun_at octets h
+    ∙ cond-true (nat_le (2 ^ 5) (get_or octets 0 0)) cut_off (later octets (begun 0 (drop (packet_length octets) octets))) (le-leb (2 ^ 5) (get_or octets 0 0) k)
+
+begun_one : (octets : List ℕ) → 0 < length octets → get_or octets 0 0 < 2 ^ 5 → begun 0 octets ≡ later octets (begun 0 (drop (packet_length octets) octets))
+begun_one octets h k =
+    begun_at octets h
+    ∙ cond-false (nat_le (2 ^ 5) (get_or octets 0 0)) cut_off (later octets (begun 0 (drop (packet_length octets) octets))) (lt-leb (2 ^ 5) (get_or octets 0 0) k)
+
+begun_short : (octets : List ℕ) → 0 < length octets → get_or octets 0 0 < 2 ^ 5 → length octets < packet_length octets → begun 0 octets ≡ quiet octets
+begun_short octets h k short =
+    begun_one octets h k
+    ∙ cond-true (nat_lt (length octets) (packet_length octets)) (quiet octets)
+    (marked (packet (take (packet_length octets) octets)) (begun 0 (drop (packet_length octets) octets))) (lt-ltb (length octets) (packet_length octets) short)
+
+pub begun_whole : (octets : List ℕ) → 0 < length octets → get_or octets 0 0 < 2 ^ 5 → packet_length octets ≤ length octets
+    → begun 0 octets ≡ marked (packet (take (packet_length octets) octets)) (begun 0 (drop (packet_length octets) octets))
+begun_whole octets h k whole =
+    begun_one octets h k
+    ∙ cond-false (nat_lt (length octets) (packet_length octets)) (quiet octets)
+    (marked (packet (take (packet_length octets) octets)) (begun 0 (drop (packet_length octets) octets))) (le-ltb (length octets) (packet_length octets) whole)

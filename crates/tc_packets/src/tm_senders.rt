@@ -52,13 +52,14 @@ fn put_idle<A: Allocator + Copy + Drop>(octets: &mut Vec<u8, A>, size: usize) ->
     octets.extend_from_slice(&[0x07, 0xff, 0xc0, 0x00])?;
     octets.push((told / 256) as u8)?;
     octets.push((told % 256) as u8)?;
-    for _ in HEADER..size {
+    for _ in 0..size - HEADER {
         octets.push(FILL)?;
     }
     Ok(())
 }
 
 /// Adds packets one after the other, and the places where they start.
+#[tactic(auto, using(crate::proofs::SenderLemmas::octets_more, crate::proofs::SenderLemmas::places_more))]
 fn put_packets<A: Allocator + Copy + Drop>(
     packets: &[Vec<u8, A>],
     octets: &mut Vec<u8, A>,
@@ -121,6 +122,7 @@ fn join<A: Allocator + Copy + Drop>(
     Ok(Joined { octets, places })
 }
 
+#[tactic(auto, using(crate::proofs::SenderLemmas::pointer_here, crate::proofs::SenderLemmas::pointer_before, crate::proofs::SenderLemmas::pointer_behind))]
 /// The first header pointer of the data field of so many octets that begins at a place.
 fn pointer_in(places: &[usize], begin: usize, size: usize) -> u16
     requires field { size ≤ 2048 }
@@ -196,6 +198,7 @@ impl Sending<'_> {
     }
 
     /// The frames that joined packets fill.
+    #[tactic(auto, using(crate::proofs::SenderLemmas::turn_fits))]
     fn carriers<A: Allocator + Copy + Drop>(
         &self,
         alloc: A,
