@@ -27,7 +27,7 @@ abbrev pub idle_length : ℕ → ℕ → ℕ
 idle_length size left = if nat_lt left 7 then left + size else left
 
 -- the fill after so many octets of packets: an idle packet, or nothing if they fill the last data field
-abbrev pub fill_of : ℕ → ℕ → List (List ℕ)
+unfoldable pub fill_of : ℕ → ℕ → List (List ℕ)
 fill_of size octets = if lacking size octets == 0 then [] else idle_packet (idle_length size (lacking size octets)) ∷ []
 
 -- packets and their fill

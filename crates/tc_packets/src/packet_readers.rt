@@ -129,7 +129,8 @@ fn begin<A: Allocator + Copy + Drop>(
             return Ok(Vec::new(alloc));
         }
         if is_short(rest) {
-            return Vec::from_slice(alloc, rest);
+            let left = Vec::from_slice(alloc, rest)?;
+            return Ok(left);
         }
         let size = packet_length(rest);
         put_packet(alloc, &rest[..size], out)?;
@@ -147,7 +148,8 @@ fn carry<A: Allocator + Copy + Drop>(
     part: &[u8],
     out: &mut Vec<Item<A>, A>,
 ) -> Result<Vec<u8, A>, AllocError>
-    requires { pointer < 2046 → pointer ≤ length content.now }
+    requires bound { pointer ≤ 2047 }
+    requires inside { pointer < 2046 → pointer ≤ length content.now }
     ensures { IfOk result (λ left. Appends (carried pointer content.now part.now) out.old out.new left) }
 {
     if pointer == IDLE_DATA {

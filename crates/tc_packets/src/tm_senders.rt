@@ -77,6 +77,7 @@ fn put_packets<A: Allocator + Copy + Drop>(
     Ok(())
 }
 
+#[tactic(auto, unfolding(crate::specs::Carriers::fill_of))]
 /// Adds an idle packet if the octets do not fill the last data field.
 fn fill<A: Allocator + Copy + Drop>(
     size: usize,
@@ -233,7 +234,8 @@ impl Sending<'_> {
             return Ok(frames);
         }
         let joined = join(alloc, data_length(self.profile), packets)?;
-        self.carriers(alloc, &joined.octets, &joined.places)
+        let frames = self.carriers(alloc, &joined.octets, &joined.places)?;
+        Ok(frames)
     }
 }
 
