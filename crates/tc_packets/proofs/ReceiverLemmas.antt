@@ -1,5 +1,5 @@
 -- The packets that begin one after the other in octets.
-use Rattle.std.proofs.Common.{◌≡◌, ℕ, zero, suc, ◌+◌, ◌-◌, ◌^◌, ◌<◌, ◌≤◌, List, [], ◌∷◌, ◌++◌, take, drop, length, get_or, refl, sym, ap, subst, ◌∙◌, arith, append_assoc, inl, inr}
+use Rattle.std.proofs.Common.{◌≡◌, ℕ, zero, suc, ◌+◌, ◌-◌, ◌/◌, ◌%◌, ◌^◌, ◌<◌, ◌≤◌, List, [], ◌∷◌, ◌++◌, take, drop, length, get_or, refl, sym, ap, subst, ◌∙◌, arith, append_assoc, inl, inr}
 use Rattle.std.specs.Prelude.{Bool, true, false, map, not, ◌&&◌, ◌||◌, ◌==◌, nat_le, nat_lt, if◌then◌else◌, Option}
 use borrow.Author.Tests.{leb-true, ltb-false, ltb-true}
 use Rattle.std.proofs.lemmas.Bool.{and_cases, and_parts, cond-true, cond-false, cond_both, cases_lt, le-leb, le-ltb, lt-leb, lt-ltb, or_parts, true≢false}

@@ -178,13 +178,14 @@ impl Sending<'_> {
         requires content { length content.now ≡ data_length self.now.profile.now }
         ensures { IfOk result (λ frame. octets_of frame ≡ tm_frame_of self.now.profile.now (frame_after self.now.profile.now self.now.sender self.now.word count pointer content.now)) }
     {
+        let word = self.word;
         let frame = TmFrame {
             vcid: self.profile.tm.vcid,
             master_count: plus(self.sender.master_count, count),
             channel_count: plus(self.sender.channel_count, count),
             status: UNSEGMENTED + pointer,
             data: content,
-            word: Some(self.word),
+            word: Some(word),
         };
         tm_frame(alloc, self.profile, &frame)
     }
