@@ -162,6 +162,7 @@ struct Sending<'a> {
     profile: &'a Profile,
     sender: TmSender,
     word: u32,
+    ghost word_fits: { word < 2 ^ 32 },
 }
 
 impl Sending<'_> {
@@ -178,14 +179,13 @@ impl Sending<'_> {
         requires content { length content.now ≡ data_length self.now.profile.now }
         ensures { IfOk result (λ frame. octets_of frame ≡ tm_frame_of self.now.profile.now (frame_after self.now.profile.now self.now.sender self.now.word count pointer content.now)) }
     {
-        let word = self.word;
         let frame = TmFrame {
             vcid: self.profile.tm.vcid,
             master_count: plus(self.sender.master_count, count),
             channel_count: plus(self.sender.channel_count, count),
             status: UNSEGMENTED + pointer,
             data: content,
-            word: Some(word),
+            word: Some(self.word),
         };
         tm_frame(alloc, self.profile, &frame)
     }

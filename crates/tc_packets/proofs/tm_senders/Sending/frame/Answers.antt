@@ -9,6 +9,6 @@ tm_frame-requires g c = record {
   master_count = omega (arith, c.plus.ensures);
   channel_count = omega (arith, c.plus-2.ensures);
   status = omega (arith, c.requires.pointer);
-  word = ?;
+  word = c.args.self.now.word_fits;
   long = frame_length c.args.self.now.profile.now c.args.content.now c.requires.content;
 }
