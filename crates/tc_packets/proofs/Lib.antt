@@ -1,2 +1,4 @@
 pub mod ReceiverLemmas
 pub mod SenderLemmas
+pub mod TurnLemmas
+pub mod CarrierLawLemmas

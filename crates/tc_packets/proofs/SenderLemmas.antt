@@ -24,6 +24,17 @@ frame_length profile content e =
     let stands = profile.tm.length_stands in
     omega arith
 
+pub record DataBounds (size : ℕ) : Type 0 where
+  pub least : 20 ≤ size
+  pub most : size ≤ 2038
+
+pub data_bounds : (profile : Profile) → DataBounds (data_length profile)
+data_bounds profile =
+    let few = check_few profile.tm.fecf in
+    let stands = profile.tm.length_stands in
+    let fits = profile.tm.length_fits in
+    record { least = omega arith; most = omega arith }
+
 -- ---- packets one after the other
 
 concat_push : (packets : List (List ℕ)) (packet : List ℕ) → concat (packets ++ packet ∷ []) ≡ concat packets ++ packet
@@ -59,7 +70,7 @@ places_more packets i packet joined places h e same start =
 
 -- ---- packets and their fill
 
-concat_append : (xs ys : List (List ℕ)) → concat (xs ++ ys) ≡ concat xs ++ concat ys
+pub concat_append : (xs ys : List (List ℕ)) → concat (xs ++ ys) ≡ concat xs ++ concat ys
 concat_append [] ys = refl
 concat_append (x ∷ xs) ys = ap (λ l. x ++ l) (concat_append xs ys) ∙ sym (append_assoc x (concat xs) (concat ys))
 
@@ -89,10 +100,10 @@ places_filled packets size joined places all e f h =
 
 -- ---- the first header pointer
 
-abbrev is_in : ℕ → ℕ → ℕ → Bool
+abbrev pub is_in : ℕ → ℕ → ℕ → Bool
 is_in begin size start = nat_le begin start && nat_lt start (begin + size)
 
-pointer_first : (begin size start : ℕ) (more : List ℕ) → is_in begin size start ≡ true → pointer_in begin size (start ∷ more) ≡ start - begin
+pub pointer_first : (begin size start : ℕ) (more : List ℕ) → is_in begin size start ≡ true → pointer_in begin size (start ∷ more) ≡ start - begin
 pointer_first begin size start more e = cond-true (is_in begin size start) (start - begin) (pointer_in begin size more) e
 
 pub pointer_next : (begin size start : ℕ) (more : List ℕ) → is_in begin size start ≡ false → pointer_in begin size (start ∷ more) ≡ pointer_in begin size more

@@ -18,17 +18,13 @@ idle_packet size = 0x07 ∷ 0xff ∷ 0xc0 ∷ 0x00 ∷ pair (size - 7) ++ replic
 abbrev pub data_length : Profile → ℕ
 data_length profile = profile.tm.length - 10 - check_length profile.tm.fecf
 
--- how many octets the last data field lacks, where so many octets are cut into data fields
-abbrev pub lacking : ℕ → ℕ → ℕ
-lacking size octets = (size - octets % size) % size
-
--- The idle packet that fills the last data field, or that and one more: it has seven octets or more.
+-- The idle packet after packets that leave so many octets of the last data field: it fills that, or that and one more, as it has seven octets or more.
 abbrev pub idle_length : ℕ → ℕ → ℕ
 idle_length size left = if nat_lt left 7 then left + size else left
 
--- the fill after so many octets of packets: an idle packet, or nothing if they fill the last data field
+-- the fill after so many octets of packets: an idle packet, or nothing if they fill their data fields
 unfoldable pub fill_of : ℕ → ℕ → List (List ℕ)
-fill_of size octets = if lacking size octets == 0 then [] else idle_packet (idle_length size (lacking size octets)) ∷ []
+fill_of size octets = if octets % size == 0 then [] else idle_packet (idle_length size (size - octets % size)) ∷ []
 
 -- packets and their fill
 abbrev pub filled : ℕ → List (List ℕ) → List (List ℕ)

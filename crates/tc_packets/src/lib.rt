@@ -3,6 +3,7 @@
 //! Everything here is a function of values. Nothing reads a socket or a clock.
 #![tactic(auto)]
 
+pub mod laws;
 mod packet_readers;
 mod tm_senders;
 

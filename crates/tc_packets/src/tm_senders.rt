@@ -3,7 +3,7 @@ ghost use Rattle.std.specs.Prelude.{◌≡◌, ◌++◌, ◌∷◌, [], ◌<◌,
 ghost use Rattle.std.specs.List.{concat};
 ghost use Rattle.tc_octets.specs.TcFrames.{check_length};
 ghost use Rattle.tc_octets.specs.TmFrames.{tm_frame_of};
-ghost use Rattle.tc_packets.specs.Carriers.{carriers, data_length, fill_of, filled, frame_after, frames_of, idle_frame, idle_length, idle_packet, lacking, later, octets_of, pointer_in, starts};
+ghost use Rattle.tc_packets.specs.Carriers.{carriers, data_length, fill_of, filled, frame_after, frames_of, idle_frame, idle_length, idle_packet, later, octets_of, pointer_in, starts};
 
 use std::alloc::{AllocError, Allocator};
 use tc_octets::{Profile, TmFrame, tm_frame};
@@ -89,10 +89,11 @@ fn fill<A: Allocator + Copy + Drop>(
     ensures octets { OnOk result (octets.new.items ≡ octets.old.items ++ concat (fill_of size (length octets.old.items))) }
     ensures places { OnOk result (places.new.items ≡ places.old.items ++ starts (length octets.old.items) (fill_of size (length octets.old.items))) }
 {
-    let left = (size - octets.len() % size) % size;
-    if left == 0 {
+    let over = octets.len() % size;
+    if over == 0 {
         return Ok(());
     }
+    let left = size - over;
     let idle = if left < LEAST_PACKET { left + size } else { left };
     places.push(octets.len())?;
     put_idle(octets, idle)
