@@ -32,7 +32,7 @@ no_packets (first ∷ packets) all e = absurd (omega (arith, packet_some first a
 -- ---- the fill
 
 idle_size : (size : ℕ) → 7 ≤ size → length (idle_packet size) ≡ size
-idle_size size h = omega (arith, length-replicate (size - 6) 0x55)
+idle_size size h = let fill = length-replicate {A = ℕ} (size - 6) 0x55 in omega arith
 
 idle_whole : (size : ℕ) → 7 ≤ size → IsPacket (idle_packet size)
 idle_whole size h = let long = idle_size size h in record { told = omega arith; version = omega arith }
@@ -141,12 +141,12 @@ frame_brings profile sender word all n i s receiver f t =
     ∙ t.received
 
 follows_on : (profile : Profile) (sender : TmSender) (word : ℕ) (all : List (List ℕ)) (n i : ℕ) (s : Standing) (receiver : Receiver)
-    → Follows profile sender all (n + 1) i s receiver → (t : Turns (data_length profile) (i * data_length profile) s)
+    → Follows profile sender all (suc n) i s receiver → (t : Turns (data_length profile) (i * data_length profile) s)
     → Follows profile sender all n (i + 1) t.next (received_to receiver (carrying profile sender word (concat all) (starts 0 all) i))
 follows_on profile sender word all n i s receiver f t =
     let size : ℕ = data_length profile in
     let turn : (i + 1) * size ≡ i * size + size = omega arith in
-    let turns_left : (n + 1) * size ≡ n * size + size = omega arith in
+    let turns_left : suc n * size ≡ n * size + size = omega arith in
     let before = f.left in
     record {
       standing = t.standing;
@@ -159,7 +159,7 @@ follows_on profile sender word all n i s receiver f t =
           let same = ap (λ (l : List ℕ). length l) t.stream in
           let shorter = length-drop size (s.todo ++ concat s.rest) in
           omega arith;
-      part = ap (λ (r : Received). r.part) (frame_brings profile sender word all (n + 1) i s receiver f t);
+      part = ap (λ (r : Received). r.part) (frame_brings profile sender word all (suc n) i s receiver f t);
       next = eq-eqb ((sender.channel_count + (i + 1)) % 2 ^ 8) (((sender.channel_count + i) % 2 ^ 8 + 1) % 2 ^ 8) (omega arith);
     }
 

@@ -15,7 +15,7 @@ passed zero octets = refl
 passed (suc n) [] = refl
 passed (suc n) (octet ∷ octets) = passed n octets
 
-begun_nil : begun 0 [] ≡ quiet []
+pub begun_nil : begun 0 [] ≡ quiet []
 unfolding begun
 begun_nil = refl
 
@@ -48,7 +48,7 @@ begun_one octets h k =
     begun_at octets h
     ∙ cond-false (nat_le (2 ^ 5) (get_or octets 0 0)) cut_off (later octets (begun 0 (drop (packet_length octets) octets))) (lt-leb (2 ^ 5) (get_or octets 0 0) k)
 
-begun_short : (octets : List ℕ) → 0 < length octets → get_or octets 0 0 < 2 ^ 5 → nat_lt (length octets) (packet_length octets) ≡ true → begun 0 octets ≡ quiet octets
+pub begun_short : (octets : List ℕ) → 0 < length octets → get_or octets 0 0 < 2 ^ 5 → nat_lt (length octets) (packet_length octets) ≡ true → begun 0 octets ≡ quiet octets
 begun_short octets h k short =
     begun_one octets h k
     ∙ cond-true (nat_lt (length octets) (packet_length octets)) (quiet octets)
@@ -127,9 +127,9 @@ not_skipped status size e h =
     elim (cases_lt (status % 2 ^ 11) size) [
       | inl lt ↦ omega arith
       | inr ge ↦ elim (and_cases (nat_le size (status % 2 ^ 11)) (nat_lt (status % 2 ^ 11) 2046) past.1) [
-            | inl a ↦ absurd (true≢false (sym (le-leb size (status % 2 ^ 11) ge) ∙ a))
-            | inr b ↦ absurd (true≢false (sym (lt-ltb (status % 2 ^ 11) 2046 h) ∙ b))
-          ]
+        | inl a ↦ absurd (true≢false (sym (le-leb size (status % 2 ^ 11) ge) ∙ a))
+        | inr b ↦ absurd (true≢false (sym (lt-ltb (status % 2 ^ 11) 2046 h) ∙ b))
+      ]
     ]
 
 -- ---- the packet in progress is less than a whole one

@@ -150,7 +150,7 @@ pending_of part (octet ∷ todo) rest = (part ++ octet ∷ todo) ∷ rest
 abbrev pub pending : Standing → List (List ℕ)
 pending s = pending_of s.part s.todo s.rest
 
-pending_none : (s : Standing) → length s.todo ≡ 0 → pending s ≡ s.rest
+pub pending_none : (s : Standing) → length s.todo ≡ 0 → pending s ≡ s.rest
 pending_none s e = ap (λ l. pending_of s.part l s.rest) (nil_from_length s.todo e)
 
 pending_within : (part todo : List ℕ) (rest : List (List ℕ)) → 0 < length todo → pending_of part todo rest ≡ (part ++ todo) ∷ rest
@@ -243,10 +243,10 @@ cuts n at (first ∷ packets) all le =
     elim (cases_lt 0 n) [
       | inr none ↦ cuts_none n at (first ∷ packets) (omega arith)
       | inl some ↦ elim (cases_lt n (length first)) [
-            | inl lt ↦ cuts_within n at first packets all.0 some lt
-            | inr ge ↦ cuts_whole n at first packets all.0 ge
-                (cuts (n - length first) (at + length first) packets all.1 (omega (arith, length-append first (concat packets))))
-          ]
+        | inl lt ↦ cuts_within n at first packets all.0 some lt
+        | inr ge ↦ cuts_whole n at first packets all.0 ge
+            (cuts (n - length first) (at + length first) packets all.1 (omega (arith, length-append first (concat packets))))
+      ]
     ]
 
 -- ---- a frame's turn: so many octets from a place on
@@ -389,9 +389,9 @@ turns_within size at s begun_part some all few le =
     elim (cases_lt (length s.todo) size) [
       | inl lt ↦ turns_over size at s.part s.todo s.rest both.0 both.1 begun_part some lt few (omega arith)
       | inr ge ↦ elim (cases_lt size (length s.todo)) [
-            | inl more ↦ turns_on size at s.part s.todo s.rest both.0 begun_part more
-            | inr even ↦ turns_even size at s.part s.todo s.rest both.0 begun_part some (omega arith)
-          ]
+        | inl more ↦ turns_on size at s.part s.todo s.rest both.0 begun_part more
+        | inr even ↦ turns_even size at s.part s.todo s.rest both.0 begun_part some (omega arith)
+      ]
     ]
 
 pub turns : (size at : ℕ) (s : Standing) → IsStanding s → AllByRecursion IsPacket (pending s) → 0 < size → size ≤ 2046

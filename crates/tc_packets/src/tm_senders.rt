@@ -43,7 +43,10 @@ fn data_length(profile: &Profile) -> usize
 }
 
 /// Adds an idle packet of so many octets (CCSDS 133.0-B, 4.1).
-fn put_idle<A: Allocator + Copy + Drop>(octets: &mut Vec<u8, A>, size: usize) -> Result<(), AllocError>
+fn put_idle<A: Allocator + Copy + Drop>(
+    octets: &mut Vec<u8, A>,
+    size: usize,
+) -> Result<(), AllocError>
     requires least { 7 ≤ size }
     requires most { size < 2 ^ 16 }
     ensures { OnOk result (octets.new.items ≡ octets.old.items ++ idle_packet size) }
@@ -94,7 +97,11 @@ fn fill<A: Allocator + Copy + Drop>(
         return Ok(());
     }
     let left = size - over;
-    let idle = if left < LEAST_PACKET { left + size } else { left };
+    let idle = if left < LEAST_PACKET {
+        left + size
+    } else {
+        left
+    };
     places.push(octets.len())?;
     put_idle(octets, idle)
 }
