@@ -1,4 +1,6 @@
 pub mod ReceiverLemmas
 pub mod SenderLemmas
+pub mod CameLemmas
 pub mod TurnLemmas
 pub mod CarrierLawLemmas
+mod CarrierCases

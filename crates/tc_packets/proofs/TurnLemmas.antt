@@ -7,7 +7,9 @@ use Rattle.std.proofs.lemmas.Bool.{and_from, and_left, and_right, cases_eq, case
 use Rattle.std.proofs.lemmas.List.{append-nil, drop-append-le, drop-drop, drop_all, drop_at, get_or-take, get_or_append_left, length-append, length-drop, length-take-le, map-append, nil_from_length, take-append-le, take_all, take_at, take-append-drop}
 use Rattle.tc_packets.specs.Carriers.{pointer_in, starts}
 use Rattle.tc_packets.specs.CarrierLaws.{IsPacket}
+use Rattle.tc_packets.specs.LossLaws.{all_came, cons_if, that_came}
 use Rattle.tc_packets.specs.Receivers.{Given, Received, and_then, begun, carried, continued, dropped, ended, is_skipped, looked_at, marked, packet, packet_length, quiet, skipped}
+use Rattle.tc_packets.proofs.CameLemmas.{all_inside, came_on, chosen, cons_came, cons_lost, expect_of, expect_within, live, lost_on, none_inside}
 use Rattle.tc_packets.proofs.ReceiverLemmas.{begun_nil, begun_short, begun_whole}
 use Rattle.tc_packets.proofs.SenderLemmas.{is_before, is_behind, is_inside, pointer_first, pointer_next}
 
@@ -150,6 +152,10 @@ pending_of part (octet ∷ todo) rest = (part ++ octet ∷ todo) ∷ rest
 abbrev pub pending : Standing → List (List ℕ)
 pending s = pending_of s.part s.todo s.rest
 
+-- the packets of these that come, if all went well so far with the packet in progress, or not
+abbrev pub expect : ℕ → List Bool → Bool → ℕ → Standing → List (List ℕ)
+expect size came ok at s = expect_of size came ok at s.part s.todo s.rest
+
 pub pending_none : (s : Standing) → length s.todo ≡ 0 → pending s ≡ s.rest
 pending_none s e = ap (λ l. pending_of s.part l s.rest) (nil_from_length s.todo e)
 
@@ -170,10 +176,15 @@ pub record Cuts (n at : ℕ) (packets : List (List ℕ)) : Type 0 where
   pub begun : begun 0 (take n (concat packets)) ≡ record { given = map packet whole; part = next.part }
   pub stream : drop n (concat packets) ≡ next.todo ++ concat next.rest
   pub pointers : (begin size : ℕ) → at + n ≤ begin → pointer_in begin size (starts at packets) ≡ pointer_in begin size (starts (at + n + length next.todo) next.rest)
+  pub came : (size : ℕ) (came : List Bool) (i : ℕ) → i * size ≤ at → at + n ≡ i * size + size → get_or came i false ≡ true
+      → that_came size came at packets ≡ whole ++ expect size came true (at + n) next
+  pub lost : (size : ℕ) (came : List Bool) (i : ℕ) → i * size ≤ at → at + n ≡ i * size + size → get_or came i false ≡ false
+      → that_came size came at packets ≡ expect size came false (at + n) next
 
 cuts_none : (n at : ℕ) (packets : List (List ℕ)) → n ≡ 0 → Cuts n at packets
 cuts_none n at packets e =
     let same : at + n + length {A = ℕ} [] ≡ at = omega arith in
+    let here : at ≡ at + n = omega arith in
     record {
       whole = [];
       next = between packets;
@@ -182,6 +193,8 @@ cuts_none n at packets e =
       begun = ap (λ k. begun 0 (take k (concat packets))) e ∙ begun_nil;
       stream = ap (λ k. drop k (concat packets)) e;
       pointers = λ begin size h. ap (λ k. pointer_in begin size (starts k packets)) (sym same);
+      came = λ size came i low high b. ap (λ k. that_came size came k packets) here;
+      lost = λ size came i low high b. ap (λ k. that_came size came k packets) here;
     }
 
 cuts_within : (n at : ℕ) (first : List ℕ) (packets : List (List ℕ)) → IsPacket first → 0 < n → n < length first → Cuts n at (first ∷ packets)
@@ -204,6 +217,17 @@ cuts_within n at first packets h some lt =
       pointers = λ begin size le.
           pointer_next begin size at (starts (at + length first) packets) (is_before begin size at (omega arith))
           ∙ ap (λ k. pointer_in begin size (starts k packets)) rest_at;
+      came = λ wide came i low high b.
+          let rest : length first ≡ n + length (drop n first) = omega arith in
+          ap (λ c. cons_if c first (that_came wide came (at + length first) packets)) (came_on wide came i at n (length (drop n first)) (length first) rest low (omega arith) b)
+          ∙ ap (λ l. cons_if (all_came wide came (at + n) (length (drop n first))) l (that_came wide came (at + length first) packets)) (sym (take-append-drop n first))
+          ∙ ap (λ k. cons_if (all_came wide came (at + n) (length (drop n first))) (take n first ++ drop n first) (that_came wide came k packets)) rest_at
+          ∙ sym (expect_within wide came true (at + n) (take n first) (drop n first) packets (omega arith));
+      lost = λ wide came i low high b.
+          let rest : length first ≡ n + length (drop n first) = omega arith in
+          ap (λ c. cons_if c first (that_came wide came (at + length first) packets)) (lost_on wide came i at n (length (drop n first)) (length first) some rest low (omega arith) b)
+          ∙ ap (λ k. that_came wide came k packets) rest_at
+          ∙ sym (expect_within wide came false (at + n) (take n first) (drop n first) packets (omega arith));
     }
 
 cuts_whole : (n at : ℕ) (first : List ℕ) (packets : List (List ℕ)) → IsPacket first → length first ≤ n
@@ -217,6 +241,7 @@ cuts_whole n at first packets h le more =
     let first_octet = get_or_append_left first x 0 0 (omega arith) in
     let told : packet_length (first ++ x) ≡ length first = told_more first x (omega arith) ∙ h.told in
     let size = length-append first x in
+    let place : at + length first + (n - length first) ≡ at + n = omega arith in
     record {
       whole = first ∷ more.whole;
       next = more.next;
@@ -235,6 +260,14 @@ cuts_whole n at first packets h le more =
           pointer_next begin wide at (starts (at + length first) packets) (is_before begin wide at (omega arith))
           ∙ more.pointers begin wide (omega arith)
           ∙ ap (λ j. pointer_in begin wide (starts j more.next.rest)) there;
+      came = λ wide came i low high b.
+          ap (λ c. cons_if c first (that_came wide came (at + length first) packets)) (all_inside wide came i at (length first) low (omega arith) b)
+          ∙ ap (λ l. first ∷ l)
+          (more.came wide came i (omega arith) (omega arith) b ∙ ap (λ k. more.whole ++ expect wide came true k more.next) place);
+      lost = λ wide came i low high b.
+          ap (λ c. cons_if c first (that_came wide came (at + length first) packets)) (none_inside wide came i at (length first) (omega arith) low (omega arith) b)
+          ∙ more.lost wide came i (omega arith) (omega arith) b
+          ∙ ap (λ k. expect wide came false k more.next) place;
     }
 
 pub cuts : (n at : ℕ) (packets : List (List ℕ)) → AllByRecursion IsPacket packets → n ≤ length (concat packets) → Cuts n at packets
@@ -261,6 +294,17 @@ pub record Turns (size at : ℕ) (s : Standing) : Type 0 where
       → pointer_in begin wide (starts (at + length s.todo) s.rest) ≡ pointer_in begin wide (starts (at + size + length next.todo) next.rest)
   pub received : looked_at (3 * 2 ^ 11 + pointer_in at size (starts (at + length s.todo) s.rest)) (take size (s.todo ++ concat s.rest)) s.part
       ≡ record { given = map packet whole; part = next.part }
+  -- the packet in progress, if it ends; those after it; and whether what is in progress afterwards began in this frame
+  pub ended : List (List ℕ)
+  pub inner : List (List ℕ)
+  pub over : Bool
+  pub whole_is : whole ≡ ended ++ inner
+  pub missed : looked_at (3 * 2 ^ 11 + pointer_in at size (starts (at + length s.todo) s.rest)) (take size (s.todo ++ concat s.rest)) []
+      ≡ record { given = map packet inner; part = live over next.part }
+  pub came : (came : List Bool) (i : ℕ) (ok : Bool) → at ≡ i * size → get_or came i false ≡ true
+      → expect size came ok at s ≡ (chosen ok ended ++ inner) ++ expect size came (over || ok) (at + size) next
+  pub lost : (came : List Bool) (i : ℕ) (ok : Bool) → at ≡ i * size → get_or came i false ≡ false
+      → expect size came ok at s ≡ expect size came false (at + size) next
 
 pointer_none : (begin size at : ℕ) (packets : List (List ℕ)) → begin + size ≤ at → pointer_in begin size (starts at packets) ≡ 2047
 pointer_none begin size at [] h = refl
@@ -282,6 +326,11 @@ turns_between size at packets all some le =
     let content : List ℕ = take size (concat packets) in
     let long = length-take-le size (concat packets) le in
     let pointer : pointer_in at size (starts (at + length {A = ℕ} []) packets) ≡ 0 = pointer_there at size 0 packets some (omega arith) in
+    let all_of : looked_at (3 * 2 ^ 11 + pointer_in at size (starts (at + length {A = ℕ} []) packets)) content [] ≡ record { given = map packet c.whole; part = c.next.part } =
+    ap (λ n. looked_at (3 * 2 ^ 11 + n) content []) pointer
+    ∙ looked_start 0 content [] (omega arith) (omega arith)
+    ∙ ap (λ r. and_then r (λ _. begun 0 (drop 0 content))) (continued_none false (take 0 content))
+    ∙ c.begun in
     record {
       whole = c.whole;
       next = c.next;
@@ -289,11 +338,14 @@ turns_between size at packets all some le =
       pending = c.pending;
       stream = c.stream;
       pointers = λ begin wide h. ap (λ k. pointer_in begin wide (starts k packets)) same ∙ c.pointers begin wide h;
-      received =
-          ap (λ n. looked_at (3 * 2 ^ 11 + n) content []) pointer
-          ∙ looked_start 0 content [] (omega arith) (omega arith)
-          ∙ ap (λ r. and_then r (λ _. begun 0 (drop 0 content))) (continued_none false (take 0 content))
-          ∙ c.begun;
+      received = all_of;
+      ended = [];
+      inner = c.whole;
+      over = true;
+      whole_is = refl;
+      missed = all_of;
+      came = λ came i ok e b. c.came size came i (omega arith) (omega arith) b;
+      lost = λ came i ok e b. c.lost size came i (omega arith) (omega arith) b;
     }
 
 -- a packet in progress ends before the frame does
@@ -308,6 +360,7 @@ turns_over size at part todo packets one all begun_part some lt few le =
     let long = length-take-le n (concat packets) (omega arith) in
     let size_of = length-append todo x in
     let there : at + length todo + n + length c.next.todo ≡ at + size + length c.next.todo = omega arith in
+    let ends : at + length todo + n ≡ at + size = omega arith in
     record {
       whole = (part ++ todo) ∷ c.whole;
       next = c.next;
@@ -323,6 +376,29 @@ turns_over size at part todo packets one all begun_part some lt few le =
           ∙ ap (λ l. and_then (continued false part todo) (λ _. begun 0 l)) (drop_at todo x (length todo) refl)
           ∙ ap (λ r. and_then r (λ _. begun 0 x)) (continued_some false part todo begun_part ∙ ended_whole false (part ++ todo) one.told)
           ∙ ap (λ (r : Received). record { given = packet (part ++ todo) ∷ r.given; part = r.part }) c.begun;
+      ended = (part ++ todo) ∷ [];
+      inner = c.whole;
+      over = true;
+      whole_is = refl;
+      missed =
+          ap (λ k. looked_at (3 * 2 ^ 11 + k) (take size (todo ++ concat packets)) []) (pointer_there at size (length todo) packets lt (omega arith))
+          ∙ ap (λ l. looked_at (3 * 2 ^ 11 + length todo) l []) (take_past todo (concat packets) size n split)
+          ∙ looked_start (length todo) (todo ++ x) [] (omega arith) (omega arith)
+          ∙ ap (λ r. and_then r (λ _. begun 0 (drop (length todo) (todo ++ x)))) (continued_none false (take (length todo) (todo ++ x)))
+          ∙ ap (begun 0) (drop_at todo x (length todo) refl)
+          ∙ c.begun;
+      came = λ came i ok e b.
+          expect_within size came ok at part todo packets some
+          ∙ ap (λ y. cons_if (ok && y) (part ++ todo) (that_came size came (at + length todo) packets)) (all_inside size came i at (length todo) (omega arith) (omega arith) b)
+          ∙ ap (λ l. cons_if (ok && true) (part ++ todo) l)
+          (c.came size came i (omega arith) (omega arith) b ∙ ap (λ k. c.whole ++ expect size came true k c.next) ends)
+          ∙ cons_came ok (part ++ todo) c.whole (expect size came true (at + size) c.next);
+      lost = λ came i ok e b.
+          expect_within size came ok at part todo packets some
+          ∙ ap (λ y. cons_if (ok && y) (part ++ todo) (that_came size came (at + length todo) packets)) (none_inside size came i at (length todo) some (omega arith) (omega arith) b)
+          ∙ cons_lost ok (part ++ todo) (that_came size came (at + length todo) packets)
+          ∙ c.lost size came i (omega arith) (omega arith) b
+          ∙ ap (λ k. expect size came false k c.next) ends;
     }
 
 -- it ends with the frame
@@ -330,6 +406,7 @@ turns_even : (size at : ℕ) (part todo : List ℕ) (packets : List (List ℕ)) 
     → Turns size at (record { part = part; todo = todo; rest = packets })
 turns_even size at part todo packets one begun_part some e =
     let there : at + length todo ≡ at + size + length {A = ℕ} [] = omega arith in
+    let ends : at + length todo ≡ at + size = omega arith in
     record {
       whole = (part ++ todo) ∷ [];
       next = between packets;
@@ -343,17 +420,37 @@ turns_even size at part todo packets one begun_part some e =
           ∙ looked_on todo part
           ∙ continued_some true part todo begun_part
           ∙ ended_whole true (part ++ todo) one.told;
+      ended = (part ++ todo) ∷ [];
+      inner = [];
+      over = true;
+      whole_is = refl;
+      missed =
+          ap (λ k. looked_at (3 * 2 ^ 11 + k) (take size (todo ++ concat packets)) []) (pointer_none at size (at + length todo) packets (omega arith))
+          ∙ looked_on (take size (todo ++ concat packets)) []
+          ∙ continued_none true (take size (todo ++ concat packets));
+      came = λ came i ok same b.
+          expect_within size came ok at part todo packets some
+          ∙ ap (λ y. cons_if (ok && y) (part ++ todo) (that_came size came (at + length todo) packets)) (all_inside size came i at (length todo) (omega arith) (omega arith) b)
+          ∙ ap (λ k. cons_if (ok && true) (part ++ todo) (that_came size came k packets)) ends
+          ∙ cons_came ok (part ++ todo) [] (that_came size came (at + size) packets);
+      lost = λ came i ok same b.
+          expect_within size came ok at part todo packets some
+          ∙ ap (λ y. cons_if (ok && y) (part ++ todo) (that_came size came (at + length todo) packets)) (none_inside size came i at (length todo) some (omega arith) (omega arith) b)
+          ∙ cons_lost ok (part ++ todo) (that_came size came (at + length todo) packets)
+          ∙ ap (λ k. that_came size came k packets) ends;
     }
 
 -- it goes on in the next frame
-turns_on : (size at : ℕ) (part todo : List ℕ) (packets : List (List ℕ)) → IsPacket (part ++ todo) → 0 < length part → size < length todo
+turns_on : (size at : ℕ) (part todo : List ℕ) (packets : List (List ℕ)) → IsPacket (part ++ todo) → 0 < length part → 0 < size → size < length todo
     → Turns size at (record { part = part; todo = todo; rest = packets })
-turns_on size at part todo packets one begun_part lt =
+turns_on size at part todo packets one begun_part some lt =
     let front = length-take-le size todo (omega arith) in
     let left = length-drop size todo in
     let joined = length-append part (take size todo) in
     let all_of = length-append part todo in
     let there : at + length todo ≡ at + size + length (drop size todo) = omega arith in
+    let joins : part ++ todo ≡ (part ++ take size todo) ++ drop size todo =
+    ap (λ l. part ++ l) (sym (take-append-drop size todo)) ∙ sym (append_assoc part (take size todo) (drop size todo)) in
     let cut_front : take (length part + size) (part ++ todo) ≡ part ++ take size todo = take_past part todo (length part + size) size refl in
     let short : length (part ++ take size todo) < packet_length (part ++ take size todo) =
     subst (λ (l : List ℕ). length l < packet_length l) cut_front (front_short (part ++ todo) (length part + size) one.told (omega arith)) in
@@ -374,6 +471,28 @@ turns_on size at part todo packets one begun_part lt =
           ∙ looked_on (take size todo) part
           ∙ continued_some true part (take size todo) begun_part
           ∙ ended_on (part ++ take size todo) short;
+      ended = [];
+      inner = [];
+      over = false;
+      whole_is = refl;
+      missed =
+          ap (λ k. looked_at (3 * 2 ^ 11 + k) (take size (todo ++ concat packets)) []) (pointer_none at size (at + length todo) packets (omega arith))
+          ∙ looked_on (take size (todo ++ concat packets)) []
+          ∙ continued_none true (take size (todo ++ concat packets));
+      came = λ came i ok e b.
+          expect_within size came ok at part todo packets (omega arith)
+          ∙ ap (λ y. cons_if (ok && y) (part ++ todo) (that_came size came (at + length todo) packets))
+          (came_on size came i at size (length (drop size todo)) (length todo) (omega arith) (omega arith) (omega arith) b)
+          ∙ ap (λ l. cons_if (ok && all_came size came (at + size) (length (drop size todo))) l (that_came size came (at + length todo) packets)) joins
+          ∙ ap (λ k. cons_if (ok && all_came size came (at + size) (length (drop size todo))) ((part ++ take size todo) ++ drop size todo) (that_came size came k packets)) there
+          ∙ sym (expect_within size came ok (at + size) (part ++ take size todo) (drop size todo) packets (omega arith));
+      lost = λ came i ok e b.
+          expect_within size came ok at part todo packets (omega arith)
+          ∙ ap (λ y. cons_if (ok && y) (part ++ todo) (that_came size came (at + length todo) packets))
+          (lost_on size came i at size (length (drop size todo)) (length todo) some (omega arith) (omega arith) (omega arith) b)
+          ∙ cons_lost ok (part ++ todo) (that_came size came (at + length todo) packets)
+          ∙ ap (λ k. that_came size came k packets) there
+          ∙ sym (expect_within size came false (at + size) (part ++ take size todo) (drop size todo) packets (omega arith));
     }
 
 is_between : (s : Standing) → length s.part ≡ 0 → length s.todo ≡ 0 → s ≡ between s.rest
@@ -381,15 +500,15 @@ is_between s e f =
     ap (λ (l : List ℕ). record { part = l; todo = s.todo; rest = s.rest }) (nil_from_length s.part e)
     ∙ ap (λ (l : List ℕ). record { part = []; todo = l; rest = s.rest }) (nil_from_length s.todo f)
 
-turns_within : (size at : ℕ) (s : Standing) → 0 < length s.part → 0 < length s.todo → AllByRecursion IsPacket (pending s) → size ≤ 2046
+turns_within : (size at : ℕ) (s : Standing) → 0 < size → 0 < length s.part → 0 < length s.todo → AllByRecursion IsPacket (pending s) → size ≤ 2046
     → size ≤ length (s.todo ++ concat s.rest) → Turns size at s
-turns_within size at s begun_part some all few le =
+turns_within size at s wide begun_part some all few le =
     let both = subst (λ (l : List (List ℕ)). AllByRecursion IsPacket l) (pending_within s.part s.todo s.rest some) all in
     let joined = length-append s.todo (concat s.rest) in
     elim (cases_lt (length s.todo) size) [
       | inl lt ↦ turns_over size at s.part s.todo s.rest both.0 both.1 begun_part some lt few (omega arith)
       | inr ge ↦ elim (cases_lt size (length s.todo)) [
-        | inl more ↦ turns_on size at s.part s.todo s.rest both.0 begun_part more
+        | inl more ↦ turns_on size at s.part s.todo s.rest both.0 begun_part wide more
         | inr even ↦ turns_even size at s.part s.todo s.rest both.0 begun_part some (omega arith)
       ]
     ]
@@ -399,7 +518,7 @@ pub turns : (size at : ℕ) (s : Standing) → IsStanding s → AllByRecursion I
 turns size at s standing all some few le =
     let joined = length-append s.todo (concat s.rest) in
     elim (cases_lt 0 (length s.todo)) [
-      | inl more ↦ turns_within size at s (standing.some more) more all few le
+      | inl more ↦ turns_within size at s some (standing.some more) more all few le
       | inr none ↦
           let e : length s.todo ≡ 0 = omega arith in
           let same = is_between s (standing.none e) e in

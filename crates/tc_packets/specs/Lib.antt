@@ -1,3 +1,4 @@
 pub mod Carriers
 pub mod Receivers
 pub mod CarrierLaws
+pub mod LossLaws
