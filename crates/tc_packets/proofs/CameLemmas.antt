@@ -1,6 +1,6 @@
 -- Octets that lie in frames that came, and what is still to come of packets.
 use Rattle.std.proofs.Common.{◌≡◌, ℕ, zero, suc, ◌+◌, ◌-◌, ◌*◌, ◌/◌, ◌<◌, ◌≤◌, Bool, true, false, List, [], ◌∷◌, ◌++◌, length, get_or, refl, sym, ap, ◌∙◌, arith}
-use Rattle.std.specs.Prelude.{◌&&◌}
+use Rattle.std.specs.Prelude.{◌&&◌, if◌then◌else◌}
 use Rattle.std.specs.List.{list_all, range_with_len}
 use Rattle.std.proofs.lemmas.Bool.{and_from, and_left}
 use Rattle.std.proofs.lemmas.Nat.{div-mul-add}
@@ -71,7 +71,15 @@ live false part = []
 
 abbrev pub chosen : Bool → List (List ℕ) → List (List ℕ)
 chosen ok [] = []
-chosen ok (first ∷ more) = cons_if ok first []
+chosen ok (first ∷ more) = if ok then first ∷ more else []
+
+pub chosen_all : (packets : List (List ℕ)) → chosen true packets ≡ packets
+chosen_all [] = refl
+chosen_all (first ∷ more) = refl
+
+pub chosen_none : (packets : List (List ℕ)) → chosen false packets ≡ []
+chosen_none [] = refl
+chosen_none (first ∷ more) = refl
 
 abbrev pub expect_of : ℕ → List Bool → Bool → ℕ → List ℕ → List ℕ → List (List ℕ) → List (List ℕ)
 expect_of size came ok at part [] rest = that_came size came at rest

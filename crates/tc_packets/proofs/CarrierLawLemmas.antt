@@ -44,7 +44,7 @@ idle_least size left h =
       | inr many ↦ (let e = cond-false (nat_lt left 7) (left + size) left (le-ltb left 7 many) in omega arith)
     ]
 
-fill_none : (size octets : ℕ) → octets % size ≡ 0 → fill_of size octets ≡ []
+pub fill_none : (size octets : ℕ) → octets % size ≡ 0 → fill_of size octets ≡ []
 unfolding fill_of
 fill_none size octets e = cond-true (octets % size == 0) [] (idle_packet (idle_length size (size - octets % size)) ∷ []) (eq-eqb (octets % size) 0 e)
 
@@ -117,33 +117,27 @@ record Comes (receiver : Receiver) (frames : List TmParts) (packets : List (List
   given : (run receiver frames).given ≡ map packet packets
   awaits : Awaits (run receiver frames).receiver (count % 2 ^ 8)
 
--- where the sender stands before the frame of a turn, and the receiver that follows it
-record Follows (profile : Profile) (sender : TmSender) (all : List (List ℕ)) (n i : ℕ) (s : Standing) (receiver : Receiver) : Type 0 where
-  standing : IsStanding s
-  whole : AllByRecursion IsPacket (pending s)
-  stream : drop (i * data_length profile) (concat all) ≡ s.todo ++ concat s.rest
-  pointers : (begin wide : ℕ) → i * data_length profile ≤ begin
+-- where the sender stands before the frame of a turn, with so many frames to come
+pub record Stands (profile : Profile) (all : List (List ℕ)) (n i : ℕ) (s : Standing) : Type 0 where
+  pub standing : IsStanding s
+  pub whole : AllByRecursion IsPacket (pending s)
+  pub stream : drop (i * data_length profile) (concat all) ≡ s.todo ++ concat s.rest
+  pub pointers : (begin wide : ℕ) → i * data_length profile ≤ begin
       → pointer_in begin wide (starts 0 all) ≡ pointer_in begin wide (starts (i * data_length profile + length s.todo) s.rest)
-  left : length (s.todo ++ concat s.rest) ≡ n * data_length profile
-  part : receiver.part ≡ s.part
-  next : is_next receiver.expected ((sender.channel_count + i) % 2 ^ 8) ≡ true
+  pub left : length (s.todo ++ concat s.rest) ≡ n * data_length profile
 
-frame_brings : (profile : Profile) (sender : TmSender) (word : ℕ) (all : List (List ℕ)) (n i : ℕ) (s : Standing) (receiver : Receiver)
-    → Follows profile sender all n i s receiver → (t : Turns (data_length profile) (i * data_length profile) s)
-    → received receiver (carrying profile sender word (concat all) (starts 0 all) i) ≡ record { given = map packet t.whole; part = t.next.part }
-frame_brings profile sender word all n i s receiver f t =
+pub turn_at : (profile : Profile) (all : List (List ℕ)) (n i : ℕ) (s : Standing) → Stands profile all (suc n) i s
+    → Turns (data_length profile) (i * data_length profile) s
+turn_at profile all n i s f =
     let size : ℕ = data_length profile in
-    let frame : TmParts = carrying profile sender word (concat all) (starts 0 all) i in
-    received_next receiver frame f.next
-    ∙ ap (λ l. looked_at frame.status frame.content l) f.part
-    ∙ ap (λ k. looked_at (3 * 2 ^ 11 + k) frame.content s.part) (f.pointers (i * size) size (omega arith))
-    ∙ ap (λ l. looked_at (3 * 2 ^ 11 + pointer_in (i * size) size (starts (i * size + length s.todo) s.rest)) (take size l) s.part) f.stream
-    ∙ t.received
+    let bounds = data_bounds profile in
+    let turns_left : suc n * size ≡ n * size + size = omega arith in
+    let left = f.left in
+    turns size (i * size) s f.standing f.whole (omega arith) (omega arith) (omega arith)
 
-follows_on : (profile : Profile) (sender : TmSender) (word : ℕ) (all : List (List ℕ)) (n i : ℕ) (s : Standing) (receiver : Receiver)
-    → Follows profile sender all (suc n) i s receiver → (t : Turns (data_length profile) (i * data_length profile) s)
-    → Follows profile sender all n (i + 1) t.next (received_to receiver (carrying profile sender word (concat all) (starts 0 all) i))
-follows_on profile sender word all n i s receiver f t =
+pub stands_on : (profile : Profile) (all : List (List ℕ)) (n i : ℕ) (s : Standing) → Stands profile all (suc n) i s
+    → (t : Turns (data_length profile) (i * data_length profile) s) → Stands profile all n (i + 1) t.next
+stands_on profile all n i s f t =
     let size : ℕ = data_length profile in
     let turn : (i + 1) * size ≡ i * size + size = omega arith in
     let turns_left : suc n * size ≡ n * size + size = omega arith in
@@ -159,25 +153,78 @@ follows_on profile sender word all n i s receiver f t =
           let same = ap (λ (l : List ℕ). length l) t.stream in
           let shorter = length-drop size (s.todo ++ concat s.rest) in
           omega arith;
-      part = ap (λ (r : Received). r.part) (frame_brings profile sender word all (suc n) i s receiver f t);
-      next = eq-eqb ((sender.channel_count + (i + 1)) % 2 ^ 8) (((sender.channel_count + i) % 2 ^ 8 + 1) % 2 ^ 8) (omega arith);
     }
 
-comes_none : (profile : Profile) (sender : TmSender) (all : List (List ℕ)) (i : ℕ) (s : Standing) (receiver : Receiver)
-    → Follows profile sender all 0 i s receiver → Comes receiver [] (pending s) (sender.channel_count + i + 0)
-comes_none profile sender all i s receiver f =
+-- nothing is left
+pub record Done (s : Standing) : Type 0 where
+  pub part : s.part ≡ []
+  pub todo : s.todo ≡ []
+  pub rest : s.rest ≡ []
+  pub pending : pending s ≡ []
+
+pub none_left : (profile : Profile) (all : List (List ℕ)) (i : ℕ) (s : Standing) → Stands profile all 0 i s → Done s
+none_left profile all i s f =
     let joined = length-append s.todo (concat s.rest) in
     let left = f.left in
     let zero_turns : 0 * data_length profile ≡ 0 = omega arith in
     let e : length s.todo ≡ 0 = omega arith in
-    let none : pending s ≡ [] =
-    pending_none s e
-    ∙ no_packets s.rest (subst (λ (l : List (List ℕ)). AllByRecursion IsPacket l) (pending_none s e) f.whole) (omega arith) in
+    let rest : s.rest ≡ [] = no_packets s.rest (subst (λ (l : List (List ℕ)). AllByRecursion IsPacket l) (pending_none s e) f.whole) (omega arith) in
+    record {
+      part = nil_from_length s.part (f.standing.none e);
+      todo = nil_from_length s.todo e;
+      rest = rest;
+      pending = pending_none s e ∙ rest;
+    }
+
+pub stands_first : (profile : Profile) (all : List (List ℕ)) (n : ℕ) → AllByRecursion IsPacket all → length (concat all) ≡ n * data_length profile
+    → Stands profile all n 0 (between all)
+stands_first profile all n whole e =
+    let start : 0 * data_length profile ≡ 0 = omega arith in
+    let first : 0 ≡ 0 * data_length profile + length {A = ℕ} [] = omega arith in
+    record {
+      standing = standing_between all;
+      whole = whole;
+      stream = ap (λ k. drop k (concat all)) start;
+      pointers = λ begin wide h. ap (λ k. pointer_in begin wide (starts k all)) first;
+      left = e;
+    }
+
+-- and a receiver that follows it
+record Follows (profile : Profile) (sender : TmSender) (all : List (List ℕ)) (n i : ℕ) (s : Standing) (receiver : Receiver) : Type 0 where
+  stands : Stands profile all n i s
+  part : receiver.part ≡ s.part
+  next : is_next receiver.expected ((sender.channel_count + i) % 2 ^ 8) ≡ true
+
+frame_brings : (profile : Profile) (sender : TmSender) (word : ℕ) (all : List (List ℕ)) (n i : ℕ) (s : Standing) (receiver : Receiver)
+    → Follows profile sender all n i s receiver → (t : Turns (data_length profile) (i * data_length profile) s)
+    → received receiver (carrying profile sender word (concat all) (starts 0 all) i) ≡ record { given = map packet t.whole; part = t.next.part }
+frame_brings profile sender word all n i s receiver f t =
+    let size : ℕ = data_length profile in
+    let frame : TmParts = carrying profile sender word (concat all) (starts 0 all) i in
+    received_next receiver frame f.next
+    ∙ ap (λ l. looked_at frame.status frame.content l) f.part
+    ∙ ap (λ k. looked_at (3 * 2 ^ 11 + k) frame.content s.part) (f.stands.pointers (i * size) size (omega arith))
+    ∙ ap (λ l. looked_at (3 * 2 ^ 11 + pointer_in (i * size) size (starts (i * size + length s.todo) s.rest)) (take size l) s.part) f.stands.stream
+    ∙ t.received
+
+follows_on : (profile : Profile) (sender : TmSender) (word : ℕ) (all : List (List ℕ)) (n i : ℕ) (s : Standing) (receiver : Receiver)
+    → Follows profile sender all (suc n) i s receiver → (t : Turns (data_length profile) (i * data_length profile) s)
+    → Follows profile sender all n (i + 1) t.next (received_to receiver (carrying profile sender word (concat all) (starts 0 all) i))
+follows_on profile sender word all n i s receiver f t = record {
+  stands = stands_on profile all n i s f.stands t;
+  part = ap (λ (r : Received). r.part) (frame_brings profile sender word all (suc n) i s receiver f t);
+  next = eq-eqb ((sender.channel_count + (i + 1)) % 2 ^ 8) (((sender.channel_count + i) % 2 ^ 8 + 1) % 2 ^ 8) (omega arith);
+}
+
+comes_none : (profile : Profile) (sender : TmSender) (all : List (List ℕ)) (i : ℕ) (s : Standing) (receiver : Receiver)
+    → Follows profile sender all 0 i s receiver → Comes receiver [] (pending s) (sender.channel_count + i + 0)
+comes_none profile sender all i s receiver f =
+    let done = none_left profile all i s f.stands in
     let same : sender.channel_count + i ≡ sender.channel_count + i + 0 = omega arith in
     record {
-      given = ap (map packet) (sym none);
+      given = ap (map packet) (sym done.pending);
       awaits = record {
-        part = f.part ∙ nil_from_length s.part (f.standing.none e);
+        part = f.part ∙ done.part;
         next = subst (λ (k : ℕ). is_next receiver.expected (k % 2 ^ 8) ≡ true) same f.next;
       };
     }
@@ -187,11 +234,7 @@ comes : (profile : Profile) (sender : TmSender) (word : ℕ) (all : List (List �
     → Comes receiver (map (carrying profile sender word (concat all) (starts 0 all)) (range_with_len i n)) (pending s) (sender.channel_count + i + n)
 comes profile sender word all zero i s receiver f = comes_none profile sender all i s receiver f
 comes profile sender word all (suc n) i s receiver f =
-    let size : ℕ = data_length profile in
-    let bounds = data_bounds profile in
-    let turns_left : suc n * size ≡ n * size + size = omega arith in
-    let left = f.left in
-    let t = turns size (i * size) s f.standing f.whole (omega arith) (omega arith) (omega arith) in
+    let t = turn_at profile all n i s f.stands in
     let frame : TmParts = carrying profile sender word (concat all) (starts 0 all) i in
     let more = comes profile sender word all n (i + 1) t.next (received_to receiver frame) (follows_on profile sender word all n i s receiver f t) in
     let frames : List TmParts = map (carrying profile sender word (concat all) (starts 0 all)) (range_with_len (i + 1) n) in
@@ -210,15 +253,9 @@ comes profile sender word all (suc n) i s receiver f =
 follows_first : (profile : Profile) (sender : TmSender) (all : List (List ℕ)) (n : ℕ) (receiver : Receiver) → AllByRecursion IsPacket all
     → length (concat all) ≡ n * data_length profile → Awaits receiver (sender.channel_count % 2 ^ 8) → Follows profile sender all n 0 (between all) receiver
 follows_first profile sender all n receiver whole e awaits =
-    let start : 0 * data_length profile ≡ 0 = omega arith in
-    let first : 0 ≡ 0 * data_length profile + length {A = ℕ} [] = omega arith in
     let same : sender.channel_count ≡ sender.channel_count + 0 = omega arith in
     record {
-      standing = standing_between all;
-      whole = whole;
-      stream = ap (λ k. drop k (concat all)) start;
-      pointers = λ begin wide h. ap (λ k. pointer_in begin wide (starts k all)) first;
-      left = e;
+      stands = stands_first profile all n whole e;
       part = awaits.part;
       next = subst (λ (k : ℕ). is_next receiver.expected (k % 2 ^ 8) ≡ true) same awaits.next;
     }
@@ -229,18 +266,29 @@ turns_of size octets some even =
     let count : octets / size ≡ even.count = ap (λ n. n / size) plain ∙ div-mul-add even.count size 0 some in
     even.is ∙ ap (λ n. n * size) (sym count)
 
+-- packets with their fill are packets, of a whole number of data fields
+pub record Fills (profile : Profile) (packets : List (List ℕ)) : Type 0 where
+  pub whole : AllByRecursion IsPacket (filled (data_length profile) packets)
+  pub left : length (concat (filled (data_length profile) packets))
+      ≡ length (concat (filled (data_length profile) packets)) / data_length profile * data_length profile
+
+pub fills : (profile : Profile) (packets : List (List ℕ)) → AllByRecursion IsPacket packets → Fills profile packets
+fills profile packets all =
+    let size : ℕ = data_length profile in
+    let bounds = data_bounds profile in
+    record {
+      whole = all_both packets (fill_of size (length (concat packets))) all (fill_whole size (length (concat packets)) (omega arith));
+      left = turns_of size (length (concat (filled size packets))) (omega arith) (filled_even size packets (omega arith));
+    }
+
 come_filled : (profile : Profile) (sender : TmSender) (word : ℕ) (first : List ℕ) (packets : List (List ℕ)) (receiver : Receiver)
     → AllByRecursion IsPacket (first ∷ packets) → Awaits receiver (sender.channel_count % 2 ^ 8) → ComesBack profile sender word (first ∷ packets) receiver
 come_filled profile sender word first packets receiver all awaits =
     let size : ℕ = data_length profile in
-    let bounds = data_bounds profile in
     let sent : List (List ℕ) = filled size (first ∷ packets) in
     let n : ℕ = length (concat sent) / size in
-    let whole =
-    all_both (first ∷ packets) (fill_of size (length (concat (first ∷ packets)))) all
-    (fill_whole size (length (concat (first ∷ packets))) (omega arith)) in
-    let left = turns_of size (length (concat sent)) (omega arith) (filled_even size (first ∷ packets) (omega arith)) in
-    let came = comes profile sender word sent n 0 (between sent) receiver (follows_first profile sender sent n receiver whole left awaits) in
+    let filled_up = fills profile (first ∷ packets) all in
+    let came = comes profile sender word sent n 0 (between sent) receiver (follows_first profile sender sent n receiver filled_up.whole filled_up.left awaits) in
     let frames = length-map-range_with_len (carrying profile sender word (concat sent) (starts 0 sent)) 0 n in
     let count : sender.channel_count + 0 + n ≡ sender.channel_count + length (frames_of profile sender word (first ∷ packets)) = omega arith in
     record {

@@ -3,4 +3,5 @@ pub mod SenderLemmas
 pub mod CameLemmas
 pub mod TurnLemmas
 pub mod CarrierLawLemmas
+pub mod LossLemmas
 mod CarrierCases

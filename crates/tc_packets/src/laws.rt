@@ -1,5 +1,6 @@
 //! What holds of packets. These functions do nothing: their clauses are the laws.
 ghost use Rattle.tc_packets.specs.CarrierLaws.{PacketsComeBack, ReportsComeBack};
+ghost use Rattle.tc_packets.specs.LossLaws.{WholePacketsCome};
 
 /// A list of packets that is sent over telemetry frames comes back from a receiver that awaits its first frame, with the idle packet that fills the last one.
 /// No packet is in progress then, and the receiver awaits the frames of the next list.
@@ -10,4 +11,9 @@ pub fn packets_come_back()
 /// Without idle packets it is the list that was sent.
 pub fn reports_come_back()
     ensures { ReportsComeBack }
+{}
+
+/// If whole frames are lost, fewer than 256 in a row, exactly those packets come all of whose octets lie in frames that came, in order.
+pub fn whole_packets_come()
+    ensures { WholePacketsCome }
 {}
