@@ -9,9 +9,10 @@ use Rattle.std.proofs.lemmas.Nat.{div-mul-add}
 use Rattle.tc_octets.specs.TmFrames.{TmParts}
 use Rattle.tc_octets.specs.declared.profiles.Profile.{Profile}
 use Rattle.tc_packets.specs.Carriers.{carrying, data_length, fill_of, filled, frames_of, idle_frame, idle_length, idle_packet, pointer_in, starts}
-use Rattle.tc_packets.specs.CarrierLaws.{Awaits, ComesBack, IsPacket, PacketsComeBack, ReportsComeBack, is_idle, reports_in, run}
+use Rattle.tc_packets.specs.CarrierLaws.{Awaits, ComesBack, IsPacket, PacketsComeBack, PartsStayShort, ReportsComeBack, is_idle, reports_in, run}
 use Rattle.tc_packets.specs.Receivers.{Given, Received, Receiver, and_then, counted, dropped, gap, is_next, looked_at, marked, packet, quiet, received, received_to}
 use Rattle.tc_packets.specs.declared.tm_senders.TmSender.{TmSender}
+use Rattle.tc_packets.proofs.ReceiverLemmas.{received_small}
 use Rattle.tc_packets.proofs.SenderLemmas.{concat_append, data_bounds}
 use Rattle.tc_packets.proofs.TurnLemmas.{IsStanding, Standing, Turns, between, looked_idle, packet_some, pending, pending_none, standing_between, turns}
 
@@ -340,3 +341,12 @@ reports_come_back profile sender word packets receiver all none awaits =
     ∙ reports_first packets (fill_of size (length (concat packets))) none
     ∙ ap (λ l. packets ++ l) (fill_idle size (length (concat packets)))
     ∙ append-nil packets
+
+pub parts_short : PartsStayShort
+parts_short = record {
+  stays = received_small;
+  bound = λ part small h.
+      let high = small 4 in
+      let low = small 5 in
+      omega arith;
+}

@@ -1,11 +1,11 @@
 -- What holds of packets that are sent over telemetry frames and received again.
-use Rattle.std.specs.Prelude.{◌≡◌, ℕ, ◌%◌, ◌^◌, ◌<◌, ◌+◌, ◌==◌, if◌then◌else◌, Bool, true, false, List, [], ◌∷◌, ◌++◌, length, map, slice_index}
+use Rattle.std.specs.Prelude.{◌≡◌, ℕ, ◌%◌, ◌^◌, ◌<◌, ◌≤◌, ◌+◌, ◌==◌, if◌then◌else◌, Bool, true, false, List, [], ◌∷◌, ◌++◌, length, map, slice_index}
 use Rattle.std.specs.List.{AllByRecursion}
 use Rattle.tc_octets.specs.Bits.{pair_at}
 use Rattle.tc_octets.specs.TmFrames.{TmParts}
 use Rattle.tc_octets.specs.declared.profiles.Profile.{Profile}
 use Rattle.tc_packets.specs.Carriers.{data_length, filled, frames_of, later}
-use Rattle.tc_packets.specs.Receivers.{Given, Receiver, cut, gap, is_next, packet, packet_length, received, received_to, skipped}
+use Rattle.tc_packets.specs.Receivers.{Given, IsPart, Receiver, cut, gap, is_next, packet, packet_length, received, received_to, skipped}
 use Rattle.tc_packets.specs.declared.tm_senders.TmSender.{TmSender}
 
 -- a whole packet: as long as its length field says, of packet version 000
@@ -57,3 +57,8 @@ ReportsComeBack =
     (profile : Profile) (sender : TmSender) (word : ℕ) (packets : List (List ℕ)) (receiver : Receiver) → AllByRecursion IsPacket packets
     → AllByRecursion (λ octets. is_idle octets ≡ false) packets → Awaits receiver (sender.channel_count % 2 ^ 8)
     → reports_in (run receiver (frames_of profile sender word packets)).given ≡ packets
+
+-- What is in progress is less than a whole packet, and stays so, whatever frames come: at most 65,541 octets.
+pub record PartsStayShort : Type 0 where
+  pub stays : (receiver : Receiver) (frame : TmParts) → IsPart receiver.part → IsPart (received receiver frame).part
+  pub bound : (part : List ℕ) → ((i : ℕ) → slice_index part i < 2 ^ 8) → IsPart part → length part ≤ 65541

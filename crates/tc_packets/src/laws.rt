@@ -1,5 +1,5 @@
 //! What holds of packets. These functions do nothing: their clauses are the laws.
-ghost use Rattle.tc_packets.specs.CarrierLaws.{PacketsComeBack, ReportsComeBack};
+ghost use Rattle.tc_packets.specs.CarrierLaws.{PacketsComeBack, PartsStayShort, ReportsComeBack};
 ghost use Rattle.tc_packets.specs.LossLaws.{WholePacketsCome};
 
 /// A list of packets that is sent over telemetry frames comes back from a receiver that awaits its first frame, with the idle packet that fills the last one.
@@ -16,4 +16,9 @@ pub fn reports_come_back()
 /// If whole frames are lost, fewer than 256 in a row, exactly those packets come all of whose octets lie in frames that came, in order.
 pub fn whole_packets_come()
     ensures { WholePacketsCome }
+{}
+
+/// A packet in progress is less than a whole one, whatever frames come: at most 65,541 octets.
+pub fn parts_stay_short()
+    ensures { PartsStayShort }
 {}
